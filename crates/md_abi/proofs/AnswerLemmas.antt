@@ -1,5 +1,6 @@
 -- What an answer says, from the text or the failure that it tells.
-use Rattle.std.proofs.Common.{◌≡◌, ◌≢◌, ℕ, ◌<◌, ◌≤◌, List, length, take, drop, refl, sym, ap, subst, inl, inr, arith, false, eqb}
+use Rattle.std.proofs.Common.{◌≡◌, ◌≢◌, ℕ, ◌<◌, ◌≤◌, List, length, take, drop, refl, sym, ap, subst}
+use Rattle.std.proofs.Common.{inl, inr, arith, false, eqb}
 use Rattle.std.proofs.lemmas.Bool.{eqb-false}
 use Rattle.md_script.specs.Script.{IsReadable, IsFirstUnreadable}
 use Rattle.md_script.specs.Run.{ExplainsRun}
@@ -74,18 +75,21 @@ text_is_plain text old new answer (inr kept) = (
   omega (arith, ap (λ a. a.status) kept.answered),
 )
 
-pub text_of_compile : (text old new : List ℕ) (answer : Answer) → IsHandedOver text old new answer → IsOfCompile answer
+pub text_of_compile : (text old new : List ℕ) (answer : Answer) →
+    IsHandedOver text old new answer → IsOfCompile answer
 text_of_compile text old new answer handed =
     let known = text_is_plain text old new answer handed in
     record { plain = known.0; without_lines = λ is. omega (arith, known.1, is) }
 
-pub text_of_run : (text old new : List ℕ) (answer : Answer) → IsHandedOver text old new answer → IsOfRun answer
+pub text_of_run : (text old new : List ℕ) (answer : Answer) →
+    IsHandedOver text old new answer → IsOfRun answer
 text_of_run text old new answer handed =
     let known = text_is_plain text old new answer handed in
     record { plain = known.0; script_only = λ many. absurd (omega (arith, known.1, many)) }
 
 -- a text is handed over with a status of its own
-pub text_status : (text old new : List ℕ) (answer : Answer) → IsHandedOver text old new answer → answer.status ≤ 1
+pub text_status : (text old new : List ℕ) (answer : Answer) →
+    IsHandedOver text old new answer → answer.status ≤ 1
 text_status text old new answer handed = (text_is_plain text old new answer handed).1
 
 -- ---- failures
@@ -108,7 +112,8 @@ failure_status (failure.Option number) = omega arith
 failure_status (failure.Line number) = omega arith
 failure_status (failure.Refused index rule) = omega arith
 
-pub failure_hands_over : (claim : List ℕ → Type 0) (old : List ℕ) (why : Failure) (answer : Answer) →
+pub failure_hands_over :
+    (claim : List ℕ → Type 0) (old : List ℕ) (why : Failure) (answer : Answer) →
     answer ≡ answer_of why → HandsOver claim old old answer
 failure_hands_over claim old why answer is = subst (HandsOver claim old old) (sym is)
     (failed claim old (answer_of why) (failure_status why))
@@ -142,8 +147,10 @@ failure_is_plain (failure.Refused index rule) = record {
   no_length = λ _. refl;
 }
 
-module _ (events : List CEvent) (bytes : List ℕ) (options : COptions) (names : List CReference) where
-  without_lines : (why : Failure) → Explains events bytes options names why → (answer_of why).status ≢ 6
+module _ (events : List CEvent) (bytes : List ℕ) (options : COptions)
+    (names : List CReference) where
+  without_lines : (why : Failure) → Explains events bytes options names why →
+      (answer_of why).status ≢ 6
   without_lines failure.Memory h = never 7 6 refl
   without_lines (failure.Event index) h = never 3 6 refl
   without_lines (failure.Name index) h = never 4 6 refl
@@ -151,10 +158,12 @@ module _ (events : List CEvent) (bytes : List ℕ) (options : COptions) (names :
   without_lines (failure.Line number) h = absurd h
   without_lines (failure.Refused index rule) h = never 2 6 refl
 
-  pub failure_of_compile : (why : Failure) (answer : Answer) → Explains events bytes options names why →
+  pub failure_of_compile : (why : Failure) (answer : Answer) →
+      Explains events bytes options names why →
       answer ≡ answer_of why → IsOfCompile answer
   failure_of_compile why answer h is =
-      subst IsOfCompile (sym is) (record { plain = failure_is_plain why; without_lines = without_lines why h })
+      subst IsOfCompile (sym is)
+      (record { plain = failure_is_plain why; without_lines = without_lines why h })
 
   -- what each status says, of the answer to a failure that is explained
   pub record Says (answer : Answer) : Type 0 where
@@ -217,18 +226,23 @@ module _ (script : List ℕ) where
   run_status (run.Line number) many = omega arith
   run_status (run.Event index rule) many = absurd (omega (arith, many))
 
-  pub failure_of_script : (why : RunError) (answer : Answer) → answer ≡ answer_of (failure_of_run why) → IsOfRun answer
+  pub failure_of_script : (why : RunError) (answer : Answer) →
+      answer ≡ answer_of (failure_of_run why) → IsOfRun answer
   failure_of_script why answer is =
-      subst IsOfRun (sym is) (record { plain = failure_is_plain (failure_of_run why); script_only = run_status why })
+      subst IsOfRun (sym is)
+      (record { plain = failure_is_plain (failure_of_run why); script_only = run_status why })
 
   pub record SaysOfScript (answer : Answer) : Type 0 where
     pub refused : answer.status ≡ 2 → IsRefusedIn script answer.index answer.rule
     pub unreadable : answer.status ≡ 6 → ¬ IsReadable script
     pub no_line : answer.status ≡ 6 → IsFirstUnreadable script answer.index
 
-  script_says : (why : RunError) → ExplainsRun script why → SaysOfScript (answer_of (failure_of_run why))
-  script_says run.Memory h = record { refused = never 7 2 refl; unreadable = never 7 6 refl; no_line = never 7 6 refl }
-  script_says (run.Line number) h = record { refused = never 6 2 refl; unreadable = λ _. h.0; no_line = λ _. h.1 }
+  script_says : (why : RunError) → ExplainsRun script why →
+      SaysOfScript (answer_of (failure_of_run why))
+  script_says run.Memory h =
+      record { refused = never 7 2 refl; unreadable = never 7 6 refl; no_line = never 7 6 refl }
+  script_says (run.Line number) h =
+      record { refused = never 6 2 refl; unreadable = λ _. h.0; no_line = λ _. h.1 }
   script_says (run.Event index rule) h = record {
     refused = λ _. (rule, refl, h);
     unreadable = never 2 6 refl;

@@ -1,8 +1,12 @@
--- From what a safe text and its attributes promise to what C is handed, and what an answer says of it.
-use Rattle.std.proofs.Common.{◌≡◌, ℕ, ◌<◌, ◌≤◌, Bool, true, false, cond, eqb, List, [], ◌∷◌, ◌++◌, length, take, drop, Option, Some, None, Result, Ok, Err, IfOk, IfErr, refl, sym, ap, ◌∙◌, subst, inl, inr, arith}
+-- From what a safe text and its attributes promise to what C is handed, and what an
+-- answer says of it.
+use Rattle.std.proofs.Common.{◌≡◌, ℕ, ◌<◌, ◌≤◌, Bool, true, false, cond, eqb, List, [], ◌∷◌, ◌++◌}
+use Rattle.std.proofs.Common.{length, take, drop, Option, Some, None, Result, Ok, Err, IfOk, IfErr}
+use Rattle.std.proofs.Common.{refl, sym, ap, ◌∙◌, subst, inl, inr, arith}
 use Rattle.std.specs.Prelude.{IsErrAnd, IsTrue, option_map, option_and_then, string_bytes}
 use Rattle.std.proofs.lemmas.Bool.{eqb-true}
-use Rattle.std.proofs.lemmas.List.{length-append, take-append-le, drop-append-le, take_all, drop_all}
+use Rattle.std.proofs.lemmas.List.{length-append, take-append-le, drop-append-le, take_all}
+use Rattle.std.proofs.lemmas.List.{drop_all}
 use Rattle.md_base.specs.Place.{text_when}
 use Rattle.md_text.specs.Html.{any_attribute, HasOneReadingWith}
 use Rattle.md_text.specs.Ids.{are_distinct}
@@ -43,7 +47,8 @@ use Rattle.md_abi.specs.declared.option.COptions.{COptions}
 use Rattle.md_abi.specs.declared.attributes.CAttributes.{CAttributes}
 use Rattle.md_abi.specs.declared.refusal.Refusal.{Refusal}
 use Rattle.md_abi.specs.declared.refusal.Refusal.TheVariants as refusal
-use Rattle.md_abi.proofs.AnswerLemmas.{never, handed_over, failure_hands_over, failed, failure_of_compile, failure_says}
+use Rattle.md_abi.proofs.AnswerLemmas.{never, handed_over, failure_hands_over, failed}
+use Rattle.md_abi.proofs.AnswerLemmas.{failure_of_compile, failure_says}
 use Rattle.md_abi.proofs.GivenLemmas.{told_of}
 
 -- ---- safe options stand for safe options of C
@@ -75,15 +80,18 @@ keeps_images given options has keeps =
     record {
       links = record {
         grammar = record {
-          escapes_html = is_off given.allow_dangerous_html (has.dangerous_html ∙ ap Some grammar.escapes_html);
-          usual_tag = is_unset given.gfm_footnote_label_tag_name (has.label_tag_name ∙ ap (λ text. Some (option_map string_bytes text))
-              grammar.usual_tag);
-          usual_attributes = is_unset given.gfm_footnote_label_attributes (has.label_attributes ∙ ap (λ text. Some (option_map string_bytes text))
-              grammar.usual_attributes);
+          escapes_html =
+              is_off given.allow_dangerous_html (has.dangerous_html ∙ ap Some grammar.escapes_html);
+          usual_tag = is_unset given.gfm_footnote_label_tag_name (has.label_tag_name
+              ∙ ap (λ text. Some (option_map string_bytes text)) grammar.usual_tag);
+          usual_attributes = is_unset given.gfm_footnote_label_attributes (has.label_attributes
+              ∙ ap (λ text. Some (option_map string_bytes text)) grammar.usual_attributes);
         };
-        permitted_links = is_off given.allow_dangerous_protocol (has.dangerous_protocol ∙ ap Some keeps.links.permitted_links);
+        permitted_links = is_off given.allow_dangerous_protocol
+            (has.dangerous_protocol ∙ ap Some keeps.links.permitted_links);
       };
-      permitted_images = is_off given.allow_any_img_src (has.any_img_src ∙ ap Some keeps.permitted_images);
+      permitted_images =
+          is_off given.allow_any_img_src (has.any_img_src ∙ ap Some keeps.permitted_images);
     }
 
 -- ---- a text of which a reading is emitted has one reading
@@ -102,15 +110,18 @@ after : (text list whole : List ℕ) (start : ℕ) → whole ≡ text ++ list �
     (take start whole ≡ text) × (drop start whole ≡ list) × (start ≤ length whole)
 after text list whole start is at =
     let same : length text ≤ length text = omega arith in (
-      ap (λ n. take n whole) at ∙ ap (take (length text)) is ∙ take-append-le (length text) text list same
+      ap (λ n. take n whole) at ∙ ap (take (length text)) is
+          ∙ take-append-le (length text) text list same
           ∙ take_all (length text) text same,
-      ap (λ n. drop n whole) at ∙ ap (drop (length text)) is ∙ drop-append-le (length text) text list same
+      ap (λ n. drop n whole) at ∙ ap (drop (length text)) is
+          ∙ drop-append-le (length text) text list same
           ∙ ap (λ first. first ++ list) (drop_all (length text) text same),
       omega (arith, at, ap length is, length-append text list),
     )
 
 pub listed-some : (prefix text whole : List ℕ) (start : ℕ) (x : List Token) (found : List Listed) →
-    whole ≡ text ++ listing found → start ≡ length text → IsTokenized text (with_heading_ids prefix x) →
+    whole ≡ text ++ listing found → start ≡ length text →
+    IsTokenized text (with_heading_ids prefix x) →
     IsAttributed text → found ≡ headings_of x →
     (IsTrue (are_distinct (ids_among x)) → IsTrue (none_begins (shown prefix) (ids_among x)) →
     IsTrue (are_distinct (ids_among (with_heading_ids prefix x)))) →
@@ -125,7 +136,8 @@ listed-some prefix text whole start x found is at tokenized kept headings distin
       distinct = distinct;
     }
 
-pub listed-none : (text whole : List ℕ) (start : ℕ) (x : List Token) → whole ≡ text ++ [] → start ≡ length text →
+pub listed-none : (text whole : List ℕ) (start : ℕ) (x : List Token) → whole ≡ text ++ [] →
+    start ≡ length text →
     IsTokenized text x → IsAttributed text → IsListedAfter None x start whole
 listed-none text whole start x is at tokenized kept =
     let parts = after text [] whole start is at in
@@ -141,26 +153,29 @@ listed-none text whole start x is at tokenized kept =
 pub none-result : {S E : Type 0} (whole : S → List ℕ) (start : S → ℕ) (prefix : Option (List ℕ))
     (text given : List ℕ) → prefix ≡ None → text ≡ given → IsWritten given → (r : Result S E) →
     IfOk r (λ made. whole made ≡ text ++ []) → IfOk r (λ made. start made ≡ length text) →
-    IfOk r (λ made. (x : List Token) → IsTokenized given x → IsListedAfter prefix x (start made) (whole made))
+    IfOk r (λ made. (x : List Token) → IsTokenized given x →
+    IsListedAfter prefix x (start made) (whole made))
 none-result whole start prefix text given none same written (Ok made) is at = λ x h.
     subst (λ p. IsListedAfter p x (start made) (whole made)) (sym none)
-    (listed-none given (whole made) (start made) x (is ∙ ap (λ t. t ++ []) same) (at ∙ ap length same) h
-    (attributed given written))
+    (listed-none given (whole made) (start made) x (is ∙ ap (λ t. t ++ []) same)
+    (at ∙ ap length same) h (attributed given written))
 none-result whole start prefix text given none same written (Err why) is at = tt
 
 -- what is asked for is what was read
 asked_is : (given : CText) (read : Option (List ℕ)) → text_of given ≡ Some read → asked given ≡ read
 asked_is given read stands = ap (option_and_then (λ text. text)) stands
 
-pub made_text : (events : List CEvent) (bytes : List ℕ) (options : COptions) (names : List CReference)
+pub made_text :
+    (events : List CEvent) (bytes : List ℕ) (options : COptions) (names : List CReference)
     (attributes : CAttributes) (rel prefix : Option (List ℕ)) (plain whole : List ℕ) (start : ℕ)
     (given : CompileOptions) → HasOptions options given → safe.KeepsImages given →
-    IsRendered events bytes options names plain → IsTokenizedAsRead plain → text_of attributes.rel ≡ Some rel →
+    IsRendered events bytes options names plain → IsTokenizedAsRead plain →
+    text_of attributes.rel ≡ Some rel →
     text_of attributes.heading_ids ≡ Some prefix →
     ((x : List Token) → IsTokenized plain x → IsListedAfter prefix (with_rel rel x) start whole) →
     IsAttributedText events bytes options names attributes start whole
-made_text events bytes options names attributes rel prefix plain whole start given has keeps rendered read rel_read
-    prefix_read listed =
+made_text events bytes options names attributes rel prefix plain whole start given has keeps
+    rendered read rel_read prefix_read listed =
     let emitted : List Token = tokens read.forest ++ (EndOfFile ∷ []) in
     record {
       plain = plain;
@@ -177,8 +192,10 @@ made_text events bytes options names attributes rel prefix plain whole start giv
 -- ---- refusals
 
 -- the error of a safe text
-pub safe_told : {T : Type 0} (given : Handed) (options : CompileOptions) (why : SafeError) (r : Result T Refusal) →
-    IsErrAnd r (λ made. made ≡ refusal_of why) → IsRefusedFor options why → OfCompile (IsOutside given) why →
+pub safe_told : {T : Type 0} (given : Handed) (options : CompileOptions) (why : SafeError)
+    (r : Result T Refusal) →
+    IsErrAnd r (λ made. made ≡ refusal_of why) → IsRefusedFor options why →
+    OfCompile (IsOutside given) why →
     OfCompile (IsOrder given) why → OfCompile (IsMdx given) why → OfCompile (IsOfNode given) why →
     OfCompile (IsLost given) why → IfErr r (IsRefusalFor given options)
 safe_told given options why (Ok x) same refused outside order mdx of_node lost = tt
@@ -186,7 +203,8 @@ safe_told given options why (Err made) same refused outside order mdx of_node lo
     subst (IsRefusalFor given options) (sym same) (of why refused outside order mdx of_node lost)
   where
     of : (why : SafeError) → IsRefusedFor options why → OfCompile (IsOutside given) why →
-        OfCompile (IsOrder given) why → OfCompile (IsMdx given) why → OfCompile (IsOfNode given) why →
+        OfCompile (IsOrder given) why → OfCompile (IsMdx given) why →
+        OfCompile (IsOfNode given) why →
         OfCompile (IsLost given) why → IsRefusalFor given options (refusal_of why)
     of wrong.Options refused outside order mdx of_node lost = refused
     of (wrong.Compile cause) refused outside order mdx of_node lost =
@@ -195,8 +213,10 @@ safe_told given options why (Err made) same refused outside order mdx of_node lo
 
 -- ---- answers
 
-pub list_handed : (claim : ℕ → List ℕ → Type 0) (whole : List ℕ) (start : ℕ) (old new : List ℕ) (answer : Answer) →
-    claim start whole → IsListHandedOver whole start old new answer → HandsOver (claim answer.index) old new answer
+pub list_handed : (claim : ℕ → List ℕ → Type 0) (whole : List ℕ) (start : ℕ)
+    (old new : List ℕ) (answer : Answer) →
+    claim start whole → IsListHandedOver whole start old new answer →
+    HandsOver (claim answer.index) old new answer
 list_handed claim whole start old new answer holds listed =
     let alone = handed_over (claim start) whole old new listed.alone holds listed.handed in
     subst (λ a. HandsOver (claim a.index) old new a) (sym listed.answered)
@@ -214,7 +234,8 @@ told_so status start size = record { status = status; rule = 0; index = start; l
 abbrev moved : ℕ → Answer → Answer
 moved start answer = record answer { index = start }
 
-so-plain : (status start size : ℕ) → status ≤ 1 → start ≤ size → IsOfAttributed (told_so status start size)
+so-plain : (status start size : ℕ) → status ≤ 1 → start ≤ size →
+    IsOfAttributed (told_so status start size)
 so-plain status start size few within = record {
   known = omega (arith, few);
   without_lines = λ is. omega (arith, few, is);
@@ -225,7 +246,8 @@ so-plain status start size few within = record {
   no_length = λ many. absurd (omega (arith, few, many));
 }
 
-list_is_plain : (whole : List ℕ) (start : ℕ) (old new : List ℕ) (answer : Answer) → start ≤ length whole →
+list_is_plain : (whole : List ℕ) (start : ℕ) (old new : List ℕ) (answer : Answer) →
+    start ≤ length whole →
     IsListHandedOver whole start old new answer → IsOfAttributed answer × (answer.status ≤ 1)
 list_is_plain whole start old new answer within listed = of listed.handed
   where
@@ -243,23 +265,30 @@ list_is_plain whole start old new answer within listed = of listed.handed
           omega (arith, ap (λ a. a.status) is),
         )
 
-pub list_fields : (whole : List ℕ) (start : ℕ) (old new : List ℕ) (answer : Answer) → start ≤ length whole →
+pub list_fields : (whole : List ℕ) (start : ℕ) (old new : List ℕ) (answer : Answer) →
+    start ≤ length whole →
     IsListHandedOver whole start old new answer → IsOfAttributed answer
-list_fields whole start old new answer within listed = (list_is_plain whole start old new answer within listed).0
+list_fields whole start old new answer within listed =
+    (list_is_plain whole start old new answer within listed).0
 
-pub list_status : (whole : List ℕ) (start : ℕ) (old new : List ℕ) (answer : Answer) → start ≤ length whole →
+pub list_status : (whole : List ℕ) (start : ℕ) (old new : List ℕ) (answer : Answer) →
+    start ≤ length whole →
     IsListHandedOver whole start old new answer → answer.status ≤ 1
-list_status whole start old new answer within listed = (list_is_plain whole start old new answer within listed).1
+list_status whole start old new answer within listed =
+    (list_is_plain whole start old new answer within listed).1
 
-pub refusal_hands_over : (claim : ℕ → List ℕ → Type 0) (old : List ℕ) (why : Refusal) (answer : Answer) →
+pub refusal_hands_over :
+    (claim : ℕ → List ℕ → Type 0) (old : List ℕ) (why : Refusal) (answer : Answer) →
     answer ≡ answer_of_refusal why → HandsOver (claim answer.index) old old answer
 refusal_hands_over claim old why answer is =
     subst (λ a. HandsOver (claim a.index) old old a) (sym is) (of why)
   where
-    of : (why : Refusal) → HandsOver (claim (answer_of_refusal why).index) old old (answer_of_refusal why)
+    of : (why : Refusal) →
+        HandsOver (claim (answer_of_refusal why).index) old old (answer_of_refusal why)
     of refusal.Unsafe = failed (claim 0) old (about 8 0) (omega arith)
     of (refusal.Attribute number) = failed (claim number) old (about 9 number) (omega arith)
-    of (refusal.Failed cause) = failure_hands_over (claim (answer_of cause).index) old cause (answer_of cause) refl
+    of (refusal.Failed cause) =
+        failure_hands_over (claim (answer_of cause).index) old cause (answer_of cause) refl
 
 about_fields : (status index : ℕ) → 7 < status → status ≤ 9 → (status ≡ 8 → index ≡ 0) →
     IsOfAttributed (about status index)
@@ -282,9 +311,11 @@ module _ (events : List CEvent) (bytes : List ℕ) (options : COptions) (names :
       of : (why : Refusal) → ExplainsRefusal events bytes options names attributes why →
           IsOfAttributed (answer_of_refusal why)
       of refusal.Unsafe h = about_fields 8 0 (omega arith) (omega arith) (λ _. refl)
-      of (refusal.Attribute number) h = about_fields 9 number (omega arith) (omega arith) (never 9 8 refl)
+      of (refusal.Attribute number) h =
+          about_fields 9 number (omega arith) (omega arith) (never 9 8 refl)
       of (refusal.Failed cause) h =
-          let known = failure_of_compile events bytes options names cause (answer_of cause) h refl in
+          let known =
+          failure_of_compile events bytes options names cause (answer_of cause) h refl in
           record {
             known = omega (arith, known.plain.known);
             without_lines = known.without_lines;
@@ -328,7 +359,8 @@ module _ (events : List CEvent) (bytes : List ℕ) (options : COptions) (names :
       }
       of (refusal.Failed cause) h =
           let says = failure_says events bytes options names cause (answer_of cause) h refl in
-          let known = (failure_of_compile events bytes options names cause (answer_of cause) h refl).plain.known in
+          let known = (failure_of_compile events bytes options names cause (answer_of cause) h
+          refl).plain.known in
           record {
             refused = says.refused;
             no_event = says.no_event;

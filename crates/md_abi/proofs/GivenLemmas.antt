@@ -1,5 +1,6 @@
 -- From what the compiler promises to what a text is of what C hands in.
-use Rattle.std.proofs.Common.{◌≡◌, ℕ, Bool, true, false, cond, eqb, List, map, Option, Some, None, Result, Ok, Err, IfOk, IfErr, refl, sym, ap, ◌∙◌, subst}
+use Rattle.std.proofs.Common.{◌≡◌, ℕ, Bool, true, false, cond, eqb, List, map, Option, Some, None}
+use Rattle.std.proofs.Common.{Result, Ok, Err, IfOk, IfErr, refl, sym, ap, ◌∙◌, subst}
 use Rattle.std.specs.Prelude.{IsErrAnd, option_map, string_bytes}
 use Rattle.std.specs.Borrow.{Bor}
 use Rattle.md_base.specs.Place.{text_when}
@@ -14,7 +15,8 @@ use Rattle.md_safe.specs.Options as safe
 use Rattle.md_abi.specs.Standing.{StandFor}
 use Rattle.md_abi.specs.Events.{event_of}
 use Rattle.md_abi.specs.References.{reference_of}
-use Rattle.md_abi.specs.Options.{flag_of, text_of, HasOptions, KeepsGrammar, KeepsLinks, KeepsImages, KeepsIds}
+use Rattle.md_abi.specs.Options.{flag_of, text_of, HasOptions, KeepsGrammar, KeepsLinks}
+use Rattle.md_abi.specs.Options.{KeepsImages, KeepsIds}
 use Rattle.md_abi.specs.Rendered.{IsRendered}
 use Rattle.md_abi.specs.Compiled.{IsCompiled}
 use Rattle.md_abi.specs.Failures.{failure_of, IsRefusalOf, Explains}
@@ -28,11 +30,13 @@ use Rattle.md_abi.specs.declared.failure.Failure.TheVariants as failure
 -- ---- safe options of C stand for safe options
 
 flag_off : (flag : ℕ) (is_on : Bool) → flag ≡ 0 → flag_of flag ≡ Some is_on → is_on ≡ false
-flag_off flag is_on off stands = let same : Some false ≡ Some is_on = ap flag_of (sym off) ∙ stands in cc
+flag_off flag is_on off stands =
+    let same : Some false ≡ Some is_on = ap flag_of (sym off) ∙ stands in cc
 
 abbrev text_at : CText → ℕ → Option (Option (List ℕ))
 text_at given set =
-    cond (eqb set 0) (Some None) (cond (eqb set 1) (option_map Some (text_when true given.bytes.now)) None)
+    cond (eqb set 0) (Some None)
+    (cond (eqb set 1) (option_map Some (text_when true given.bytes.now)) None)
 
 unset : {S : Type 0} (bytes_of : S → List ℕ) (given : CText) (text : Option S) → given.is_set ≡ 0 →
     text_of given ≡ Some (option_map bytes_of text) → text ≡ None
@@ -40,24 +44,28 @@ unset bytes_of given None off stands = refl
 unset bytes_of given (Some text) off stands =
     let same : Some None ≡ Some (Some (bytes_of text)) = ap (text_at given) (sym off) ∙ stands in cc
 
-keeps_grammar : (given : COptions) (options : CompileOptions) → HasOptions given options → KeepsGrammar given →
+keeps_grammar : (given : COptions) (options : CompileOptions) → HasOptions given options →
+    KeepsGrammar given →
     safe.KeepsGrammar options
 keeps_grammar given options has keeps = record {
   escapes_html = flag_off _ _ keeps.escapes_html has.dangerous_html;
-  usual_tag = unset string_bytes given.gfm_footnote_label_tag_name options.gfm_footnote_label_tag_name keeps.usual_tag
-      has.label_tag_name;
-  usual_attributes = unset string_bytes given.gfm_footnote_label_attributes options.gfm_footnote_label_attributes
+  usual_tag = unset string_bytes given.gfm_footnote_label_tag_name
+      options.gfm_footnote_label_tag_name keeps.usual_tag has.label_tag_name;
+  usual_attributes =
+      unset string_bytes given.gfm_footnote_label_attributes options.gfm_footnote_label_attributes
       keeps.usual_attributes has.label_attributes;
 }
 
-keeps_links : (given : COptions) (options : CompileOptions) → HasOptions given options → KeepsLinks given →
+keeps_links : (given : COptions) (options : CompileOptions) →
+    HasOptions given options → KeepsLinks given →
     safe.KeepsLinks options
 keeps_links given options has keeps = record {
   grammar = keeps_grammar given options has keeps.grammar;
   permitted_links = flag_off _ _ keeps.permitted_links has.dangerous_protocol;
 }
 
-keeps_images : (given : COptions) (options : CompileOptions) → HasOptions given options → KeepsImages given →
+keeps_images : (given : COptions) (options : CompileOptions) →
+    HasOptions given options → KeepsImages given →
     safe.KeepsImages options
 keeps_images given options has keeps = record {
   links = keeps_links given options has keeps.links;
@@ -65,9 +73,11 @@ keeps_images given options has keeps = record {
 }
 
 flag_on : (flag : ℕ) (is_on : Bool) → flag ≡ 1 → flag_of flag ≡ Some is_on → is_on ≡ true
-flag_on flag is_on on stands = let same : Some true ≡ Some is_on = ap flag_of (sym on) ∙ stands in cc
+flag_on flag is_on on stands =
+    let same : Some true ≡ Some is_on = ap flag_of (sym on) ∙ stands in cc
 
-keeps_ids : (given : COptions) (options : CompileOptions) → HasOptions given options → KeepsIds given →
+keeps_ids : (given : COptions) (options : CompileOptions) →
+    HasOptions given options → KeepsIds given →
     safe.KeepsIds options
 keeps_ids given options has keeps = record {
   grammar = keeps_grammar given options has keeps.grammar;
@@ -76,24 +86,29 @@ keeps_ids given options has keeps = record {
 
 -- ---- what was read, and handed on as slices
 
-pub record IsRead (events : List CEvent) (options : COptions) (names : List CReference) (slice : List Event)
+pub record IsRead (events : List CEvent) (options : COptions) (names : List CReference)
+    (slice : List Event)
     (given : CompileOptions) (pairs : List (Bor (List ℕ) × Bor (List ℕ))) : Type 0 where
   pub events_stand : StandFor event_of events slice
   pub options_stand : HasOptions options given
   pub names_stand : StandFor reference_of names (name_table pairs)
 
-pub read_as : (events : List CEvent) (options : COptions) (names : List CReference) (slice read : List Event)
-    (given : CompileOptions) (pairs read_pairs : List (Bor (List ℕ) × Bor (List ℕ))) → slice ≡ read →
+pub read_as :
+    (events : List CEvent) (options : COptions) (names : List CReference) (slice read : List Event)
+    (given : CompileOptions) (pairs read_pairs : List (Bor (List ℕ) × Bor (List ℕ))) →
+    slice ≡ read →
     pairs ≡ read_pairs → StandFor event_of events read → HasOptions options given →
-    StandFor reference_of names (name_table read_pairs) → IsRead events options names slice given pairs
-read_as events options names slice read given pairs read_pairs same same_pairs events_stand options_stand names_stand
-    = record {
+    StandFor reference_of names (name_table read_pairs) →
+    IsRead events options names slice given pairs
+read_as events options names slice read given pairs read_pairs same same_pairs events_stand
+    options_stand names_stand = record {
       events_stand = events_stand ∙ ap (map Some) (sym same);
       options_stand = options_stand;
       names_stand = names_stand ∙ ap (λ list. map Some (name_table list)) (sym same_pairs);
     }
 
-module _ (events : List CEvent) (bytes : List ℕ) (options : COptions) (names : List CReference) (slice : List Event)
+module _ (events : List CEvent) (bytes : List ℕ) (options : COptions) (names : List CReference)
+    (slice : List Event)
     (given : CompileOptions) (pairs : List (Bor (List ℕ) × Bor (List ℕ)))
     (read : IsRead events options names slice given pairs) where
   pub rendered : (text : List ℕ) → IsCompiled (handed slice bytes pairs) given text →
@@ -107,19 +122,25 @@ module _ (events : List CEvent) (bytes : List ℕ) (options : COptions) (names :
     names_stand = read.names_stand;
     grammatical = compiled.grammatical.1.grammatical;
     means = compiled.means compiled.grammatical.0 compiled.grammatical.1.flattened;
-    one_reading = λ keeps. compiled.one_reading (keeps_grammar options given read.options_stand keeps);
+    one_reading =
+        λ keeps. compiled.one_reading (keeps_grammar options given read.options_stand keeps);
     safe_links = λ keeps. compiled.safe_links (keeps_links options given read.options_stand keeps);
-    safe_images = λ keeps. compiled.safe_images (keeps_images options given read.options_stand keeps);
+    safe_images =
+        λ keeps. compiled.safe_images (keeps_images options given read.options_stand keeps);
     contained = λ keeps. compiled.contained (keeps_grammar options given read.options_stand keeps);
-    tree = λ unnested keeps. compiled.tree compiled.grammatical.0 compiled.grammatical.1.flattened unnested
-        (keeps_grammar options given read.options_stand keeps);
+    tree = λ unnested keeps. compiled.tree compiled.grammatical.0 compiled.grammatical.1.flattened
+        unnested (keeps_grammar options given read.options_stand keeps);
     tokenized = λ keeps. compiled.tokenized (keeps_grammar options given read.options_stand keeps);
-    safe_link_tokens = λ keeps. compiled.safe_link_tokens (keeps_links options given read.options_stand keeps);
-    safe_image_tokens = λ keeps. compiled.safe_image_tokens (keeps_images options given read.options_stand keeps);
-    distinct_ids = λ keeps. compiled.distinct_ids (keeps_ids options given read.options_stand keeps);
+    safe_link_tokens =
+        λ keeps. compiled.safe_link_tokens (keeps_links options given read.options_stand keeps);
+    safe_image_tokens =
+        λ keeps. compiled.safe_image_tokens (keeps_images options given read.options_stand keeps);
+    distinct_ids =
+        λ keeps. compiled.distinct_ids (keeps_ids options given read.options_stand keeps);
   }
 
-  pub explained : (why : Failure) → IsRefusalOf (handed slice bytes pairs) why → Explains events bytes options names why
+  pub explained : (why : Failure) → IsRefusalOf (handed slice bytes pairs) why →
+      Explains events bytes options names why
   explained failure.Memory h = tt
   explained (failure.Event index) h = absurd h
   explained (failure.Name index) h = absurd h
@@ -139,19 +160,23 @@ module _ (events : List CEvent) (bytes : List ℕ) (options : COptions) (names :
   text_given bytes_of (Ok text) h = rendered (bytes_of text) h
   text_given bytes_of (Err why) h = tt
 
-  pub refusal_given : {S : Type 0} (r : Result S Failure) → IfErr r (IsRefusalOf (handed slice bytes pairs)) →
+  pub refusal_given : {S : Type 0} (r : Result S Failure) →
+      IfErr r (IsRefusalOf (handed slice bytes pairs)) →
       IfErr r (Explains events bytes options names)
   refusal_given (Ok text) h = tt
   refusal_given (Err why) h = explained why h
 
 -- ---- a compiler's refusal as a failure
 
-pub told_of : (given : Handed) (why : CompileError) → IsRefusal given why → IsRefusalOf given (failure_of why)
+pub told_of : (given : Handed) (why : CompileError) → IsRefusal given why →
+    IsRefusalOf given (failure_of why)
 told_of given refusal.Memory h = tt
 told_of given (refusal.Event index rule) h = h
 
 -- what the conversion of a refusal gives
-pub told : {T : Type 0} (given : Handed) (why : CompileError) (r : Result T Failure) → IsRefusal given why →
+pub told : {T : Type 0} (given : Handed) (why : CompileError) (r : Result T Failure) →
+    IsRefusal given why →
     IsErrAnd r (λ made. made ≡ failure_of why) → IfErr r (IsRefusalOf given)
 told given why (Ok x) refused is = tt
-told given why (Err made) refused is = subst (IsRefusalOf given) (sym is) (told_of given why refused)
+told given why (Err made) refused is =
+    subst (IsRefusalOf given) (sym is) (told_of given why refused)

@@ -1,4 +1,5 @@
--- The lemmas of the C interface: on the way in, from what C hands in to a text; on the way out, what an answer says.
+-- The lemmas of the C interface: on the way in, from what C hands in to a text; on the way out,
+-- what an answer says.
 pub mod GivenLemmas
 pub mod AnswerLemmas
 pub mod OptionLemmas

@@ -1,5 +1,6 @@
 -- A field that stands for no option is told as such.
-use Rattle.std.proofs.Common.{◌≡◌, ℕ, Option, Some, Result, Ok, Err, IfErr, is_some, sym, ap, ◌∙◌, subst}
+use Rattle.std.proofs.Common.{◌≡◌, ℕ, Option, Some, Result, Ok, Err, IfErr, is_some, sym, ap, ◌∙◌}
+use Rattle.std.proofs.Common.{subst}
 use Rattle.std.specs.Prelude.{IsErrAnd, slice_get}
 use Rattle.md_abi.specs.Options.{readable_fields}
 use Rattle.md_abi.specs.Failures.{IsFaultOf, IsOptionFault}
@@ -12,14 +13,17 @@ module _ {A : Type 0} (options : COptions) (field : ℕ) (value : Option A)
   fault_of : (why : Failure) → IsFaultOf field value why → IsOptionFault options why
   fault_of failure.Memory fault = tt
   fault_of (failure.Option number) fault =
-      ap (slice_get (readable_fields options)) fault.0 ∙ at ∙ ap (λ read. Some (is_some read)) fault.1
+      ap (slice_get (readable_fields options)) fault.0 ∙ at
+      ∙ ap (λ read. Some (is_some read)) fault.1
   fault_of (failure.Event index) fault = absurd fault
   fault_of (failure.Name index) fault = absurd fault
   fault_of (failure.Line number) fault = absurd fault
   fault_of (failure.Refused index rule) fault = absurd fault
 
   -- what `?` makes of it
-  pub fault_told : {T : Type 0} (r : Result T Failure) (why : Failure) → IsErrAnd r (λ made. made ≡ why) →
+  pub fault_told : {T : Type 0} (r : Result T Failure) (why : Failure) →
+      IsErrAnd r (λ made. made ≡ why) →
       IsFaultOf field value why → IfErr r (IsOptionFault options)
   fault_told (Ok x) why same fault = tt
-  fault_told (Err made) why same fault = subst (IsOptionFault options) (sym same) (fault_of why fault)
+  fault_told (Err made) why same fault =
+      subst (IsOptionFault options) (sym same) (fault_of why fault)

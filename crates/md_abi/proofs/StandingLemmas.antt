@@ -1,5 +1,7 @@
--- A list of what C hands in that is read in order: what was read, and after it what the rest stands for.
-use Rattle.std.proofs.Common.{◌≡◌, ℕ, ◌+◌, ◌<◌, ◌≤◌, List, [], ◌∷◌, ◌++◌, length, map, get_or, drop, Option, Some, None, sym, ap, ◌∙◌}
+-- A list of what C hands in that is read in order: what was read, and after it what the
+-- rest stands for.
+use Rattle.std.proofs.Common.{◌≡◌, ℕ, ◌+◌, ◌<◌, ◌≤◌, List, [], ◌∷◌, ◌++◌, length, map, get_or, drop}
+use Rattle.std.proofs.Common.{Option, Some, None, sym, ap, ◌∙◌}
 use Rattle.std.proofs.lemmas.List.{append_assoc, append-nil, map-append, at_drop_more, at_drop_all}
 use Rattle.md_abi.specs.Standing.{StandFor, IsFirstWithout}
 
@@ -19,12 +21,14 @@ module _ {A B : Type 0} (meaning : A → Option B) (given : List A) (index : ℕ
       ∙ whole
 
   -- the next one stands for none
-  pub first_without : (next : A) (count : ℕ) → index < length given → None ≡ meaning (get_or given index next) →
+  pub first_without : (next : A) (count : ℕ) → index < length given →
+      None ≡ meaning (get_or given index next) →
       count ≡ length read → IsFirstWithout meaning given count
   first_without next count within none counted = record {
     before = read;
     others = map meaning (drop (index + 1) given);
-    found = sym whole ∙ at_drop_more (λ left. map Some read ++ map meaning left) given index next within
+    found =
+        sym whole ∙ at_drop_more (λ left. map Some read ++ map meaning left) given index next within
         ∙ ap (λ first. map Some read ++ first ∷ map meaning (drop (index + 1) given)) (sym none);
     counted = counted;
   }

@@ -1,6 +1,7 @@
 -- Which statuses an answer has, and which of its fields tell something.
 use Rattle.std.specs.Prelude.{◌≡◌, ◌≢◌, ◌⊎◌, ℕ, ◌<◌, ◌≤◌}
-use Rattle.md_abi.specs.Numbers.{too_short, refused, no_line, no_option, no_event, no_memory, unsafe_options, no_attribute}
+use Rattle.md_abi.specs.Numbers.{too_short, refused, no_line, no_option, no_event, no_memory}
+use Rattle.md_abi.specs.Numbers.{unsafe_options, no_attribute}
 use Rattle.md_abi.specs.Numbers.{too_long, too_much}
 use Rattle.md_abi.specs.declared.answer.Answer.{Answer}
 

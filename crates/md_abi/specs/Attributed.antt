@@ -19,26 +19,29 @@ use Rattle.md_abi.specs.declared.attributes.CAttributes.{CAttributes}
 abbrev pub none_begins_with : Option (List ℕ) → List (List ℕ) → Bool
 none_begins_with prefix ids = option_map_or (λ text. none_begins (shown text) ids) prefix true
 
--- the bytes before the index are tokenized as these tokens with ids on their headings, where a prefix is asked for, and
--- keep to what such a text keeps to; those after it are the list of these headings; where no two ids among the tokens
--- are equal, and none begins with the prefix, no two of the text are equal
-pub record IsListedAfter (prefix : Option (List ℕ)) (tokens : List Token) (start : ℕ) (whole : List ℕ) : Type 0 where
+-- the bytes before the index are tokenized as these tokens with ids on their headings, where a
+-- prefix is asked for, and keep to what such a text keeps to; those after it are the list of these
+-- headings; where no two ids among the tokens are equal, and none begins with the prefix, no two of
+-- the text are equal
+pub record IsListedAfter (prefix : Option (List ℕ)) (tokens : List Token) (start : ℕ)
+    (whole : List ℕ) : Type 0 where
   pub within : start ≤ length whole
   pub added : IsTokenized (take start whole) (with_ids prefix tokens)
   pub attributed : IsAttributed (take start whole)
   pub headings : drop start whole ≡ listing (headings_with prefix tokens)
-  pub distinct : IsTrue (are_distinct (ids_among tokens)) → IsTrue (none_begins_with prefix (ids_among tokens)) →
+  pub distinct : IsTrue (are_distinct (ids_among tokens)) →
+      IsTrue (none_begins_with prefix (ids_among tokens)) →
       IsTrue (are_distinct (ids_among (with_ids prefix tokens)))
 
--- of what was handed in, with safe options, there is a text with all that is promised of one without attributes; with
--- the attributes that are asked for its tokens are those of the bytes before the index; the list of the headings that
--- got an id follows
-pub record IsAttributedText (events : List CEvent) (bytes : List ℕ) (options : COptions) (names : List CReference)
-    (attributes : CAttributes) (start : ℕ) (whole : List ℕ)
-    : Type 0 where
+-- of what was handed in, with safe options, there is a text with all that is promised of one
+-- without attributes; with the attributes that are asked for its tokens are those of the bytes
+-- before the index; the list of the headings that got an id follows
+pub record IsAttributedText (events : List CEvent) (bytes : List ℕ) (options : COptions)
+    (names : List CReference) (attributes : CAttributes) (start : ℕ) (whole : List ℕ) : Type 0 where
   pub plain : List ℕ
   pub tokens : List Token
   pub safe : KeepsImages options
   pub rendered : IsRendered events bytes options names plain
   pub tokenized : IsTokenized plain tokens
-  pub listed : IsListedAfter (asked attributes.heading_ids) (with_rel (asked attributes.rel) tokens) start whole
+  pub listed : IsListedAfter (asked attributes.heading_ids)
+      (with_rel (asked attributes.rel) tokens) start whole

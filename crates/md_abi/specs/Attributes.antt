@@ -1,5 +1,6 @@
 -- The attributes that C asks for, and the list of headings that it is handed.
-use Rattle.std.specs.Prelude.{◌≡◌, ℕ, Bool, false, List, [], ◌∷◌, ◌++◌, Option, Some, option_and_then, is_some, slice_get}
+use Rattle.std.specs.Prelude.{◌≡◌, ℕ, Bool, false, List, [], ◌∷◌, ◌++◌, Option, Some}
+use Rattle.std.specs.Prelude.{option_and_then, is_some, slice_get}
 use Rattle.std.specs.Option.{option_map_or}
 use Rattle.std.specs.List.{flat_map}
 use Rattle.std.specs.Fmt.{decimal}
@@ -25,7 +26,8 @@ with_ids prefix tokens = option_map_or (λ prefix. with_heading_ids prefix token
 abbrev pub headings_with : Option (List ℕ) → List Token → List Listed
 headings_with prefix tokens = option_map_or (λ prefix. headings_of tokens) prefix []
 
--- a heading in the list: NUL, its level, a space, its number, a space, and its text, in which there is no NUL
+-- a heading in the list: NUL, its level, a space, its number, a space, and its text, in
+-- which there is no NUL
 abbrev pub heading_line : Listed → List ℕ
 heading_line heading =
     0 ∷ (decimal heading.level ++ (32 ∷ (decimal heading.number ++ (32 ∷ heading.text))))

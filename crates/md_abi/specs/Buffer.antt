@@ -10,9 +10,9 @@ pub record IsLonger (claim : List ℕ → Type 0) (buffer : List ℕ) (size : �
   pub counted : length text ≡ size
   pub longer : length buffer < size
 
--- what an answer says of a buffer: with status `written` the buffer begins with a text of which the claim holds,
--- and what lies after that is as before; with `too_short` there is such a text, and it is longer; with all but
--- `written` all is as before
+-- what an answer says of a buffer: with status `written` the buffer begins with a text of which the
+-- claim holds, and what lies after that is as before; with `too_short` there is such a text, and it
+-- is longer; with all but `written` all is as before
 pub record HandsOver (claim : List ℕ → Type 0) (old new : List ℕ) (answer : Answer) : Type 0 where
   pub text : answer.status ≡ written → claim (take answer.length new)
   pub fits : answer.status ≡ written → answer.length ≤ length old
@@ -42,8 +42,10 @@ pub record IsKept (text old new : List ℕ) (answer : Answer) : Type 0 where
 abbrev pub IsHandedOver : List ℕ → List ℕ → List ℕ → Answer → Type 0
 IsHandedOver text old new answer = IsWritten text old new answer ⊎ IsKept text old new answer
 
--- the answer's index tells where something begins in the text, and else it is as that of the text alone
-pub record IsListHandedOver (whole : List ℕ) (start : ℕ) (old new : List ℕ) (answer : Answer) : Type 0 where
+-- the answer's index tells where something begins in the text, and else it is as that
+-- of the text alone
+pub record IsListHandedOver (whole : List ℕ) (start : ℕ) (old new : List ℕ)
+    (answer : Answer) : Type 0 where
   pub alone : Answer
   pub handed : IsHandedOver whole old new alone
   pub answered : answer ≡ record alone { index = start }

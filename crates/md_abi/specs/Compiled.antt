@@ -23,7 +23,8 @@ pub record IsCompiled (given : Handed) (options : CompileOptions) (text : List �
   pub safe_links : KeepsLinks options → HasOneReadingWith is_safe_link text
   pub safe_images : KeepsImages options → HasOneReadingWith is_safe_image text
   pub contained : KeepsGrammar options → IsContained text
-  pub tree : (document : Forest) → flatten document ≡ given.events → has_nested_link false document ≡ false →
+  pub tree : (document : Forest) → flatten document ≡ given.events →
+      has_nested_link false document ≡ false →
       KeepsGrammar options → IsBuiltAsRead text
   pub tokenized : KeepsGrammar options → IsTokenizedAsRead text
   pub safe_link_tokens : KeepsLinks options → HasTokensWith has_safe_links text

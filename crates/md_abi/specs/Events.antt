@@ -11,7 +11,8 @@ use Rattle.md_abi.specs.declared.event.CEvent.{CEvent}
 abbrev pub kind_of : ℕ → Option Kind
 kind_of number = if number == 1 then Some Enter else if number == 2 then Some Exit else None
 
--- its kind and its name by their numbers, at its index and with its columns; lines and columns of text are never read
+-- its kind and its name by their numbers, at its index and with its columns; lines and columns of
+-- text are never read
 abbrev pub event_of : CEvent → Option Event
 event_of given = do
   kind ← kind_of given.kind

@@ -1,4 +1,5 @@
--- What a failure says, and the answer that tells it. Only contracts of private functions speak of it.
+-- What a failure says, and the answer that tells it. Only contracts of private
+-- functions speak of it.
 use Rattle.std.specs.Prelude.{◌≡◌, ℕ, List, Option, None}
 use Rattle.md_tree.specs.declared.rule.CompileError.{CompileError}
 use Rattle.md_tree.specs.declared.rule.CompileError.TheVariants as refusal
@@ -6,7 +7,8 @@ use Rattle.md_tree.specs.Grammar.{Handed}
 use Rattle.md_tree.specs.Refusal.{IsRefusal}
 use Rattle.md_script.specs.declared.error.RunError.{RunError}
 use Rattle.md_script.specs.declared.error.RunError.TheVariants as run
-use Rattle.md_abi.specs.Numbers.{refused, no_event, no_name, no_option, no_line, no_memory, rule_number}
+use Rattle.md_abi.specs.Numbers.{refused, no_event, no_name, no_option, no_line, no_memory}
+use Rattle.md_abi.specs.Numbers.{rule_number}
 use Rattle.md_abi.specs.Standing.{IsFirstWithout}
 use Rattle.md_abi.specs.Events.{event_of}
 use Rattle.md_abi.specs.References.{reference_of}
@@ -41,7 +43,8 @@ answer_of (failure.Event index) = about no_event index
 answer_of (failure.Name index) = about no_name index
 answer_of (failure.Option number) = about no_option number
 answer_of (failure.Line number) = about no_line number
-answer_of (failure.Refused index rule) = record { status = refused; rule = rule_number rule; index = index; length = 0 }
+answer_of (failure.Refused index rule) =
+    record { status = refused; rule = rule_number rule; index = index; length = 0 }
 
 -- there is no memory, or the first event that stands for none is named
 abbrev pub IsEventFault : List CEvent → Failure → Type 0
@@ -80,4 +83,5 @@ Explains events bytes options names (failure.Event index) = IsFirstWithout event
 Explains events bytes options names (failure.Name index) = IsFirstWithout reference_of names index
 Explains events bytes options names (failure.Option number) = StandsForNone options number
 Explains events bytes options names (failure.Line number) = ⊥
-Explains events bytes options names (failure.Refused index rule) = IsRefusedFor events bytes names index rule
+Explains events bytes options names (failure.Refused index rule) =
+    IsRefusedFor events bytes names index rule

@@ -1,7 +1,9 @@
 -- The numbers that C reads in an answer.
 use Rattle.std.specs.Prelude.{ℕ}
 use Rattle.md_tree.specs.declared.rule.Rule.{Rule}
-use Rattle.md_tree.specs.declared.rule.Rule.TheVariants.{Order, Mdx, Place, LineEnding, HeadingMark, ListNumber, CharacterReference, Definition, Footnote, Target}
+use Rattle.md_tree.specs.declared.rule.Rule.TheVariants as rule_variants
+use rule_variants.{Order, Mdx, Place, LineEnding, HeadingMark, ListNumber, CharacterReference}
+use rule_variants.{Definition, Footnote, Target}
 
 -- ---- statuses
 

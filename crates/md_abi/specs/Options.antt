@@ -1,8 +1,10 @@
 -- The options that C's stand for, and which of these are safe.
-use Rattle.std.specs.Prelude.{◌≡◌, ℕ, ◌==◌, Bool, true, false, if◌then◌else◌, List, [], ◌∷◌, Option, Some, None, is_some, option_map, slice_get, string_bytes}
+use Rattle.std.specs.Prelude.{◌≡◌, ℕ, ◌==◌, Bool, true, false, if◌then◌else◌, List, [], ◌∷◌, Option}
+use Rattle.std.specs.Prelude.{Some, None, is_some, option_map, slice_get, string_bytes}
 use Rattle.md_base.specs.Place.{text_when}
 use Rattle.md_text.specs.declared.line_ending.LineEnding.{LineEnding}
-use Rattle.md_text.specs.declared.line_ending.LineEnding.TheVariants.{CarriageReturnLineFeed, CarriageReturn, LineFeed}
+use Rattle.md_text.specs.declared.line_ending.LineEnding.TheVariants.{CarriageReturnLineFeed}
+use Rattle.md_text.specs.declared.line_ending.LineEnding.TheVariants.{CarriageReturn, LineFeed}
 use Rattle.md_text.specs.declared.options.CompileOptions.{CompileOptions}
 use Rattle.md_abi.specs.declared.option.CText.{CText}
 use Rattle.md_abi.specs.declared.option.COptions.{COptions}
@@ -29,15 +31,18 @@ text_of given =
 pub record HasOptions (given : COptions) (options : CompileOptions) : Type 0 where
   pub any_img_src : flag_of given.allow_any_img_src ≡ Some options.allow_any_img_src
   pub dangerous_html : flag_of given.allow_dangerous_html ≡ Some options.allow_dangerous_html
-  pub dangerous_protocol : flag_of given.allow_dangerous_protocol ≡ Some options.allow_dangerous_protocol
-  pub checkable : flag_of given.gfm_task_list_item_checkable ≡ Some options.gfm_task_list_item_checkable
+  pub dangerous_protocol :
+      flag_of given.allow_dangerous_protocol ≡ Some options.allow_dangerous_protocol
+  pub checkable :
+      flag_of given.gfm_task_list_item_checkable ≡ Some options.gfm_task_list_item_checkable
   pub tagfilter : flag_of given.gfm_tagfilter ≡ Some options.gfm_tagfilter
   pub ending : ending_of given.default_line_ending ≡ Some options.default_line_ending
   pub back_label : text_of given.gfm_footnote_back_label
       ≡ Some (option_map string_bytes options.gfm_footnote_back_label)
   pub clobber_prefix : text_of given.gfm_footnote_clobber_prefix
       ≡ Some (option_map string_bytes options.gfm_footnote_clobber_prefix)
-  pub label : text_of given.gfm_footnote_label ≡ Some (option_map string_bytes options.gfm_footnote_label)
+  pub label :
+      text_of given.gfm_footnote_label ≡ Some (option_map string_bytes options.gfm_footnote_label)
   pub label_attributes : text_of given.gfm_footnote_label_attributes
       ≡ Some (option_map string_bytes options.gfm_footnote_label_attributes)
   pub label_tag_name : text_of given.gfm_footnote_label_tag_name
@@ -65,7 +70,8 @@ readable_fields given =
 abbrev pub StandsForNone : COptions → ℕ → Type 0
 StandsForNone given number = slice_get (readable_fields given) number ≡ Some false
 
--- nothing is written as it is given: HTML is escaped, and the heading of the footnotes is the usual one
+-- nothing is written as it is given: HTML is escaped, and the heading of the footnotes
+-- is the usual one
 pub record KeepsGrammar (given : COptions) : Type 0 where
   pub escapes_html : given.allow_dangerous_html ≡ 0
   pub usual_tag : given.gfm_footnote_label_tag_name.is_set ≡ 0

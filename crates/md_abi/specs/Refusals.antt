@@ -1,5 +1,5 @@
--- Why there is no text with attributes, and the answer that tells it. Only contracts of private functions speak of it,
--- but for the two statuses.
+-- Why there is no text with attributes, and the answer that tells it. Only contracts of private
+-- functions speak of it, but for the two statuses.
 use Rattle.std.specs.Prelude.{◌≡◌, ℕ, List, Option, None}
 use Rattle.md_tree.specs.Grammar.{Handed}
 use Rattle.md_text.specs.declared.options.CompileOptions.{CompileOptions}
@@ -42,7 +42,8 @@ IsRefusalFor handed options (refusal.Attribute number) = ⊥
 IsRefusalFor handed options (refusal.Failed failure) = IsRefusalOf handed failure
 
 -- why what is handed in gives no text with attributes
-abbrev pub ExplainsRefusal : List CEvent → List ℕ → COptions → List CReference → CAttributes → Refusal → Type 0
+abbrev pub ExplainsRefusal : List CEvent → List ℕ → COptions → List CReference →
+    CAttributes → Refusal → Type 0
 ExplainsRefusal events bytes options names attributes refusal.Unsafe = KeepsImages options → ⊥
 ExplainsRefusal events bytes options names attributes (refusal.Attribute number) =
     StandsForNoAttribute attributes number

@@ -26,14 +26,13 @@ use Rattle.md_abi.specs.declared.event.CEvent.{CEvent}
 use Rattle.md_abi.specs.declared.reference.CReference.{CReference}
 use Rattle.md_abi.specs.declared.option.COptions.{COptions}
 
--- the text is the meaning of a document of the grammar whose events, options and names are those that were handed
--- in; where the options are safe, it has one reading, with links and images of permitted protocols alone, in which
--- everything stands where it may, and the HTML Standard's tokenizer emits that, with links and images of permitted
--- schemes alone; where no link stands in a link, tree construction builds it; where ids go by number no two ids are
--- equal
-pub record IsRendered (events : List CEvent) (bytes : List ℕ) (options : COptions) (names : List CReference)
-    (text : List ℕ)
-    : Type 0 where
+-- the text is the meaning of a document of the grammar whose events, options and names are those
+-- that were handed in; where the options are safe, it has one reading, with links and images of
+-- permitted protocols alone, in which everything stands where it may, and the HTML Standard's
+-- tokenizer emits that, with links and images of permitted schemes alone; where no link stands in a
+-- link, tree construction builds it; where ids go by number no two ids are equal
+pub record IsRendered (events : List CEvent) (bytes : List ℕ) (options : COptions)
+    (names : List CReference) (text : List ℕ) : Type 0 where
   pub document : Forest
   pub given : CompileOptions
   pub table : List (List ℕ × List ℕ)
@@ -53,14 +52,15 @@ pub record IsRendered (events : List CEvent) (bytes : List ℕ) (options : COpti
   pub distinct_ids : KeepsIds options → HasDistinctIds text
 
 -- what was handed in stands for events that are refused at this index by this rule
-pub record IsRefusedFor (events : List CEvent) (bytes : List ℕ) (names : List CReference) (index : ℕ)
-    (broken : Rule)
-    : Type 0 where
+pub record IsRefusedFor (events : List CEvent) (bytes : List ℕ)
+    (names : List CReference) (index : ℕ)
+    (broken : Rule) : Type 0 where
   pub read : List Event
   pub table : List (List ℕ × List ℕ)
   pub events_stand : StandFor event_of events read
   pub names_stand : StandFor reference_of names table
-  pub refused : IsRefusal (record { events = read; bytes = bytes; names = table }) (refusal.Event index broken)
+  pub refused : IsRefusal (record { events = read; bytes = bytes; names = table })
+      (refusal.Event index broken)
 
 -- the same by a rule's number
 abbrev pub IsRefusedBy : List CEvent → List ℕ → List CReference → ℕ → ℕ → Type 0

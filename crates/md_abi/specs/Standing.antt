@@ -1,5 +1,6 @@
 -- Lists of what C hands in, and what they stand for.
-use Rattle.std.specs.Prelude.{◌≡◌, ℕ, List, ◌∷◌, ◌++◌, length, map, Option, Some, None, option_and_then}
+use Rattle.std.specs.Prelude.{◌≡◌, ℕ, List, ◌∷◌, ◌++◌, length, map, Option, Some, None}
+use Rattle.std.specs.Prelude.{option_and_then}
 
 -- what is made of a value, where there is one
 infixl 10 ◌>>=◌
@@ -11,7 +12,8 @@ abbrev pub StandFor : {A B : Type 0} → (A → Option B) → List A → List B 
 StandFor meaning given read = map meaning given ≡ map Some read
 
 -- the first of a list that stands for none is at this index
-pub record IsFirstWithout {A B : Type 0} (meaning : A → Option B) (given : List A) (index : ℕ) : Type 0 where
+pub record IsFirstWithout {A B : Type 0} (meaning : A → Option B) (given : List A)
+    (index : ℕ) : Type 0 where
   pub before : List B
   pub others : List (Option B)
   pub found : map meaning given ≡ map Some before ++ None ∷ others

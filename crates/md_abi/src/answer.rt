@@ -56,7 +56,8 @@ pub struct Answer {
     pub status: u32,
     /// The number of the rule that a refused event breaks, from 1.
     pub rule: u32,
-    /// The index of an event or of a named character reference, the number of an option, or a script's line, from 1.
+    /// The index of an event or of a named character reference, the number of an option, or a
+    /// script's line, from 1.
     pub index: usize,
     /// How many bytes the text has.
     pub length: usize,

@@ -1,6 +1,7 @@
 //! From what C hands in to a text whose tags have attributes, and the headings that got one.
 
-ghost use Rattle.std.specs.Prelude.{◌≡◌, ◌++◌, ◌∷◌, [], ℕ, List, IfOk, IfErr, OnOk, map, length, option_copied, string_bytes};
+ghost use Rattle.std.specs.Prelude.{◌≡◌, ◌++◌, ◌∷◌, [], ℕ, List, IfOk, IfErr, OnOk, map, length};
+ghost use Rattle.std.specs.Prelude.{option_copied, string_bytes};
 ghost use Rattle.std.specs.Fmt.{decimal};
 ghost use Rattle.md_tree.specs.Grammar.{handed};
 ghost use Rattle.md_safe.specs.Options.{KeepsImages};
@@ -33,11 +34,13 @@ pub struct Attributed {
     pub start: usize,
 }
 
-/// The HTML of what is handed in, with the attributes that are asked for, and the headings that got an `id`.
+/// The HTML of what is handed in, with the attributes that are asked for, and the headings
+/// that got an `id`.
 ///
 /// # Errors
 ///
-/// Tells what stands for none, that the options aren't safe, the refusal of the compiler, or that it is out of memory.
+/// Tells what stands for none, that the options aren't safe, the refusal of the compiler, or that
+/// it is out of memory.
 pub fn compile_attributed(
     alloc: Global,
     given: CDocument,
@@ -91,7 +94,8 @@ fn add_asked(
     prefix: Option<&str>,
 ) -> Result<Attributed, AllocError>
     ensures { IfOk result (λ made. (x : List Token) → IsTokenized html.now x
-        → IsListedAfter (option_copied prefix.entry) (with_rel (option_copied rel.entry) x) made.start (string_bytes made.whole)) }
+        → IsListedAfter (option_copied prefix.entry) (with_rel (option_copied rel.entry) x)
+        made.start (string_bytes made.whole)) }
 {
     match rel {
         Some(rel) => add_ids(alloc, &with_link_rel(alloc, html, rel)?, prefix),
@@ -115,7 +119,8 @@ fn add_ids<H: Html>(alloc: Global, html: &H, prefix: Option<&str>) -> Result<Att
 
 /// A text, and after it a list of headings.
 fn with_list(alloc: Global, text: &str, headings: &[Heading]) -> Result<Attributed, AllocError>
-    ensures whole { IfOk result (λ made. string_bytes made.whole ≡ text.now ++ listing (map listed headings.now)) }
+    ensures whole { IfOk result
+        (λ made. string_bytes made.whole ≡ text.now ++ listing (map listed headings.now)) }
     ensures start { IfOk result (λ made. made.start ≡ length text.now) }
 {
     let mut whole = String::from_str(alloc, text)?;
@@ -128,7 +133,8 @@ fn with_list(alloc: Global, text: &str, headings: &[Heading]) -> Result<Attribut
 
 /// Adds a heading to the list.
 fn push_heading_line(alloc: Global, whole: &mut String, heading: &Heading) -> Result<(), AllocError>
-    ensures { OnOk result (string_bytes whole.new ≡ string_bytes whole.old ++ heading_line (listed heading.now)) }
+    ensures { OnOk result
+        (string_bytes whole.new ≡ string_bytes whole.old ++ heading_line (listed heading.now)) }
 {
     whole.push_str("\0")?;
     whole.push_str(heading.level.to_string(alloc)?.as_str())?;

@@ -17,7 +17,8 @@ pub enum Failure {
     Option(usize),
     /// The line with this number, from 1, can't be read.
     Line(usize),
-    /// An event breaks a rule; the index is the number of events where something is open at the end.
+    /// An event breaks a rule; the index is the number of events where something is
+    /// open at the end.
     Refused { index: usize, rule: Rule },
 }
 

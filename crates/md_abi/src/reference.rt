@@ -28,7 +28,8 @@ pub(crate) fn read_references<'a>(
     alloc: Global,
     references: &[CReference<'a>],
 ) -> Result<Vec<(&'a str, &'a str)>, Failure>
-    ensures ok { IfOk result (λ read. StandFor reference_of references.now (name_table read.items)) }
+    ensures ok { IfOk result
+        (λ read. StandFor reference_of references.now (name_table read.items)) }
     ensures err { IfErr result (IsNameFault references.now) }
 {
     let mut read = Vec::new(alloc);

@@ -1,13 +1,19 @@
--- A text with single spaces alone is collapsed already, and what a load of its bytes tells of these.
-use Rattle.std.proofs.Common.{◌≡◌, ℕ, zero, suc, ◌+◌, ◌-◌, ◌^◌, ◌%◌, ◌<◌, ◌≤◌, Bool, true, false, cond, leb, eqb, ltb, bit_or, bit_and, List, [], ◌∷◌, map, length, get_or, replicate, take_all, refl, sym, ap, ap₂, subst, add-one, ◌∙◌, arith, inl, inr}
+-- A text with single spaces alone is collapsed already, and what a load of its bytes tells of
+-- these.
+use Rattle.std.proofs.Common.{◌≡◌, ℕ, zero, suc, ◌+◌, ◌-◌, ◌^◌, ◌%◌, ◌<◌, ◌≤◌, Bool, true, false}
+use Rattle.std.proofs.Common.{cond, leb, eqb, ltb, bit_or, bit_and, List, [], ◌∷◌, map, length}
+use Rattle.std.proofs.Common.{get_or, replicate, take_all, refl, sym, ap, ap₂, subst, add-one, ◌∙◌}
+use Rattle.std.proofs.Common.{arith, inl, inr}
 use Rattle.std.proofs.lemmas.Bool.{true≢false, ltb-false, leb-false, eq-eqb, eqb-true, cases_eq}
 use Rattle.std.proofs.lemmas.Bool.Decides.{nat_tests}
 use Rattle.std.proofs.lemmas.List.{length-map}
-use Rattle.std.proofs.lemmas.Simd.{get_or-zip2, get_or-chunk, get_or-replicate, length-chunk, length-replicate, length-zip2, mask_l-mod, none_from_empty_mask}
+use Rattle.std.proofs.lemmas.Simd.{get_or-zip2, get_or-chunk, get_or-replicate, length-chunk}
+use Rattle.std.proofs.lemmas.Simd.{length-replicate, length-zip2, mask_l-mod, none_from_empty_mask}
 use lib.Lanes.{chunk, mask_l, top, zip2}
 use Rattle.md_base.specs.Identifier.{is_white, collapsed}
 use Rattle.md_base.specs.Collapsed.{IsSingleAt, HasSingleSpaces}
-use Rattle.md_base.proofs.IdentifierLemmas.{in_word, in_word-white, in_word-black, after_word-black, collapsed-black}
+use Rattle.md_base.proofs.IdentifierLemmas.{in_word, in_word-white, in_word-black, after_word-black}
+use Rattle.md_base.proofs.IdentifierLemmas.{collapsed-black}
 
 -- ---- such a text
 
@@ -41,7 +47,8 @@ in_word-single [] singles ends = refl
 in_word-single (b ∷ []) singles ends = in_word-black b [] (above_is_black b (ends zero refl))
 in_word-single (b ∷ c ∷ text) singles ends =
     let here = singles zero (omega arith) in
-    let later = in_word-single (c ∷ text) (later_singles b (c ∷ text) singles) (later_end b c text ends) in
+    let later =
+    in_word-single (c ∷ text) (later_singles b (c ∷ text) singles) (later_end b c text ends) in
     elim (cases_eq b 32) [
       | inl space ↦ (let black = above_is_black c (here.1 space) in
           in_word-white b (c ∷ text) (ap is_white space) ∙ after_word-black c text black
@@ -50,7 +57,8 @@ in_word-single (b ∷ c ∷ text) singles ends =
           ∙ ap (λ t. b ∷ t) later
     ]
 
-pub collapsed-single : (text : List ℕ) → 33 ≤ get_or text 0 0 → EndsBlack text → HasSingleSpaces text →
+pub collapsed-single : (text : List ℕ) → 33 ≤ get_or text 0 0 → EndsBlack text →
+    HasSingleSpaces text →
     collapsed text ≡ text
 collapsed-single [] first ends singles = refl
 collapsed-single (b ∷ text) first ends singles =
@@ -62,9 +70,11 @@ collapsed-single (b ∷ text) first ends singles =
 
 -- the mark of a byte, with the next one
 abbrev pub marked : Bool → Bool → Bool → Bool
-marked low space white = top 7 (bit_or (cond low 255 0) (bit_and (cond space 255 0) (cond white 255 0)))
+marked low space white =
+    top 7 (bit_or (cond low 255 0) (bit_and (cond space 255 0) (cond white 255 0)))
 
-unmarked : (low space white : Bool) → marked low space white ≡ false → (low ≡ false) × (space ≡ true → white ≡ false)
+unmarked : (low space white : Bool) → marked low space white ≡ false →
+    (low ≡ false) × (space ≡ true → white ≡ false)
 unmarked true true true e = absurd (true≢false e)
 unmarked true true false e = absurd (true≢false e)
 unmarked true false true e = absurd (true≢false e)
@@ -73,7 +83,8 @@ unmarked false true true e = absurd (true≢false e)
 unmarked false true false e = (refl, λ _. refl)
 unmarked false false white e = (refl, λ h. absurd (true≢false (sym h)))
 
-single_lane : (b next : ℕ) → marked (ltb b 32) (eqb b 32) (ltb next 33) ≡ false → (32 ≤ b) × (b ≡ 32 → 33 ≤ next)
+single_lane : (b next : ℕ) → marked (ltb b 32) (eqb b 32) (ltb next 33) ≡ false →
+    (32 ≤ b) × (b ≡ 32 → 33 ≤ next)
 single_lane b next e =
     let parts = unmarked (ltb b 32) (eqb b 32) (ltb next 33) e in
     (ltb-false b 32 parts.0, λ space. ltb-false next 33 (parts.1 (eq-eqb b 32 space)))
@@ -110,9 +121,10 @@ module _ (text : List ℕ) (at n : ℕ) (room : at + n < length text) (few : n �
   compared-at : (test : ℕ → ℕ → Bool) (bytes : List ℕ) (limit k : ℕ) → length bytes ≡ n → k < n →
       get_or (compared test bytes limit) k 0 ≡ cond (test (get_or bytes k 0) limit) 255 0
   compared-at test bytes limit k long inside =
-      get_or-zip2 (λ a b. cond {A = ℕ} (test a b) 255 0) bytes (replicate n limit) k 0 0 0 (omega (arith, long, inside))
-      (omega (arith, length-replicate n limit, inside))
-      ∙ ap (λ y. cond {A = ℕ} (test (get_or bytes k 0) y) 255 0) (get_or-replicate n k limit 0 inside)
+      get_or-zip2 (λ a b. cond {A = ℕ} (test a b) 255 0) bytes (replicate n limit) k 0 0 0
+      (omega (arith, long, inside)) (omega (arith, length-replicate n limit, inside))
+      ∙ ap (λ y. cond {A = ℕ} (test (get_or bytes k 0) y) 255 0)
+      (get_or-replicate n k limit 0 inside)
 
   length-pairs : length pairs ≡ n
   length-pairs =
@@ -122,7 +134,8 @@ module _ (text : List ℕ) (at n : ℕ) (room : at + n < length text) (few : n �
 
   length-lanes : length lanes ≡ n
   length-lanes =
-      length-zip2 bit_or (compared ltb block 32) pairs (length-compared ltb block 32 length-block ∙ sym length-pairs)
+      length-zip2 bit_or (compared ltb block 32) pairs
+      (length-compared ltb block 32 length-block ∙ sym length-pairs)
       ∙ length-compared ltb block 32 length-block
 
   lanes-at : (k : ℕ) → k < n → get_or lanes k 0
@@ -130,23 +143,26 @@ module _ (text : List ℕ) (at n : ℕ) (room : at + n < length text) (few : n �
       (bit_and (cond (eqb (get_or block k 0) 32) 255 0) (cond (ltb (get_or next k 0) 33) 255 0))
   lanes-at k inside =
       get_or-zip2 bit_or (compared ltb block 32) pairs k 0 0 0
-      (omega (arith, inside, length-compared ltb block 32 length-block)) (omega (arith, inside, length-pairs))
+      (omega (arith, inside, length-compared ltb block 32 length-block))
+      (omega (arith, inside, length-pairs))
       ∙ ap₂ bit_or (compared-at ltb block 32 k length-block inside)
       (get_or-zip2 bit_and (compared eqb block 32) (compared ltb next 33) k 0 0 0
       (omega (arith, inside, length-compared eqb block 32 length-block))
       (omega (arith, inside, length-compared ltb next 33 length-next))
-      ∙ ap₂ bit_and (compared-at eqb block 32 k length-block inside) (compared-at ltb next 33 k length-next inside))
+      ∙ ap₂ bit_and (compared-at eqb block 32 k length-block inside)
+      (compared-at ltb next 33 k length-next inside))
 
   unmarked_lane : eqb (mask_l (map (top 7) lanes) % 2 ^ 64) 0 ≡ true → (k : ℕ) → k < n →
       top 7 (get_or lanes k 0) ≡ false
   unmarked_lane none k inside =
       let whole = take_all n lanes (omega (arith, length-lanes)) in
       none_from_empty_mask (top 7) lanes 0 n 0 (omega (arith, length-lanes))
-      (ap (λ l. mask_l (map (top 7) l)) whole
-      ∙ sym (mask_l-mod (map (top 7) lanes) 64 (omega (arith, few, length-map lanes (top 7), length-lanes)))
+      (ap (λ l. mask_l (map (top 7) l)) whole ∙ sym (mask_l-mod (map (top 7) lanes) 64
+      (omega (arith, few, length-map lanes (top 7), length-lanes)))
       ∙ eqb-true _ 0 none) k (omega arith) (omega (arith, inside))
 
-  single_at : eqb (mask_l (map (top 7) lanes) % 2 ^ 64) 0 ≡ true → (k : ℕ) → k < n → IsSingleAt text (at + k)
+  single_at : eqb (mask_l (map (top 7) lanes) % 2 ^ 64) 0 ≡ true → (k : ℕ) → k < n →
+      IsSingleAt text (at + k)
   single_at none k inside =
       let single = single_lane (get_or block k 0) (get_or next k 0)
       (ap (top 7) (sym (lanes-at k inside)) ∙ unmarked_lane none k inside) in
@@ -155,7 +171,8 @@ module _ (text : List ℕ) (at n : ℕ) (room : at + n < length text) (few : n �
       ∙ ap (λ i. get_or text i 0) {x = at + 1 + k} {y = at + k + 1} (omega arith) in
       (omega (arith, here, single.0), λ space. omega (arith, there, single.1 (here ∙ space)))
 
-  pub single_in : eqb (mask_l (map (top 7) lanes) % 2 ^ 64) 0 ≡ true → (k : ℕ) → at ≤ k → k < at + n →
+  pub single_in : eqb (mask_l (map (top 7) lanes) % 2 ^ 64) 0 ≡ true → (k : ℕ) →
+      at ≤ k → k < at + n →
       IsSingleAt text k
   single_in none k from to =
       subst (IsSingleAt text) {x = at + (k - at)} {y = k} (omega (arith, from))

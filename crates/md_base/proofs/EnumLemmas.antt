@@ -1,5 +1,7 @@
--- A derived `==` decides whether two values of an enum are one, also where some variants have fields.
-use Rattle.std.proofs.Common.{◌≡◌, Bool, true, false, ◌⊎◌, Decides, List, [], ◌∷◌, refl, sym, ap, subst, inl, inr}
+-- A derived `==` decides whether two values of an enum are one, also where some
+-- variants have fields.
+use Rattle.std.proofs.Common.{◌≡◌, Bool, true, false, ◌⊎◌, Decides, List, [], ◌∷◌, refl, sym, ap}
+use Rattle.std.proofs.Common.{subst, inl, inr}
 use Rattle.std.proofs.lemmas.Bool.{false≢true}
 use denote.Struct.Field.{Field}
 use denote.Struct.Values.{Values}
@@ -60,15 +62,18 @@ by_decides [] tests a b = absurd a
 by_decides ([] ∷ variants) tests (inl x) (inl y) = left_decides x y true (λ _. refl, λ _. refl)
 by_decides ([] ∷ variants) tests (inl x) (inr y) = apart_decides x y
 by_decides ([] ∷ variants) tests (inr x) (inl y) = apart_too y x
-by_decides ([] ∷ variants) tests (inr x) (inr y) = right_decides x y _ (by_decides variants tests x y)
+by_decides ([] ∷ variants) tests (inr x) (inr y) =
+    right_decides x y _ (by_decides variants tests x y)
 by_decides ((field ∷ fields) ∷ variants) tests (inl x) (inl y) = left_decides x y _ (tests.0.1 x y)
 by_decides ((field ∷ fields) ∷ variants) tests (inl x) (inr y) = apart_decides x y
 by_decides ((field ∷ fields) ∷ variants) tests (inr x) (inl y) = apart_too y x
-by_decides ((field ∷ fields) ∷ variants) tests (inr x) (inr y) = right_decides x y _ (by_decides variants tests.1 x y)
+by_decides ((field ∷ fields) ∷ variants) tests (inr x) (inr y) =
+    right_decides x y _ (by_decides variants tests.1 x y)
 
 -- the same of the author's own values
 pub same_decides : (enum : Record) (tests : Tests enum.parts) (a b : enum.D) →
-    Decides (by false false enum.parts (each_of enum.parts tests) (enum.as_values a) (enum.as_values b)) (a ≡ b)
+    Decides (by false false enum.parts (each_of enum.parts tests) (enum.as_values a)
+    (enum.as_values b)) (a ≡ b)
 same_decides enum tests a b =
     let choices = by_decides enum.parts tests (enum.as_values a) (enum.as_values b) in
     (λ e. values_one enum a b (choices.0 e), λ e. choices.1 (ap enum.as_values e))

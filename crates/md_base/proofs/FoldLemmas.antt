@@ -1,14 +1,19 @@
 -- Case folding of ASCII, and of a text by its characters.
-use Rattle.std.proofs.Common.{◌≡◌, ℕ, zero, suc, ◌<◌, ◌≤◌, List, [], ◌∷◌, ◌++◌, map, length, get_or, encode_utf8, encode_utf8_all, chars, IsAscii, IsUtf8, refl, sym, ap, ap₂, ◌∙◌, arith, inl, inr}
+use Rattle.std.proofs.Common.{◌≡◌, ℕ, zero, suc, ◌<◌, ◌≤◌, List, [], ◌∷◌, ◌++◌, map, length, get_or}
+use Rattle.std.proofs.Common.{encode_utf8, encode_utf8_all, chars, IsAscii, IsUtf8, refl, sym, ap}
+use Rattle.std.proofs.Common.{ap₂, ◌∙◌, arith, inl, inr}
 use Rattle.std.proofs.lemmas.Bool.{cases_lt}
 use Rattle.std.proofs.lemmas.Bool.Decides.{nat_tests}
-use Rattle.std.proofs.lemmas.List.{append_assoc, append-nil, get_or-map, get_or_past, length-map, map-append}
-use Rattle.std.proofs.lemmas.Str.{chars-IsAscii, encodes-IsAscii, encodes-append, chars_past_char, chars-nil, encode_ascii, inside_one}
+use Rattle.std.proofs.lemmas.List.{append_assoc, append-nil, get_or-map, get_or_past, length-map}
+use Rattle.std.proofs.lemmas.List.{map-append}
+use Rattle.std.proofs.lemmas.Str.{chars-IsAscii, encodes-IsAscii, encodes-append, chars_past_char}
+use Rattle.std.proofs.lemmas.Str.{chars-nil, encode_ascii, inside_one}
 use Rattle.std.specs.Char.{to_ascii_lowercase}
 use Rattle.ucd_case.specs.CaseFolding.{full_fold, full_folding}
 use Rattle.ucd_case.proofs.CaseFoldingLemmas.{full_fold-ascii}
 use Rattle.caseless.specs.Caseless.{default_case_fold}
-use Rattle.caseless.proofs.CaselessLemmas.{default_case_fold-cons, default_case_fold-nil, default_case_fold-ascii, All-chars, full_fold-none}
+use Rattle.caseless.proofs.CaselessLemmas.{default_case_fold-cons, default_case_fold-nil}
+use Rattle.caseless.proofs.CaselessLemmas.{default_case_fold-ascii, All-chars, full_fold-none}
 
 lower_ascii : (c : ℕ) → c < 128 → to_ascii_lowercase c < 128
 lower_ascii c narrow = grind (arith, nat_tests)
@@ -36,20 +41,24 @@ fold_ascii bytes ascii =
 
 -- what is written and what stands for the rest, at a character
 pub fold_step : (written rest old : List ℕ) (c : ℕ) → IsUtf8 old → old ≡ encode_utf8 c ++ rest →
-    (written ++ encode_utf8_all (full_fold c)) ++ encode_utf8_all (default_case_fold (chars rest)) ≡ written
-    ++ encode_utf8_all (default_case_fold (chars old))
+    (written ++ encode_utf8_all (full_fold c)) ++ encode_utf8_all (default_case_fold (chars rest))
+    ≡ written ++ encode_utf8_all (default_case_fold (chars old))
 fold_step written rest old c text e =
-    append_assoc written (encode_utf8_all (full_fold c)) (encode_utf8_all (default_case_fold (chars rest)))
+    append_assoc written (encode_utf8_all (full_fold c))
+    (encode_utf8_all (default_case_fold (chars rest)))
     ∙ ap (λ t. written ++ t) (sym (encodes-append (full_fold c) (default_case_fold (chars rest)))
     ∙ ap encode_utf8_all (sym (ap default_case_fold (chars_past_char old rest c text e)
     ∙ default_case_fold-cons c (chars rest))))
 
 pub fold_end : encode_utf8_all (default_case_fold (chars [])) ≡ []
-fold_end = ap (λ cs. encode_utf8_all (default_case_fold cs)) chars-nil ∙ ap encode_utf8_all default_case_fold-nil
+fold_end = ap (λ cs. encode_utf8_all (default_case_fold cs)) chars-nil
+    ∙ ap encode_utf8_all default_case_fold-nil
 
-pub lowered_folds : (c : ℕ) → c < 128 → encode_utf8 (to_ascii_lowercase c) ≡ encode_utf8_all (full_fold c)
+pub lowered_folds : (c : ℕ) → c < 128 →
+    encode_utf8 (to_ascii_lowercase c) ≡ encode_utf8_all (full_fold c)
 lowered_folds c narrow =
-    sym (ap encode_utf8_all (full_fold-ascii c narrow) ∙ append-nil (encode_utf8 (to_ascii_lowercase c)))
+    sym (ap encode_utf8_all (full_fold-ascii c narrow)
+    ∙ append-nil (encode_utf8 (to_ascii_lowercase c)))
 
 -- ---- where to fold is to lower ASCII letters
 
@@ -63,7 +72,8 @@ lower_all_wide (b ∷ bytes) wide =
     ap₂ ◌∷◌ (lower_wide b (wide zero (omega arith)))
     (lower_all_wide bytes (λ k inside. wide (suc k) (omega (arith, inside))))
 
-wide_bytes : (c : ℕ) → 128 ≤ c → (k : ℕ) → k < length (encode_utf8 c) → 128 ≤ get_or (encode_utf8 c) k 0
+wide_bytes : (c : ℕ) → 128 ≤ c → (k : ℕ) → k < length (encode_utf8 c) →
+    128 ≤ get_or (encode_utf8 c) k 0
 wide_bytes c wide k inside =
     elim (cases_lt (get_or (encode_utf8 c) k 0) 128) [
       | inl narrow ↦ omega (
@@ -75,12 +85,14 @@ wide_bytes c wide k inside =
       | inr holds ↦ holds
     ]
 
-pub lowered_character : (c : ℕ) → c < 128 → map to_ascii_lowercase (encode_utf8 c) ≡ encode_utf8_all (full_fold c)
+pub lowered_character : (c : ℕ) → c < 128 →
+    map to_ascii_lowercase (encode_utf8 c) ≡ encode_utf8_all (full_fold c)
 lowered_character c narrow =
     ap (map to_ascii_lowercase) (encode_ascii c narrow)
     ∙ sym (encode_ascii (to_ascii_lowercase c) (lower_ascii c narrow)) ∙ lowered_folds c narrow
 
-pub kept_character : (c : ℕ) (table : List ℕ) → 128 ≤ c → table ≡ full_folding c → length table < 1 →
+pub kept_character : (c : ℕ) (table : List ℕ) → 128 ≤ c →
+    table ≡ full_folding c → length table < 1 →
     map to_ascii_lowercase (encode_utf8 c) ≡ encode_utf8_all (full_fold c)
 kept_character c table wide same none =
     lower_all_wide (encode_utf8 c) (wide_bytes c wide)
@@ -94,7 +106,8 @@ pub lowered_end : IsLowered []
 lowered_end = sym fold_end
 
 pub lowered_step : (old rest : List ℕ) (c : ℕ) → IsUtf8 old → old ≡ encode_utf8 c ++ rest →
-    map to_ascii_lowercase (encode_utf8 c) ≡ encode_utf8_all (full_fold c) → IsLowered rest → IsLowered old
+    map to_ascii_lowercase (encode_utf8 c) ≡ encode_utf8_all (full_fold c) →
+    IsLowered rest → IsLowered old
 lowered_step old rest c text e first later =
     ap (map to_ascii_lowercase) e ∙ map-append to_ascii_lowercase (encode_utf8 c) rest
     ∙ ap₂ ◌++◌ first later ∙ fold_step [] rest old c text e

@@ -1,5 +1,5 @@
--- The lemmas on derived `==`, identifiers, references, padded slices, ASCII and cases that can't be. Other crates use
--- some.
+-- The lemmas on derived `==`, identifiers, references, padded slices, ASCII and cases that can't
+-- be. Other crates use some.
 pub mod EnumLemmas
 pub mod IdentifierLemmas
 pub mod CollapsedLemmas

@@ -1,9 +1,13 @@
--- Spaces around a text leave it a text, and make no text of other bytes: a slice with cut tabs is a text where its
--- bytes are.
-use Rattle.std.proofs.Common.{◌≡◌, ℕ, zero, suc, ◌<◌, Bool, true, cond, Option, Some, None, inl, inr, List, [], ◌∷◌, ◌++◌, length, get_or, replicate, IsUtf8, IsAscii, Decides, refl, sym, ap, ◌∙◌, arith, subst, lit<}
+-- Spaces around a text leave it a text, and make no text of other bytes: a slice with cut tabs is a
+-- text where its bytes are.
+use Rattle.std.proofs.Common.{◌≡◌, ℕ, zero, suc, ◌<◌, Bool, true, cond, Option, Some, None, inl}
+use Rattle.std.proofs.Common.{inr, List, [], ◌∷◌, ◌++◌, length, get_or, replicate, IsUtf8, IsAscii}
+use Rattle.std.proofs.Common.{Decides, refl, sym, ap, ◌∙◌, arith, subst, lit<}
 use Rattle.std.specs.Str.{is_utf8}
 use Rattle.std.proofs.lemmas.List.{append_assoc, append-nil, length-append, get_or_at, take_at}
-use Rattle.std.proofs.lemmas.Str.{IsUtf8-append, IsUtf8-from_ascii, IsUtf8-take, IsUtf8-past_char, IsCharBoundary-before_ascii, encode_ascii, IsUtf8-from_is_utf8, is_utf8-from_IsUtf8}
+use Rattle.std.proofs.lemmas.Str.{IsUtf8-append, IsUtf8-from_ascii, IsUtf8-take, IsUtf8-past_char}
+use Rattle.std.proofs.lemmas.Str.{IsCharBoundary-before_ascii, encode_ascii, IsUtf8-from_is_utf8}
+use Rattle.std.proofs.lemmas.Str.{is_utf8-from_IsUtf8}
 use Rattle.std.proofs.lemmas.Str.Ascii.{IsAscii-nil, IsAscii-cons}
 use Rattle.std.proofs.lemmas.Bool.{cases_Bool}
 use Rattle.md_base.specs.Place.{text_when}
@@ -25,11 +29,14 @@ without_left (suc count) text utf8 =
 
 without_one : (text : List ℕ) → IsUtf8 (text ++ 32 ∷ []) → IsUtf8 text
 without_one text utf8 =
-    let at_end : get_or (text ++ 32 ∷ []) (length text) 0 ≡ 32 = get_or_at text 32 [] 0 (length text) refl in
-    let inside : length text < length (text ++ 32 ∷ []) = omega (arith, length-append text (32 ∷ [])) in
+    let at_end : get_or (text ++ 32 ∷ []) (length text) 0 ≡ 32 =
+    get_or_at text 32 [] 0 (length text) refl in
+    let inside : length text < length (text ++ 32 ∷ []) =
+    omega (arith, length-append text (32 ∷ [])) in
     let edge = IsCharBoundary-before_ascii (text ++ 32 ∷ []) (length text) inside
     (subst (λ b. b < 128) (sym at_end) (lit< tt)) in
-    subst IsUtf8 (take_at text (32 ∷ []) (length text) refl) (IsUtf8-take (text ++ 32 ∷ []) (length text) utf8 edge)
+    subst IsUtf8 (take_at text (32 ∷ []) (length text) refl)
+    (IsUtf8-take (text ++ 32 ∷ []) (length text) utf8 edge)
 
 without_right : (count : ℕ) (text : List ℕ) → IsUtf8 (text ++ replicate count 32) → IsUtf8 text
 without_right zero text utf8 = subst IsUtf8 (append-nil text) utf8
@@ -61,12 +68,14 @@ pub padded_none : (before after : ℕ) (bytes : List ℕ) → None ≡ text_when
     None ≡ text_when true (replicate before 32 ++ bytes ++ replicate after 32)
 padded_none before after bytes h =
     elim (cases_Bool (is_utf8 bytes)) [
-      | inl good ↦ (let e : text_when true bytes ≡ Some bytes = ap (chosen bytes) good in absurd (cc))
+      | inl good ↦
+          (let e : text_when true bytes ≡ Some bytes = ap (chosen bytes) good in absurd (cc))
       | inr bad ↦ sym (ap (chosen (replicate before 32 ++ bytes ++ replicate after 32))
           (is_utf8-padded before after bytes ∙ bad))
     ]
 
-pub padded_some : (before after : ℕ) (bytes inner all : List ℕ) → Some inner ≡ text_when true bytes →
+pub padded_some : (before after : ℕ) (bytes inner all : List ℕ) →
+    Some inner ≡ text_when true bytes →
     all ≡ replicate before 32 ++ inner ++ replicate after 32 →
     Some all ≡ text_when true (replicate before 32 ++ bytes ++ replicate after 32)
 padded_some before after bytes inner all h e =
@@ -75,7 +84,8 @@ padded_some before after bytes inner all h e =
           let is : text_when true bytes ≡ Some bytes = ap (chosen bytes) good in
           let same : inner ≡ bytes = cc in
           ap Some (e ∙ ap (λ t. replicate before 32 ++ t ++ replicate after 32) same)
-          ∙ sym (ap (chosen (replicate before 32 ++ bytes ++ replicate after 32)) (is_utf8-padded before after bytes
+          ∙ sym (ap (chosen (replicate before 32 ++ bytes ++ replicate after 32))
+          (is_utf8-padded before after bytes
           ∙ good)))
       | inr bad ↦ (let isnt : text_when true bytes ≡ None = ap (chosen bytes) bad in absurd (cc))
     ]

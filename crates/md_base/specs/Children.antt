@@ -1,11 +1,13 @@
 -- What a node's children tell of it, by their names.
-use Rattle.std.specs.Prelude.{Bool, true, false, if◌then◌else◌, List, [], ◌∷◌, ◌++◌, Option, Some, None, unwrap_or}
+use Rattle.std.specs.Prelude.{Bool, true, false, if◌then◌else◌, List, [], ◌∷◌, ◌++◌, Option, Some}
+use Rattle.std.specs.Prelude.{None, unwrap_or}
 use Rattle.md_base.specs.declared.event.Name.{Name}
 use Rattle.md_base.specs.declared.event.Point.{Point}
 use Rattle.md_base.specs.Tree.{Forest, Empty, Node}
 use Rattle.md_base.specs.NameTests.{is_transparent, contributes}
 
--- the names on the spine: of the nodes that aren't transparent and are reached through transparent ones alone
+-- the names on the spine: of the nodes that aren't transparent and are reached through
+-- transparent ones alone
 abbrev pub spine_names : Forest → List Name
 spine_names Empty = []
 spine_names (Node name start end children rest) =
@@ -21,7 +23,8 @@ abbrev pub first_on_spine : {A : Type 0} → (Name → Bool) → (Point → Poin
 first_on_spine test tell Empty = None
 first_on_spine test tell (Node name start end children rest) = or_else
     (if test name then Some (tell start end children)
-    else (if is_transparent name then first_on_spine test tell children else None)) (first_on_spine test tell rest)
+    else (if is_transparent name then first_on_spine test tell children else None))
+    (first_on_spine test tell rest)
 
 -- there is no node
 abbrev pub is_empty : Forest → Bool

@@ -3,7 +3,8 @@ use Rattle.std.specs.Prelude.{◌≡◌, ℕ, ◌+◌, ◌<◌, ◌≤◌, List,
 
 -- this byte is no control character, and if it is a space, the next one is neither
 abbrev pub IsSingleAt : List ℕ → ℕ → Type 0
-IsSingleAt text k = (32 ≤ slice_index text k) × (slice_index text k ≡ 32 → 33 ≤ slice_index text (k + 1))
+IsSingleAt text k =
+    (32 ≤ slice_index text k) × (slice_index text k ≡ 32 → 33 ≤ slice_index text (k + 1))
 
 -- so does each byte but the last
 abbrev pub HasSingleSpaces : List ℕ → Type 0

@@ -1,5 +1,6 @@
 -- Identifiers of definitions and footnotes, as they are compared.
-use Rattle.std.specs.Prelude.{ℕ, Bool, true, false, ◌||◌, ◌==◌, List, [], filter, chars, encode_utf8_all}
+use Rattle.std.specs.Prelude.{ℕ, Bool, true, false, ◌||◌, ◌==◌, List, [], filter, chars}
+use Rattle.std.specs.Prelude.{encode_utf8_all}
 use Rattle.std.specs.List.{slice_split, join_with_byte}
 use Rattle.caseless.specs.Caseless.{default_case_fold}
 

@@ -1,7 +1,14 @@
 -- Tests on names, each true for the names that it lists.
 use Rattle.std.specs.Prelude.{Bool, true, false, not, ◌||◌}
 use Rattle.md_base.specs.declared.event.Name.{Name}
-use Rattle.md_base.specs.declared.event.Name.TheVariants.{LineEnding, BlankLineEnding, BlockQuote, BlockQuotePrefix, ListItem, ListItemPrefix, ListItemValue, GfmFootnoteDefinition, GfmFootnoteDefinitionPrefix, GfmFootnoteDefinitionLabelString, GfmFootnoteCall, Definition, DefinitionLabelString, CodeFencedFence, MathFlowFence, CodeFlowChunk, MathFlowChunk, HeadingAtxSequence, GfmTable, GfmTableCell, GfmTableDelimiterMarker, GfmTableDelimiterCellValue, GfmTableDelimiterRow, GfmTableHead, ReferenceString, Label, LabelText, SpaceOrTab, Other}
+use Rattle.md_base.specs.declared.event.Name.TheVariants as name_variants
+use name_variants.{LineEnding, BlankLineEnding, BlockQuote, BlockQuotePrefix, ListItem}
+use name_variants.{ListItemPrefix, ListItemValue, GfmFootnoteDefinition}
+use name_variants.{GfmFootnoteDefinitionPrefix, GfmFootnoteDefinitionLabelString, GfmFootnoteCall}
+use name_variants.{Definition, DefinitionLabelString, CodeFencedFence, MathFlowFence, CodeFlowChunk}
+use name_variants.{MathFlowChunk, HeadingAtxSequence, GfmTable, GfmTableCell}
+use name_variants.{GfmTableDelimiterMarker, GfmTableDelimiterCellValue, GfmTableDelimiterRow}
+use name_variants.{GfmTableHead, ReferenceString, Label, LabelText, SpaceOrTab, Other}
 use Rattle.md_base.specs.Is.{is}
 
 -- a node that its parent's pattern looks through
@@ -40,7 +47,8 @@ is_definition name = elim name [ Definition ↦ true | GfmFootnoteDefinition ↦
 
 -- a child that an item's end looks at
 abbrev pub contributes : Name → Bool
-contributes name = not (is_line_ending name || is_definition name || is SpaceOrTab name || is BlockQuotePrefix name)
+contributes name = not (is_line_ending name || is_definition name || is SpaceOrTab name
+    || is BlockQuotePrefix name)
 
 abbrev pub is_fence : Name → Bool
 is_fence name = elim name [ CodeFencedFence ↦ true | MathFlowFence ↦ true | _ ↦ false ]

@@ -14,4 +14,5 @@ names_of_length size = filter (is_long size) event_names
 -- the tables hold the names of this length, of the next one, and so on
 abbrev pub IsByLength : List (Bor (List (Bor (List ℕ) × Name))) → ℕ → Type 0
 IsByLength [] size = Unit {0}
-IsByLength (table ∷ tables) size = (entries_of table.now ≡ names_of_length size) × IsByLength tables (suc size)
+IsByLength (table ∷ tables) size =
+    (entries_of table.now ≡ names_of_length size) × IsByLength tables (suc size)

@@ -1,5 +1,6 @@
 -- Where a node's bytes lie, and what they are.
-use Rattle.std.specs.Prelude.{ℕ, ◌+◌, ◌-◌, Bool, ◌&&◌, nat_lt, nat_le, if◌then◌else◌, List, ◌++◌, length, replicate, slice_range, Option, Some, None}
+use Rattle.std.specs.Prelude.{ℕ, ◌+◌, ◌-◌, Bool, ◌&&◌, nat_lt, nat_le, if◌then◌else◌, List, ◌++◌}
+use Rattle.std.specs.Prelude.{length, replicate, slice_range, Option, Some, None}
 use Rattle.std.specs.Str.{is_utf8}
 use Rattle.md_base.specs.declared.event.Point.{Point}
 
@@ -35,9 +36,11 @@ text_between bytes start end = text_when (fits bytes start end) (bytes_between b
 -- the text with the spaces of the tabs that are cut at its ends
 abbrev pub serialized_between : List ℕ → Point → Point → Option (List ℕ)
 serialized_between bytes start end = text_when (fits bytes start end)
-    (replicate (spaces_before start) 32 ++ bytes_between bytes start end ++ replicate (spaces_after end) 32)
+    (replicate (spaces_before start) 32 ++ bytes_between bytes start end
+    ++ replicate (spaces_after end) 32)
 
 -- the text between the indices of two points, whatever columns of tabs are taken there
 abbrev pub label_between : List ℕ → Point → Point → Option (List ℕ)
-label_between bytes start end = text_when (nat_le start.index end.index && nat_le end.index (length bytes))
+label_between bytes start end =
+    text_when (nat_le start.index end.index && nat_le end.index (length bytes))
     (slice_range bytes start.index end.index)

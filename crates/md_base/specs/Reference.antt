@@ -1,5 +1,7 @@
 -- Character references: the text that a name or a number stands for.
-use Rattle.std.specs.Prelude.{ℕ, ◌%◌, ◌^◌, Bool, not, ◌&&◌, ◌||◌, ◌==◌, nat_lt, if◌then◌else◌, List, length, map, Option, Some, None, option_map, find, bytes_eq, encode_utf8}
+use Rattle.std.specs.Prelude.{ℕ, ◌%◌, ◌^◌, Bool, not, ◌&&◌, ◌||◌, ◌==◌, nat_lt, if◌then◌else◌, List}
+use Rattle.std.specs.Prelude.{length, map, Option, Some, None, option_map, find, bytes_eq}
+use Rattle.std.specs.Prelude.{encode_utf8}
 use Rattle.std.specs.Borrow.{Bor}
 use Rattle.std.specs.List.{list_all}
 use Rattle.std.specs.Char.{digit_value}
@@ -16,12 +18,14 @@ named names name = option_map (λ entry. entry.1) (find (λ entry. bytes_eq entr
 
 -- one or more digits of this radix, whose number is under 2 ^ 32
 abbrev pub is_number : ℕ → List ℕ → Bool
-is_number radix digits = not (length digits == 0) && list_all (λ digit. nat_lt (digit_value digit) radix) digits
+is_number radix digits =
+    not (length digits == 0) && list_all (λ digit. nat_lt (digit_value digit) radix) digits
     && nat_lt (digits_value radix digits) (2 ^ 32)
 
 -- control characters, surrogates, noncharacters and codes past the last character
 abbrev pub is_replaced : ℕ → Bool
-is_replaced code = is_in_range 0 8 code || code == 11 || is_in_range 14 31 code || is_in_range 127 159 code
+is_replaced code =
+    is_in_range 0 8 code || code == 11 || is_in_range 14 31 code || is_in_range 127 159 code
     || is_in_range 0xD800 0xDFFF code || is_in_range 0xFDD0 0xFDEF code
     || code % 0x10000 == 0xFFFE || code % 0x10000 == 0xFFFF || nat_lt 0x10FFFF code
 
@@ -31,9 +35,12 @@ character_of code = encode_utf8 (if is_replaced code then 0xFFFD else code)
 
 -- what digits of this radix stand for
 abbrev pub numbered : ℕ → List ℕ → Option (List ℕ)
-numbered radix digits = if is_number radix digits then Some (character_of (digits_value radix digits)) else None
+numbered radix digits =
+    if is_number radix digits then Some (character_of (digits_value radix digits)) else None
 
--- what a reference stands for, by its marker: `&` a name, `#` a decimal number, `x` a hexadecimal one
+-- what a reference stands for, by its marker: `&` a name, `#` a decimal number, `x`
+-- a hexadecimal one
 abbrev pub decoded : List (List ℕ × List ℕ) → ℕ → List ℕ → Option (List ℕ)
-decoded names marker value = if marker == 38 then named names value else if marker == 35 then numbered 10 value
+decoded names marker value =
+    if marker == 38 then named names value else if marker == 35 then numbered 10 value
     else if marker == 120 then numbered 16 value else None

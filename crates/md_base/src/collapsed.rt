@@ -15,8 +15,8 @@ const HALF_BLOCK: usize = 8;
 /// How many of fewer bytes than these.
 const QUARTER_BLOCK: usize = 4;
 
-/// Whether white space is collapsed already, as in most identifiers: only single spaces stand between other bytes.
-/// `false` may also mean that there are other control characters.
+/// Whether white space is collapsed already, as in most identifiers: only single spaces stand
+/// between other bytes. `false` may also mean that there are other control characters.
 #[inline(always)]
 pub(crate) fn is_collapsed(text: &[u8]) -> bool
     ensures { IsTrue result → collapsed text.now ≡ text.now }
@@ -39,8 +39,8 @@ fn is_space_or_control(byte: u8) -> bool
     byte <= b' '
 }
 
-/// Whether each byte but the last is no control character, and no space before another one. Two loads, which may
-/// overlap, cover what is shorter than a block.
+/// Whether each byte but the last is no control character, and no space before another one. Two
+/// loads, which may overlap, cover what is shorter than a block.
 #[inline(always)]
 fn has_single_spaces(text: &[u8]) -> bool
     requires { 0 < length text.now }
@@ -61,7 +61,8 @@ fn has_single_spaces(text: &[u8]) -> bool
     has_single_bytes(text)
 }
 
-/// The same, block by block; the last block ends before the last byte, and may overlap the one before.
+/// The same, block by block; the last block ends before the last byte, and may
+/// overlap the one before.
 #[inline(always)]
 fn has_single_blocks(text: &[u8]) -> bool
     requires { BLOCK_SIZE < length text.now }

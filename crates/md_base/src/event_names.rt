@@ -7,8 +7,8 @@ ghost use Rattle.md_base.specs.NamesByLength.{IsByLength};
 use crate::event::Name;
 use crate::name_tables::{BY_LENGTH, BY_NUMBER};
 
-/// The names of events as scripts write them, each table at the length of its names; `Other`, which a script follows
-/// by its number, isn't among them.
+/// The names of events as scripts write them, each table at the length of its names; `Other`, which
+/// a script follows by its number, isn't among them.
 pub fn names_by_length() -> &'static [&'static [(&'static str, Name)]]
     ensures count { length result.now ≡ 36 }
     ensures tables { IsByLength result.now 0 }

@@ -1,6 +1,7 @@
 //! Identifiers in the form in which they are compared.
 
-ghost use Rattle.std.specs.Prelude.{◌≡◌, ◌++◌, [], ◌∷◌, if◌then◌else◌, encode_utf8, string_bytes, IfOk, OnOk, chars, encode_utf8_all, map, IsTrue};
+ghost use Rattle.std.specs.Prelude.{◌≡◌, ◌++◌, [], ◌∷◌, if◌then◌else◌, encode_utf8, string_bytes};
+ghost use Rattle.std.specs.Prelude.{IfOk, OnOk, chars, encode_utf8_all, map, IsTrue};
 ghost use Rattle.std.specs.Char.{to_ascii_lowercase};
 ghost use Rattle.caseless.specs.Caseless.{default_case_fold};
 ghost use Rattle.ucd_case.specs.CaseFolding.{full_fold};
@@ -34,10 +35,12 @@ pub fn normalize_identifier(alloc: Global, value: &str) -> Result<String, AllocE
     fold_case(alloc, text.as_str())
 }
 
-/// The text with case folded. Most identifiers have no capital letter past ASCII, and take one copy.
+/// The text with case folded. Most identifiers have no capital letter past ASCII,
+/// and take one copy.
 #[inline(always)]
 fn fold_case(alloc: Global, text: &str) -> Result<String, AllocError>
-    ensures { IfOk result (λ folded. string_bytes folded ≡ encode_utf8_all (default_case_fold (chars text.now))) }
+    ensures { IfOk result
+        (λ folded. string_bytes folded ≡ encode_utf8_all (default_case_fold (chars text.now))) }
 {
     if is_lowered(text) {
         text.to_ascii_lowercase(alloc)
@@ -50,7 +53,8 @@ fn fold_case(alloc: Global, text: &str) -> Result<String, AllocError>
 #[tactic(auto, using(crate::proofs::FoldLemmas::fold_ascii))]
 #[inline(always)]
 fn is_lowered(text: &str) -> bool
-    ensures { IsTrue result → map to_ascii_lowercase text.now ≡ encode_utf8_all (default_case_fold (chars text.now)) }
+    ensures { IsTrue result
+        → map to_ascii_lowercase text.now ≡ encode_utf8_all (default_case_fold (chars text.now)) }
 {
     if is_ascii(text.as_bytes()) {
         return true;
@@ -61,7 +65,8 @@ fn is_lowered(text: &str) -> bool
 /// The same, of a text that isn't ASCII.
 #[inline(never)]
 fn is_wide_lowered(text: &str) -> bool
-    ensures { IsTrue result → map to_ascii_lowercase text.now ≡ encode_utf8_all (default_case_fold (chars text.now)) }
+    ensures { IsTrue result
+        → map to_ascii_lowercase text.now ≡ encode_utf8_all (default_case_fold (chars text.now)) }
 {
     for character in text.chars() {
         if !is_character_lowered(character) {
@@ -74,7 +79,8 @@ fn is_wide_lowered(text: &str) -> bool
 /// The same, of a character.
 #[inline(always)]
 fn is_character_lowered(character: char) -> bool
-    ensures { IsTrue result → map to_ascii_lowercase (encode_utf8 character) ≡ encode_utf8_all (full_fold character) }
+    ensures { IsTrue result
+        → map to_ascii_lowercase (encode_utf8 character) ≡ encode_utf8_all (full_fold character) }
 {
     if character.is_ascii() {
         return true;
@@ -85,7 +91,8 @@ fn is_character_lowered(character: char) -> bool
 /// The text with case folded. Most folded texts have the room of the text.
 #[inline(never)]
 fn fold_wide_case(alloc: Global, text: &str) -> Result<String, AllocError>
-    ensures { IfOk result (λ folded. string_bytes folded ≡ encode_utf8_all (default_case_fold (chars text.now))) }
+    ensures { IfOk result
+        (λ folded. string_bytes folded ≡ encode_utf8_all (default_case_fold (chars text.now))) }
 {
     let mut folded = String::with_capacity(alloc, text.len())?;
     for character in text.chars() {
@@ -98,7 +105,8 @@ fn fold_wide_case(alloc: Global, text: &str) -> Result<String, AllocError>
 #[tactic(auto, using(crate::proofs::FoldLemmas::lowered_folds))]
 #[inline(always)]
 fn push_folded(text: &mut String, character: char) -> Result<(), AllocError>
-    ensures { OnOk result (string_bytes text.new ≡ string_bytes text.old ++ encode_utf8_all (full_fold character)) }
+    ensures { OnOk result
+        (string_bytes text.new ≡ string_bytes text.old ++ encode_utf8_all (full_fold character)) }
 {
     if character.is_ascii() {
         return text.push(character.to_ascii_lowercase());
@@ -112,7 +120,8 @@ fn push_folded(text: &mut String, character: char) -> Result<(), AllocError>
 
 #[inline(never)]
 fn push_characters(text: &mut String, characters: &[char]) -> Result<(), AllocError>
-    ensures { OnOk result (string_bytes text.new ≡ string_bytes text.old ++ encode_utf8_all characters.now) }
+    ensures { OnOk result
+        (string_bytes text.new ≡ string_bytes text.old ++ encode_utf8_all characters.now) }
 {
     for character in characters {
         text.push(*character)?;

@@ -1,5 +1,5 @@
-//! Markdown events, their names as scripts write them, their places in a document's bytes, and the text rules of
-//! identifiers and character references.
+//! Markdown events, their names as scripts write them, their places in a document's bytes, and the
+//! text rules of identifiers and character references.
 #![tactic(auto)]
 
 mod collapsed;

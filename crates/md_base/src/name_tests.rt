@@ -32,8 +32,8 @@ pub fn is_definition(name: Name) -> bool
     matches!(name, Name::Definition | Name::GfmFootnoteDefinition)
 }
 
-/// A child that can be an item's last contributing one: any but line endings, spaces or tabs, prefixes of block quotes
-/// and definitions.
+/// A child that can be an item's last contributing one: any but line endings, spaces or tabs,
+/// prefixes of block quotes and definitions.
 #[inline(always)]
 pub fn contributes(name: Name) -> bool
     ensures { result ≡ tests.contributes name }

@@ -1,6 +1,7 @@
 //! Character references: the text that a name or a number stands for.
 
-ghost use Rattle.std.specs.Prelude.{◌≡◌, ◌≤◌, encode_utf8, option_copied, option_map, string_bytes, IfOk};
+ghost use Rattle.std.specs.Prelude.{◌≡◌, ◌≤◌, encode_utf8, option_copied, option_map, string_bytes};
+ghost use Rattle.std.specs.Prelude.{IfOk};
 ghost use Rattle.md_base.specs.Reference as spec;
 ghost use Rattle.md_base.specs.Reference.{name_table, named, numbered, decoded};
 
@@ -49,7 +50,8 @@ fn copy_text(alloc: Global, text: Option<&str>) -> Result<Option<String>, AllocE
 }
 
 fn copy_character(alloc: Global, character: Option<char>) -> Result<Option<String>, AllocError>
-    ensures { IfOk result (λ copy. option_map string_bytes copy ≡ option_map encode_utf8 character) }
+    ensures { IfOk result
+        (λ copy. option_map string_bytes copy ≡ option_map encode_utf8 character) }
 {
     let Some(character) = character else {
         return Ok(None);

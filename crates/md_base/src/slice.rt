@@ -1,8 +1,11 @@
 //! The bytes between two points of a document, with the columns of the tabs that are cut there.
 
-ghost use Rattle.std.specs.Prelude.{◌≡◌, ◌+◌, ◌^◌, ◌<◌, ◌++◌, true, SomeIff, min, replicate, length, nat_le, ◌&&◌, is_some, option_copied, option_map, string_bytes, slice_range, IfSome, IfOk, OnOk};
+ghost use Rattle.std.specs.Prelude.{◌≡◌, ◌+◌, ◌^◌, ◌<◌, ◌++◌, true, SomeIff, min, replicate};
+ghost use Rattle.std.specs.Prelude.{length, nat_le, ◌&&◌, is_some, option_copied, option_map};
+ghost use Rattle.std.specs.Prelude.{string_bytes, slice_range, IfSome, IfOk, OnOk};
 ghost use Rattle.md_base.specs.Place as spec;
-ghost use Rattle.md_base.specs.Place.{fits, bytes_between, spaces_before, spaces_after, text_when, text_between};
+ghost use Rattle.md_base.specs.Place.{fits, bytes_between, spaces_before, spaces_after, text_when};
+ghost use Rattle.md_base.specs.Place.{text_between};
 
 use crate::event::{Point, Position};
 use crate::text::as_text;
@@ -51,7 +54,8 @@ impl<'a> Slice<'a> {
     pub fn from_position(bytes: &'a [u8], position: &Position) -> Option<Slice<'a>>
         ensures fits { is_some result ≡ fits bytes.now position.now.start position.now.end }
         ensures bytes { IfSome result
-            (λ slice. slice.bytes.now ≡ bytes_between bytes.now position.now.start position.now.end) }
+            (λ slice.
+            slice.bytes.now ≡ bytes_between bytes.now position.now.start position.now.end) }
         ensures before { IfSome result (λ slice. slice.before ≡ spaces_before position.now.start) }
         ensures after { IfSome result (λ slice. slice.after ≡ spaces_after position.now.end) }
     {
@@ -87,8 +91,8 @@ impl<'a> Slice<'a> {
         })
     }
 
-    /// The text of the bytes between the points of a position, without the spaces at its ends; `None` where the points
-    /// don't fit the bytes, or these aren't UTF-8.
+    /// The text of the bytes between the points of a position, without the spaces at its ends;
+    /// `None` where the points don't fit the bytes, or these aren't UTF-8.
     ///
     /// # Examples
     ///
@@ -99,7 +103,8 @@ impl<'a> Slice<'a> {
     /// ```
     #[inline(always)]
     pub fn text_at(bytes: &'a [u8], position: &Position) -> Option<&'a str>
-        ensures { option_copied result ≡ text_between bytes.now position.now.start position.now.end }
+        ensures { option_copied result
+            ≡ text_between bytes.now position.now.start position.now.end }
     {
         let between = Slice {
             bytes: bytes_at(bytes, position.start, position.end)?,
@@ -155,7 +160,8 @@ impl<'a> Slice<'a> {
     /// // Some("  a\t  ")
     /// ```
     pub fn serialize(&self, alloc: Global) -> Result<Option<String>, AllocError>
-        ensures { let spaced = replicate self.now.before 32 ++ self.now.bytes.now ++ replicate self.now.after 32 in
+        ensures { let spaced =
+            replicate self.now.before 32 ++ self.now.bytes.now ++ replicate self.now.after 32 in
             IfOk result (λ text. option_map string_bytes text ≡ text_when true spaced) }
     {
         let Some(inner) = self.as_str() else {

@@ -188,8 +188,8 @@ pub fn quote(draft: &mut Draft<'_>, count: usize) {
     draft.exit(Name::BlockQuote);
 }
 
-/// A list of so many items, up to the line ending in the last of them. Blank lines stand between the items of a loose
-/// list.
+/// A list of so many items, up to the line ending in the last of them. Blank lines stand between
+/// the items of a loose list.
 pub fn list(draft: &mut Draft<'_>, count: usize, is_loose: bool, nests: bool) {
     draft.enter(Name::ListUnordered);
     for number in 0..count {

@@ -137,7 +137,8 @@ fn write_document(draft: &mut Draft<'_>, job: Job, number: usize) {
     }
 }
 
-/// A number in the step with this place, from 0: so the documents of a job have sizes that are spread evenly.
+/// A number in the step with this place, from 0: so the documents of a job have sizes that
+/// are spread evenly.
 fn spread(draft: &mut Draft<'_>, place: usize, step: usize) -> usize {
     place
         .saturating_mul(step)
@@ -153,7 +154,8 @@ fn page_size(draft: &mut Draft<'_>, number: usize) -> usize {
     }
 }
 
-/// Goes over the documents in rounds, until there are so many calls; each is changed before it is used.
+/// Goes over the documents in rounds, until there are so many calls; each is changed
+/// before it is used.
 fn call_each(
     work: &Work<'_>,
     job: Job,
@@ -204,7 +206,8 @@ fn add_safe(
     }
 }
 
-/// A comment is rendered as a service does it: some have the tag filter on, and those with footnotes ids that differ.
+/// A comment is rendered as a service does it: some have the tag filter on, and those with
+/// footnotes ids that differ.
 fn call_comment(
     work: &Work<'_>,
     document: &Document,

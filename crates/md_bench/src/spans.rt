@@ -260,8 +260,8 @@ pub fn image(draft: &mut Draft<'_>) {
     draft.exit(Name::Image);
 }
 
-/// The name by which the definition with this number is known: a title, and from its second use on a number. Whether
-/// its first letter is small makes no difference.
+/// The name by which the definition with this number is known: a title, and from its second use on
+/// a number. Whether its first letter is small makes no difference.
 pub fn name(draft: &mut Draft<'_>, number: usize, is_small: bool) {
     let titles = draft.lines.titles;
     let count = titles.len().max(1);

@@ -6,8 +6,8 @@ use md_html::{CompileError, Counted, WithinError};
 use md_script::{RunError, run};
 use std::alloc::{AllocError, Global};
 
-/// What is said of a script: its text or why it has none, and a line for each call that answers otherwise; of one that
-/// begins with questions, what is answered to them.
+/// What is said of a script: its text or why it has none, and a line for each call that answers
+/// otherwise; of one that begins with questions, what is answered to them.
 pub(crate) fn answer(alloc: Global, script: &[u8]) -> Result<String, AllocError> {
     if script.starts_with(QUESTION.as_bytes()) {
         return answer_questions(alloc, script);
@@ -63,8 +63,8 @@ fn say_others(
     say_unless(said, keeps_limit(alloc, script, answer), "compile_within")
 }
 
-/// Whether `compile_within` answers what `run` does where the text may be as long as it is, and that it is too long
-/// where it may have a byte less.
+/// Whether `compile_within` answers what `run` does where the text may be as long as it is, and
+/// that it is too long where it may have a byte less.
 fn keeps_limit(alloc: Global, script: &Script<'_>, answer: &Result<String, RunError>) -> bool {
     let length = match answer {
         Ok(text) => text.len(),

@@ -38,7 +38,8 @@ impl Script<'_> {
         compile_checked(alloc, &checked, &self.options).map_err(CompileError::from)
     }
 
-    /// What `compile_within` answers where a text may have so many bytes, and the work is just what there is.
+    /// What `compile_within` answers where a text may have so many bytes, and the work is
+    /// just what there is.
     pub(crate) fn compile_within(
         &self,
         alloc: Global,

@@ -1,8 +1,8 @@
-//! Makes each call that takes memory, those that take none, and those of `serve` where a read or a write fails, and
-//! writes which of them answered wrong.
+//! Makes each call that takes memory, those that take none, and those of `serve` where a read or a
+//! write fails, and writes which of them answered wrong.
 //!
-//! A call that runs out of memory is made once more, and the second answer counts: so where one request for
-//! memory is refused the same is written.
+//! A call that runs out of memory is made once more, and the second answer counts: so where one
+//! request for memory is refused the same is written.
 
 mod appending;
 mod attributes;
@@ -18,9 +18,10 @@ mod within;
 use log::Log;
 use std::io;
 
-/// Makes the calls that a word asks for, and writes which of them answered wrong, or that each was made: `plain` the
-/// calls that need nothing that takes memory, `checked` what is needed for the others that take none, `methods` this
-/// and those, `memory` all that takes memory, else everything.
+/// Makes the calls that a word asks for, and writes which of them answered wrong, or that each
+/// was made: `plain` the calls that need nothing that takes memory, `checked` what is needed
+/// for the others that take none, `methods` this and those, `memory` all that takes memory,
+/// else everything.
 pub fn ask_each<R: Print + AllocGlobal>(rt: &R, word: &[u8]) -> io::Result<()> {
     let mut log = Log { refusals: 0 };
     ask(rt, &mut log, word)?;

@@ -1,11 +1,13 @@
-//! Runs the worked cases that come on standard input, and writes what each answers; then makes calls
-//! whose memory, reads and writes fail (`failing`), and tries hostile events (`hostile`).
+//! Runs the worked cases that come on standard input, and writes what each answers; then makes
+//! calls whose memory, reads and writes fail (`failing`), and tries hostile events (`hostile`).
 //!
-//! Where the first word of standard input isn't `worked`, it says which of those calls are made, and nothing else is
-//! read: so no memory is taken before them. Where there is no word nothing is asked, which is an error.
+//! Where the first word of standard input isn't `worked`, it says which of those calls are made,
+//! and nothing else is read: so no memory is taken before them. Where there is no word nothing is
+//! asked, which is an error.
 //!
-//! A case begins with a line `%%%% GROUP: NAME`. Its script goes on to the line ending before the next such line. For
-//! each case that line is written, and then the text, or `! ` and why there is none.
+//! A case begins with a line `%%%% GROUP: NAME`. Its script goes on to the line ending
+//! before the next such line. For each case that line is written, and then the text, or `! `
+//! and why there is none.
 #![tactic(auto)]
 
 mod answers;

@@ -1,6 +1,8 @@
-//! Cases of the calls below the compiler: a script that begins with questions is given a line for each of them.
+//! Cases of the calls below the compiler: a script that begins with questions is given a line
+//! for each of them.
 //!
-//! A question is a line `? PART CALL ARGUMENT`. Lines `=NAME TEXT` may follow, names with their texts; then the script.
+//! A question is a line `? PART CALL ARGUMENT`. Lines `=NAME TEXT` may follow, names with their
+//! texts; then the script.
 
 mod attributed;
 mod compiled;

@@ -1,4 +1,5 @@
-//! Scripts read apart from the program's own reader, so that the calls that `run` makes are asked as well.
+//! Scripts read apart from the program's own reader, so that the calls that `run` makes
+//! are asked as well.
 
 use md_html::{CompileOptions, Event, Kind, LineEnding, Name, Point};
 use std::alloc::{AllocError, Global};
@@ -34,7 +35,8 @@ impl<'a> Script<'a> {
         }
     }
 
-    /// Reads the lines before the document, which is what comes after them, and tells whether each could be read.
+    /// Reads the lines before the document, which is what comes after them, and tells whether
+    /// each could be read.
     pub(crate) fn read(&mut self, alloc: Global, input: &'a [u8]) -> Result<bool, AllocError> {
         let mut length: usize = 0;
         for line in input.split(|byte| *byte == b'\n') {

@@ -9,11 +9,13 @@ use Rattle.md_shape.specs.Steps.{State, entered, exited}
 use Rattle.md_emit.specs.declared.given.Given.{Given as Supplied}
 use Rattle.md_emit.specs.Supplies.{Supplies, Enters, Leaves}
 
-pub on_ok : {A E : Type 0} (P Q : Type 0) → (P → Q) → (result : Result A E) → OnOk result P → OnOk result Q
+pub on_ok : {A E : Type 0} (P Q : Type 0) → (P → Q) → (result : Result A E) →
+    OnOk result P → OnOk result Q
 on_ok P Q f (Ok a) p = f p
 on_ok P Q f (Err e) p = tt
 
-pub if_ok : {A E : Type 0} (P Q : A → Type 0) → ((a : A) → P a → Q a) → (result : Result A E) → IfOk result P →
+pub if_ok : {A E : Type 0} (P Q : A → Type 0) → ((a : A) → P a → Q a) →
+    (result : Result A E) → IfOk result P →
     IfOk result Q
 if_ok P Q f (Ok a) p = f a p
 if_ok P Q f (Err e) p = tt
@@ -22,8 +24,10 @@ if_ok P Q f (Err e) p = tt
 abbrev pub ending_in : List ℕ → Given → Given
 ending_in ending given = record given { ending = ending }
 
-pub enters-by : (code : Supplied) (index : ℕ) (name known : Name) (before after : State) → name ≡ known →
-    ((given : Given) (one : Noticed) → Supplies code given → IsNoticedAt code.checked.now index one →
+pub enters-by : (code : Supplied) (index : ℕ) (name known : Name) (before after : State) →
+    name ≡ known →
+    ((given : Given) (one : Noticed) → Supplies code given →
+    IsNoticedAt code.checked.now index one →
     after ≡ entered (ending_in code.ending.now given) one.told known before) →
     Enters code index name before after
 enters-by code index name known before after is shown given one supplies there =
@@ -31,8 +35,10 @@ enters-by code index name known before after is shown given one supplies there =
     ∙ ap (λ ending. entered (ending_in ending given) one.told known before) (sym supplies.ending)
     ∙ ap (λ n. entered given one.told n before) (sym is)
 
-pub leaves-by : (code : Supplied) (index : ℕ) (name known : Name) (before after : State) → name ≡ known →
-    ((given : Given) (one : Noticed) → Supplies code given → IsNoticedAt code.checked.now index one →
+pub leaves-by : (code : Supplied) (index : ℕ) (name known : Name) (before after : State) →
+    name ≡ known →
+    ((given : Given) (one : Noticed) → Supplies code given →
+    IsNoticedAt code.checked.now index one →
     after ≡ exited (ending_in code.ending.now given) one.told known before) →
     Leaves code index name before after
 leaves-by code index name known before after is shown given one supplies there =

@@ -1,5 +1,6 @@
 -- The text of code in a text, as the code makes it.
-use Rattle.std.specs.Prelude.{ℕ, ◌-◌, Bool, false, not, ◌&&◌, ◌==◌, if◌then◌else◌, List, [], ◌∷◌, length, Option, Some, None, slice_get, slice_range}
+use Rattle.std.specs.Prelude.{ℕ, ◌-◌, Bool, false, not, ◌&&◌, ◌==◌, if◌then◌else◌, List, [], ◌∷◌}
+use Rattle.std.specs.Prelude.{length, Option, Some, None, slice_get, slice_range}
 use Rattle.std.specs.List.{list_all}
 
 -- a pipe comes first
@@ -28,7 +29,8 @@ is_blank text = list_all (λ byte. byte == 32) text
 
 -- begins and ends with a space, and isn't all spaces
 abbrev pub is_padded : List ℕ → Bool
-is_padded text = is_space (slice_get text 0) && is_space (slice_get text (length text - 1)) && not (is_blank text)
+is_padded text = is_space (slice_get text 0) && is_space (slice_get text (length text - 1))
+    && not (is_blank text)
 
 -- one space goes at each end of a padded text
 abbrev pub without_padding : List ℕ → List ℕ

@@ -10,10 +10,12 @@ title_text title = option_map_or (λ text. codes " title=\"" ++ (text ++ codes "
 
 abbrev pub anchor_head : CompileOptions → Target → List ℕ
 anchor_head options target =
-    codes "<a href=\"" ++ (href options target.destination ++ (codes "\"" ++ (title_text target.title ++ codes ">")))
+    codes "<a href=\""
+    ++ (href options target.destination ++ (codes "\"" ++ (title_text target.title ++ codes ">")))
 
 abbrev pub picture_head : CompileOptions → List ℕ → List ℕ
-picture_head options destination = codes "<img src=\"" ++ (src options destination ++ codes "\" alt=\"")
+picture_head options destination =
+    codes "<img src=\"" ++ (src options destination ++ codes "\" alt=\"")
 
 abbrev pub picture_tail : Option (List ℕ) → List ℕ
 picture_tail title = codes "\"" ++ (title_text title ++ codes " />")

@@ -1,9 +1,26 @@
 -- Which names a function of the code takes, and what of their texts is written in two ways.
-use Rattle.std.specs.Prelude.{ℕ, Bool, true, false, not, ◌&&◌, ◌||◌, ◌==◌, nat_lt, if◌then◌else◌, List, [], ◌∷◌, ◌++◌, length, slice_index, codes}
+use Rattle.std.specs.Prelude.{ℕ, Bool, true, false, not, ◌&&◌, ◌||◌, ◌==◌, nat_lt, if◌then◌else◌}
+use Rattle.std.specs.Prelude.{List, [], ◌∷◌, ◌++◌, length, slice_index, codes}
 use Rattle.std.specs.Option.{option_map_or}
 use Rattle.md_base.specs.declared.event.AlignKind.{AlignKind}
 use Rattle.md_base.specs.declared.event.Name.{Name}
-use Rattle.md_base.specs.declared.event.Name.TheVariants.{AutolinkEmail, AutolinkProtocol, BlankLineEnding, BlockQuote, BlockQuotePrefix, CharacterEscapeValue, CharacterReferenceValue, CodeFenced, CodeFencedFence, CodeFencedFenceInfo, CodeFlowChunk, CodeIndented, CodeText, CodeTextData, Data, Definition, DefinitionDestinationString, DefinitionTitleString, Emphasis, Frontmatter, GfmAutolinkLiteralEmail, GfmAutolinkLiteralMailto, GfmAutolinkLiteralProtocol, GfmAutolinkLiteralWww, GfmAutolinkLiteralXmpp, GfmFootnoteCall, GfmFootnoteDefinition, GfmFootnoteDefinitionLabelString, GfmStrikethrough, GfmTable, GfmTableBody, GfmTableCell, GfmTableDelimiterCellValue, GfmTableDelimiterMarker, GfmTableHead, GfmTableRow, GfmTaskListItemCheck, GfmTaskListItemValueChecked, HardBreakEscape, HardBreakTrailing, HeadingAtx, HeadingAtxText, HeadingSetextText, HeadingSetextUnderlineSequence, HtmlFlow, HtmlFlowData, HtmlText, HtmlTextData, Image, Label, LabelText, LineEnding, Link, ListItem, ListItemPrefix, ListOrdered, ListUnordered, MathFlow, MathFlowChunk, MathFlowFence, MathText, MathTextData, Other, Paragraph, Resource, ResourceDestinationString, ResourceTitleString, SpaceOrTab, Strong, ThematicBreak}
+use Rattle.md_base.specs.declared.event.Name.TheVariants as name_variants
+use name_variants.{AutolinkEmail, AutolinkProtocol, BlankLineEnding, BlockQuote, BlockQuotePrefix}
+use name_variants.{CharacterEscapeValue, CharacterReferenceValue, CodeFenced, CodeFencedFence}
+use name_variants.{CodeFencedFenceInfo, CodeFlowChunk, CodeIndented, CodeText, CodeTextData, Data}
+use name_variants.{Definition, DefinitionDestinationString, DefinitionTitleString, Emphasis}
+use name_variants.{Frontmatter, GfmAutolinkLiteralEmail, GfmAutolinkLiteralMailto}
+use name_variants.{GfmAutolinkLiteralProtocol, GfmAutolinkLiteralWww, GfmAutolinkLiteralXmpp}
+use name_variants.{GfmFootnoteCall, GfmFootnoteDefinition, GfmFootnoteDefinitionLabelString}
+use name_variants.{GfmStrikethrough, GfmTable, GfmTableBody, GfmTableCell}
+use name_variants.{GfmTableDelimiterCellValue, GfmTableDelimiterMarker, GfmTableHead, GfmTableRow}
+use name_variants.{GfmTaskListItemCheck, GfmTaskListItemValueChecked, HardBreakEscape}
+use name_variants.{HardBreakTrailing, HeadingAtx, HeadingAtxText, HeadingSetextText}
+use name_variants.{HeadingSetextUnderlineSequence, HtmlFlow, HtmlFlowData, HtmlText, HtmlTextData}
+use name_variants.{Image, Label, LabelText, LineEnding, Link, ListItem, ListItemPrefix, ListOrdered}
+use name_variants.{ListUnordered, MathFlow, MathFlowChunk, MathFlowFence, MathText, MathTextData}
+use name_variants.{Other, Paragraph, Resource, ResourceDestinationString, ResourceTitleString}
+use name_variants.{SpaceOrTab, Strong, ThematicBreak}
 use Rattle.md_base.specs.NameTests.{is_definition}
 use Rattle.md_meaning.specs.Meaning.Layout.{Piece, said}
 use Rattle.md_meaning.specs.Meaning.Spans.{is_at}
@@ -167,8 +184,8 @@ unpadded (digit ∷ digits) =
 -- a line ending with this text, in a state
 abbrev pub line_closing : State → List ℕ → List Piece
 line_closing state text = if state.around.in_code then said (codes " ")
-    else (if not state.around.in_definition && state.slurps || option_map_or is_definition state.ended false then []
-    else said text)
+    else (if not state.around.in_definition && state.slurps
+    || option_map_or is_definition state.ended false then [] else said text)
 
 -- a dash stands there
 abbrev pub is_dash_at : List ℕ → ℕ → Bool
@@ -176,8 +193,10 @@ is_dash_at bytes index = is_at 45 bytes index
 
 -- the start tag of a cell
 abbrev pub cell_start : Bool → AlignKind → List ℕ
-cell_start in_head kind = (if in_head then codes "<th" else codes "<td") ++ (align_attribute kind ++ codes ">")
+cell_start in_head kind =
+    (if in_head then codes "<th" else codes "<td") ++ (align_attribute kind ++ codes ">")
 
 -- a cell that holds nothing
 abbrev pub empty_cell : Bool → AlignKind → List ℕ
-empty_cell in_head kind = cell_start in_head kind ++ (if in_head then codes "</th>" else codes "</td>")
+empty_cell in_head kind =
+    cell_start in_head kind ++ (if in_head then codes "</th>" else codes "</td>")

@@ -1,7 +1,10 @@
 -- What the code has of a document and of its nodes, as the steps name it.
-use Rattle.std.specs.Prelude.{◌≡◌, ℕ, Bool, true, false, Option, unwrap_or, option_and_then, List, slice_get}
+use Rattle.std.specs.Prelude.{◌≡◌, ℕ, Bool, true, false, Option, unwrap_or, option_and_then, List}
+use Rattle.std.specs.Prelude.{slice_get}
 use Rattle.md_base.specs.declared.event.Name.{Name}
-use Rattle.md_base.specs.declared.event.Name.TheVariants.{Data, LineEnding, SpaceOrTab, BlockQuotePrefix, Other, BlankLineEnding, ListItemMarker, ListItemValue, HeadingAtxSequence}
+use Rattle.md_base.specs.declared.event.Name.TheVariants as name_variants
+use name_variants.{Data, LineEnding, SpaceOrTab, BlockQuotePrefix, Other, BlankLineEnding}
+use name_variants.{ListItemMarker, ListItemValue, HeadingAtxSequence}
 use Rattle.md_base.specs.Reference.{name_table}
 use Rattle.md_meaning.specs.Meaning.At.{Given, Target}
 use Rattle.md_meaning.specs.Meaning.Media.{target_defined}
@@ -13,7 +16,8 @@ use Rattle.md_emit.specs.declared.given.Given.{Given as Supplied}
 
 -- the target at a place, if there is one
 abbrev pub target_at : List Target → Option ℕ → Target
-target_at targets place = unwrap_or (option_and_then (λ there. slice_get targets there) place) nowhere
+target_at targets place =
+    unwrap_or (option_and_then (λ there. slice_get targets there) place) nowhere
 
 -- what the code is supplied with is what the steps are given
 pub record Supplies (code : Supplied) (given : Given) : Type 0 where
@@ -21,7 +25,8 @@ pub record Supplies (code : Supplied) (given : Given) : Type 0 where
   pub names : given.names ≡ name_table code.names.now
   pub options : given.options ≡ code.options.now
   pub ending : given.ending ≡ code.ending.now
-  pub finds : (index : ℕ) (one : Noticed) (place : Option ℕ) → IsNoticedAt code.checked.now index one →
+  pub finds : (index : ℕ) (one : Noticed) (place : Option ℕ) →
+      IsNoticedAt code.checked.now index one →
       IsLedTo code.checked.now index place →
       target_at code.definitions.now place ≡ target_defined given one.told.identifier
 

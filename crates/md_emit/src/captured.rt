@@ -1,6 +1,9 @@
-//! What is done where a node is left that makes a text: code, references, HTML, links, images, footnotes.
+//! What is done where a node is left that makes a text: code, references, HTML, links,
+//! images, footnotes.
 
-ghost use Rattle.std.specs.Prelude.{◌≡◌, ◌∷◌, ◌++◌, [], OnOk, IfOk, Some, None, true, false, not, ℕ, List, Bool, if◌then◌else◌, codes, unwrap_or, string_bytes, option_copied, ◌||◌, ◌&&◌};
+ghost use Rattle.std.specs.Prelude.{◌≡◌, ◌∷◌, ◌++◌, [], OnOk, IfOk, Some, None, true, false, not};
+ghost use Rattle.std.specs.Prelude.{ℕ, List, Bool, if◌then◌else◌, codes, unwrap_or, string_bytes};
+ghost use Rattle.std.specs.Prelude.{option_copied, ◌||◌, ◌&&◌};
 ghost use Rattle.md_base.specs.declared.event.Name.TheVariants as names;
 ghost use Rattle.md_base.specs.NameTests.{is_transparent};
 ghost use Rattle.md_base.specs.Place.{serialized_between};
@@ -43,7 +46,8 @@ impl<'a> Printer<'a> {
         requires plain { marker name ≡ 38 }
         ensures { OnOk result ((ending : List ℕ) → self.new ≡ record self.old {
           text = laid_after ending (steps.first_or [] self.old.below) (steps.code_text_closing
-              (record self.old { around = steps.first_or steps.outside self.old.arounds }) self.old.text);
+              (record self.old { around = steps.first_or steps.outside self.old.arounds })
+              self.old.text);
           below = steps.others_of self.old.below;
           around = steps.first_or steps.outside self.old.arounds;
           arounds = steps.others_of self.old.arounds;
@@ -71,10 +75,12 @@ impl<'a> Printer<'a> {
         push_code(alloc, &mut self.output, in_table, self.scratch.as_str())
     }
 
-    /// Leaves the value of a character reference: what it stands for, escaped where its surroundings say so.
+    /// Leaves the value of a character reference: what it stands for, escaped where its
+    /// surroundings say so.
     pub(crate) fn leave_reference(&mut self, given: &Given, index: usize) -> Result<(), AllocError>
         requires { ExitsAt given.now.checked.now.events index names.CharacterReferenceValue }
-        ensures { OnOk result (Leaves given.now index names.CharacterReferenceValue self.old self.new) }
+        ensures { OnOk result
+            (Leaves given.now index names.CharacterReferenceValue self.old self.new) }
     {
         let value = text_left_at(given.checked, index);
         let decoded = decode_character_reference(given.alloc, value, self.marker, given.names)?;
@@ -95,7 +101,8 @@ impl<'a> Printer<'a> {
         requires plain { marker name ≡ 38 }
         ensures { OnOk result ((all : At.Given) (one : Noticed) → Supplies given.now all
             → IsNoticedAt given.now.checked.now index one → self.new ≡ record self.old {
-              text = self.old.text ++ encoded self.old.around.is_escaping (steps.html_text all one.told);
+              text = self.old.text
+                  ++ encoded self.old.around.is_escaping (steps.html_text all one.told);
               ended = Some name;
               marker = 38;
             }) }
@@ -119,13 +126,15 @@ impl<'a> Printer<'a> {
         requires there { ExitsAt given.now.checked.now.events index name }
         requires solid { is_transparent name ≡ false }
         requires plain { marker name ≡ 38 }
-        ensures { OnOk result ((one : Noticed) → IsNoticedAt given.now.checked.now index one → self.new ≡ record self.old {
-          text = self.old.text ++ encoded true (unwrap_or (serialized_between given.now.checked.now.bytes
-              one.told.place.start one.told.place.end) []);
-          ended = Some name;
-          marker = 38;
-          has_chunk = true;
-        }) }
+        ensures { OnOk result ((one : Noticed) → IsNoticedAt given.now.checked.now index one
+            → self.new ≡ record self.old {
+              text = self.old.text
+                  ++ encoded true (unwrap_or (serialized_between given.now.checked.now.bytes
+                  one.told.place.start one.told.place.end) []);
+              ended = Some name;
+              marker = 38;
+              has_chunk = true;
+            }) }
     {
         let place = place_left_at(given.checked, index);
         self.ends_chunk(name);
@@ -150,8 +159,8 @@ impl<'a> Printer<'a> {
         end: Point,
     ) -> Result<(), AllocError>
         ensures { OnOk result (self.new ≡ record self.old {
-          text = self.old.text
-              ++ encoded true (unwrap_or (serialized_between given.now.checked.now.bytes start end) []);
+          text = self.old.text ++ encoded true
+              (unwrap_or (serialized_between given.now.checked.now.bytes start end) []);
         }) }
     {
         // Few lines of code begin or end in a tab that is cut.
@@ -176,7 +185,8 @@ impl<'a> Printer<'a> {
         requires plain { marker name ≡ 38 }
         ensures { OnOk result ((all : At.Given) (one : Noticed) → Supplies given.now all
             → IsNoticedAt given.now.checked.now index one → self.new ≡ record self.old {
-              text = laid_after all.ending self.old.text (steps.autolink_closing all one.told plain prefix.now);
+              text = laid_after all.ending self.old.text
+                  (steps.autolink_closing all one.told plain prefix.now);
               ended = Some name;
               marker = 38;
             }) }
@@ -193,7 +203,8 @@ impl<'a> Printer<'a> {
     fn put_anchor(&mut self, given: &Given, prefix: &str, text: &str) -> Result<(), AllocError>
         ensures { OnOk result ((ending : List ℕ) → self.new ≡ record self.old {
           text = laid_after ending self.old.text (anchor given.now.options.now
-              (record { destination = prefix.now ++ text.now; title = None }) (encoded true text.now));
+              (record { destination = prefix.now ++ text.now; title = None })
+              (encoded true text.now));
         }) }
     {
         self.put_self_head(given, prefix, text)?;
@@ -269,8 +280,8 @@ impl<'a> Printer<'a> {
         found: Option<&Target>,
     ) -> Result<(), AllocError>
         ensures { OnOk result (self.new ≡ record self.old {
-          text = steps.first_or [] self.old.below
-              ++ (anchor_head options.now (unwrap_or self.old.resource (unwrap_or (option_copied found.entry) steps.nowhere))
+          text = steps.first_or [] self.old.below ++ (anchor_head options.now
+              (unwrap_or self.old.resource (unwrap_or (option_copied found.entry) steps.nowhere))
               ++ (self.old.text ++ codes "</a>"));
           below = steps.others_of self.old.below;
         }) }
@@ -297,7 +308,8 @@ impl<'a> Printer<'a> {
         self.put_picture(given.options, found)
     }
 
-    /// Where a link or an image leads by its identifier: it is looked up where there is no resource.
+    /// Where a link or an image leads by its identifier: it is looked up where there is no
+    /// resource.
     fn led<'b>(&self, given: &Given<'b>, index: usize) -> Result<Option<&'b Target>, AllocError>
         requires { ExitsOf is_of_definitions given.now.checked.now.events index }
         ensures { IfOk result (λ found. (all : At.Given) (one : Noticed) → Supplies given.now all
@@ -320,10 +332,10 @@ impl<'a> Printer<'a> {
     ) -> Result<(), AllocError>
         ensures { OnOk result (self.new ≡ record self.old {
           text = steps.first_or [] self.old.below
-              ++ (picture_head options.now
-              (unwrap_or self.old.resource (unwrap_or (option_copied found.entry) steps.nowhere)).destination
-              ++ (self.old.text ++ picture_tail
-              (unwrap_or self.old.resource (unwrap_or (option_copied found.entry) steps.nowhere)).title));
+              ++ (picture_head options.now (unwrap_or self.old.resource
+              (unwrap_or (option_copied found.entry) steps.nowhere)).destination
+              ++ (self.old.text ++ picture_tail (unwrap_or self.old.resource
+              (unwrap_or (option_copied found.entry) steps.nowhere)).title));
           below = steps.others_of self.old.below;
         }) }
     {
@@ -433,7 +445,8 @@ impl<'a> Printer<'a> {
         identifier: &str,
     ) -> Result<(), AllocError>
         ensures { OnOk result (self.new ≡ record self.old {
-          text = laid_after [] self.old.text (steps.call_pieces options.now self.old.calls identifier.now);
+          text = laid_after [] self.old.text
+              (steps.call_pieces options.now self.old.calls identifier.now);
         }) }
     {
         let scratch = &mut self.scratch;
@@ -459,7 +472,8 @@ impl<'a> Printer<'a> {
     /// Leaves a footnote definition, whose text is kept if it is the first with its identifier.
     pub(crate) fn leave_footnote(&mut self, given: &Given, index: usize) -> Result<(), AllocError>
         requires { ExitsAt given.now.checked.now.events index names.GfmFootnoteDefinition }
-        ensures { OnOk result (Leaves given.now index names.GfmFootnoteDefinition self.old self.new) }
+        ensures { OnOk result
+            (Leaves given.now index names.GfmFootnoteDefinition self.old self.new) }
     {
         let identifier = identifier_left_at(given.alloc, given.checked, index)?;
         self.turn_back();
@@ -505,7 +519,8 @@ fn put_call_on(
     identifier: &str,
 ) -> Result<(), AllocError>
     ensures { OnOk result (output.new ≡ record output.old {
-      text = laid_after [] output.old.text (steps.call_pieces options.now footnotes.now.calls identifier.now);
+      text = laid_after [] output.old.text
+          (steps.call_pieces options.now footnotes.now.calls identifier.now);
     }) }
 {
     scratch.clear();
@@ -533,9 +548,11 @@ fn joined(alloc: Global, prefix: &str, text: &str) -> Result<String, AllocError>
     Ok(all)
 }
 
-/// The text between two points with the spaces of the tabs that are cut there; empty where there is none.
+/// The text between two points with the spaces of the tabs that are cut there; empty
+/// where there is none.
 fn serialized(alloc: Global, bytes: &[u8], start: Point, end: Point) -> Result<String, AllocError>
-    ensures { IfOk result (λ text. string_bytes text ≡ unwrap_or (serialized_between bytes.now start end) []) }
+    ensures { IfOk result
+        (λ text. string_bytes text ≡ unwrap_or (serialized_between bytes.now start end) []) }
 {
     match Slice::from_position(bytes, &Position { start, end }) {
         Some(slice) => Ok(slice.serialize(alloc)?.unwrap_or(String::new(alloc))),

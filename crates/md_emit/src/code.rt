@@ -1,6 +1,7 @@
 //! The text of code in a text.
 
-ghost use Rattle.std.specs.Prelude.{◌≡◌, ◌++◌, ◌≤◌, IfOk, OnOk, string_bytes, encode_utf8, length, ◌-◌, option_copied, if◌then◌else◌};
+ghost use Rattle.std.specs.Prelude.{◌≡◌, ◌++◌, ◌≤◌, IfOk, OnOk, string_bytes, encode_utf8, length};
+ghost use Rattle.std.specs.Prelude.{◌-◌, option_copied, if◌then◌else◌};
 ghost use Rattle.std.specs.Bool.{OnTrue};
 ghost use Rattle.std.specs.Str.{IsCharBoundary};
 ghost use Rattle.md_meaning.specs.Meaning.Spans.{trimmed, without_escapes};
@@ -9,8 +10,8 @@ ghost use Rattle.md_emit.specs.Code as code;
 use md_output::Output;
 use std::alloc::{AllocError, Global};
 
-/// The text of code: in a table each backslash directly before a pipe goes, and then one space goes at each end of a
-/// text that begins and ends with one and isn't all spaces.
+/// The text of code: in a table each backslash directly before a pipe goes, and then one space goes
+/// at each end of a text that begins and ends with one and isn't all spaces.
 ///
 /// # Errors
 ///

@@ -1,6 +1,8 @@
 //! What is done where a node is entered.
 
-ghost use Rattle.std.specs.Prelude.{◌≡◌, ◌∷◌, ◌++◌, [], ◌==◌, OnOk, IfSome, Some, None, true, false, not, ℕ, List, if◌then◌else◌, codes, slice_get, unwrap_or, bytes_eq};
+ghost use Rattle.std.specs.Prelude.{◌≡◌, ◌∷◌, ◌++◌, [], ◌==◌, OnOk, IfSome, Some, None, true};
+ghost use Rattle.std.specs.Prelude.{false, not, ℕ, List, if◌then◌else◌, codes, slice_get};
+ghost use Rattle.std.specs.Prelude.{unwrap_or, bytes_eq};
 ghost use Rattle.std.specs.Option.{option_map_or};
 ghost use Rattle.std.specs.Bool.{OnTrue};
 ghost use Rattle.std.specs.Fmt.{decimal};
@@ -8,7 +10,8 @@ ghost use Rattle.std.specs.Str.{IsCharBoundary};
 ghost use Rattle.md_base.specs.declared.event.Name.TheVariants.{ListOrdered};
 ghost use Rattle.md_meaning.specs.Meaning.At as At;
 ghost use Rattle.md_shape.specs.Run.{Noticed};
-ghost use Rattle.md_meaning.specs.Meaning.Layout.{Needed, Forced, Text, laid_after, said, on_own_line, when};
+ghost use Rattle.md_meaning.specs.Meaning.Layout.{Needed, Forced, Text, laid_after, said};
+ghost use Rattle.md_meaning.specs.Meaning.Layout.{on_own_line, when};
 ghost use Rattle.md_meaning.specs.Meaning.Blocks.{heading_tag, without_zeros};
 ghost use Rattle.md_tree.specs.Texts.{EntersAt};
 ghost use Rattle.md_shape.specs.Steps as steps;
@@ -143,7 +146,8 @@ impl<'a> Printer<'a> {
     fn enter_captured(&mut self, name: Name) -> Result<(), AllocError>
         requires common { parts.is_common_entry name ≡ false }
         requires block { parts.is_block_entry name ≡ false }
-        ensures { OnOk result ((given : At.Given) (told : steps.Told) → self.new ≡ steps.entered given told name self.old) }
+        ensures { OnOk result ((given : At.Given) (told : steps.Told)
+            → self.new ≡ steps.entered given told name self.old) }
     {
         self.enters();
         match name {
@@ -202,7 +206,8 @@ impl<'a> Printer<'a> {
     /// Enters a paragraph: its tag, unless it stands in a tight list.
     fn enter_paragraph(&mut self, ending: &str) -> Result<(), AllocError>
         ensures { OnOk result (self.new ≡ record self.old {
-          text = laid_after ending.now self.old.text (when (not self.old.around.is_tight) (on_own_line (codes "<p>")));
+          text = laid_after ending.now self.old.text
+              (when (not self.old.around.is_tight) (on_own_line (codes "<p>")));
           ended = None;
           marker = 38;
         }) }
@@ -232,7 +237,8 @@ impl<'a> Printer<'a> {
     #[inline(always)]
     fn enter_span(&mut self, tag: &str) -> Result<(), AllocError>
         ensures { OnOk result ((ending : List ℕ) → self.new ≡ record self.old {
-          text = laid_after ending self.old.text (when (not self.old.around.in_image) (said tag.now));
+          text =
+              laid_after ending self.old.text (when (not self.old.around.in_image) (said tag.now));
           ended = None;
           marker = 38;
         }) }
@@ -289,7 +295,8 @@ impl<'a> Printer<'a> {
     /// The tag of a cell of a column.
     fn open_column(&mut self, ending: &str, kind: AlignKind) -> Result<(), AllocError>
         ensures { OnOk result (self.new ≡ record self.old {
-          text = laid_after ending.now self.old.text (steps.cell_opening self.old.around.in_head kind);
+          text =
+              laid_after ending.now self.old.text (steps.cell_opening self.old.around.in_head kind);
         }) }
     {
         let tag = cell_start(self.around.in_head, kind);
@@ -329,8 +336,8 @@ impl<'a> Printer<'a> {
         requires { EntersAt given.now.checked.now.events index ListOrdered }
         ensures { OnOk result ((all : At.Given) (one : Noticed) → Supplies given.now all
             → IsNoticedAt given.now.checked.now index one → self.new ≡ record self.old {
-              text = laid_after given.now.ending.now self.old.text
-                  (on_own_line (codes "<ol") ++ (steps.list_opening all one.told ++ said (codes ">")));
+              text = laid_after given.now.ending.now self.old.text (on_own_line (codes "<ol")
+                  ++ (steps.list_opening all one.told ++ said (codes ">")));
               ended = None;
               marker = 38;
             }) }
@@ -344,7 +351,8 @@ impl<'a> Printer<'a> {
     fn open_start(&mut self, given: &Given, index: usize) -> Result<(), AllocError>
         requires { EntersAt given.now.checked.now.events index ListOrdered }
         ensures { OnOk result ((all : At.Given) (one : Noticed) → Supplies given.now all
-            → IsNoticedAt given.now.checked.now index one → (ending : List ℕ) → self.new ≡ record self.old {
+            → IsNoticedAt given.now.checked.now index one → (ending : List ℕ)
+            → self.new ≡ record self.old {
               text = laid_after ending self.old.text (steps.list_opening all one.told);
             }) }
     {
@@ -375,7 +383,8 @@ impl<'a> Printer<'a> {
     /// Enters a heading of a rank.
     fn enter_heading(&mut self, given: &Given, rank: usize) -> Result<(), AllocError>
         ensures { OnOk result (self.new ≡ record self.old {
-          text = laid_after given.now.ending.now self.old.text (on_own_line (heading_tag (codes "<h") rank));
+          text = laid_after given.now.ending.now self.old.text
+              (on_own_line (heading_tag (codes "<h") rank));
           ended = None;
           marker = 38;
         }) }
@@ -439,7 +448,8 @@ impl<'a> Printer<'a> {
     fn enter_task(&mut self, checkable: bool) -> Result<(), AllocError>
         ensures { OnOk result ((ending : List ℕ) → self.new ≡ record self.old {
           text = laid_after ending self.old.text (when (not self.old.around.in_image)
-              (Text (codes "<input type=\"checkbox\" ") ∷ when (not checkable) (said (codes "disabled=\"\" "))));
+              (Text (codes "<input type=\"checkbox\" ")
+              ∷ when (not checkable) (said (codes "disabled=\"\" "))));
           ended = None;
           marker = 38;
         }) }
@@ -460,7 +470,8 @@ impl<'a> Printer<'a> {
     fn enter_code(&mut self, tag: &str) -> Result<(), AllocError>
         ensures { OnOk result ((ending : List ℕ) → self.new ≡ record self.old {
           text = [];
-          below = laid_after ending self.old.text (when (not self.old.around.in_image) (said tag.now)) ∷ self.old.below;
+          below = laid_after ending self.old.text
+              (when (not self.old.around.in_image) (said tag.now)) ∷ self.old.below;
           around = record self.old.around { in_code = true };
           arounds = self.old.around ∷ self.old.arounds;
         }) }

@@ -48,7 +48,8 @@ impl<'a> Printer<'a> {
         self.ends(Name::Definition);
     }
 
-    /// Whether no text is captured and what is printed is longer than this, even without what waits to be put in.
+    /// Whether no text is captured and what is printed is longer than this, even without what
+    /// waits to be put in.
     #[inline(always)]
     pub fn is_longer(&self, limit: usize) -> bool
         ensures { result ≡ true → (self.now.below ≡ []) × (limit < length self.now.text) }
@@ -67,9 +68,10 @@ impl<'a> Printer<'a> {
         options: &CompileOptions,
         ending: &str,
     ) -> Result<String, AllocError>
-        ensures { IfOk result (λ text. (given : At.Given) → given.options ≡ options.now → given.ending ≡ ending.now
-            → given.calls ≡ self.entry.calls
-            → string_bytes text ≡ laid_after given.ending self.entry.text (section given self.entry.footnotes)) }
+        ensures { IfOk result
+            (λ text. (given : At.Given) → given.options ≡ options.now → given.ending ≡ ending.now
+            → given.calls ≡ self.entry.calls → string_bytes text
+            ≡ laid_after given.ending self.entry.text (section given self.entry.footnotes)) }
     {
         let Printer {
             output,

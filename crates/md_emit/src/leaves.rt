@@ -13,8 +13,8 @@ use md_told::{is_last_at, text_inside};
 use std::alloc::AllocError;
 
 impl<'a> Printer<'a> {
-    /// Enters and leaves a node without children, if its name is frequent; answers whether it is. Of such a node it is
-    /// as if it were left alone.
+    /// Enters and leaves a node without children, if its name is frequent; answers whether it is.
+    /// Of such a node it is as if it were left alone.
     ///
     /// # Errors
     ///
@@ -32,7 +32,8 @@ impl<'a> Printer<'a> {
         requires one { (one : Noticed) → IsNoticedAt given.now.checked.now entry one
             → IsNoticedAt given.now.checked.now exit one }
         ensures alone { IfOk result (λ done. done ≡ true → is_alone name ≡ true) }
-        ensures left { IfOk result (λ done. done ≡ true → Leaves given.now entry name self.old self.new) }
+        ensures left { IfOk result
+            (λ done. done ≡ true → Leaves given.now entry name self.old self.new) }
         ensures same { IfOk result (λ done. done ≡ false → self.new ≡ self.old) }
     {
         // An arm for each frequent name, though `exit` has them too: so such a leaf costs one jump.

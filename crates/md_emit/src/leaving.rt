@@ -1,13 +1,17 @@
 //! What is done where a node is left.
 
-ghost use Rattle.std.specs.Prelude.{◌≡◌, ◌∷◌, ◌++◌, [], ◌==◌, ◌+◌, ◌<◌, ◌^◌, ◌||◌, ◌&&◌, OnOk, IfOk, Some, None, true, false, not, ℕ, List, Bool, if◌then◌else◌, codes, slice_get, unwrap_or, drop, string_bytes, option_copied};
+ghost use Rattle.std.specs.Prelude.{◌≡◌, ◌∷◌, ◌++◌, [], ◌==◌, ◌+◌, ◌<◌, ◌^◌, ◌||◌, ◌&&◌, OnOk};
+ghost use Rattle.std.specs.Prelude.{IfOk, Some, None, true, false, not, ℕ, List, Bool};
+ghost use Rattle.std.specs.Prelude.{if◌then◌else◌, codes, slice_get, unwrap_or, drop, string_bytes};
+ghost use Rattle.std.specs.Prelude.{option_copied};
 ghost use Rattle.std.specs.Option.{option_map_or};
 ghost use Rattle.std.specs.List.{flat_map};
 ghost use Rattle.md_base.specs.declared.event.Name.TheVariants as names;
 ghost use Rattle.md_base.specs.NameTests.{is_fence, is_definition, is_transparent};
 ghost use Rattle.md_base.specs.Reference.{decoded, name_table};
 ghost use Rattle.md_meaning.specs.Meaning.At as At;
-ghost use Rattle.md_meaning.specs.Meaning.Layout.{Needed, Forced, Text, laid_after, said, on_own_line, when};
+ghost use Rattle.md_meaning.specs.Meaning.Layout.{Needed, Forced, Text, laid_after, said};
+ghost use Rattle.md_meaning.specs.Meaning.Layout.{on_own_line, when};
 ghost use Rattle.md_meaning.specs.Meaning.Blocks.{heading_tag};
 ghost use Rattle.md_meaning.specs.Meaning.Spans.{trimmed, without_escapes, marker};
 ghost use Rattle.md_meaning.specs.Meaning.Tables.{cell_of};
@@ -231,7 +235,8 @@ impl<'a> Printer<'a> {
         requires span { parts.is_block_exit name ≡ false }
         requires captured { parts.is_text_exit name ≡ false }
         requires quiet { parts.is_captured_exit name ≡ false }
-        ensures { OnOk result ((given : At.Given) (told : steps.Told) → self.new ≡ steps.exited given told name self.old) }
+        ensures { OnOk result ((given : At.Given) (told : steps.Told)
+            → self.new ≡ steps.exited given told name self.old) }
     {
         self.ended = Some(name);
         self.marker = b'&';
@@ -271,7 +276,8 @@ impl<'a> Printer<'a> {
         self.put_encoded(text, self.around.is_escaping)
     }
 
-    /// Leaves a line ending: a space in code, else its own text, unless it is slurped or follows a definition.
+    /// Leaves a line ending: a space in code, else its own text, unless it is slurped or
+    /// follows a definition.
     pub(crate) fn leave_line_ending(&mut self, text: &str) -> Result<(), AllocError>
         ensures { OnOk result ((ending : List ℕ) → self.new ≡ record self.old {
           text = laid_after ending self.old.text (parts.line_closing self.old text.now);
@@ -294,10 +300,12 @@ impl<'a> Printer<'a> {
         }
     }
 
-    /// Prints a line ending. Most are a line feed, which is known where this is built: so no copy is called for.
+    /// Prints a line ending. Most are a line feed, which is known where this is built: so no
+    /// copy is called for.
     #[inline(always)]
     fn put_ending(&mut self, text: &str) -> Result<(), AllocError>
-        ensures { OnOk result (self.new ≡ record self.old { text = laid_after [] self.old.text (said text.now) }) }
+        ensures { OnOk result
+            (self.new ≡ record self.old { text = laid_after [] self.old.text (said text.now) }) }
     {
         if text == "\n" {
             self.put("\n")
@@ -318,7 +326,8 @@ impl<'a> Printer<'a> {
     /// Leaves a paragraph: its tag, or a slurped line ending where it stands in a tight list.
     fn leave_paragraph(&mut self) -> Result<(), AllocError>
         ensures { OnOk result ((ending : List ℕ) → self.new ≡ record self.old {
-          text = laid_after ending self.old.text (when (not self.old.around.is_tight) (said (codes "</p>")));
+          text = laid_after ending self.old.text
+              (when (not self.old.around.is_tight) (said (codes "</p>")));
           slurps = if self.old.around.in_definition then self.old.slurps
               else self.old.around.is_tight || self.old.slurps;
           ended = Some names.Paragraph;
@@ -337,13 +346,15 @@ impl<'a> Printer<'a> {
 
     /// Leaves an item, on a line of its own unless its last child says otherwise.
     fn leave_item(&mut self, ending: &str, last: Option<Name>) -> Result<(), AllocError>
-        ensures { OnOk result ((told : steps.Told) → told.contributing ≡ last → self.new ≡ record self.old {
-          text = laid_after ending.now self.old.text
-              ((if steps.item_ends_in_line self.old told then [] else Needed ∷ []) ++ said (codes "</li>"));
-          slurps = if self.old.around.in_definition then self.old.slurps else false;
-          ended = Some names.ListItem;
-          marker = 38;
-        }) }
+        ensures { OnOk result
+            ((told : steps.Told) → told.contributing ≡ last → self.new ≡ record self.old {
+              text = laid_after ending.now self.old.text
+                  ((if steps.item_ends_in_line self.old told then [] else Needed ∷ [])
+                  ++ said (codes "</li>"));
+              slurps = if self.old.around.in_definition then self.old.slurps else false;
+              ended = Some names.ListItem;
+              marker = 38;
+            }) }
     {
         self.ends_unslurped(Name::ListItem);
         if ends_in_line(self.around.is_tight, last) {
@@ -359,7 +370,8 @@ impl<'a> Printer<'a> {
         requires solid { is_transparent name ≡ false }
         requires plain { marker name ≡ 38 }
         ensures { OnOk result ((ending : List ℕ) → self.new ≡ record self.old {
-          text = laid_after ending self.old.text (when (not self.old.around.in_image) (said tag.now));
+          text =
+              laid_after ending self.old.text (when (not self.old.around.in_image) (said tag.now));
           ended = Some name;
           marker = 38;
         }) }
@@ -373,7 +385,8 @@ impl<'a> Printer<'a> {
         requires solid { is_transparent name ≡ false }
         requires plain { marker name ≡ 38 }
         ensures { OnOk result ((ending : List ℕ) → self.new ≡ record self.old {
-          text = laid_after ending self.old.text (when (not self.old.around.in_image) (said (codes "<br />")));
+          text = laid_after ending self.old.text
+              (when (not self.old.around.in_image) (said (codes "<br />")));
           ended = Some name;
           marker = 38;
         }) }
@@ -453,9 +466,8 @@ impl<'a> Printer<'a> {
     #[inline(never)]
     fn leave_row(&mut self, ending: &str) -> Result<(), AllocError>
         ensures { OnOk result (self.new ≡ record self.old {
-          text = laid_after ending.now self.old.text
-              (flat_map (cell_of self.old.around.in_head []) (drop self.old.cells self.old.around.columns)
-              ++ on_own_line (codes "</tr>"));
+          text = laid_after ending.now self.old.text (flat_map (cell_of self.old.around.in_head [])
+              (drop self.old.cells self.old.around.columns) ++ on_own_line (codes "</tr>"));
           ended = Some names.GfmTableRow;
           marker = 38;
         }) }
@@ -468,8 +480,8 @@ impl<'a> Printer<'a> {
     /// Prints empty cells for the columns that the row has no cells for.
     fn put_empty_cells(&mut self, ending: &str) -> Result<(), AllocError>
         ensures { OnOk result (self.new ≡ record self.old {
-          text = laid_after ending.now self.old.text
-              (flat_map (cell_of self.old.around.in_head []) (drop self.old.cells self.old.around.columns));
+          text = laid_after ending.now self.old.text (flat_map (cell_of self.old.around.in_head [])
+              (drop self.old.cells self.old.around.columns));
         }) }
     {
         let mut rest = columns_from(self.around.columns, self.cells);
@@ -562,7 +574,8 @@ impl<'a> Printer<'a> {
     /// Leaves a setext heading's underline, which tells the rank of the heading before it.
     fn leave_underline(&mut self, given: &Given, index: usize) -> Result<(), AllocError>
         requires { ExitsAt given.now.checked.now.events index names.HeadingSetextUnderlineSequence }
-        ensures { OnOk result (Leaves given.now index names.HeadingSetextUnderlineSequence self.old self.new) }
+        ensures { OnOk result
+            (Leaves given.now index names.HeadingSetextUnderlineSequence self.old self.new) }
     {
         let place = place_left_at(given.checked, index);
         self.ends(Name::HeadingSetextUnderlineSequence);
@@ -575,8 +588,10 @@ impl<'a> Printer<'a> {
     /// Prints a setext heading.
     fn put_setext(&mut self, ending: &str, dashed: bool) -> Result<(), AllocError>
         ensures { OnOk result (self.new ≡ record self.old {
-          text = laid_after ending.now self.old.text (on_own_line (heading_tag (codes "<h") (if dashed then 2 else 1))
-              ++ (said self.old.heading ++ said (heading_tag (codes "</h") (if dashed then 2 else 1))));
+          text = laid_after ending.now self.old.text
+              (on_own_line (heading_tag (codes "<h") (if dashed then 2 else 1))
+              ++ (said self.old.heading
+              ++ said (heading_tag (codes "</h") (if dashed then 2 else 1))));
         }) }
     {
         self.line(ending, setext_start(dashed))?;
@@ -672,7 +687,8 @@ impl<'a> Printer<'a> {
         requires fences { self.old.fences < 2 ^ 63 }
         ensures { OnOk result ((ending : List ℕ) → self.new ≡ record self.old {
           text = laid_after ending self.old.text (when (self.old.fences == 0) (said (codes ">")));
-          slurps = if self.old.around.in_definition then self.old.slurps else (self.old.fences == 0) || self.old.slurps;
+          slurps = if self.old.around.in_definition then self.old.slurps
+              else (self.old.fences == 0) || self.old.slurps;
           ended = Some name;
           marker = 38;
           fences = self.old.fences + 1;
@@ -713,7 +729,8 @@ fn follows_fence(ended: Option<Name>) -> bool
 
 /// An item's last child that contributes ends its line: its prefix, or a paragraph of a tight list.
 fn ends_in_line(is_tight: bool, last: Option<Name>) -> bool
-    ensures { (state : steps.State) (told : steps.Told) → state.around.is_tight ≡ is_tight → told.contributing ≡ last
+    ensures { (state : steps.State) (told : steps.Told) → state.around.is_tight ≡ is_tight
+        → told.contributing ≡ last
         → result ≡ steps.item_ends_in_line state told }
 {
     match last {

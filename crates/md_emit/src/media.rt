@@ -1,6 +1,7 @@
 //! What stands before and after the label of a link or an image.
 
-ghost use Rattle.std.specs.Prelude.{◌≡◌, ◌++◌, OnOk, List, ℕ, option_copied, if◌then◌else◌, unwrap_or, Some, None};
+ghost use Rattle.std.specs.Prelude.{◌≡◌, ◌++◌, OnOk, List, ℕ, option_copied, if◌then◌else◌};
+ghost use Rattle.std.specs.Prelude.{unwrap_or, Some, None};
 ghost use Rattle.md_meaning.specs.Meaning.Media.{href, src};
 ghost use Rattle.md_shape.specs.Steps.{nowhere};
 ghost use Rattle.md_emit.specs.Heads.{anchor_head, picture_head, picture_tail, title_text};
@@ -12,7 +13,8 @@ use md_text::CompileOptions;
 use std::alloc::AllocError;
 use std::marker::Model;
 
-/// Where a link or an image leads, and its title as it is printed, in texts that are kept elsewhere.
+/// Where a link or an image leads, and its title as it is printed, in texts that are kept
+/// elsewhere.
 #[derive(Drop)]
 pub(crate) struct Lead<'a> {
     /// The destination, not yet sanitized; empty where there is none.
@@ -30,7 +32,8 @@ impl<'a> Model for Lead<'a> {
 }
 
 impl<'a> Lead<'a> {
-    /// Where a resource says, if there is one, else where a definition does that was found, else nowhere.
+    /// Where a resource says, if there is one, else where a definition does that was
+    /// found, else nowhere.
     pub(crate) fn of(
         has_resource: bool,
         resource: &'a Target,
@@ -54,7 +57,8 @@ impl<'a> Lead<'a> {
 
 /// Puts a link's destination as it is written.
 fn put_href(out: &mut Output, options: &CompileOptions, destination: &str) -> Result<(), AllocError>
-    ensures { OnOk result (out.new ≡ record out.old { text = out.old.text ++ href options.now destination.now }) }
+    ensures { OnOk result
+        (out.new ≡ record out.old { text = out.old.text ++ href options.now destination.now }) }
 {
     if options.allow_dangerous_protocol {
         out.put_sanitized(destination)
@@ -65,7 +69,8 @@ fn put_href(out: &mut Output, options: &CompileOptions, destination: &str) -> Re
 
 /// Puts an image's destination as it is written.
 fn put_src(out: &mut Output, options: &CompileOptions, destination: &str) -> Result<(), AllocError>
-    ensures { OnOk result (out.new ≡ record out.old { text = out.old.text ++ src options.now destination.now }) }
+    ensures { OnOk result
+        (out.new ≡ record out.old { text = out.old.text ++ src options.now destination.now }) }
 {
     if options.allow_any_img_src || options.allow_dangerous_protocol {
         out.put_sanitized(destination)
@@ -99,7 +104,8 @@ pub(crate) fn put_anchor_head(
     options: &CompileOptions,
     lead: &Lead,
 ) -> Result<(), AllocError>
-    ensures { OnOk result (out.new ≡ record out.old { text = out.old.text ++ anchor_head options.now lead.now }) }
+    ensures { OnOk result
+        (out.new ≡ record out.old { text = out.old.text ++ anchor_head options.now lead.now }) }
 {
     out.put("<a href=\"")?;
     put_href(out, options, lead.destination)?;
@@ -114,7 +120,8 @@ fn put_picture_head(
     options: &CompileOptions,
     destination: &str,
 ) -> Result<(), AllocError>
-    ensures { OnOk result (out.new ≡ record out.old { text = out.old.text ++ picture_head options.now destination.now }) }
+    ensures { OnOk result (out.new
+        ≡ record out.old { text = out.old.text ++ picture_head options.now destination.now }) }
 {
     out.put("<img src=\"")?;
     put_src(out, options, destination)?;
@@ -135,7 +142,8 @@ pub(crate) fn put_picture_tail(out: &mut Output, title: Option<&str>) -> Result<
     out.put(" />")
 }
 
-/// Puts what stands before a link's label before the innermost text, which is the label. Another text is used for it.
+/// Puts what stands before a link's label before the innermost text, which is the label. Another
+/// text is used for it.
 ///
 /// # Errors
 ///
@@ -146,7 +154,8 @@ pub(crate) fn put_anchor_before(
     options: &CompileOptions,
     lead: &Lead,
 ) -> Result<(), AllocError>
-    ensures { OnOk result (out.new ≡ record out.old { text = anchor_head options.now lead.now ++ out.old.text }) }
+    ensures { OnOk result
+        (out.new ≡ record out.old { text = anchor_head options.now lead.now ++ out.old.text }) }
 {
     scratch.clear();
     if out.lift(scratch)? {
@@ -159,8 +168,8 @@ pub(crate) fn put_anchor_before(
     out.put_before(scratch.as_str())
 }
 
-/// Puts what stands before an image's alternative text before the innermost text, which is that. Another text is used
-/// for it.
+/// Puts what stands before an image's alternative text before the innermost text, which is that.
+/// Another text is used for it.
 ///
 /// # Errors
 ///

@@ -1,7 +1,9 @@
 //! The text so far, and what is kept of the open nodes.
 
-ghost use Rattle.std.specs.Prelude.{◌≡◌, ◌∷◌, ◌++◌, [], OnOk, IfOk, string_bytes, Some, None, true, false, not, ℕ, List, if◌then◌else◌};
-ghost use Rattle.md_meaning.specs.Meaning.Layout.{Needed, Forced, laid_after, said, on_own_line, when};
+ghost use Rattle.std.specs.Prelude.{◌≡◌, ◌∷◌, ◌++◌, [], OnOk, IfOk, string_bytes, Some, None, true};
+ghost use Rattle.std.specs.Prelude.{false, not, ℕ, List, if◌then◌else◌};
+ghost use Rattle.md_meaning.specs.Meaning.Layout.{Needed, Forced, laid_after, said, on_own_line};
+ghost use Rattle.md_meaning.specs.Meaning.Layout.{when};
 ghost use Rattle.md_meaning.specs.Meaning.Spans.{marker};
 ghost use Rattle.md_base.specs.NameTests.{is_transparent};
 ghost use Rattle.md_text.specs.Encode.{encoded};
@@ -104,7 +106,8 @@ impl<'a> Printer<'a> {
     /// Only where memory runs out.
     #[inline(always)]
     pub(crate) fn put(&mut self, text: &str) -> Result<(), AllocError>
-        ensures { OnOk result (self.new ≡ record self.old { text = laid_after [] self.old.text (said text.now) }) }
+        ensures { OnOk result
+            (self.new ≡ record self.old { text = laid_after [] self.old.text (said text.now) }) }
     {
         self.output.put(text)
     }
@@ -160,7 +163,8 @@ impl<'a> Printer<'a> {
     #[inline(always)]
     pub(crate) fn tag(&mut self, tag: &str) -> Result<(), AllocError>
         ensures { OnOk result ((ending : List ℕ) → self.new ≡ record self.old {
-          text = laid_after ending self.old.text (when (not self.old.around.in_image) (said tag.now));
+          text =
+              laid_after ending self.old.text (when (not self.old.around.in_image) (said tag.now));
         }) }
     {
         if self.around.in_image {
@@ -206,7 +210,8 @@ impl<'a> Printer<'a> {
     /// Only where memory runs out.
     #[inline(always)]
     pub(crate) fn capture(&mut self) -> Result<(), AllocError>
-        ensures { OnOk result (self.new ≡ record self.old { text = []; below = self.old.text ∷ self.old.below }) }
+        ensures { OnOk result
+            (self.new ≡ record self.old { text = []; below = self.old.text ∷ self.old.below }) }
     {
         self.output.capture()
     }

@@ -3,7 +3,8 @@
 ghost use Rattle.std.specs.Prelude.{◌≡◌};
 ghost use Rattle.md_script.specs.Run.{IsTextOf};
 ghost use Rattle.md_script.specs.Script.{IsReadable, IsFirstUnreadable};
-ghost use Rattle.md_abi.specs.Numbers.{refused, no_event, no_name, no_option, no_line, unsafe_options, no_attribute};
+ghost use Rattle.md_abi.specs.Numbers.{refused, no_event, no_name, no_option, no_line};
+ghost use Rattle.md_abi.specs.Numbers.{unsafe_options, no_attribute};
 ghost use Rattle.md_abi.specs.Numbers.{too_long, too_much};
 ghost use Rattle.md_abi.specs.Standing.{IsFirstWithout};
 ghost use Rattle.md_abi.specs.Events.{event_of};
@@ -33,7 +34,8 @@ const VERSION: u32 = 2;
 /// Its six parameters are those of C's call, which has nine in the same order: none for `alloc`,
 /// one for `options`, and two for each of the four slices.
 ///
-/// A C caller passes nothing for `alloc`, and for each slice a pointer, which isn't null, and a length.
+/// A C caller passes nothing for `alloc`, and for each slice a pointer, which isn't
+/// null, and a length.
 ///
 /// # Statuses
 ///
@@ -59,7 +61,8 @@ pub extern "C" fn bivdrazo_compile(
     buffer: &mut [u8],
 ) -> Answer
     // The text is the meaning of what was handed in, and safe where the options are.
-    ensures text { HandsOver (IsRendered events.now bytes.now options.now names.now) buffer.old buffer.new result }
+    ensures text { HandsOver (IsRendered events.now bytes.now options.now names.now)
+        buffer.old buffer.new result }
     ensures refused { result.status ≡ refused →
         IsRefusedBy events.now bytes.now names.now result.index result.rule }
     ensures no_event { result.status ≡ no_event → IsFirstWithout event_of events.now result.index }
@@ -79,31 +82,34 @@ pub extern "C" fn bivdrazo_compile(
     }
 }
 
-/// The HTML of a list of events over a document's bytes, whose options are safe, with attributes that are added to its
-/// tags, into a buffer; and after it the headings that got an `id`.
+/// The HTML of a list of events over a document's bytes, whose options are safe, with attributes
+/// that are added to its tags, into a buffer; and after it the headings that got an `id`.
 ///
-/// Where `rel` is set, each start tag `a` whose `href` isn't empty and doesn't begin with `#`, and which has no `rel`,
-/// has one with this text, escaped. Where `heading_ids` is set, each start tag from `h1` to `h6` without an `id` has
-/// one: this text, escaped, and the heading's number, from 1. Then each of these headings follows the text: a NUL, its
-/// level, a space, its number, a space, and its text without tags, escaped.
+/// Where `rel` is set, each start tag `a` whose `href` isn't empty and doesn't begin with `#`, and
+/// which has no `rel`, has one with this text, escaped. Where `heading_ids` is set, each start tag
+/// from `h1` to `h6` without an `id` has one: this text, escaped, and the heading's number, from 1.
+/// Then each of these headings follows the text: a NUL, its level, a space, its number, a space,
+/// and its text without tags, escaped.
 ///
-/// Where no two ids of the text are equal, and none begins with what is asked for headings, no two ids are equal.
+/// Where no two ids of the text are equal, and none begins with what is asked for headings, no
+/// two ids are equal.
 ///
-/// Its seven parameters are those of C's call, which has ten in the same order: none for `alloc`, one each for
-/// `options` and `attributes`, and two for each of the four slices. What a C caller passes is told at
-/// [`bivdrazo_compile`].
+/// Its seven parameters are those of C's call, which has ten in the same order: none for `alloc`,
+/// one each for `options` and `attributes`, and two for each of the four slices. What a C caller
+/// passes is told at [`bivdrazo_compile`].
 ///
 /// # Statuses
 ///
-/// - 0: the text is in the buffer's first `index` bytes, and the headings in those from there up to `length`; what lies
-///   after them is as it was.
-/// - 1: the buffer is too short. It is as it was, and `length` is what both need, `index` what the text has: call
-///   again with as much.
+/// - 0: the text is in the buffer's first `index` bytes, and the headings in those from there up to
+///   `length`; what lies after them is as it was.
+/// - 1: the buffer is too short. It is as it was, and `length` is what both need, `index` what the
+///   text has: call again with as much.
 /// - 2 to 5, 7: as of [`bivdrazo_compile`].
 /// - 8: the options aren't safe.
 /// - 9: the attribute with the number `index` isn't valid: `rel` has 0, `heading_ids` 1.
 ///
-/// With all but 0 the buffer is as it was. Which of 2 to 5, 8 and 9 is told, if several are true, is left open.
+/// With all but 0 the buffer is as it was. Which of 2 to 5, 8 and 9 is told, if several are
+/// true, is left open.
 #[unsafe(no_mangle)]
 pub extern "C" fn bivdrazo_compile_attributed(
     alloc: Global,
@@ -114,8 +120,10 @@ pub extern "C" fn bivdrazo_compile_attributed(
     attributes: &CAttributes,
     buffer: &mut [u8],
 ) -> Answer
-    // The text is safe, the meaning of what was handed in with these attributes; the list of headings follows.
-    ensures text { HandsOver (IsAttributedText events.now bytes.now options.now names.now attributes.now result.index)
+    // The text is safe, the meaning of what was handed in with these attributes; the list of
+    // headings follows.
+    ensures text { HandsOver (IsAttributedText events.now bytes.now options.now names.now
+        attributes.now result.index)
         buffer.old buffer.new result }
     ensures refused { result.status ≡ refused →
         IsRefusedBy events.now bytes.now names.now result.index result.rule }
@@ -123,7 +131,8 @@ pub extern "C" fn bivdrazo_compile_attributed(
     ensures no_name { result.status ≡ no_name → IsFirstWithout reference_of names.now result.index }
     ensures no_option { result.status ≡ no_option → StandsForNone options.now result.index }
     ensures unsafe_options { result.status ≡ unsafe_options → KeepsImages options.now → ⊥ }
-    ensures no_attribute { result.status ≡ no_attribute → StandsForNoAttribute attributes.now result.index }
+    ensures no_attribute { result.status ≡ no_attribute
+        → StandsForNoAttribute attributes.now result.index }
     ensures fields { IsOfAttributed result }
 {
     let given = CDocument {
@@ -138,16 +147,17 @@ pub extern "C" fn bivdrazo_compile_attributed(
     }
 }
 
-/// As [`bivdrazo_compile`], where the text has at most as many bytes as `limits` say, and there is at
-/// most as much work: so what it costs is bounded. Printing stops soon after the text is too long.
+/// As [`bivdrazo_compile`], where the text has at most as many bytes as `limits` say, and
+/// there is at most as much work: so what it costs is bounded. Printing stops soon after the
+/// text is too long.
 ///
 /// The work is told from the events alone: what is read of the bytes, by the places of the events;
-/// for each link and image that leads to a definition, what is read in the longest one; for each row
-/// of a table, its columns.
+/// for each link and image that leads to a definition, what is read in the longest one; for each
+/// row of a table, its columns.
 ///
-/// Its seven parameters are those of C's call, which has ten in the same order: none for `alloc`, one
-/// each for `options` and `limits`, and two for each of the four slices. What a C caller passes is
-/// told at [`bivdrazo_compile`].
+/// Its seven parameters are those of C's call, which has ten in the same order: none for `alloc`,
+/// one each for `options` and `limits`, and two for each of the four slices. What a C caller passes
+/// is told at [`bivdrazo_compile`].
 ///
 /// # Statuses
 ///
@@ -155,8 +165,8 @@ pub extern "C" fn bivdrazo_compile_attributed(
 /// - 10: the text is longer than it may be.
 /// - 11: there is more work than there may be; whether the events are a document isn't told.
 ///
-/// With all but 0 the buffer is as it was. Which of 3 to 5 is told, if several are true, is left open.
-/// With 0, 1, 2 and 10 there isn't more work than there may be.
+/// With all but 0 the buffer is as it was. Which of 3 to 5 is told, if several are true, is left
+/// open. With 0, 1, 2 and 10 there isn't more work than there may be.
 #[unsafe(no_mangle)]
 pub extern "C" fn bivdrazo_compile_within(
     alloc: Global,
@@ -196,7 +206,8 @@ pub extern "C" fn bivdrazo_compile_within(
 
 /// The HTML of an event script, into a buffer.
 ///
-/// A C caller passes nothing for `alloc`, and for each slice a pointer, which isn't null, and a length.
+/// A C caller passes nothing for `alloc`, and for each slice a pointer, which isn't
+/// null, and a length.
 ///
 /// # Statuses
 ///

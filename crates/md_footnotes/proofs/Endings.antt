@@ -1,8 +1,11 @@
 -- Texts without the line endings at their ends.
-use Rattle.std.proofs.Common.{◌≡◌, ◌<◌, ◌≤◌, ℕ, ◌+◌, ◌-◌, suc, Bool, true, false, ◌&&◌, ◌||◌, ◌==◌, List, [], ◌∷◌, ◌++◌, length, take, drop, get_or, refl, ap, sym, ◌∙◌, arith, codes, append_assoc}
+use Rattle.std.proofs.Common.{◌≡◌, ◌<◌, ◌≤◌, ℕ, ◌+◌, ◌-◌, suc, Bool, true, false, ◌&&◌, ◌||◌, ◌==◌}
+use Rattle.std.proofs.Common.{List, [], ◌∷◌, ◌++◌, length, take, drop, get_or, refl, ap, sym, ◌∙◌}
+use Rattle.std.proofs.Common.{arith, codes, append_assoc}
 use Rattle.std.specs.Prelude.{if◌then◌else◌}
 use Rattle.std.proofs.lemmas.Bool.{ne_eqb}
-use Rattle.std.proofs.lemmas.List.{length-take-le, length-drop, length-append, take-append-drop, take-append-le}
+use Rattle.std.proofs.lemmas.List.{length-take-le, length-drop, length-append, take-append-drop}
+use Rattle.std.proofs.lemmas.List.{take-append-le}
 use Rattle.std.proofs.Math.Seq.{take-length}
 use Rattle.std.proofs.lemmas.Slice.Eq.{bytes_eq-Decides}
 use Rattle.md_meaning.specs.Meaning.Footnotes.{unended_length}
@@ -31,7 +34,8 @@ pub length-unended : (xs : List ℕ) → length (unended xs) ≡ unended_length 
 length-unended xs = length-take-le (unended_length xs) xs (unended-below xs)
 
 -- a line ending more at the end makes no difference
-break-length : (xs : List ℕ) (b : ℕ) → is_break b ≡ true → unended_length (xs ++ b ∷ []) ≡ unended_length xs
+break-length : (xs : List ℕ) (b : ℕ) → is_break b ≡ true →
+    unended_length (xs ++ b ∷ []) ≡ unended_length xs
 break-length [] b h = ap (λ t. if t && (0 == 0) then 0 else 1) h
 break-length (x ∷ xs) b h =
     ap (λ n. if is_break x && (n == 0) then 0 else suc n) (break-length xs b h)
@@ -42,7 +46,8 @@ unended-break xs b h =
     ∙ take-append-le (unended_length xs) xs (b ∷ []) (unended-below xs)
 
 -- nothing goes after another byte
-other-length : (xs : List ℕ) (b : ℕ) → is_break b ≡ false → unended_length (xs ++ b ∷ []) ≡ suc (length xs)
+other-length : (xs : List ℕ) (b : ℕ) → is_break b ≡ false →
+    unended_length (xs ++ b ∷ []) ≡ suc (length xs)
 other-length [] b h = ap (λ t. if t && (0 == 0) then 0 else 1) h
 other-length (x ∷ xs) b h =
     ap (λ n. if is_break x && (n == 0) then 0 else suc n) (other-length xs b h)
@@ -50,11 +55,13 @@ other-length (x ∷ xs) b h =
     (ne_eqb (suc (length xs)) 0 (λ e. omega (arith, e)))
     ∙ not_both (is_break x)
   where
-    not_both : (t : Bool) → (if t && false then 0 else suc (suc (length xs))) ≡ suc (suc (length xs))
+    not_both : (t : Bool) →
+        (if t && false then 0 else suc (suc (length xs))) ≡ suc (suc (length xs))
     not_both true = refl
     not_both false = refl
 
-pub unended-other : (xs : List ℕ) (b : ℕ) → is_break b ≡ false → unended (xs ++ b ∷ []) ≡ xs ++ b ∷ []
+pub unended-other : (xs : List ℕ) (b : ℕ) → is_break b ≡ false →
+    unended (xs ++ b ∷ []) ≡ xs ++ b ∷ []
 unended-other xs b h =
     ap (λ n. take n (xs ++ b ∷ [])) (other-length xs b h ∙ sym (one_more xs))
     ∙ take-length (xs ++ b ∷ [])
@@ -86,7 +93,8 @@ paragraph-cut text h =
       longer (length text) n (length (codes "/p>" ++ tail)) (ap (λ t. length t) whole
           ∙ length-append (take n w) (60 ∷ (codes "/p>" ++ tail))
           ∙ ap (λ m. m + suc (length (codes "/p>" ++ tail))) front),
-      ap (λ t. get_or t n 0) whole ∙ ap (λ m. get_or (take n w ++ (60 ∷ (codes "/p>" ++ tail))) m 0) (sym front)
+      ap (λ t. get_or t n 0) whole
+          ∙ ap (λ m. get_or (take n w ++ (60 ∷ (codes "/p>" ++ tail))) m 0) (sym front)
           ∙ get-at (take n w) 60 (codes "/p>" ++ tail),
     )
   where

@@ -1,5 +1,6 @@
--- The lemmas: counting calls one after another, entries found by their places, numbers, lists, and texts without the
--- line endings at their ends; and, for the crates above, what the section reads of what is given.
+-- The lemmas: counting calls one after another, entries found by their places, numbers, lists, and
+-- texts without the line endings at their ends; and, for the crates above, what the section reads
+-- of what is given.
 mod Tally
 mod Placing
 mod Numbers

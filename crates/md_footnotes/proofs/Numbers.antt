@@ -1,12 +1,16 @@
--- Numbers and counts of calls: what is found in the tally of those so far is what the meaning finds in their list.
-use Rattle.std.proofs.Common.{◌≡◌, ◌≤◌, ℕ, ◌+◌, zero, suc, Bool, true, false, ◌||◌, not, cond, List, [], ◌∷◌, ◌++◌, map, refl, ap, sym, ◌∙◌, arith, unwrap_or, bytes_eq, length, Some}
+-- Numbers and counts of calls: what is found in the tally of those so far is what the meaning
+-- finds in their list.
+use Rattle.std.proofs.Common.{◌≡◌, ◌≤◌, ℕ, ◌+◌, zero, suc, Bool, true, false, ◌||◌, not, cond, List}
+use Rattle.std.proofs.Common.{[], ◌∷◌, ◌++◌, map, refl, ap, sym, ◌∙◌, arith, unwrap_or, bytes_eq}
+use Rattle.std.proofs.Common.{length, Some}
 use Rattle.std.specs.Prelude.{if◌then◌else◌, find, slice_get}
 use Rattle.std.specs.Option.{option_map_or}
 use Rattle.std.proofs.lemmas.Bool.{or_parts}
 use Rattle.std.proofs.lemmas.Option.{none-some}
 use Rattle.md_meaning.specs.Meaning.Footnotes.{distinct, count_of, place_among}
 use Rattle.md_footnotes.specs.Entries.{Counted, tally}
-use Rattle.md_meaning.proofs.Identifiers.{is_in, others_than, Apart, same, itself, bytes_eq-sym, is_in-distinct, distinct-apart, count-missing}
+use Rattle.md_meaning.proofs.Identifiers.{is_in, others_than, Apart, same, itself, bytes_eq-sym}
+use Rattle.md_meaning.proofs.Identifiers.{is_in-distinct, distinct-apart, count-missing}
 
 -- the place of an identifier among some, from 1; after them all where it isn't there
 abbrev pub number_among : List Counted → List ℕ → ℕ
@@ -43,24 +47,28 @@ upto-others : (y x : List ℕ) (zs : List (List ℕ)) → bytes_eq y x ≡ false
 unfolding upto
 upto-others y x [] h = refl
 upto-others y x (z ∷ zs) h =
-    elim (bytes_eq z y) as (λ b. bytes_eq z y ≡ b → upto x (cond (not b) (z ∷ others_than y zs) (others_than y zs))
+    elim (bytes_eq z y) as
+    (λ b. bytes_eq z y ≡ b → upto x (cond (not b) (z ∷ others_than y zs) (others_than y zs))
     ≡ others_than y (if bytes_eq z x then [] else z ∷ upto x zs)) [
       | true ↦ λ e.
           upto-others y x zs h
-          ∙ ap (λ b. cond (not b) (z ∷ others_than y (upto x zs)) (others_than y (upto x zs))) (sym e)
-          ∙ ap (λ b. others_than y (if b then [] else z ∷ upto x zs)) (sym (ap (λ w. bytes_eq w x) (same z y e) ∙ h))
+          ∙ ap (λ b. cond (not b) (z ∷ others_than y (upto x zs)) (others_than y (upto x zs)))
+          (sym e) ∙ ap (λ b. others_than y (if b then [] else z ∷ upto x zs))
+          (sym (ap (λ w. bytes_eq w x) (same z y e) ∙ h))
       | false ↦ λ e.
           elim (bytes_eq z x) as (λ b. (if b then [] else z ∷ upto x (others_than y zs))
           ≡ others_than y (if b then [] else z ∷ upto x zs)) [
             | true ↦ refl
             | false ↦
                 ap (λ ws. z ∷ ws) (upto-others y x zs h)
-                ∙ ap (λ b. cond (not b) (z ∷ others_than y (upto x zs)) (others_than y (upto x zs))) (sym e)
+                ∙ ap (λ b. cond (not b) (z ∷ others_than y (upto x zs)) (others_than y (upto x zs)))
+                (sym e)
           ]
     ] refl
 
 -- before its first call after others, an identifier has the same ones before it
-upto-distinct : (xs : List (List ℕ)) (x : List ℕ) → upto x (distinct (xs ++ x ∷ [])) ≡ upto x (distinct xs)
+upto-distinct : (xs : List (List ℕ)) (x : List ℕ) →
+    upto x (distinct (xs ++ x ∷ [])) ≡ upto x (distinct xs)
 unfolding upto
 upto-distinct [] x = ap (λ b. if b then [] else x ∷ []) (itself x)
 upto-distinct (y ∷ xs) x =
@@ -70,7 +78,8 @@ upto-distinct (y ∷ xs) x =
       | true ↦ λ e. refl
       | false ↦ λ e.
           ap (λ ws. y ∷ ws) (upto-others y x (distinct (xs ++ x ∷ [])) e
-          ∙ ap (λ ws. others_than y ws) (upto-distinct xs x) ∙ sym (upto-others y x (distinct xs) e))
+          ∙ ap (λ ws. others_than y ws) (upto-distinct xs x)
+          ∙ sym (upto-others y x (distinct xs) e))
     ] refl
 
 pub number-same : (xs : List (List ℕ)) (x : List ℕ) →
@@ -82,11 +91,14 @@ number-same xs x =
     ∙ sym (placed-upto (distinct (xs ++ x ∷ [])) x)
 
 count-found : (f : List ℕ → ℕ) (xs : List (List ℕ)) (x : List ℕ) →
-    count_among (map (λ i. record { identifier = i; count = f i }) xs) x ≡ (if is_in x xs then f x else 0)
+    count_among (map (λ i. record { identifier = i; count = f i }) xs) x
+    ≡ (if is_in x xs then f x else 0)
 count-found f [] x = refl
 count-found f (y ∷ ys) x =
-    let found : Bool → Counted → ℕ = λ b first. option_map_or (λ (called : Counted). called.count) (if b then Some first
-    else find (λ called. bytes_eq called.identifier x) (map (λ i. record { identifier = i; count = f i }) ys)) 0 in
+    let found : Bool → Counted → ℕ =
+    λ b first. option_map_or (λ (called : Counted). called.count) (if b then Some first
+    else find (λ called. bytes_eq called.identifier x)
+    (map (λ i. record { identifier = i; count = f i }) ys)) 0 in
     elim (bytes_eq y x) as (λ b. bytes_eq y x ≡ b → found b (record { identifier = y; count = f y })
     ≡ (if b || is_in x ys then f x else 0)) [
       | true ↦ λ e. ap f (same y x e)
@@ -97,8 +109,8 @@ count-found f (y ∷ ys) x =
 pub count-same : (xs : List (List ℕ)) (x : List ℕ) → count_among (tally xs) x ≡ count_of xs x
 count-same xs x =
     count-found (count_of xs) (distinct xs) x
-    ∙ ap (λ b. if b then count_of xs x else 0) (is_in-distinct xs x)
-    ∙ elim (is_in x xs) as (λ b. is_in x xs ≡ b → (if b then count_of xs x else 0) ≡ count_of xs x) [
+    ∙ ap (λ b. if b then count_of xs x else 0) (is_in-distinct xs x) ∙ elim (is_in x xs) as
+    (λ b. is_in x xs ≡ b → (if b then count_of xs x else 0) ≡ count_of xs x) [
       | true ↦ λ e. refl
       | false ↦ λ e. sym (count-missing xs x e)
     ] refl
@@ -113,7 +125,8 @@ count-below (y ∷ ys) x = more (bytes_eq y x) (count_of ys x) (length ys) (coun
     more false m n h = omega (arith, h)
 
 -- the place of what stands at an index, where no two are the same
-not_there : (y x : List ℕ) (ys : List (List ℕ)) (i : ℕ) → is_in y ys ≡ false → slice_get ys i ≡ Some x →
+not_there : (y x : List ℕ) (ys : List (List ℕ)) (i : ℕ) → is_in y ys ≡ false →
+    slice_get ys i ≡ Some x →
     bytes_eq x y ≡ false
 not_there y x [] i h e = absurd (none-some x e)
 not_there y x (z ∷ zs) zero h e =
@@ -127,10 +140,11 @@ place-of (y ∷ ys) zero x apart e =
     ap (λ o. if bytes_eq y (unwrap_or o x) then 1 else suc (place_among ys x)) (sym e)
     ∙ ap (λ b. if b then 1 else suc (place_among ys x)) (itself y)
 place-of (y ∷ ys) (suc i) x apart e =
-    ap (λ b. if b then 1 else suc (place_among ys x)) (bytes_eq-sym y x ∙ not_there y x ys i apart.0 e)
-    ∙ ap suc (place-of ys i x apart.1 e)
+    ap (λ b. if b then 1 else suc (place_among ys x))
+    (bytes_eq-sym y x ∙ not_there y x ys i apart.0 e) ∙ ap suc (place-of ys i x apart.1 e)
 
 -- the distinct identifiers are numbered from 1 in their order
-pub number-at-index : (calls : List (List ℕ)) (i : ℕ) (x : List ℕ) → slice_get (distinct calls) i ≡ Some x →
+pub number-at-index : (calls : List (List ℕ)) (i : ℕ) (x : List ℕ) →
+    slice_get (distinct calls) i ≡ Some x →
     place_among (distinct calls) x ≡ suc i
 number-at-index calls i x e = place-of (distinct calls) i x (distinct-apart calls) e

@@ -1,11 +1,13 @@
 -- Counting calls one after another is to tally them.
-use Rattle.std.proofs.Common.{◌≡◌, ℕ, ◌+◌, suc, true, false, ◌||◌, not, cond, List, [], ◌∷◌, ◌++◌, map, refl, ap, sym, ◌∙◌, append-nil, arith, bytes_eq}
+use Rattle.std.proofs.Common.{◌≡◌, ℕ, ◌+◌, suc, true, false, ◌||◌, not, cond, List, [], ◌∷◌, ◌++◌}
+use Rattle.std.proofs.Common.{map, refl, ap, sym, ◌∙◌, append-nil, arith, bytes_eq}
 use Rattle.std.specs.Prelude.{if◌then◌else◌}
 use Rattle.std.proofs.lemmas.Bool.{or_parts}
 use Rattle.std.proofs.lemmas.List.Elements.{filter-append}
 use Rattle.md_meaning.specs.Meaning.Footnotes.{distinct, count_of}
 use Rattle.md_footnotes.specs.Entries.{Counted, tally}
-use Rattle.md_meaning.proofs.Identifiers.{is_in, others_than, Apart, same, itself, bytes_eq-sym, is_in-distinct, distinct-apart, count-missing}
+use Rattle.md_meaning.proofs.Identifiers.{is_in, others_than, Apart, same, itself, bytes_eq-sym}
+use Rattle.md_meaning.proofs.Identifiers.{is_in-distinct, distinct-apart, count-missing}
 
 -- a call more: its identifier's count grows, or it comes last
 abbrev pub counted : List Counted → List ℕ → List Counted
@@ -22,15 +24,18 @@ named f others = map (λ identifier. record { identifier = identifier; count = f
 abbrev plus_one : (List ℕ → ℕ) → List ℕ → List ℕ → ℕ
 plus_one f identifier other = f other + (if bytes_eq identifier other then 1 else 0)
 
-named-ext : (f g : List ℕ → ℕ) (xs : List (List ℕ)) → ((x : List ℕ) → f x ≡ g x) → named f xs ≡ named g xs
+named-ext : (f g : List ℕ → ℕ) (xs : List (List ℕ)) → ((x : List ℕ) → f x ≡ g x) →
+    named f xs ≡ named g xs
 named-ext f g [] h = refl
 named-ext f g (x ∷ xs) h =
     ap (λ n. record { identifier = x; count = n } ∷ named f xs) (h x)
     ∙ ap (λ cs. record { identifier = x; count = g x } ∷ cs) (named-ext f g xs h)
 
-named-append : (f : List ℕ → ℕ) (xs ys : List (List ℕ)) → named f (xs ++ ys) ≡ named f xs ++ named f ys
+named-append : (f : List ℕ → ℕ) (xs ys : List (List ℕ)) →
+    named f (xs ++ ys) ≡ named f xs ++ named f ys
 named-append f [] ys = refl
-named-append f (x ∷ xs) ys = ap (λ cs. record { identifier = x; count = f x } ∷ cs) (named-append f xs ys)
+named-append f (x ∷ xs) ys =
+    ap (λ cs. record { identifier = x; count = f x } ∷ cs) (named-append f xs ys)
 
 count-push : (calls : List (List ℕ)) (identifier other : List ℕ) →
     count_of (calls ++ identifier ∷ []) other ≡ plus_one (count_of calls) identifier other
@@ -57,9 +62,10 @@ counted-named : (f : List ℕ → ℕ) (xs : List (List ℕ)) (x : List ℕ) →
 counted-named f [] x h = refl
 counted-named f (y ∷ ys) x h =
     let n : ℕ = f y in
-    elim (bytes_eq y x) as (λ b. bytes_eq y x ≡ b → (if b then record { identifier = y; count = suc n } ∷ named f ys
-    else record { identifier = y; count = n } ∷ counted (named f ys) x)
-    ≡ (if b || is_in x ys then record { identifier = y; count = n + (if bytes_eq x y then 1 else 0) }
+    elim (bytes_eq y x) as
+    (λ b. bytes_eq y x ≡ b → (if b then record { identifier = y; count = suc n } ∷ named f ys
+    else record { identifier = y; count = n } ∷ counted (named f ys) x) ≡ (if b || is_in x ys
+    then record { identifier = y; count = n + (if bytes_eq x y then 1 else 0) }
     ∷ named (plus_one f x) ys else record { identifier = y; count = n } ∷ named f ys
     ++ record { identifier = x; count = 1 } ∷ [])) [
       | true ↦ λ e.
@@ -70,14 +76,14 @@ counted-named f (y ∷ ys) x h =
           ∷ named (plus_one f x) ys) (sym (bytes_eq-sym x y ∙ e))
       | false ↦ λ e.
           ap (λ cs. record { identifier = y; count = n } ∷ cs) (counted-named f ys x h.1)
-          ∙ elim (is_in x ys) as (λ b. record { identifier = y; count = n }
-          ∷ (if b then named (plus_one f x) ys else named f ys ++ record { identifier = x; count = 1 } ∷ [])
+          ∙ elim (is_in x ys) as (λ b. record { identifier = y; count = n } ∷ (if b
+          then named (plus_one f x) ys else named f ys ++ record { identifier = x; count = 1 } ∷ [])
           ≡ (if b then record { identifier = y; count = n + (if bytes_eq x y then 1 else 0) }
           ∷ named (plus_one f x) ys else record { identifier = y; count = n } ∷ named f ys
           ++ record { identifier = x; count = 1 } ∷ [])) [
             | true ↦
-                ap (λ m. record { identifier = y; count = m } ∷ named (plus_one f x) ys) (omega arith)
-                ∙ ap (λ b. record { identifier = y; count = n + (if b then 1 else 0) }
+                ap (λ m. record { identifier = y; count = m } ∷ named (plus_one f x) ys)
+                (omega arith) ∙ ap (λ b. record { identifier = y; count = n + (if b then 1 else 0) }
                 ∷ named (plus_one f x) ys) (sym (bytes_eq-sym x y ∙ e))
             | false ↦ refl
           ]
@@ -87,37 +93,45 @@ distinct-push : (xs : List (List ℕ)) (z : List ℕ) → distinct (xs ++ z ∷ 
     ≡ (if is_in z xs then distinct xs else distinct xs ++ z ∷ [])
 distinct-push [] z = refl
 distinct-push (x ∷ xs) z =
-    ap (λ ys. x ∷ others_than x ys) (distinct-push xs z)
-    ∙ elim (bytes_eq x z) as (λ b. bytes_eq x z ≡ b → x ∷ others_than x (if is_in z xs then distinct xs
+    ap (λ ys. x ∷ others_than x ys) (distinct-push xs z) ∙ elim (bytes_eq x z) as
+    (λ b. bytes_eq x z ≡ b → x ∷ others_than x (if is_in z xs then distinct xs
     else distinct xs ++ z ∷ []) ≡ (if b || is_in z xs then x ∷ others_than x (distinct xs) else x
     ∷ others_than x (distinct xs) ++ z ∷ [])) [
       | true ↦ λ e.
-          elim (is_in z xs) as (λ b. x ∷ others_than x (if b then distinct xs else distinct xs ++ z ∷ []) ≡ x
+          elim (is_in z xs) as
+          (λ b. x ∷ others_than x (if b then distinct xs else distinct xs ++ z ∷ []) ≡ x
           ∷ others_than x (distinct xs)) [
             | true ↦ refl
             | false ↦
-                ap (λ ys. x ∷ ys) (filter-append (λ other. not (bytes_eq other x)) (distinct xs) (z ∷ []))
-                ∙ ap (λ b. x ∷ others_than x (distinct xs) ++ cond (not b) (z ∷ []) []) (bytes_eq-sym z x ∙ e)
+                ap (λ ys. x ∷ ys)
+                (filter-append (λ other. not (bytes_eq other x)) (distinct xs) (z ∷ []))
+                ∙ ap (λ b. x ∷ others_than x (distinct xs) ++ cond (not b) (z ∷ []) [])
+                (bytes_eq-sym z x ∙ e)
                 ∙ ap (λ ys. x ∷ ys) (append-nil (others_than x (distinct xs)))
           ]
       | false ↦ λ e.
-          elim (is_in z xs) as (λ b. x ∷ others_than x (if b then distinct xs else distinct xs ++ z ∷ [])
-          ≡ (if b then x ∷ others_than x (distinct xs) else x ∷ others_than x (distinct xs) ++ z ∷ [])) [
+          elim (is_in z xs) as
+          (λ b. x ∷ others_than x (if b then distinct xs else distinct xs ++ z ∷ []) ≡ (if b
+          then x ∷ others_than x (distinct xs) else x ∷ others_than x (distinct xs) ++ z ∷ [])) [
             | true ↦ refl
             | false ↦
-                ap (λ ys. x ∷ ys) (filter-append (λ other. not (bytes_eq other x)) (distinct xs) (z ∷ []))
-                ∙ ap (λ b. x ∷ others_than x (distinct xs) ++ cond (not b) (z ∷ []) []) (bytes_eq-sym z x ∙ e)
+                ap (λ ys. x ∷ ys)
+                (filter-append (λ other. not (bytes_eq other x)) (distinct xs) (z ∷ []))
+                ∙ ap (λ b. x ∷ others_than x (distinct xs) ++ cond (not b) (z ∷ []) [])
+                (bytes_eq-sym z x ∙ e)
           ]
     ] refl
 
 -- to count one call more is to tally one call more
-pub counted-tally : (calls : List (List ℕ)) (z : List ℕ) → counted (tally calls) z ≡ tally (calls ++ z ∷ [])
+pub counted-tally : (calls : List (List ℕ)) (z : List ℕ) →
+    counted (tally calls) z ≡ tally (calls ++ z ∷ [])
 counted-tally calls z =
     let f = count_of calls in
     let g = count_of (calls ++ z ∷ []) in
     counted-named f (distinct calls) z (distinct-apart calls)
     ∙ elim (is_in z calls) as (λ b. is_in z calls ≡ b → (if is_in z (distinct calls)
-    then named (plus_one f z) (distinct calls) else named f (distinct calls) ++ record { identifier = z; count = 1 }
+    then named (plus_one f z) (distinct calls)
+    else named f (distinct calls) ++ record { identifier = z; count = 1 }
     ∷ []) ≡ named g (if b then distinct calls else distinct calls ++ z ∷ [])) [
       | true ↦ λ e.
           ap (λ b. if b then named (plus_one f z) (distinct calls) else named f (distinct calls)
@@ -130,8 +144,8 @@ counted-tally calls z =
           ∷ []) (sym (named-missing f (distinct calls) z (is_in-distinct calls z ∙ e))
           ∙ named-ext (plus_one f z) g (distinct calls) (λ x. sym (count-push calls z x)))
           ∙ ap (λ n. named g (distinct calls) ++ record { identifier = z; count = n }
-          ∷ []) (sym (count-push calls z z ∙ ap (λ n. n + (if bytes_eq z z then 1 else 0)) (count-missing calls z e)
-          ∙ ap (λ b. 0 + (if b then 1 else 0)) (itself z)))
+          ∷ []) (sym (count-push calls z z ∙ ap (λ n. n + (if bytes_eq z z then 1 else 0))
+          (count-missing calls z e) ∙ ap (λ b. 0 + (if b then 1 else 0)) (itself z)))
           ∙ sym (named-append g (distinct calls) (z ∷ []))
     ] refl
     ∙ ap (λ ds. named g ds) (sym (distinct-push calls z))

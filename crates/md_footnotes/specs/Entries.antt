@@ -1,5 +1,7 @@
--- The entries that are kept of calls and of footnotes. Only contracts inside this crate speak of it.
-use Rattle.std.specs.Prelude.{◌≡◌, ℕ, ◌<◌, zero, suc, if◌then◌else◌, List, [], ◌∷◌, map, Option, Some, None, option_map, slice_get, bytes_eq, String, string_bytes}
+-- The entries that are kept of calls and of footnotes. Only contracts inside this
+-- crate speak of it.
+use Rattle.std.specs.Prelude.{◌≡◌, ℕ, ◌<◌, zero, suc, if◌then◌else◌, List, [], ◌∷◌, map, Option}
+use Rattle.std.specs.Prelude.{Some, None, option_map, slice_get, bytes_eq, String, string_bytes}
 use Rattle.std.specs.Option.{option_map_or}
 use Rattle.std.specs.BTreeMap.{BTreeMap, get_by_text}
 use Rattle.std.specs.declared.alloc.Global.{Global}
@@ -14,14 +16,16 @@ pub record Counted : Type 0 where
 -- the distinct identifiers of some calls, each with the count of its calls
 abbrev pub tally : List (List ℕ) → List Counted
 tally calls =
-    map (λ identifier. record { identifier = identifier; count = count_of calls identifier }) (distinct calls)
+    map (λ identifier. record { identifier = identifier; count = count_of calls identifier })
+    (distinct calls)
 
 -- the counts and the footnotes that some entries are
 abbrev pub counts_in : List (String Global × ℕ) → List Counted
 counts_in entries = map (λ e. record { identifier = string_bytes e.0; count = e.1 }) entries
 
 abbrev pub footnotes_in : List (String Global × String Global) → List Footnote
-footnotes_in entries = map (λ e. record { identifier = string_bytes e.0; text = string_bytes e.1 }) entries
+footnotes_in entries =
+    map (λ e. record { identifier = string_bytes e.0; text = string_bytes e.1 }) entries
 
 -- the identifier at a place, and those at some places: the calls
 abbrev pub identifier_in : List (String Global × ℕ) → ℕ → List ℕ
@@ -53,6 +57,7 @@ place_in (e ∷ entries) identifier =
     else option_map (λ place. suc place) (place_in entries identifier)
 
 -- each look-up in a map finds an identifier's place
-abbrev pub FindsPlaces : {V : Type 0} → BTreeMap (String Global) ℕ → List (String Global × V) → Type 0
+abbrev pub FindsPlaces : {V : Type 0} → BTreeMap (String Global) ℕ →
+    List (String Global × V) → Type 0
 FindsPlaces places entries = (identifier : List ℕ) →
     get_by_text places identifier ≡ place_in entries identifier

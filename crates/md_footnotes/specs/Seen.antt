@@ -8,7 +8,14 @@ pub record Seen : Type 0 where
   pub calls : List (List ℕ)
   pub footnotes : List Footnote
 
--- what the section of footnotes is printed by: of what is given it reads the options and the calls alone
+-- what the section of footnotes is printed by: of what is given it reads the options
+-- and the calls alone
 abbrev pub given_by : CompileOptions → List (List ℕ) → Given
-given_by options calls =
-    record { bytes = []; names = []; options = options; ending = []; calls = calls; definitions = [] }
+given_by options calls = record {
+  bytes = [];
+  names = [];
+  options = options;
+  ending = [];
+  calls = calls;
+  definitions = [];
+}

@@ -1,19 +1,21 @@
 -- Words for parts of what is printed. Only contracts inside this crate speak of it.
-use Rattle.std.specs.Prelude.{ℕ, ◌-◌, Bool, List, [], ◌∷◌, ◌++◌, take, drop, find, option_map, bytes_eq, codes, string_bytes}
+use Rattle.std.specs.Prelude.{ℕ, ◌-◌, Bool, List, [], ◌∷◌, ◌++◌, take, drop, find, option_map}
+use Rattle.std.specs.Prelude.{bytes_eq, codes, string_bytes}
 use Rattle.std.specs.Option.{option_map_or}
 use Rattle.std.specs.Fmt.{decimal}
 use Rattle.md_text.specs.declared.options.CompileOptions.{CompileOptions}
 use Rattle.md_meaning.specs.Meaning.Layout.{Piece, Text, Forced, on_own_line}
 use Rattle.md_meaning.specs.Meaning.At.{Footnote}
-use Rattle.md_meaning.specs.Meaning.Footnotes.{option_or, id_of, call_id, unended_length, body, backreferences}
+use Rattle.md_meaning.specs.Meaning.Footnotes.{option_or, id_of, call_id, unended_length, body}
+use Rattle.md_meaning.specs.Meaning.Footnotes.{backreferences}
 
 -- a call with a number, which is one of its footnote's
 abbrev pub tags : CompileOptions → List ℕ → ℕ → ℕ → List Piece
 tags options identifier number occurrence = Text (codes "<sup><a href=\"#")
     ∷ Text (id_of options (codes "fn-") identifier number) ∷ Text (codes "\" id=\"")
     ∷ Text (call_id options identifier number occurrence)
-    ∷ Text (codes "\" data-footnote-ref=\"\" aria-describedby=\"footnote-label\">") ∷ Text (decimal number)
-    ∷ Text (codes "</a></sup>") ∷ []
+    ∷ Text (codes "\" data-footnote-ref=\"\" aria-describedby=\"footnote-label\">")
+    ∷ Text (decimal number) ∷ Text (codes "</a></sup>") ∷ []
 
 -- the text of the first footnote with an identifier
 abbrev pub text_of : List Footnote → List ℕ → List ℕ
@@ -29,17 +31,20 @@ item_of options identifier number count text =
 
 -- what the options say of the section
 abbrev pub tag_of : CompileOptions → List ℕ
-tag_of options = option_or (option_map string_bytes options.gfm_footnote_label_tag_name) (codes "h2")
+tag_of options =
+    option_or (option_map string_bytes options.gfm_footnote_label_tag_name) (codes "h2")
 
 abbrev pub attributes_of : CompileOptions → List ℕ
 attributes_of options =
     option_map_or string_bytes options.gfm_footnote_label_attributes (codes "class=\"sr-only\"")
 
 abbrev pub heading_of : CompileOptions → List ℕ
-heading_of options = option_or (option_map string_bytes options.gfm_footnote_label) (codes "Footnotes")
+heading_of options =
+    option_or (option_map string_bytes options.gfm_footnote_label) (codes "Footnotes")
 
 abbrev pub label_of : CompileOptions → List ℕ
-label_of options = option_or (option_map string_bytes options.gfm_footnote_back_label) (codes "Back to content")
+label_of options =
+    option_or (option_map string_bytes options.gfm_footnote_back_label) (codes "Back to content")
 
 -- a text without the CR and LF at its end
 abbrev pub unended : List ℕ → List ℕ

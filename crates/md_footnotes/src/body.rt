@@ -1,6 +1,7 @@
 //! A footnote's text with the ways back put into it or after it.
 
-ghost use Rattle.std.specs.Prelude.{◌≡◌, ◌<◌, ◌-◌, MatchOption, IfSome, OnOk, Some, None, if◌then◌else◌, length, string_bytes};
+ghost use Rattle.std.specs.Prelude.{◌≡◌, ◌<◌, ◌-◌, MatchOption, IfSome, OnOk, Some, None};
+ghost use Rattle.std.specs.Prelude.{if◌then◌else◌, length, string_bytes};
 ghost use Rattle.std.specs.Str.{IsCharBoundary};
 ghost use Rattle.md_meaning.specs.Meaning.Layout.{laid_after};
 ghost use Rattle.md_meaning.specs.Meaning.Footnotes.{unended_length, body, backreferences};
@@ -35,7 +36,8 @@ fn without_endings(text: &[u8]) -> &[u8]
 
 /// Where a `</p>` begins that ends a text, not counting CR and LF after it.
 fn paragraph_end(text: &str) -> Option<usize>
-    ensures place { result ≡ (if ends_in_paragraph text.now then Some (unended_length text.now - 4) else None) }
+    ensures place { result
+        ≡ (if ends_in_paragraph text.now then Some (unended_length text.now - 4) else None) }
     ensures cut { IfSome result (λ place. IsCharBoundary text.now place) }
 {
     let kept = without_endings(text.as_bytes());
@@ -57,9 +59,10 @@ pub(crate) fn push_body(
     called: &Called,
     text: &str,
 ) -> Result<(), AllocError>
-    ensures { OnOk result (string_bytes out.new ≡ laid_after settings.now.ending.now (string_bytes out.old)
-        (body text.now (backreferences settings.now.options.now called.now.identifier.now called.now.number
-        called.now.count))) }
+    ensures { OnOk result
+        (string_bytes out.new ≡ laid_after settings.now.ending.now (string_bytes out.old)
+        (body text.now (backreferences settings.now.options.now called.now.identifier.now
+        called.now.number called.now.count))) }
 {
     match paragraph_end(text) {
         Some(place) => {

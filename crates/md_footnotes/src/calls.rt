@@ -1,6 +1,7 @@
 //! Footnote calls: which identifiers are called, in which order, and how often.
 
-ghost use Rattle.std.specs.Prelude.{◌≡◌, ◌==◌, ◌∷◌, [], ◌++◌, ◌<◌, ◌+◌, ◌^◌, OnOk, IfSome, string_bytes, option_map, slice_get, length};
+ghost use Rattle.std.specs.Prelude.{◌≡◌, ◌==◌, ◌∷◌, [], ◌++◌, ◌<◌, ◌+◌, ◌^◌, OnOk, IfSome};
+ghost use Rattle.std.specs.Prelude.{string_bytes, option_map, slice_get, length};
 ghost use Rattle.md_meaning.specs.Meaning.Footnotes.{distinct, place_among};
 ghost use Rattle.md_meaning.specs.Meaning.Footnotes as meaning;
 ghost use Rattle.md_footnotes.specs.Entries.{again, count_in};
@@ -17,8 +18,8 @@ pub(crate) struct Calls {
     /// The identifiers in the order of their first calls, each with how often it is called.
     counts: Vec<(String, usize)>,
     places: Places,
-    /// The place of each call's identifier, in the order of the calls. No count passes the length of this list, so
-    /// each fits.
+    /// The place of each call's identifier, in the order of the calls. No count passes the length
+    /// of this list, so each fits.
     order: Vec<usize>,
 }
 
@@ -91,7 +92,8 @@ impl Calls {
         }
     }
 
-    /// The number of an identifier, in the order of first calls; that of the next new one where it isn't called yet.
+    /// The number of an identifier, in the order of first calls; that of the next new one where it
+    /// isn't called yet.
     pub(crate) fn number(&self, identifier: &str) -> usize
         ensures { result ≡ place_among (distinct (self.now ++ identifier.now ∷ [])) identifier.now }
     {
@@ -122,8 +124,10 @@ impl Calls {
 
     /// The footnote with the number after an index.
     pub(crate) fn at(&self, index: usize) -> Option<Called>
-        ensures identifier { option_map (λ c. c.identifier.now) result ≡ slice_get (distinct self.now) index }
-        ensures number { IfSome result (λ c. c.number ≡ place_among (distinct self.now) c.identifier.now) }
+        ensures identifier { option_map (λ c. c.identifier.now) result
+            ≡ slice_get (distinct self.now) index }
+        ensures number { IfSome result
+            (λ c. c.number ≡ place_among (distinct self.now) c.identifier.now) }
         ensures count { IfSome result (λ c. c.count ≡ meaning.count_of self.now c.identifier.now) }
         ensures within { IfSome result (λ c. index < length (distinct self.now)) }
         ensures fits { IfSome result (λ c. index + 1 < 2 ^ 63) }

@@ -47,7 +47,8 @@ impl Footnotes {
     ///
     /// Only where memory runs out.
     pub fn call(&mut self, identifier: String) -> Result<(), AllocError>
-        ensures calls { OnOk result (self.new.calls ≡ self.old.calls ++ string_bytes identifier ∷ []) }
+        ensures calls { OnOk result
+            (self.new.calls ≡ self.old.calls ++ string_bytes identifier ∷ []) }
         ensures footnotes { self.new.footnotes ≡ self.old.footnotes }
     {
         self.calls.count(identifier)
@@ -59,15 +60,15 @@ impl Footnotes {
     ///
     /// Only where memory runs out.
     pub fn note(&mut self, identifier: String, text: String) -> Result<(), AllocError>
-        ensures footnotes { OnOk result (self.new.footnotes
-            ≡ noted self.old.footnotes (record { identifier = string_bytes identifier; text = string_bytes text })) }
+        ensures footnotes { OnOk result (self.new.footnotes ≡ noted self.old.footnotes
+            (record { identifier = string_bytes identifier; text = string_bytes text })) }
         ensures calls { self.new.calls ≡ self.old.calls }
     {
         self.notes.note(identifier, text)
     }
 
-    /// Adds a call of the footnote with an identifier, numbered after those that were seen. Where memory runs out a
-    /// part of it may be added.
+    /// Adds a call of the footnote with an identifier, numbered after those that were seen. Where
+    /// memory runs out a part of it may be added.
     ///
     /// # Errors
     ///
@@ -79,8 +80,8 @@ impl Footnotes {
         options: &CompileOptions,
         identifier: &str,
     ) -> Result<(), AllocError>
-        ensures { OnOk result (string_bytes out.new
-            ≡ laid_after [] (string_bytes out.old) (call_pieces options.now self.now.calls identifier.now)) }
+        ensures { OnOk result (string_bytes out.new ≡ laid_after [] (string_bytes out.old)
+            (call_pieces options.now self.now.calls identifier.now)) }
     {
         let called = Called {
             identifier,
@@ -90,8 +91,8 @@ impl Footnotes {
         push_tags(alloc, out, options, &called, called.count + 1)
     }
 
-    /// Adds the section of footnotes, where there is a call: the footnotes that are called, in the order of their
-    /// first calls. Where memory runs out a part of it may be added.
+    /// Adds the section of footnotes, where there is a call: the footnotes that are called, in the
+    /// order of their first calls. Where memory runs out a part of it may be added.
     ///
     /// # Errors
     ///

@@ -1,6 +1,7 @@
 //! The ids of footnotes and of their calls, and texts that options give.
 
-ghost use Rattle.std.specs.Prelude.{◌≡◌, ◌==◌, ◌&&◌, not, [], ◌++◌, if◌then◌else◌, codes, OnOk, string_bytes, option_map};
+ghost use Rattle.std.specs.Prelude.{◌≡◌, ◌==◌, ◌&&◌, not, [], ◌++◌, if◌then◌else◌, codes, OnOk};
+ghost use Rattle.std.specs.Prelude.{string_bytes, option_map};
 ghost use Rattle.std.specs.Fmt.{decimal};
 ghost use Rattle.md_text.specs.Url.{sanitized};
 ghost use Rattle.md_meaning.specs.Meaning.Footnotes as meaning;
@@ -29,7 +30,8 @@ pub(crate) fn push_option(
     }
 }
 
-/// Adds what an id is told apart by: the footnote's number where ids go by number, else its identifier as a URL.
+/// Adds what an id is told apart by: the footnote's number where ids go by number, else its
+/// identifier as a URL.
 fn push_name(
     alloc: Global,
     out: &mut String,
@@ -67,7 +69,8 @@ pub(crate) fn push_id(
     push_name(alloc, out, options, called)
 }
 
-/// Adds `-` and which of its footnote's calls it is; where ids go by identifier from the second one on.
+/// Adds `-` and which of its footnote's calls it is; where ids go by identifier from
+/// the second one on.
 fn push_occurrence(
     alloc: Global,
     out: &mut String,

@@ -1,4 +1,5 @@
-//! What is seen of footnotes while a document is printed, what their calls print, and the section at its end.
+//! What is seen of footnotes while a document is printed, what their calls print, and the
+//! section at its end.
 #![tactic(auto)]
 
 mod body;

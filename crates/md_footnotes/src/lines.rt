@@ -29,7 +29,8 @@ fn bytes_begin_line(text: &[u8]) -> bool
 /// Only where memory runs out.
 pub(crate) fn need(out: &mut String, ending: &str) -> Result<(), AllocError>
     ensures { OnOk result
-        (string_bytes out.new ≡ layout.laid_after ending.now (string_bytes out.old) (layout.Needed ∷ [])) }
+        (string_bytes out.new
+        ≡ layout.laid_after ending.now (string_bytes out.old) (layout.Needed ∷ [])) }
 {
     if bytes_begin_line(out.as_bytes()) {
         Ok(())

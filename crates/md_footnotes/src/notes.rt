@@ -57,7 +57,8 @@ impl Notes {
     /// Only where memory runs out.
     pub(crate) fn note(&mut self, identifier: String, text: String) -> Result<(), AllocError>
         ensures { OnOk result
-            (self.new ≡ noted self.old (record { identifier = string_bytes identifier; text = string_bytes text })) }
+            (self.new ≡ noted self.old
+            (record { identifier = string_bytes identifier; text = string_bytes text })) }
     {
         match place_under(&self.places, identifier.as_str()) {
             Some(_) => Ok(()),

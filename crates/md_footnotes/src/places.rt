@@ -1,4 +1,5 @@
-//! Entries in the order in which they came, found by their identifiers in few steps, whoever chose these.
+//! Entries in the order in which they came, found by their identifiers in few steps,
+//! whoever chose these.
 
 ghost use Rattle.std.specs.Prelude.{◌≡◌, ◌∷◌, [], ◌++◌, OnOk, OnErr, None, string_bytes};
 ghost use Rattle.std.specs.BTreeMap.{get_by_text};
@@ -31,7 +32,8 @@ pub(crate) fn put_last<V: Drop>(
     requires new { place_in entries.old.items (string_bytes identifier) ≡ None }
     requires found { FindsPlaces places.old entries.old.items }
     ensures found { FindsPlaces places.new entries.new.items }
-    ensures entries { OnOk result (entries.new.items ≡ entries.old.items ++ (identifier, value) ∷ []) }
+    ensures entries { OnOk result
+        (entries.new.items ≡ entries.old.items ++ (identifier, value) ∷ []) }
     ensures failed { OnErr result (entries.new.items ≡ entries.old.items) }
 {
     entries.reserve(1)?;

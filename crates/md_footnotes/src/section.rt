@@ -18,10 +18,11 @@ use std::alloc::AllocError;
 
 /// Adds the beginning of a footnote, up to its text.
 fn push_item_start(settings: &Settings, out: &mut String, called: &Called) -> Result<(), AllocError>
-    ensures { OnOk result (string_bytes out.new ≡ laid_after settings.now.ending.now (string_bytes out.old)
+    ensures { OnOk result
+        (string_bytes out.new ≡ laid_after settings.now.ending.now (string_bytes out.old)
         (Forced ∷ Text (codes "<li id=\"")
-        ∷ Text (meaning.id_of settings.now.options.now (codes "fn-") called.now.identifier.now called.now.number)
-        ∷ Text (codes "\">") ∷ Forced ∷ [])) }
+        ∷ Text (meaning.id_of settings.now.options.now (codes "fn-") called.now.identifier.now
+        called.now.number) ∷ Text (codes "\">") ∷ Forced ∷ [])) }
 {
     out.push_str(settings.ending)?;
     out.push_str("<li id=\"")?;
@@ -46,8 +47,10 @@ fn push_item(
     called: &Called,
     text: &str,
 ) -> Result<(), AllocError>
-    ensures { OnOk result (string_bytes out.new ≡ laid_after settings.now.ending.now (string_bytes out.old)
-        (words.item_of settings.now.options.now called.now.identifier.now called.now.number called.now.count
+    ensures { OnOk result
+        (string_bytes out.new ≡ laid_after settings.now.ending.now (string_bytes out.old)
+        (words.item_of settings.now.options.now called.now.identifier.now
+        called.now.number called.now.count
         text.now)) }
 {
     push_item_start(settings, out, called)?;
@@ -62,7 +65,8 @@ fn push_items(
     calls: &Calls,
     notes: &Notes,
 ) -> Result<(), AllocError>
-    ensures { OnOk result (string_bytes out.new ≡ laid_after settings.now.ending.now (string_bytes out.old)
+    ensures { OnOk result
+        (string_bytes out.new ≡ laid_after settings.now.ending.now (string_bytes out.old)
         (flat_map (meaning.item (given_by settings.now.options.now calls.now) notes.now)
         (meaning.distinct calls.now))) }
 {
@@ -76,14 +80,16 @@ fn push_items(
 
 /// Adds the tag of the section's heading.
 fn push_tag(out: &mut String, options: &CompileOptions) -> Result<(), AllocError>
-    ensures { OnOk result (string_bytes out.new ≡ string_bytes out.old ++ words.tag_of options.now) }
+    ensures { OnOk result
+        (string_bytes out.new ≡ string_bytes out.old ++ words.tag_of options.now) }
 {
     push_option(out, &options.gfm_footnote_label_tag_name, "h2")
 }
 
 /// Adds the text of the section's heading.
 fn push_heading(out: &mut String, options: &CompileOptions) -> Result<(), AllocError>
-    ensures { OnOk result (string_bytes out.new ≡ string_bytes out.old ++ words.heading_of options.now) }
+    ensures { OnOk result
+        (string_bytes out.new ≡ string_bytes out.old ++ words.heading_of options.now) }
 {
     push_option(out, &options.gfm_footnote_label, "Footnotes")
 }
@@ -100,7 +106,8 @@ fn attributes_of(options: &CompileOptions) -> &str
 
 /// Adds the section's tag and the opening tag of its heading.
 fn push_heading_start(settings: &Settings, out: &mut String) -> Result<(), AllocError>
-    ensures { OnOk result (string_bytes out.new ≡ laid_after settings.now.ending.now (string_bytes out.old)
+    ensures { OnOk result
+        (string_bytes out.new ≡ laid_after settings.now.ending.now (string_bytes out.old)
         (Needed ∷ Text (codes "<section data-footnotes=\"\" class=\"footnotes\"><")
         ∷ Text (words.tag_of settings.now.options.now) ∷ Text (codes " id=\"footnote-label\" ")
         ∷ Text (words.attributes_of settings.now.options.now) ∷ Text (codes ">") ∷ [])) }
@@ -115,9 +122,10 @@ fn push_heading_start(settings: &Settings, out: &mut String) -> Result<(), Alloc
 
 /// Adds the closing tag of the section's heading and the list's tag.
 fn push_heading_end(settings: &Settings, out: &mut String) -> Result<(), AllocError>
-    ensures { OnOk result (string_bytes out.new ≡ laid_after settings.now.ending.now (string_bytes out.old)
-        (Text (codes "</") ∷ Text (words.tag_of settings.now.options.now) ∷ Text (codes ">") ∷ Forced
-        ∷ Text (codes "<ol>") ∷ [])) }
+    ensures { OnOk result
+        (string_bytes out.new ≡ laid_after settings.now.ending.now (string_bytes out.old)
+        (Text (codes "</") ∷ Text (words.tag_of settings.now.options.now) ∷ Text (codes ">")
+        ∷ Forced ∷ Text (codes "<ol>") ∷ [])) }
 {
     out.push_str("</")?;
     push_tag(out, settings.options)?;
@@ -128,7 +136,8 @@ fn push_heading_end(settings: &Settings, out: &mut String) -> Result<(), AllocEr
 
 /// Adds the beginning of the section, up to its footnotes.
 fn push_start(settings: &Settings, out: &mut String) -> Result<(), AllocError>
-    ensures { OnOk result (string_bytes out.new ≡ laid_after settings.now.ending.now (string_bytes out.old)
+    ensures { OnOk result
+        (string_bytes out.new ≡ laid_after settings.now.ending.now (string_bytes out.old)
         (meaning.section_start settings.now.options.now)) }
 {
     push_heading_start(settings, out)?;
@@ -148,8 +157,8 @@ fn push_end(out: &mut String, ending: &str) -> Result<(), AllocError>
     out.push_str(ending)
 }
 
-/// Adds the section of footnotes, where there is a call: the footnotes that are called, in the order of their first
-/// calls.
+/// Adds the section of footnotes, where there is a call: the footnotes that are called, in the
+/// order of their first calls.
 ///
 /// # Errors
 ///
@@ -160,7 +169,8 @@ pub(crate) fn push_section(
     calls: &Calls,
     notes: &Notes,
 ) -> Result<(), AllocError>
-    ensures { OnOk result (string_bytes out.new ≡ laid_after settings.now.ending.now (string_bytes out.old)
+    ensures { OnOk result
+        (string_bytes out.new ≡ laid_after settings.now.ending.now (string_bytes out.old)
         (meaning.section (given_by settings.now.options.now calls.now) notes.now)) }
 {
     if calls.is_empty() {

@@ -20,10 +20,12 @@ fn push_ids(
     called: &Called,
     occurrence: usize,
 ) -> Result<(), AllocError>
-    ensures { OnOk result (string_bytes out.new ≡ laid_after [] (string_bytes out.old) (Text (codes "<sup><a href=\"#")
+    ensures { OnOk result (string_bytes out.new
+        ≡ laid_after [] (string_bytes out.old) (Text (codes "<sup><a href=\"#")
         ∷ Text (meaning.id_of options.now (codes "fn-") called.now.identifier.now called.now.number)
         ∷ Text (codes "\" id=\"")
-        ∷ Text (meaning.call_id options.now called.now.identifier.now called.now.number occurrence) ∷ [])) }
+        ∷ Text (meaning.call_id options.now called.now.identifier.now called.now.number occurrence)
+        ∷ [])) }
 {
     out.push_str("<sup><a href=\"#")?;
     push_id(alloc, out, options, "fn-", called)?;
@@ -34,8 +36,8 @@ fn push_ids(
 /// Adds the rest of a call, around its number.
 fn push_number(alloc: Global, out: &mut String, number: usize) -> Result<(), AllocError>
     ensures { OnOk result (string_bytes out.new ≡ laid_after [] (string_bytes out.old)
-        (Text (codes "\" data-footnote-ref=\"\" aria-describedby=\"footnote-label\">") ∷ Text (decimal number)
-        ∷ Text (codes "</a></sup>") ∷ [])) }
+        (Text (codes "\" data-footnote-ref=\"\" aria-describedby=\"footnote-label\">")
+        ∷ Text (decimal number) ∷ Text (codes "</a></sup>") ∷ [])) }
 {
     out.push_str("\" data-footnote-ref=\"\" aria-describedby=\"footnote-label\">")?;
     push_decimal(alloc, out, number)?;

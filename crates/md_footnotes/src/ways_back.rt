@@ -1,6 +1,7 @@
 //! The ways back from a footnote to its calls.
 
-ghost use Rattle.std.specs.Prelude.{◌≡◌, ◌∷◌, [], ◌++◌, ◌==◌, codes, OnOk, string_bytes, if◌then◌else◌};
+ghost use Rattle.std.specs.Prelude.{◌≡◌, ◌∷◌, [], ◌++◌, ◌==◌, codes, OnOk, string_bytes};
+ghost use Rattle.std.specs.Prelude.{if◌then◌else◌};
 ghost use Rattle.std.specs.Fmt.{decimal};
 ghost use Rattle.md_meaning.specs.Meaning.Footnotes as meaning;
 ghost use Rattle.md_footnotes.specs.Words as words;
@@ -13,8 +14,8 @@ use std::alloc::{AllocError, Global};
 
 /// Adds `<sup>` occurrence `</sup>`, from the second one on.
 fn push_mark(alloc: Global, out: &mut String, occurrence: usize) -> Result<(), AllocError>
-    ensures { OnOk result (string_bytes out.new ≡ string_bytes out.old
-        ++ (if occurrence == 1 then [] else codes "<sup>" ++ (decimal occurrence ++ codes "</sup>"))) }
+    ensures { OnOk result (string_bytes out.new ≡ string_bytes out.old ++ (if occurrence == 1
+        then [] else codes "<sup>" ++ (decimal occurrence ++ codes "</sup>"))) }
 {
     if occurrence == 1 {
         return Ok(());
@@ -44,7 +45,8 @@ fn push_href(
 
 /// Adds the label of a way back.
 fn push_label(out: &mut String, options: &CompileOptions) -> Result<(), AllocError>
-    ensures { OnOk result (string_bytes out.new ≡ string_bytes out.old ++ words.label_of options.now) }
+    ensures { OnOk result
+        (string_bytes out.new ≡ string_bytes out.old ++ words.label_of options.now) }
 {
     push_option(out, &options.gfm_footnote_back_label, "Back to content")
 }
@@ -53,8 +55,8 @@ fn push_label(out: &mut String, options: &CompileOptions) -> Result<(), AllocErr
 fn push_arrow(alloc: Global, out: &mut String, occurrence: usize) -> Result<(), AllocError>
     ensures { OnOk result (string_bytes out.new ≡ string_bytes out.old
         ++ (codes "\" class=\"data-footnote-backref\">" ++ ((226 ∷ 134 ∷ 169 ∷ [])
-        ++ ((if occurrence == 1 then [] else codes "<sup>" ++ (decimal occurrence ++ codes "</sup>"))
-        ++ codes "</a>")))) }
+        ++ ((if occurrence == 1 then []
+        else codes "<sup>" ++ (decimal occurrence ++ codes "</sup>")) ++ codes "</a>")))) }
 {
     out.push_str("\" class=\"data-footnote-backref\">")?;
     out.push_str("\u{21A9}")?;
@@ -71,7 +73,8 @@ fn push_backreference(
     occurrence: usize,
 ) -> Result<(), AllocError>
     ensures { OnOk result (string_bytes out.new ≡ string_bytes out.old
-        ++ meaning.backreference options.now called.now.identifier.now called.now.number occurrence) }
+        ++ meaning.backreference options.now called.now.identifier.now
+        called.now.number occurrence) }
 {
     push_href(alloc, out, options, called, occurrence)?;
     push_label(out, options)?;
@@ -80,7 +83,8 @@ fn push_backreference(
 
 /// Adds a space, unless nothing is done yet.
 fn push_space(out: &mut String, done: usize) -> Result<(), AllocError>
-    ensures { OnOk result (string_bytes out.new ≡ string_bytes out.old ++ (if done == 0 then [] else codes " ")) }
+    ensures { OnOk result
+        (string_bytes out.new ≡ string_bytes out.old ++ (if done == 0 then [] else codes " ")) }
 {
     if done == 0 { Ok(()) } else { out.push_str(" ") }
 }
@@ -97,7 +101,8 @@ pub(crate) fn push_backreferences(
     called: &Called,
 ) -> Result<(), AllocError>
     ensures { OnOk result (string_bytes out.new ≡ string_bytes out.old
-        ++ meaning.backreferences options.now called.now.identifier.now called.now.number called.now.count) }
+        ++ meaning.backreferences options.now called.now.identifier.now
+        called.now.number called.now.count) }
 {
     let mut done = 0;
     while done < called.count {

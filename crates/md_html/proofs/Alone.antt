@@ -1,7 +1,9 @@
 -- Of a node that is as if it were left alone, that it was entered changes nothing.
 use Rattle.std.proofs.Common.{◌≡◌, ℕ, true, false, refl}
 use Rattle.md_base.specs.declared.event.Name.{Name}
-use Rattle.md_base.specs.declared.event.Name.TheVariants.{Data, LineEnding, SpaceOrTab, BlockQuotePrefix, Other, BlankLineEnding, ListItemMarker, ListItemValue, HeadingAtxSequence, Definition}
+use Rattle.md_base.specs.declared.event.Name.TheVariants as name_variants
+use name_variants.{Data, LineEnding, SpaceOrTab, BlockQuotePrefix, Other, BlankLineEnding}
+use name_variants.{ListItemMarker, ListItemValue, HeadingAtxSequence, Definition}
 use Rattle.md_base.proofs.Lies.{lie}
 use Rattle.md_meaning.specs.Meaning.At.{Given}
 use Rattle.md_shape.specs.Steps.{State, Told, entered, exited, is_passed}

@@ -1,5 +1,7 @@
 -- The first line ending of a document is the one that exits first in its events.
-use Rattle.std.proofs.Common.{◌≡◌, ◌⊎◌, inl, inr, ℕ, suc, Bool, true, false, List, [], ◌∷◌, ◌++◌, Option, Some, None, refl, ap, sym, ◌∙◌, subst, append_assoc, append-nil, slice_get}
+use Rattle.std.proofs.Common.{◌≡◌, ◌⊎◌, inl, inr, ℕ, suc, Bool, true, false, List, [], ◌∷◌, ◌++◌}
+use Rattle.std.proofs.Common.{Option, Some, None, refl, ap, sym, ◌∙◌, subst, append_assoc}
+use Rattle.std.proofs.Common.{append-nil, slice_get}
 use Rattle.std.specs.Prelude.{if◌then◌else◌, option_map}
 use Rattle.std.proofs.lemmas.Bool.{and_parts, false≢true}
 use Rattle.md_base.specs.declared.event.Name.{Name}
@@ -23,7 +25,8 @@ Outcome events positions found =
     ⊎ ((index : ℕ) × (place : Position) × (first_index events ≡ Some index)
     × (slice_get positions index ≡ Some (Some place)) × (found ≡ Some place))
 
-shift : (event : Event) (position : Option Position) (events : List Event) (positions : List (Option Position))
+shift : (event : Event) (position : Option Position) (events : List Event)
+    (positions : List (Option Position))
     (found : Option Position) → exits_line_ending event ≡ false → Outcome events positions found →
     Outcome (event ∷ events) (position ∷ positions) found
 shift event position events positions found e (inl none) =
@@ -42,13 +45,15 @@ shift event position events positions found e (inr some) =
       some.4,
     )
 
-exit_step : (name : Name) (end : Point) (place : Position) (events : List Event) (positions : List (Option Position))
+exit_step : (name : Name) (end : Point) (place : Position) (events : List Event)
+    (positions : List (Option Position))
     (found : Option Position) → Outcome events positions found →
     Outcome (exiting name end ∷ events) (Some place ∷ positions)
     (or_else (if is_line_ending name then Some place else None) found)
 exit_step name end place events positions found later = by (is_line_ending name) refl
   where
-    by : (ends : Bool) → is_line_ending name ≡ ends → Outcome (exiting name end ∷ events) (Some place
+    by : (ends : Bool) → is_line_ending name ≡ ends →
+        Outcome (exiting name end ∷ events) (Some place
         ∷ positions) (or_else (if ends then Some place else None) found)
     by true e = inr (
       0,
@@ -63,9 +68,11 @@ or_else_assoc : (a b c : Option Position) → or_else a (or_else b c) ≡ or_els
 or_else_assoc None b c = refl
 or_else_assoc (Some a) b c = refl
 
-outcome : (forest : Forest) (tail : List Event) (more : List (Option Position)) (found : Option Position) →
+outcome : (forest : Forest) (tail : List Event) (more : List (Option Position))
+    (found : Option Position) →
     Outcome tail more found →
-    Outcome (flatten forest ++ tail) (positions_of forest ++ more) (or_else (first_ending forest) found)
+    Outcome (flatten forest ++ tail) (positions_of forest ++ more)
+    (or_else (first_ending forest) found)
 outcome Empty tail more found later = later
 outcome (Node name start end children rest) tail more found later =
     let place : Position = record { start = start; end = end } in
@@ -77,13 +84,14 @@ outcome (Node name start end children rest) tail more found later =
     let inner = outcome children (exiting name end ∷ beyond) (Some place
     ∷ places) (or_else own (or_else (first_ending rest) found)) after in
     let whole = shift (entering name start) None (flatten children ++ exiting name end
-    ∷ beyond) (positions_of children ++ Some place ∷ places)
-    (or_else (first_ending children) (or_else own (or_else (first_ending rest) found))) refl inner in
+    ∷ beyond) (positions_of children ++ Some place ∷ places) (or_else (first_ending children)
+    (or_else own (or_else (first_ending rest) found))) refl inner in
     subst (λ es. Outcome (entering name start ∷ es) (None
     ∷ ((positions_of children ++ Some place ∷ positions_of rest) ++ more))
     (or_else (first_ending (Node name start end children rest)) found))
     (sym (append_assoc (flatten children) (exiting name end ∷ flatten rest) tail))
-    (subst (λ ps. Outcome (entering name start ∷ (flatten children ++ exiting name end ∷ beyond)) (None
+    (subst (λ ps. Outcome (entering name start ∷ (flatten children ++ exiting name end ∷ beyond))
+    (None
     ∷ ps) (or_else (first_ending (Node name start end children rest)) found))
     (sym (append_assoc (positions_of children) (Some place ∷ positions_of rest) more))
     (subst (Outcome (entering name start ∷ (flatten children ++ exiting name end ∷ beyond)) (None
@@ -99,11 +107,13 @@ of_document : (document : Forest) (events : List Event) → flatten document ≡
     Outcome events (positions_of document) (first_ending document)
 of_document document events flat =
     subst (Outcome events (positions_of document)) (or_else_none (first_ending document))
-    (subst (λ ps. Outcome events ps (or_else (first_ending document) None)) (append-nil (positions_of document))
+    (subst (λ ps. Outcome events ps (or_else (first_ending document) None))
+    (append-nil (positions_of document))
     (subst (λ es. Outcome es (positions_of document ++ []) (or_else (first_ending document) None))
     (append-nil (flatten document) ∙ flat) (outcome document [] [] None (inl (refl, refl)))))
 
-pub ending-none : (document : Forest) (events : List Event) → flatten document ≡ events → first_index events ≡ None →
+pub ending-none : (document : Forest) (events : List Event) → flatten document ≡ events →
+    first_index events ≡ None →
     first_ending document ≡ None
 ending-none document events flat none =
     elim (of_document document events flat) [
@@ -114,14 +124,19 @@ ending-none document events flat none =
     differ : (index : ℕ) → Some index ≡ None → ⊥
     differ index e = cc
 
-pub ending-some : (document : Forest) (events : List Event) (index : ℕ) → flatten document ≡ events →
+pub ending-some : (document : Forest) (events : List Event) (index : ℕ) →
+    flatten document ≡ events →
     first_index events ≡ Some index →
     (place : Position) × (slice_get (positions_of document) index ≡ Some (Some place))
     × (first_ending document ≡ Some place)
 ending-some document events index flat found =
     elim (of_document document events flat) [
       | inl none ↦ absurd (differ (sym found ∙ none.0))
-      | inr some ↦ (some.1, ap (slice_get (positions_of document)) (same some.0 (sym found ∙ some.2)) ∙ some.3, some.4)
+      | inr some ↦ (
+        some.1,
+        ap (slice_get (positions_of document)) (same some.0 (sym found ∙ some.2)) ∙ some.3,
+        some.4,
+      )
     ]
   where
     differ : Some index ≡ None → ⊥
@@ -140,12 +155,14 @@ exit_is : (kind : Kind) → is_exit kind ≡ true → kind ≡ Exit
 exit_is Exit h = refl
 exit_is Enter h = absurd (false≢true h)
 
-pub ending-text : (events : List Event) (index : ℕ) → first_index events ≡ Some index → ExitsText events index
+pub ending-text : (events : List Event) (index : ℕ) → first_index events ≡ Some index →
+    ExitsText events index
 ending-text [] index found = absurd (differ found)
   where
     differ : None ≡ Some index → ⊥
     differ e = cc
-ending-text (event ∷ events) index found = by (exits_line_ending event) refl found (λ i f. ending-text events i f)
+ending-text (event ∷ events) index found =
+    by (exits_line_ending event) refl found (λ i f. ending-text events i f)
   where
     differ : None ≡ Some index → ⊥
     differ e = cc
@@ -153,14 +170,17 @@ ending-text (event ∷ events) index found = by (exits_line_ending event) refl f
     same : (i j : ℕ) → Some i ≡ Some j → i ≡ j
     same i j e = cc
 
-    shifted : (o : Option ℕ) → option_map (λ i. suc i) o ≡ Some index → ((i : ℕ) → o ≡ Some i → ExitsText events i) →
+    shifted : (o : Option ℕ) → option_map (λ i. suc i) o ≡ Some index →
+        ((i : ℕ) → o ≡ Some i → ExitsText events i) →
         ExitsText (event ∷ events) index
     shifted None e again = absurd (differ e)
-    shifted (Some i) e again = subst (ExitsText (event ∷ events)) (same (suc i) index e) (again i refl)
+    shifted (Some i) e again =
+        subst (ExitsText (event ∷ events)) (same (suc i) index e) (again i refl)
 
     by : (ends : Bool) → exits_line_ending event ≡ ends → (if ends then Some 0
         else option_map (λ i. suc i) (first_index events)) ≡ Some index →
-        ((i : ℕ) → first_index events ≡ Some i → ExitsText events i) → ExitsText (event ∷ events) index
+        ((i : ℕ) → first_index events ≡ Some i → ExitsText events i) →
+        ExitsText (event ∷ events) index
     by true e f again =
         let parts = and_parts (is_exit event.kind) (is_line_ending event.name) e in
         subst (ExitsText (event ∷ events)) (same 0 index f) (

@@ -1,6 +1,8 @@
--- What is printed before all captured texts grows alone, where each captured text that ends has begun; and so it is in a
--- document's events.
-use Rattle.std.proofs.Common.{◌≡◌, ◌≤◌, ℕ, zero, suc, ◌+◌, ◌-◌, Bool, true, false, not, ◌&&◌, List, [], ◌∷◌, ◌++◌, length, drop, refl, sym, ap, ◌∙◌, subst, append-nil, append_assoc, arith}
+-- What is printed before all captured texts grows alone, where each captured text that ends has
+-- begun; and so it is in a document's events.
+use Rattle.std.proofs.Common.{◌≡◌, ◌≤◌, ℕ, zero, suc, ◌+◌, ◌-◌, Bool, true, false, not, ◌&&◌, List}
+use Rattle.std.proofs.Common.{[], ◌∷◌, ◌++◌, length, drop, refl, sym, ap, ◌∙◌, subst, append-nil}
+use Rattle.std.proofs.Common.{append_assoc, arith}
 use Rattle.std.specs.Prelude.{if◌then◌else◌}
 use Rattle.std.proofs.lemmas.Bool.{and_parts}
 use Rattle.std.proofs.lemmas.List.{length-append}
@@ -15,7 +17,8 @@ use Rattle.md_meaning.specs.Meaning.At.{Given}
 use Rattle.md_meaning.specs.Meaning.Layout.{Piece, Text, Needed, Forced, laid_after, begins_line}
 use Rattle.md_told.proofs.Running.{noticed-length}
 use Rattle.md_shape.specs.Run.{Noticed, noticed, passes, stepped, run}
-use Rattle.md_shape.specs.Steps.{State, Told, told_of, entered, exited, restored, passed, is_passed, captures, opens, closes, first_or, others_of}
+use Rattle.md_shape.specs.Steps.{State, Told, told_of, entered, exited, restored, passed, is_passed}
+use Rattle.md_shape.specs.Steps.{captures, opens, closes, first_or, others_of}
 use Rattle.md_html.specs.Fits.{begins, ends, is_none, may_end, captured_after, fits}
 
 -- ---- lengths
@@ -32,24 +35,28 @@ longer xs ys = more (length xs) (length ys) (length (xs ++ ys)) (length-append x
     more : (n m k : ℕ) → k ≡ n + m → n ≤ k
     more n m k e = omega (arith, e)
 
-either : (laid : List ℕ → List ℕ) (b : Bool) (text ending : List ℕ) → length text ≤ length (laid text) →
+either : (laid : List ℕ → List ℕ) (b : Bool) (text ending : List ℕ) →
+    length text ≤ length (laid text) →
     length (text ++ ending) ≤ length (laid (text ++ ending)) →
     length text ≤ length (laid (if b then text else text ++ ending))
 either laid true text ending f g = f
 either laid false text ending f g =
-    further (length text) (length (text ++ ending)) (length (laid (text ++ ending))) (longer text ending) g
+    further (length text) (length (text ++ ending)) (length (laid (text ++ ending)))
+    (longer text ending) g
 
 -- pieces are laid behind what is there
-pub laid-grows : (ending text : List ℕ) (pieces : List Piece) → length text ≤ length (laid_after ending text pieces)
+pub laid-grows : (ending text : List ℕ) (pieces : List Piece) →
+    length text ≤ length (laid_after ending text pieces)
 laid-grows ending text [] = same (length text)
 laid-grows ending text (Text more ∷ pieces) =
     further (length text) (length (text ++ more)) (length (laid_after ending (text ++ more) pieces))
     (longer text more) (laid-grows ending (text ++ more) pieces)
 laid-grows ending text (Needed ∷ pieces) =
-    either (λ t. laid_after ending t pieces) (begins_line text) text ending (laid-grows ending text pieces)
-    (laid-grows ending (text ++ ending) pieces)
+    either (λ t. laid_after ending t pieces) (begins_line text) text ending
+    (laid-grows ending text pieces) (laid-grows ending (text ++ ending) pieces)
 laid-grows ending text (Forced ∷ pieces) =
-    further (length text) (length (text ++ ending)) (length (laid_after ending (text ++ ending) pieces))
+    further (length text) (length (text ++ ending))
+    (length (laid_after ending (text ++ ending) pieces))
     (longer text ending) (laid-grows ending (text ++ ending) pieces)
 
 -- ---- the text before all captured ones
@@ -66,14 +73,17 @@ outermost-grows : (text more : List ℕ) (below : List (List ℕ)) → length te
 outermost-grows text more [] le = le
 outermost-grows text more (outer ∷ others) le = same (length (outermost outer others))
 
-first-is : (state : State) (text : List ℕ) (below : List (List ℕ)) → state.text ≡ text → state.below ≡ below →
+first-is : (state : State) (text : List ℕ) (below : List (List ℕ)) → state.text ≡ text →
+    state.below ≡ below →
     first state ≡ outermost text below
 first-is state text below e f = ap (λ t. outermost t state.below) e ∙ ap (λ b. outermost text b) f
 
 -- ---- one event
 
-enter-first : (p c : Bool) (state next : State) (opened : List ℕ) → length state.text ≤ length opened →
-    next.text ≡ (if c then [] else opened) → next.below ≡ (if c then opened ∷ state.below else state.below) →
+enter-first : (p c : Bool) (state next : State) (opened : List ℕ) →
+    length state.text ≤ length opened →
+    next.text ≡ (if c then [] else opened) →
+    next.below ≡ (if c then opened ∷ state.below else state.below) →
     length (first state) ≤ length (first (if p then passed state else next))
 enter-first true c state next opened le e f = same (length (first state))
 enter-first false true state next opened le e f =
@@ -102,12 +112,14 @@ exit-captured true (outer ∷ others) = one_less (length others)
 exit-captured false below = refl
 
 restored-first : (c : Bool) (text : List ℕ) (below : List (List ℕ)) → (below ≡ [] → c ≡ true → ⊥) →
-    outermost text below ≡ outermost (if c then first_or [] below else text) (if c then others_of below else below)
+    outermost text below
+    ≡ outermost (if c then first_or [] below else text) (if c then others_of below else below)
 restored-first true text [] some = absurd (some refl refl)
 restored-first true text (outer ∷ others) some = refl
 restored-first false text below some = refl
 
-some-captured : (event : Event) (below : List (List ℕ)) → may_end event (length below) ≡ true → below ≡ [] →
+some-captured : (event : Event) (below : List (List ℕ)) →
+    may_end event (length below) ≡ true → below ≡ [] →
     ends event ≡ true → ⊥
 some-captured event [] may e f = contrary (ends event) may f
   where
@@ -125,22 +137,27 @@ stepped-captured given event told state = by event.kind refl
         length (stepped given event told state).below ≡ captured_after event (length state.below)
     by Enter e =
         ap (λ k. length (State.below (elim k [
-          | Enter ↦ if is_passed event.name then passed state else entered given told event.name state
+          | Enter ↦
+              if is_passed event.name then passed state else entered given told event.name state
           | Exit ↦ exited given told event.name state
         ]))) e
-        ∙ enter-captured (is_passed event.name) (captures event.name) state (entered given told event.name state)
-        (laid_after given.ending state.text (opens given state.around state.cells told event.name)) refl
-        ∙ ap (λ k. if (elim k [ Enter ↦ captures event.name && not (is_passed event.name) | Exit ↦ false ])
+        ∙ enter-captured (is_passed event.name) (captures event.name) state
+        (entered given told event.name state) (laid_after given.ending state.text
+        (opens given state.around state.cells told event.name)) refl
+        ∙ ap (λ k.
+        if (elim k [ Enter ↦ captures event.name && not (is_passed event.name) | Exit ↦ false ])
         then suc (length state.below)
         else (if (elim k [ Enter ↦ false | Exit ↦ captures event.name ]) then length state.below - 1
         else length state.below)) (sym e)
     by Exit e =
         ap (λ k. length (State.below (elim k [
-          | Enter ↦ if is_passed event.name then passed state else entered given told event.name state
+          | Enter ↦
+              if is_passed event.name then passed state else entered given told event.name state
           | Exit ↦ exited given told event.name state
         ]))) e
         ∙ exit-captured (captures event.name) state.below
-        ∙ ap (λ k. if (elim k [ Enter ↦ captures event.name && not (is_passed event.name) | Exit ↦ false ])
+        ∙ ap (λ k.
+        if (elim k [ Enter ↦ captures event.name && not (is_passed event.name) | Exit ↦ false ])
         then suc (length state.below)
         else (if (elim k [ Enter ↦ false | Exit ↦ captures event.name ]) then length state.below - 1
         else length state.below)) (sym e)
@@ -151,24 +168,30 @@ stepped-first : (given : Given) (event : Event) (told : Told) (state : State) �
     length (first state) ≤ length (first (stepped given event told state))
 stepped-first given event told state may = by event.kind refl
   where
-    by : (kind : Kind) → event.kind ≡ kind → length (first state) ≤ length (first (stepped given event told state))
+    by : (kind : Kind) → event.kind ≡ kind →
+        length (first state) ≤ length (first (stepped given event told state))
     by Enter e =
         subst (λ k. length (first state) ≤ length (first (elim k [
-          | Enter ↦ if is_passed event.name then passed state else entered given told event.name state
+          | Enter ↦
+              if is_passed event.name then passed state else entered given told event.name state
           | Exit ↦ exited given told event.name state
         ]))) (sym e)
-        (enter-first (is_passed event.name) (captures event.name) state (entered given told event.name state)
+        (enter-first (is_passed event.name) (captures event.name) state
+        (entered given told event.name state)
         (laid_after given.ending state.text (opens given state.around state.cells told event.name))
-        (laid-grows given.ending state.text (opens given state.around state.cells told event.name)) refl refl)
+        (laid-grows given.ending state.text (opens given state.around state.cells told event.name))
+        refl refl)
     by Exit e =
         let left : State = restored event.name state in
         let inner : List ℕ = if captures event.name then state.text else [] in
         let pieces = closes given left state.ended told inner event.name in
         subst (λ k. length (first state) ≤ length (first (elim k [
-          | Enter ↦ if is_passed event.name then passed state else entered given told event.name state
+          | Enter ↦
+              if is_passed event.name then passed state else entered given told event.name state
           | Exit ↦ exited given told event.name state
         ]))) (sym e)
-        (subst (λ t. length t ≤ length (outermost (laid_after given.ending left.text pieces) left.below))
+        (subst (λ t. length t
+        ≤ length (outermost (laid_after given.ending left.text pieces) left.below))
         (sym (restored-first (captures event.name) state.text state.below (λ none ended.
         some-captured event state.below may none
         (ap (λ k. elim k [ Enter ↦ false | Exit ↦ captures event.name ]) e ∙ ended))))
@@ -183,12 +206,14 @@ no-captured text [] e = same (length text)
 no-captured text (outer ∷ others) e = cc
 
 -- what is printed before all captured texts is no longer than the text after all events
-pub run-grows : (given : Given) (left : ℕ) (events : List Event) (seen : List Noticed) (state : State) →
+pub run-grows :
+    (given : Given) (left : ℕ) (events : List Event) (seen : List Noticed) (state : State) →
     fits left (length state.below) events seen ≡ true →
     length (first state) ≤ length (run given left events seen state).text
 run-grows given left [] seen state f = no-captured state.text state.below f
 run-grows given left (event ∷ events) [] state f = cc
-run-grows given (suc left) (event ∷ events) (one ∷ seen) state f = run-grows given left events seen state f
+run-grows given (suc left) (event ∷ events) (one ∷ seen) state f =
+    run-grows given left events seen state f
 run-grows given zero (event ∷ events) (one ∷ seen) state f =
     let next : State = stepped given event one.told state in
     let both = and_parts (may_end event (length state.below))
@@ -202,20 +227,24 @@ run-grows given zero (event ∷ events) (one ∷ seen) state f =
 
 -- ---- one event further
 
-fits-passing : (left captured : ℕ) (events : List Event) (seen : List Noticed) → fits left captured events seen ≡ true →
+fits-passing : (left captured : ℕ) (events : List Event) (seen : List Noticed) →
+    fits left captured events seen ≡ true →
     fits 0 captured (drop left events) (drop left seen) ≡ true
 fits-passing zero captured events seen f = f
 fits-passing (suc left) captured [] seen f = f
 fits-passing (suc left) captured (event ∷ events) [] f = cc
-fits-passing (suc left) captured (event ∷ events) (one ∷ seen) f = fits-passing left captured events seen f
+fits-passing (suc left) captured (event ∷ events) (one ∷ seen) f =
+    fits-passing left captured events seen f
 
-pub fits-step : (captured : ℕ) (event : Event) (one : Noticed) (events : List Event) (seen : List Noticed) →
+pub fits-step :
+    (captured : ℕ) (event : Event) (one : Noticed) (events : List Event) (seen : List Noticed) →
     fits 0 captured (event ∷ events) (one ∷ seen) ≡ true →
-    fits 0 (captured_after event captured) (drop (passes event one.inside) events) (drop (passes event one.inside) seen)
-    ≡ true
+    fits 0 (captured_after event captured) (drop (passes event one.inside) events)
+    (drop (passes event one.inside) seen) ≡ true
 fits-step captured event one events seen f =
     fits-passing (passes event one.inside) (captured_after event captured) events seen
-    (and_parts (may_end event captured) (fits (passes event one.inside) (captured_after event captured) events seen) f).1
+    (and_parts (may_end event captured)
+    (fits (passes event one.inside) (captured_after event captured) events seen) f).1
 
 -- ---- a document's events
 
@@ -223,7 +252,8 @@ both-true : (x y : Bool) → x ≡ true → y ≡ true → (x && y) ≡ true
 both-true true y e f = f
 both-true false y e f = cc
 
-may-enter : (name : Name) (start : Point) (captured : ℕ) → may_end (entering name start) captured ≡ true
+may-enter : (name : Name) (start : Point) (captured : ℕ) →
+    may_end (entering name start) captured ≡ true
 may-enter name start zero = refl
 may-enter name start (suc captured) = refl
 
@@ -235,10 +265,12 @@ may-exit false name end (suc captured) e = refl
 
 exit-after : (c : Bool) (name : Name) (end : Point) (captured : ℕ) → captures name ≡ c →
     captured ≡ captured_after (exiting name end) (if c then suc captured else captured)
-exit-after true name end captured e = one_less captured ∙ ap (λ b. if b then suc captured - 1 else suc captured) (sym e)
+exit-after true name end captured e =
+    one_less captured ∙ ap (λ b. if b then suc captured - 1 else suc captured) (sym e)
 exit-after false name end captured e = ap (λ b. if b then captured - 1 else captured) (sym e)
 
-fits-passed : (captured : ℕ) (events : List Event) (seen : List Noticed) (tail : List Event) (more : List Noticed) →
+fits-passed : (captured : ℕ) (events : List Event) (seen : List Noticed) (tail : List Event)
+    (more : List Noticed) →
     length seen ≡ length events → fits 0 captured tail more ≡ true →
     fits (length events) captured (events ++ tail) (seen ++ more) ≡ true
 fits-passed captured [] [] tail more e f = f
@@ -254,7 +286,8 @@ fits-passed captured (event ∷ events) (one ∷ seen) tail more e f =
 enters-so : (p c : Bool) (inside captured : ℕ) (events : List Event) (seen : List Noticed) →
     (p ≡ true → fits inside captured events seen ≡ true) →
     (p ≡ false → fits 0 (if c then suc captured else captured) events seen ≡ true) →
-    fits (if p then inside else 0) (if c && not p then suc captured else captured) events seen ≡ true
+    fits (if p then inside else 0) (if c && not p then suc captured else captured) events seen
+    ≡ true
 enters-so true true inside captured events seen f g = f refl
 enters-so true false inside captured events seen f g = f refl
 enters-so false true inside captured events seen f g = g refl
@@ -277,18 +310,22 @@ fits-over bytes last (Node name start end children rest) captured tail more f =
     let after = fits-over bytes last rest captured tail more f in
     let within : List Event = flatten children ++ exit ∷ behind in
     let within_seen : List Noticed = noticed bytes false children ++ here ∷ behind_seen in
-    let count : length (noticed bytes false children ++ here ∷ []) ≡ length (flatten children ++ exit ∷ []) =
+    let count :
+    length (noticed bytes false children ++ here ∷ []) ≡ length (flatten children ++ exit ∷ []) =
     length-append (noticed bytes false children) (here ∷ [])
     ∙ ap (λ n. n + 1) (noticed-length bytes false children)
     ∙ sym (length-append (flatten children) (exit ∷ [])) in
-    let skipped : fits (length (flatten children ++ exit ∷ [])) captured ((flatten children ++ exit ∷ []) ++ behind)
+    let skipped : fits (length (flatten children ++ exit ∷ [])) captured
+    ((flatten children ++ exit ∷ []) ++ behind)
     ((noticed bytes false children ++ here ∷ []) ++ behind_seen) ≡ true =
-    fits-passed captured (flatten children ++ exit ∷ []) (noticed bytes false children ++ here ∷ []) behind behind_seen
-    count after in
+    fits-passed captured (flatten children ++ exit ∷ []) (noticed bytes false children ++ here ∷ [])
+    behind behind_seen count after in
     let c = captures name in
-    let left : fits 0 (if c then suc captured else captured) (exit ∷ behind) (here ∷ behind_seen) ≡ true =
+    let left :
+    fits 0 (if c then suc captured else captured) (exit ∷ behind) (here ∷ behind_seen) ≡ true =
     both-true (may_end exit (if c then suc captured else captured))
-    (fits 0 (captured_after exit (if c then suc captured else captured)) behind behind_seen) (may-exit c name end captured refl)
+    (fits 0 (captured_after exit (if c then suc captured else captured)) behind behind_seen)
+    (may-exit c name end captured refl)
     (subst (λ n. fits 0 n behind behind_seen ≡ true) (exit-after c name end captured refl) after) in
     subst (λ es. fits 0 captured (enter ∷ es)
     (here ∷ (noticed bytes false children ++ here ∷ noticed bytes last rest) ++ more) ≡ true)
@@ -296,23 +333,26 @@ fits-over bytes last (Node name start end children rest) captured tail more f =
     (subst (λ ts. fits 0 captured (enter ∷ within) (here ∷ ts) ≡ true)
     (sym (append_assoc (noticed bytes false children) (here ∷ noticed bytes last rest) more))
     (both-true (may_end enter captured)
-    (fits (passes enter here.inside) (captured_after enter captured) within within_seen) (may-enter name start captured)
+    (fits (passes enter here.inside) (captured_after enter captured) within within_seen)
+    (may-enter name start captured)
     (enters-so (is_passed name) c here.inside captured within within_seen
     (λ yes.
-    subst (λ n. fits n captured within within_seen ≡ true) (length-append (flatten children) (exit ∷ [])
-    ∙ one_more (length (flatten children)))
+    subst (λ n. fits n captured within within_seen ≡ true)
+    (length-append (flatten children) (exit ∷ []) ∙ one_more (length (flatten children)))
     (subst (λ es. fits (length (flatten children ++ exit ∷ [])) captured es within_seen ≡ true)
     (append_assoc (flatten children) (exit ∷ []) behind)
     (subst (λ ts. fits (length (flatten children ++ exit ∷ [])) captured
     ((flatten children ++ exit ∷ []) ++ behind) ts ≡ true)
     (append_assoc (noticed bytes false children) (here ∷ []) behind_seen) skipped)))
-    (λ no. fits-over bytes false children (if c then suc captured else captured) (exit ∷ behind) (here ∷ behind_seen) left))))
+    (λ no. fits-over bytes false children (if c then suc captured else captured) (exit ∷ behind)
+    (here ∷ behind_seen) left))))
   where
     one_more : (n : ℕ) → n + 1 ≡ suc n
     one_more n = omega arith
 
-pub fits-all : (bytes : List ℕ) (document : Forest) → fits 0 0 (flatten document) (noticed bytes true document) ≡ true
+pub fits-all : (bytes : List ℕ) (document : Forest) →
+    fits 0 0 (flatten document) (noticed bytes true document) ≡ true
 fits-all bytes document =
     subst (λ es. fits 0 0 es (noticed bytes true document) ≡ true) (append-nil (flatten document))
-    (subst (λ ts. fits 0 0 (flatten document ++ []) ts ≡ true) (append-nil (noticed bytes true document))
-    (fits-over bytes true document 0 [] [] refl))
+    (subst (λ ts. fits 0 0 (flatten document ++ []) ts ≡ true)
+    (append-nil (noticed bytes true document)) (fits-over bytes true document 0 [] [] refl))

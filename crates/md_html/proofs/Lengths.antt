@@ -1,8 +1,10 @@
--- What work counts as read is no less than the lengths of a document's nodes that are read, and just these where no
--- index goes back: one induction over the nodes for each.
-use Rattle.std.proofs.Common.{◌≡◌, ℕ, ◌+◌, ◌-◌, ◌*◌, ◌≤◌, suc, Bool, true, false, List, [], ◌∷◌, ◌++◌, refl, ap, sym, ◌∙◌, subst, append_assoc, arith}
+-- What work counts as read is no less than the lengths of a document's nodes that are read, and
+-- just these where no index goes back: one induction over the nodes for each.
+use Rattle.std.proofs.Common.{◌≡◌, ℕ, ◌+◌, ◌-◌, ◌*◌, ◌≤◌, suc, Bool, true, false, List, [], ◌∷◌}
+use Rattle.std.proofs.Common.{◌++◌, refl, ap, sym, ◌∙◌, subst, append_assoc, arith}
 use Rattle.std.specs.Prelude.{if◌then◌else◌}
-use Rattle.std.proofs.Math.Nat.{le_trans, le_of_eq, mul-le-mul_left, mul-add, suc-mul, mul-zero, sub_self}
+use Rattle.std.proofs.Math.Nat.{le_trans, le_of_eq, mul-le-mul_left, mul-add, suc-mul, mul-zero}
+use Rattle.std.proofs.Math.Nat.{sub_self}
 use Rattle.std.proofs.lemmas.List.{append-nil}
 use Rattle.md_base.specs.declared.event.Event.{Event}
 use Rattle.md_base.specs.Tree.{Forest, Empty, Node, flatten, exiting}
@@ -21,7 +23,8 @@ inside read depth = if read then suc depth else depth
 abbrev own : Bool → ℕ → ℕ
 own read length = if read then length else 0
 
-exit_depth : (read : Bool) (depth : ℕ) → (if read then inside read depth - 1 else inside read depth) ≡ depth
+exit_depth : (read : Bool) (depth : ℕ) →
+    (if read then inside read depth - 1 else inside read depth) ≡ depth
 exit_depth true depth = omega arith
 exit_depth false depth = refl
 
@@ -33,10 +36,13 @@ way depth a b c =
     let shorter : c - a ≤ (b - a) + (c - b) = omega arith in
     le_trans (mul-le-mul_left depth shorter) (le_of_eq (mul-add depth (b - a) (c - b)))
 
-node_covers : (read : Bool) (depth before start middle end last children rest total later after : ℕ) →
-    children + (inside read depth * (middle - start) + (inside read depth * (end - middle) + later)) ≤ total →
+node_covers :
+    (read : Bool) (depth before start middle end last children rest total later after : ℕ) →
+    children + (inside read depth * (middle - start) + (inside read depth * (end - middle) + later))
+    ≤ total →
     rest + (depth * (last - end) + after) ≤ later →
-    (own read (end - start) + children + rest) + (depth * (last - before) + after) ≤ depth * (start - before) + total
+    (own read (end - start) + children + rest) + (depth * (last - before) + after)
+    ≤ depth * (start - before) + total
 node_covers true depth before start middle end last children rest total later after h k =
     let over = way (suc depth) start middle end in
     let once = suc-mul depth (end - start) in
@@ -50,10 +56,12 @@ node_covers false depth before start middle end last children rest total later a
     omega (arith, over, to_end, to_last, h, k)
 
 covers : (forest : Forest) (index depth : ℕ) (after : List Event) →
-    lengths forest + (depth * (last_index index forest - index) + read_from (last_index index forest) depth after)
+    lengths forest
+    + (depth * (last_index index forest - index) + read_from (last_index index forest) depth after)
     ≤ read_from index depth (flatten forest ++ after)
 covers Empty index depth after =
-    let none : depth * (index - index) ≡ 0 = ap (λ n. depth * n) (sub_self index) ∙ mul-zero depth in
+    let none : depth * (index - index) ≡ 0 =
+    ap (λ n. depth * n) (sub_self index) ∙ mul-zero depth in
     omega (arith, none)
 covers (Node name start end children rest) index depth after =
     let read : Bool = is_read name in
@@ -63,24 +71,29 @@ covers (Node name start end children rest) index depth after =
     let middle : ℕ = last_index start.index children in
     let last : ℕ = last_index end.index rest in
     let total : ℕ = read_from start.index inner (flatten children ++ tail) in
-    let exit : read_from end.index (if read then inner - 1 else inner) later ≡ read_from end.index depth later =
+    let exit : read_from end.index (if read then inner - 1 else inner) later
+    ≡ read_from end.index depth later =
     ap (λ n. read_from end.index n later) (exit_depth read depth) in
-    let in_children : lengths children + (inner * (middle - start.index) + (inner * (end.index - middle)
+    let in_children :
+    lengths children + (inner * (middle - start.index) + (inner * (end.index - middle)
     + read_from end.index depth later)) ≤ total =
-    subst (λ n. lengths children + (inner * (middle - start.index) + (inner * (end.index - middle) + n)) ≤ total)
+    subst (λ n. lengths children
+    + (inner * (middle - start.index) + (inner * (end.index - middle) + n)) ≤ total)
     exit (covers children start.index inner tail) in
     subst (λ events. (own read (end.index - start.index) + lengths children + lengths rest)
     + (depth * (last - index) + read_from last depth after)
     ≤ depth * (start.index - index) + read_from start.index inner events)
     (sym (append_assoc (flatten children) (exiting name end ∷ flatten rest) after))
-    (node_covers read depth index start.index middle end.index last (lengths children) (lengths rest) total
-    (read_from end.index depth later) (read_from last depth after) in_children (covers rest end.index depth after))
+    (node_covers read depth index start.index middle end.index last (lengths children)
+    (lengths rest) total (read_from end.index depth later) (read_from last depth after) in_children
+    (covers rest end.index depth after))
 
 pub read-no_less : (document : Forest) → lengths document ≤ read_length (flatten document)
 read-no_less document =
-    let covered : lengths document + (0 * (last_index 0 document - 0) + 0) ≤ read_from 0 0 (flatten document) =
-    subst (λ events. lengths document + (0 * (last_index 0 document - 0) + 0) ≤ read_from 0 0 events)
-    (append-nil (flatten document)) (covers document 0 0 []) in
+    let covered :
+    lengths document + (0 * (last_index 0 document - 0) + 0) ≤ read_from 0 0 (flatten document) =
+    subst (λ events. lengths document + (0 * (last_index 0 document - 0) + 0)
+    ≤ read_from 0 0 events) (append-nil (flatten document)) (covers document 0 0 []) in
     omega (arith, covered)
 
 -- ---- just these
@@ -90,11 +103,14 @@ way-exact depth a b c h k =
     let parts : c - a ≡ (b - a) + (c - b) = omega arith in
     ap (λ n. depth * n) parts ∙ mul-add depth (b - a) (c - b)
 
-node_exact : (read : Bool) (depth before start middle end last children rest total later after : ℕ) →
+node_exact :
+    (read : Bool) (depth before start middle end last children rest total later after : ℕ) →
     before ≤ start → start ≤ middle → middle ≤ end → end ≤ last →
-    total ≡ children + (inside read depth * (middle - start) + (inside read depth * (end - middle) + later)) →
+    total ≡ children
+    + (inside read depth * (middle - start) + (inside read depth * (end - middle) + later)) →
     later ≡ rest + (depth * (last - end) + after) →
-    depth * (start - before) + total ≡ (own read (end - start) + children + rest) + (depth * (last - before) + after)
+    depth * (start - before) + total
+    ≡ (own read (end - start) + children + rest) + (depth * (last - before) + after)
 node_exact true depth before start middle end last children rest total later after o p q r h k =
     let over = way-exact (suc depth) start middle end p q in
     let once = suc-mul depth (end - start) in
@@ -114,14 +130,17 @@ node_exact false depth before start middle end last children rest total later af
 -- nodes read forward, from an index to where the last event stands
 record IsExact (forest : Forest) (index depth : ℕ) (after : List Event) : Type 0 where
   same : read_from index depth (flatten forest ++ after)
-      ≡ lengths forest + (depth * (last_index index forest - index) + read_from (last_index index forest) depth after)
+      ≡ lengths forest + (depth * (last_index index forest - index)
+      + read_from (last_index index forest) depth after)
   ordered : index ≤ last_index index forest
   forward : GoesForward (last_index index forest) after
 
-exact : (forest : Forest) (index depth : ℕ) (after : List Event) → GoesForward index (flatten forest ++ after) →
+exact : (forest : Forest) (index depth : ℕ) (after : List Event) →
+    GoesForward index (flatten forest ++ after) →
     IsExact forest index depth after
 exact Empty index depth after forward =
-    let none : depth * (index - index) ≡ 0 = ap (λ n. depth * n) (sub_self index) ∙ mul-zero depth in
+    let none : depth * (index - index) ≡ 0 =
+    ap (λ n. depth * n) (sub_self index) ∙ mul-zero depth in
     record {
       same = omega (arith, none);
       ordered = omega arith;
@@ -136,21 +155,27 @@ exact (Node name start end children rest) index depth after forward =
     let middle : ℕ = last_index start.index children in
     let last : ℕ = last_index end.index rest in
     let total : ℕ = read_from start.index inner (flatten children ++ tail) in
-    let in_children : IsExact children start.index inner tail = exact children start.index inner tail
+    let in_children : IsExact children start.index inner tail =
+    exact children start.index inner tail
     (subst (λ events. GoesForward start.index events) split forward.1) in
-    let in_rest : IsExact rest end.index depth after = exact rest end.index depth after in_children.forward.1 in
-    let exit : read_from end.index (if read then inner - 1 else inner) later ≡ read_from end.index depth later =
+    let in_rest : IsExact rest end.index depth after =
+    exact rest end.index depth after in_children.forward.1 in
+    let exit : read_from end.index (if read then inner - 1 else inner) later
+    ≡ read_from end.index depth later =
     ap (λ n. read_from end.index n later) (exit_depth read depth) in
-    let by_children : total ≡ lengths children + (inner * (middle - start.index) + (inner * (end.index - middle)
+    let by_children :
+    total ≡ lengths children + (inner * (middle - start.index) + (inner * (end.index - middle)
     + read_from end.index depth later)) =
-    in_children.same
-    ∙ ap (λ n. lengths children + (inner * (middle - start.index) + (inner * (end.index - middle) + n))) exit in
+    in_children.same ∙ ap (λ n. lengths children
+    + (inner * (middle - start.index) + (inner * (end.index - middle) + n))) exit in
     record {
       same = ap (λ events. depth * (start.index - index) + read_from start.index inner events) split
-          ∙ node_exact read depth index start.index middle end.index last (lengths children) (lengths rest) total
-          (read_from end.index depth later) (read_from last depth after) forward.0 in_children.ordered
+          ∙ node_exact read depth index start.index middle end.index last (lengths children)
+          (lengths rest) total (read_from end.index depth later) (read_from last depth after)
+          forward.0 in_children.ordered
           in_children.forward.0 in_rest.ordered by_children in_rest.same;
-      ordered = le_trans forward.0 (le_trans in_children.ordered (le_trans in_children.forward.0 in_rest.ordered));
+      ordered = le_trans forward.0
+          (le_trans in_children.ordered (le_trans in_children.forward.0 in_rest.ordered));
       forward = in_rest.forward;
     }
 
@@ -160,6 +185,7 @@ read-exact document forward =
     let whole = append-nil (flatten document) in
     let read : IsExact document 0 0 [] = exact document 0 0 []
     (subst (λ events. GoesForward 0 events) (sym whole) forward) in
-    let same : read_from 0 0 (flatten document) ≡ lengths document + (0 * (last_index 0 document - 0) + 0) =
+    let same :
+    read_from 0 0 (flatten document) ≡ lengths document + (0 * (last_index 0 document - 0) + 0) =
     ap (λ events. read_from 0 0 events) (sym whole) ∙ read.same in
     omega (arith, same)

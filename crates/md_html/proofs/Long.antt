@@ -1,5 +1,6 @@
 -- What is printed after some of a document's events, and how long the whole text is then.
-use Rattle.std.proofs.Common.{◌≡◌, ◌≤◌, ◌<◌, ℕ, true, List, [], length, refl, sym, ap, ◌∙◌, subst, arith}
+use Rattle.std.proofs.Common.{◌≡◌, ◌≤◌, ◌<◌, ℕ, true, List, [], length, refl, sym, ap, ◌∙◌, subst}
+use Rattle.std.proofs.Common.{arith}
 use Rattle.md_base.specs.Tree.{Forest, flatten}
 use Rattle.md_meaning.specs.Meaning.At.{Given}
 use Rattle.md_meaning.specs.Meaning.Footnotes.{section}
@@ -17,14 +18,17 @@ use Rattle.md_html.proofs.Windows.{window-end}
 use Rattle.md_html.proofs.Fits.{outermost, laid-grows, run-grows, fits-all}
 
 -- what goes on after what has gone on
-pub goes-on : (code : Supplied) (from index next to end : ℕ) (first before after : State) → to ≤ end →
+pub goes-on : (code : Supplied) (from index next to end : ℕ) (first before after : State) →
+    to ≤ end →
     Goes code from index end first before → Goes code index next to before after →
     Goes code from next end first after
 goes-on code from index next to end first before after le goes on = record {
   runs = λ at document last supplies flat later.
-      on.runs at document last supplies flat (most last later) ∙ goes.runs at document last supplies flat later;
+      on.runs at document last supplies flat (most last later)
+      ∙ goes.runs at document last supplies flat later;
   fits = λ at document last supplies flat later f.
-      on.fits at document last supplies flat (most last later) (goes.fits at document last supplies flat later f);
+      on.fits at document last supplies flat (most last later)
+      (goes.fits at document last supplies flat later f);
 }
   where
     most : (last : ℕ) → end ≤ last → to ≤ last
@@ -43,8 +47,8 @@ module _ (code : Supplied) (at : Given) (document : Forest) (index count : ℕ) 
   seen-all : window 0 count (noticed code.checked.now.bytes true document)
       ≡ noticed code.checked.now.bytes true document
   seen-all =
-      window-all (noticed code.checked.now.bytes true document) count
-      (all ∙ ap (λ es. length es) (sym flat) ∙ sym (noticed-length code.checked.now.bytes true document))
+      window-all (noticed code.checked.now.bytes true document) count (all
+      ∙ ap (λ es. length es) (sym flat) ∙ sym (noticed-length code.checked.now.bytes true document))
 
   same : (n : ℕ) → n ≤ n
   same n = omega arith
@@ -54,30 +58,32 @@ module _ (code : Supplied) (at : Given) (document : Forest) (index count : ℕ) 
       (window index count (noticed code.checked.now.bytes true document)) state ≡ whole
   goes-whole =
       goes.runs at document count supplies flat (same count)
-      ∙ ap (λ es. run at 0 es (window 0 count (noticed code.checked.now.bytes true document)) first) events-all
-      ∙ ap (λ ts. run at 0 (flatten document) ts first) seen-all
-      ∙ ap (λ bytes. run at 0 (flatten document) (noticed bytes true document) first) (sym (Supplies.bytes supplies))
+      ∙ ap (λ es. run at 0 es (window 0 count (noticed code.checked.now.bytes true document)) first)
+      events-all ∙ ap (λ ts. run at 0 (flatten document) ts first) seen-all
+      ∙ ap (λ bytes. run at 0 (flatten document) (noticed bytes true document) first)
+      (sym (Supplies.bytes supplies))
       ∙ ap (λ s. run at 0 (flatten document) (noticed at.bytes true document) s) new
 
   -- no event is left
   pub whole-run : count ≤ index → state ≡ whole
   whole-run le =
-      sym (window-end at code.checked.now.events (noticed code.checked.now.bytes true document) index count state le)
-      ∙ goes-whole
+      sym (window-end at code.checked.now.events (noticed code.checked.now.bytes true document)
+      index count state le) ∙ goes-whole
 
   fits-on : fits 0 (length state.below) (window index count code.checked.now.events)
       (window index count (noticed code.checked.now.bytes true document)) ≡ true
   fits-on =
       goes.fits at document count supplies flat (same count)
       (subst (λ (s : State). fits 0 (length s.below) (window 0 count code.checked.now.events)
-      (window 0 count (noticed code.checked.now.bytes true document)) ≡ true) (sym new)
-      (subst (λ es. fits 0 0 es (window 0 count (noticed code.checked.now.bytes true document)) ≡ true)
+      (window 0 count (noticed code.checked.now.bytes true document)) ≡ true) (sym new) (subst
+      (λ es. fits 0 0 es (window 0 count (noticed code.checked.now.bytes true document)) ≡ true)
       (sym events-all)
       (subst (λ ts. fits 0 0 (flatten document) ts ≡ true) (sym seen-all)
       (fits-all code.checked.now.bytes document))))
 
   -- a text that is longer than this, where none is captured, makes the whole one longer
-  pub longer-run : (limit : ℕ) → state.below ≡ [] → limit < length state.text → limit < length whole.text
+  pub longer-run : (limit : ℕ) → state.below ≡ [] → limit < length state.text →
+      limit < length whole.text
   longer-run limit none lt =
       subst (λ (s : State). limit < length s.text) goes-whole
       (more (length (outermost state.text state.below))

@@ -1,5 +1,6 @@
 -- What is told of events that flatten a document is what is said of the document.
-use Rattle.std.proofs.Common.{◌≡◌, ℕ, suc, Bool, true, false, ◌&&◌, not, List, [], ◌∷◌, ◌++◌, refl, ap, sym, ◌∙◌, append_assoc}
+use Rattle.std.proofs.Common.{◌≡◌, ℕ, suc, Bool, true, false, ◌&&◌, not, List, [], ◌∷◌, ◌++◌, refl}
+use Rattle.std.proofs.Common.{ap, sym, ◌∙◌, append_assoc}
 use Rattle.std.specs.Prelude.{◌||◌, if◌then◌else◌}
 use Rattle.std.proofs.lemmas.Bool.{true≢false}
 use Rattle.md_base.specs.declared.event.Event.{Event}
@@ -8,7 +9,8 @@ use Rattle.md_base.specs.declared.event.Name.TheVariants.{Image, Link}
 use Rattle.md_base.specs.Is.{is}
 use Rattle.md_base.specs.Tree.{Forest, Empty, Node, flatten, exiting}
 use Rattle.md_safe.specs.Links.{prints_link, has_nested_link}
-use Rattle.md_html.specs.Nesting.{is_link, is_image, is_none, one_less, is_nested, link_after, images_after, nests}
+use Rattle.md_html.specs.Nesting.{is_link, is_image, is_none, one_less, is_nested, link_after}
+use Rattle.md_html.specs.Nesting.{images_after, nests}
 
 is_link-is : (name : Name) → is Link name ≡ is_link name
 is_link-is Link = refl
@@ -37,11 +39,13 @@ or_assoc false b c = refl
 -- after the exit of a node
 abbrev exit_then : Bool → Bool → Bool → ℕ → List Event → Bool
 exit_then link image in_link images events =
-    nests (if is_none images && link then false else in_link) (if image then one_less images else images) events
+    nests (if is_none images && link then false else in_link)
+    (if image then one_less images else images) events
 
 -- ---- in an image nothing counts
 
-image_node : (link image : Bool) (images : ℕ) (in_link : Bool) (inside : ℕ → Bool) (after : List Event) →
+image_node :
+    (link image : Bool) (images : ℕ) (in_link : Bool) (inside : ℕ → Bool) (after : List Event) →
     ((more : ℕ) → inside (suc more) ≡ exit_then link image in_link (suc more) after) →
     inside (if image then suc (suc images) else suc images) ≡ nests in_link (suc images) after
 image_node link true images in_link inside after h = h (suc images)
@@ -52,8 +56,10 @@ in_images : (forest : Forest) (in_link : Bool) (images : ℕ) (after : List Even
 in_images Empty in_link images after = refl
 in_images (Node name start end children rest) in_link images after =
     let tail : List Event = exiting name end ∷ (flatten rest ++ after) in
-    let inside : ℕ → Bool = λ count. nests in_link count ((flatten children ++ (exiting name end ∷ flatten rest)) ++ after) in
-    let split : (count : ℕ) → inside count ≡ nests in_link count (flatten children ++ tail) = λ count.
+    let inside : ℕ → Bool = λ count.
+    nests in_link count ((flatten children ++ (exiting name end ∷ flatten rest)) ++ after) in
+    let split : (count : ℕ) → inside count ≡ nests in_link count (flatten children ++ tail) =
+    λ count.
     ap (λ events. nests in_link count events)
     (append_assoc (flatten children) (exiting name end ∷ flatten rest) after) in
     image_node (is_link name) (is_image name) images in_link inside (flatten rest ++ after)
@@ -62,53 +68,77 @@ in_images (Node name start end children rest) in_link images after =
 
 -- ---- outside images
 
-node : (link image prints : Bool) → (image ≡ true → link ≡ false) → (image ≡ true → prints ≡ false) →
-    (link ≡ true → prints ≡ true) → (in_link : Bool) (children rest following : Bool → Bool) (inside : Bool → ℕ → Bool)
-    (after : List Event) → ((b : Bool) → inside b 0 ≡ children b || exit_then link image b 0 after) →
+node : (link image prints : Bool) → (image ≡ true → link ≡ false) →
+    (image ≡ true → prints ≡ false) →
+    (link ≡ true → prints ≡ true) →
+    (in_link : Bool) (children rest following : Bool → Bool) (inside : Bool → ℕ → Bool)
+    (after : List Event) →
+    ((b : Bool) → inside b 0 ≡ children b || exit_then link image b 0 after) →
     ((b : Bool) → inside b 1 ≡ exit_then link image b 1 after) →
     ((b : Bool) → nests b 0 after ≡ rest b || following b) →
     in_link && prints || inside (if link then true else in_link) (if image then 1 else 0)
-    ≡ ((in_link && prints || not image && children (link || in_link)) || rest in_link) || following in_link
-node true true prints unlinked unprinted printed in_link children rest following inside after at within next =
+    ≡ ((in_link && prints || not image && children (link || in_link)) || rest in_link)
+    || following in_link
+node true true prints unlinked unprinted printed in_link children rest following inside
+    after at within next =
     absurd (true≢false (unlinked refl))
-node false true true unlinked unprinted printed in_link children rest following inside after at within next =
+node false true true unlinked unprinted printed in_link children rest following inside
+    after at within next =
     absurd (true≢false (unprinted refl))
-node false true false unlinked unprinted printed true children rest following inside after at within next =
+node false true false unlinked unprinted printed true children rest following inside
+    after at within next =
     within true ∙ next true
-node false true false unlinked unprinted printed false children rest following inside after at within next =
+node false true false unlinked unprinted printed false children rest following inside
+    after at within next =
     within false ∙ next false
-node true false false unlinked unprinted printed in_link children rest following inside after at within next =
+node true false false unlinked unprinted printed in_link children rest following inside
+    after at within next =
     absurd (true≢false (sym (printed refl)))
-node true false true unlinked unprinted printed true children rest following inside after at within next = refl
-node true false true unlinked unprinted printed false children rest following inside after at within next =
-    at true ∙ ap (λ b. children true || b) (next false) ∙ or_assoc (children true) (rest false) (following false)
-node false false true unlinked unprinted printed true children rest following inside after at within next = refl
-node false false true unlinked unprinted printed false children rest following inside after at within next =
-    at false ∙ ap (λ b. children false || b) (next false) ∙ or_assoc (children false) (rest false) (following false)
-node false false false unlinked unprinted printed true children rest following inside after at within next =
-    at true ∙ ap (λ b. children true || b) (next true) ∙ or_assoc (children true) (rest true) (following true)
-node false false false unlinked unprinted printed false children rest following inside after at within next =
-    at false ∙ ap (λ b. children false || b) (next false) ∙ or_assoc (children false) (rest false) (following false)
+node true false true unlinked unprinted printed true children rest following inside after
+    at within next = refl
+node true false true unlinked unprinted printed false children rest following inside
+    after at within next =
+    at true ∙ ap (λ b. children true || b) (next false)
+    ∙ or_assoc (children true) (rest false) (following false)
+node false false true unlinked unprinted printed true children rest following inside after
+    at within next = refl
+node false false true unlinked unprinted printed false children rest following inside
+    after at within next =
+    at false ∙ ap (λ b. children false || b) (next false)
+    ∙ or_assoc (children false) (rest false) (following false)
+node false false false unlinked unprinted printed true children rest following inside
+    after at within next =
+    at true ∙ ap (λ b. children true || b) (next true)
+    ∙ or_assoc (children true) (rest true) (following true)
+node false false false unlinked unprinted printed false children rest following inside
+    after at within next =
+    at false ∙ ap (λ b. children false || b) (next false)
+    ∙ or_assoc (children false) (rest false) (following false)
 
 nested : (forest : Forest) (in_link : Bool) (after : List Event) →
-    nests in_link 0 (flatten forest ++ after) ≡ has_nested_link in_link forest || nests in_link 0 after
+    nests in_link 0 (flatten forest ++ after)
+    ≡ has_nested_link in_link forest || nests in_link 0 after
 nested Empty in_link after = refl
 nested (Node name start end children rest) in_link after =
     let tail : List Event = exiting name end ∷ (flatten rest ++ after) in
     let inside : Bool → ℕ → Bool = λ b count.
     nests b count ((flatten children ++ (exiting name end ∷ flatten rest)) ++ after) in
-    let split : (b : Bool) (count : ℕ) → inside b count ≡ nests b count (flatten children ++ tail) = λ b count.
+    let split : (b : Bool) (count : ℕ) → inside b count ≡ nests b count (flatten children ++ tail) =
+    λ b count.
     ap (λ events. nests b count events)
     (append_assoc (flatten children) (exiting name end ∷ flatten rest) after) in
-    node (is_link name) (is_image name) (prints_link name) (image_is_no_link name) (image_prints_none name)
+    node (is_link name) (is_image name) (prints_link name) (image_is_no_link name)
+    (image_prints_none name)
     (link_prints_one name) in_link (λ b. has_nested_link b children) (λ b. has_nested_link b rest)
     (λ b. nests b 0 after) inside (flatten rest ++ after)
     (λ b. split b 0 ∙ nested children b tail)
     (λ b. split b 1 ∙ in_images children b 0 tail)
     (λ b. nested rest b after)
-    ∙ ap (λ image. ((in_link && prints_link name || not image && has_nested_link (is_link name || in_link) children)
+    ∙ ap (λ image. ((in_link && prints_link name
+    || not image && has_nested_link (is_link name || in_link) children)
     || has_nested_link in_link rest) || nests in_link 0 after) (sym (is_image-is name))
-    ∙ ap (λ link. ((in_link && prints_link name || not (is Image name) && has_nested_link (link || in_link) children)
+    ∙ ap (λ link. ((in_link && prints_link name
+    || not (is Image name) && has_nested_link (link || in_link) children)
     || has_nested_link in_link rest) || nests in_link 0 after) (sym (is_link-is name))
 
 or_false : (b : Bool) → b || false ≡ b
@@ -129,14 +159,17 @@ told_of_document document events flat =
 
 pub found : (in_link : Bool) (images : ℕ) (event : Event) (following rest events : List Event) →
     rest ≡ event ∷ following → is_nested in_link images event ≡ true →
-    nests in_link images rest ≡ nests false 0 events → (document : Forest) → flatten document ≡ events →
+    nests in_link images rest ≡ nests false 0 events → (document : Forest) →
+    flatten document ≡ events →
     true ≡ has_nested_link false document
 found in_link images event following rest events same h whole document flat =
-    sym (ap (λ b. b || nests (link_after in_link images event) (images_after images event) following) h)
+    sym
+    (ap (λ b. b || nests (link_after in_link images event) (images_after images event) following) h)
     ∙ ap (λ es. nests in_link images es) (sym same) ∙ whole ∙ told_of_document document events flat
 
 pub not_found : (in_link : Bool) (images : ℕ) (rest events : List Event) → rest ≡ [] →
-    nests in_link images rest ≡ nests false 0 events → (document : Forest) → flatten document ≡ events →
+    nests in_link images rest ≡ nests false 0 events → (document : Forest) →
+    flatten document ≡ events →
     false ≡ has_nested_link false document
 not_found in_link images rest events same whole document flat =
     ap (λ es. nests in_link images es) (sym same) ∙ whole ∙ told_of_document document events flat

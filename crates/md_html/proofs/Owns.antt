@@ -1,5 +1,6 @@
 -- Where the definitions lead, one after another.
-use Rattle.std.proofs.Common.{◌≡◌, ◌≤◌, ℕ, zero, suc, ◌+◌, ◌-◌, true, Some, List, [], ◌∷◌, ◌++◌, length, take, drop, refl, sym, ap, ◌∙◌, arith}
+use Rattle.std.proofs.Common.{◌≡◌, ◌≤◌, ℕ, zero, suc, ◌+◌, ◌-◌, true, Some, List, [], ◌∷◌, ◌++◌}
+use Rattle.std.proofs.Common.{length, take, drop, refl, sym, ap, ◌∙◌, arith}
 use Rattle.std.specs.Prelude.{slice_get, map, option_map}
 use Rattle.std.proofs.lemmas.List.{length-map}
 use Rattle.std.proofs.lemmas.Option.{slice_get-map}
@@ -21,7 +22,8 @@ use Rattle.md_html.specs.Windows.{window}
 pub window-within : {A : Type 0} (xs : List A) (index inside n : ℕ) → n ≡ inside →
     window (index + 1) (index + n) xs ≡ within index inside xs
 window-within xs index inside n e =
-    ap (λ m. take m (drop (index + 1) xs)) (less e) ∙ ap (λ m. take (inside - 1) (drop m xs)) (next index)
+    ap (λ m. take m (drop (index + 1) xs)) (less e)
+    ∙ ap (λ m. take (inside - 1) (drop m xs)) (next index)
   where
     less : n ≡ inside → index + n - (index + 1) ≡ inside - 1
     less f = omega (arith, f)
@@ -78,26 +80,26 @@ targets_of at document = map (λ (d : Defined). d.target) (defined at document)
 
 module _ (handed : Handed) (document : Forest) (at : Given) (checked : IsChecked handed)
     (flat : flatten document ≡ handed.events) where
-  pub target-there : (index place : ℕ) (target : Target) (entries : List ℕ) → at.bytes ≡ handed.bytes →
+  pub target-there : (index place : ℕ) (target : Target) (entries : List ℕ) →
+      at.bytes ≡ handed.bytes →
       entries ≡ definition_entries 0 document → slice_get entries place ≡ Some index →
       EntersAt handed.events index Definition →
-      ((one : Noticed) → IsNoticedAt handed index one →
-      target ≡ (own_defined at handed.events (noticed handed.bytes true document) index one).target) →
+      ((one : Noticed) → IsNoticedAt handed index one → target
+      ≡ (own_defined at handed.events (noticed handed.bytes true document) index one).target) →
       slice_get (targets_of at document) place ≡ Some target
   target-there index place target entries same are got enters says =
       let seen = noticed-entered handed document index Definition flat enters in
       slice_get-map (λ (d : Defined). d.target) (defined at document) place
-      ∙ ap (λ o. option_map (λ (d : Defined). d.target) o)
-      (own-defined handed document at index place seen.0 checked flat same (ap (λ xs. slice_get xs place) (sym are)
-      ∙ got) seen.1)
+      ∙ ap (λ o. option_map (λ (d : Defined). d.target) o) (own-defined handed document at index
+      place seen.0 checked flat same (ap (λ xs. slice_get xs place) (sym are) ∙ got) seen.1)
       ∙ ap Some (sym (says seen.0 seen.1))
 
   pub targets-all : (entries : List ℕ) (place : ℕ) → entries ≡ definition_entries 0 document →
       length entries ≤ place → take place (targets_of at document) ≡ targets_of at document
   targets-all entries place are le =
-      take-whole (targets_of at document) place (least (length (targets_of at document)) (length entries)
-      (length-map (defined at document) (λ (d : Defined). d.target) ∙ own-length handed document at checked flat
-      ∙ ap (λ xs. length xs) (sym are)) le)
+      take-whole (targets_of at document) place (least (length (targets_of at document))
+      (length entries) (length-map (defined at document) (λ (d : Defined). d.target)
+      ∙ own-length handed document at checked flat ∙ ap (λ xs. length xs) (sym are)) le)
     where
       least : (n m : ℕ) → n ≡ m → m ≤ place → n ≤ place
       least n m e l = omega (arith, e, l)

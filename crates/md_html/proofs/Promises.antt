@@ -31,7 +31,8 @@ pub record Promises (options : CompileOptions) (given : Handed) (text : List ℕ
   pub safe_links : KeepsLinks options → HasOneReadingWith is_safe_link text
   pub safe_images : KeepsImages options → HasOneReadingWith is_safe_image text
   pub contained : KeepsGrammar options → IsContained text
-  pub tree : (document : Forest) → flatten document ≡ given.events → has_nested_link false document ≡ false →
+  pub tree : (document : Forest) → flatten document ≡ given.events →
+      has_nested_link false document ≡ false →
       KeepsGrammar options → IsBuiltAsRead text
   pub tokenized : KeepsGrammar options → IsTokenizedAsRead text
   pub safe_link_tokens : KeepsLinks options → HasTokensWith has_safe_links text
@@ -49,8 +50,8 @@ pub promises : (options : CompileOptions) (given : Handed) (text : List ℕ) →
 promises options given text read few meant =
     let built : IsBuilt given.bytes Blocks read.0 = grammatical-built given.bytes given.names read.0
     read.1.grammatical in
-    let underlined : IsUnderlined false read.0 = grammatical-underlined given.bytes given.names read.0
-    read.1.grammatical in
+    let underlined : IsUnderlined false read.0 =
+    grammatical-underlined given.bytes given.names read.0 read.1.grammatical in
     let fewer : length (flatten read.0) < 2 ^ 64 = omega (ap length read.1.flattened, few, arith) in
     let same = sym (meant read.0 read.1.flattened) in
     let one : KeepsGrammar options → HasOneReadingWith any_attribute text = λ keeps.
@@ -71,8 +72,8 @@ promises options given text read few meant =
       tree = λ document flat unnested keeps.
           text-built text (subst IsUnnested (sym (meant document flat))
           (meaning-unnested given.bytes given.names options document
-          (subst (IsGrammatical given.bytes given.names)
-          (flatten_one Paragraph start read.0 document (read.1.flattened ∙ sym flat)) read.1.grammatical)
+          (subst (IsGrammatical given.bytes given.names) (flatten_one Paragraph start read.0
+          document (read.1.flattened ∙ sym flat)) read.1.grammatical)
           keeps unnested));
       tokenized = λ keeps. read-tokenized any_attribute text (one keeps);
       safe_link_tokens = λ keeps. link-tokens text (links keeps);

@@ -1,5 +1,7 @@
--- What is noticed at an event, that what is passed over after it lies in the document, and how far counts go.
-use Rattle.std.proofs.Common.{◌≡◌, ◌≤◌, ◌<◌, ℕ, ◌+◌, Bool, true, false, Some, length, refl, ap, arith}
+-- What is noticed at an event, that what is passed over after it lies in the document, and
+-- how far counts go.
+use Rattle.std.proofs.Common.{◌≡◌, ◌≤◌, ◌<◌, ℕ, ◌+◌, Bool, true, false, Some, length, refl, ap}
+use Rattle.std.proofs.Common.{arith}
 use Rattle.std.specs.Prelude.{slice_get, if◌then◌else◌}
 use Rattle.std.proofs.lemmas.Option.{slice_get_within}
 use Rattle.md_base.specs.declared.event.Event.{Event}
@@ -13,7 +15,8 @@ use Rattle.md_meaning.specs.Meaning.At.{Given}
 use Rattle.md_tree.specs.Grammar.{Handed}
 use Rattle.md_tree.specs.Texts.{EntersAt}
 use Rattle.md_shape.specs.Run.{Noticed, noticed, passes, stepped}
-use Rattle.md_shape.specs.Steps.{State, Told, entered, exited, passed, is_passed, is_row, is_raw, cells_after}
+use Rattle.md_shape.specs.Steps.{State, Told, entered, exited, passed, is_passed, is_row, is_raw}
+use Rattle.md_shape.specs.Steps.{cells_after}
 use Rattle.md_told.specs.Told.{IsNoticedAt}
 use Rattle.md_told.proofs.Nodes.{NodeAt, node-entered, node-exited, noticed_in}
 
@@ -26,11 +29,13 @@ pub record Seen (given : Handed) (document : Forest) (index : ℕ) (event : Even
   pub inner : index + passes event one.inside < length given.events
 
 passes-at : (event : Event) (inside : ℕ) (kind : Kind) → event.kind ≡ kind →
-    passes event inside ≡ (elim kind [ Enter ↦ if is_passed event.name then inside else 0 | Exit ↦ 0 ])
+    passes event inside
+    ≡ (elim kind [ Enter ↦ if is_passed event.name then inside else 0 | Exit ↦ 0 ])
 passes-at event inside kind e =
     ap (λ k. elim k [ Enter ↦ if is_passed event.name then inside else 0 | Exit ↦ 0 ]) e
 
-pub seen : (given : Handed) (document : Forest) (index : ℕ) (event : Event) → flatten document ≡ given.events →
+pub seen : (given : Handed) (document : Forest) (index : ℕ) (event : Event) →
+    flatten document ≡ given.events →
     slice_get given.events index ≡ Some event → Seen given document index event
 seen given document index event flat got = by event.kind refl
   where
@@ -51,8 +56,9 @@ seen given document index event flat got = by event.kind refl
           one = one;
           got = node.at_entry;
           there = (document, flat, node.at_entry);
-          inner = least (is_passed event.name) one.inside (passes event one.inside) (passes-at event one.inside Enter e)
-              found.0 node.apart (slice_get_within given.events found.0 (exiting event.name node.end) node.exits);
+          inner = least (is_passed event.name) one.inside (passes event one.inside)
+              (passes-at event one.inside Enter e) found.0 node.apart
+              (slice_get_within given.events found.0 (exiting event.name node.end) node.exits);
         }
     by Exit e =
         let found = node-exited given document flat index event.name (event, got, e, refl) in
@@ -83,7 +89,8 @@ inside-within given document index name flat enters =
       omega arith,
     )
   where
-    less : (exit n : ℕ) → exit ≡ index + n → exit < length given.events → index + n < length given.events
+    less : (exit n : ℕ) → exit ≡ index + n → exit < length given.events →
+        index + n < length given.events
     less exit n e lt = omega (arith, e, lt)
 
 -- ---- counts
@@ -92,11 +99,13 @@ row-cells : (b : Bool) (n m : ℕ) → n ≤ m → (if b then 0 else n) ≤ m
 row-cells true n m le = omega arith
 row-cells false n m le = le
 
-pub entered-cells : (given : Given) (told : Told) (name : Name) (state : State) (m : ℕ) → state.cells ≤ m →
+pub entered-cells : (given : Given) (told : Told) (name : Name) (state : State) (m : ℕ) →
+    state.cells ≤ m →
     (entered given told name state).cells ≤ m
 entered-cells given told name state m le = row-cells (is_row name) state.cells m le
 
-pub entered-fences : (given : Given) (told : Told) (name : Name) (state : State) (m : ℕ) → state.fences ≤ m →
+pub entered-fences : (given : Given) (told : Told) (name : Name) (state : State) (m : ℕ) →
+    state.fences ≤ m →
     (entered given told name state).fences ≤ m
 entered-fences given told name state m le = row-cells (is_raw name) state.fences m le
 
@@ -109,7 +118,8 @@ fences-raised true n m le = omega (arith, le)
 fences-raised false n m le = omega (arith, le)
 
 -- one event raises each by one at most
-pub stepped-cells : (given : Given) (event : Event) (told : Told) (state : State) (m : ℕ) → state.cells ≤ m →
+pub stepped-cells : (given : Given) (event : Event) (told : Told) (state : State) (m : ℕ) →
+    state.cells ≤ m →
     (stepped given event told state).cells ≤ m + 1
 stepped-cells given event told state m le = by event.kind (is_passed event.name)
   where
@@ -125,7 +135,8 @@ stepped-cells given event told state m le = by event.kind (is_passed event.name)
         (entered-cells given told event.name state m le)
     by Exit b = cells-raised event.name state.cells m le
 
-pub stepped-fences : (given : Given) (event : Event) (told : Told) (state : State) (m : ℕ) → state.fences ≤ m →
+pub stepped-fences : (given : Given) (event : Event) (told : Told) (state : State) (m : ℕ) →
+    state.fences ≤ m →
     (stepped given event told state).fences ≤ m + 1
 stepped-fences given event told state m le = by event.kind (is_passed event.name)
   where

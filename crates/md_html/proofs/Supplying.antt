@@ -1,4 +1,5 @@
--- What the code is supplied with is what the steps are given: before the definitions are known, and after.
+-- What the code is supplied with is what the steps are given: before the definitions are
+-- known, and after.
 use Rattle.std.proofs.Common.{◌≡◌, ℕ, zero, suc, Option, Some, None, List, [], refl, sym, ap, ◌∙◌}
 use Rattle.std.specs.Prelude.{slice_get, map, option_map, unwrap_or, option_and_then}
 use Rattle.std.specs.Option.{option_map_or}
@@ -23,19 +24,23 @@ none-led (Some (suc place)) = refl
 
 mapped-led : (found : List Defined) (place : Option ℕ) →
     target_at (map (λ (d : Defined). d.target) found) place
-    ≡ option_map_or (λ (d : Defined). d.target) (option_and_then (λ there. slice_get found there) place) nowhere
+    ≡ option_map_or (λ (d : Defined). d.target)
+    (option_and_then (λ there. slice_get found there) place) nowhere
 mapped-led found None = refl
 mapped-led found (Some place) =
-    ap (λ o. unwrap_or o nowhere) (slice_get-map (λ (d : Defined). d.target) found place) ∙ by (slice_get found place)
+    ap (λ o. unwrap_or o nowhere) (slice_get-map (λ (d : Defined). d.target) found place)
+    ∙ by (slice_get found place)
   where
     by : (o : Option Defined) → unwrap_or (option_map (λ (d : Defined). d.target) o) nowhere
         ≡ option_map_or (λ (d : Defined). d.target) o nowhere
     by None = refl
     by (Some d) = refl
 
-pub known-led : (handed : Handed) (document : Forest) (alone at : Given) (targets : List Target) (index : ℕ)
-    (one : Noticed) (place : Option ℕ) → flatten document ≡ handed.events → alone.bytes ≡ handed.bytes →
-    at.definitions ≡ defined alone document → targets ≡ map (λ (d : Defined). d.target) (defined alone document) →
+pub known-led : (handed : Handed) (document : Forest) (alone at : Given) (targets : List Target)
+    (index : ℕ) (one : Noticed) (place : Option ℕ) → flatten document ≡ handed.events →
+    alone.bytes ≡ handed.bytes →
+    at.definitions ≡ defined alone document →
+    targets ≡ map (λ (d : Defined). d.target) (defined alone document) →
     IsNoticedAt handed index one → IsLedTo handed index place →
     target_at targets place ≡ target_defined at one.told.identifier
 known-led handed document alone at targets index one place flat same known are there led =
@@ -46,7 +51,8 @@ known-led handed document alone at targets index one place flat same known are t
 
 -- ---- all that the code is supplied with
 
-module _ (code : Supplied) (options : CompileOptions) (names : List (List ℕ × List ℕ)) (bytes ending : List ℕ)
+module _ (code : Supplied) (options : CompileOptions) (names : List (List ℕ × List ℕ))
+    (bytes ending : List ℕ)
     (same_bytes : bytes ≡ code.checked.now.bytes) (same_names : names ≡ name_table code.names.now)
     (same_options : options ≡ code.options.now) (same_ending : ending ≡ code.ending.now) where
   abbrev alone : Given
@@ -72,6 +78,7 @@ module _ (code : Supplied) (options : CompileOptions) (names : List (List ℕ ×
     options = same_options;
     ending = same_ending;
     finds = λ index one place there led.
-        known-led code.checked.now document alone (record alone { definitions = defined alone document })
+        known-led code.checked.now document alone
+        (record alone { definitions = defined alone document })
         code.definitions.now index one place flat same_bytes refl are there led;
   }

@@ -1,5 +1,6 @@
 -- What one turn of the run does: its index, the counts, and what is left to go over.
-use Rattle.std.proofs.Common.{◌≡◌, ◌≤◌, ◌<◌, ℕ, suc, ◌+◌, Bool, true, false, Some, List, ◌∷◌, length, drop, refl, sym, ap, ◌∙◌, subst, arith}
+use Rattle.std.proofs.Common.{◌≡◌, ◌≤◌, ◌<◌, ℕ, suc, ◌+◌, Bool, true, false, Some, List, ◌∷◌}
+use Rattle.std.proofs.Common.{length, drop, refl, sym, ap, ◌∙◌, subst, arith}
 use Rattle.std.specs.Prelude.{slice_get, if◌then◌else◌}
 use Rattle.md_base.specs.declared.event.Event.{Event}
 use Rattle.md_base.specs.declared.event.Kind.{Kind}
@@ -21,7 +22,8 @@ use Rattle.md_html.specs.Fits.{fits, captured_after}
 use Rattle.md_html.proofs.Windows.{window-step, window-first, window-drop}
 use Rattle.md_html.proofs.Fits.{fits-step, stepped-captured}
 
-module _ (code : Supplied) (at : Given) (index : ℕ) (event : Event) (more : ℕ) (before after : State)
+module _ (code : Supplied) (at : Given) (index : ℕ) (event : Event) (more : ℕ)
+    (before after : State)
     (checked : IsChecked code.checked.now) (supplies : Supplies code at)
     (got : slice_get code.checked.now.events index ≡ Some event)
     (steps : Steps code index event more before after) where
@@ -30,7 +32,8 @@ module _ (code : Supplied) (at : Given) (index : ℕ) (event : Event) (more : �
 
   -- what is passed over lies in the document
   pub turn-within : index + more < length code.checked.now.events
-  turn-within = within (passes event here.one.inside) (steps at here.one supplies here.there).0 here.inner
+  turn-within =
+      within (passes event here.one.inside) (steps at here.one supplies here.there).0 here.inner
     where
       within : (p : ℕ) → more ≡ p → index + p < length code.checked.now.events →
           index + more < length code.checked.now.events
@@ -41,35 +44,44 @@ module _ (code : Supplied) (at : Given) (index : ℕ) (event : Event) (more : �
 
   pub turn-cells : before.cells ≤ index → after.cells ≤ index + (1 + more)
   turn-cells le =
-      subst (λ (s : State). s.cells ≤ index + (1 + more)) (sym (steps at here.one supplies here.there).1)
-      (further (stepped at event here.one.told before).cells (stepped-cells at event here.one.told before index le))
+      subst (λ (s : State). s.cells ≤ index + (1 + more))
+      (sym (steps at here.one supplies here.there).1)
+      (further (stepped at event here.one.told before).cells
+      (stepped-cells at event here.one.told before index le))
 
   pub turn-fences : before.fences ≤ index → after.fences ≤ index + (1 + more)
   turn-fences le =
-      subst (λ (s : State). s.fences ≤ index + (1 + more)) (sym (steps at here.one supplies here.there).1)
-      (further (stepped at event here.one.told before).fences (stepped-fences at event here.one.told before index le))
+      subst (λ (s : State). s.fences ≤ index + (1 + more))
+      (sym (steps at here.one supplies here.there).1)
+      (further (stepped at event here.one.told before).fences
+      (stepped-fences at event here.one.told before index le))
 
 -- going on after the event is as going on from it
-pub turn-runs : (code : Supplied) (at : Given) (document : Forest) (index to : ℕ) (event : Event) (more : ℕ)
-    (before after : State) → Supplies code at → flatten document ≡ code.checked.now.events → index < to →
-    slice_get code.checked.now.events index ≡ Some event → Steps code index event more before after →
+pub turn-runs : (code : Supplied) (at : Given) (document : Forest) (index to : ℕ) (event : Event)
+    (more : ℕ) (before after : State) → Supplies code at →
+    flatten document ≡ code.checked.now.events → index < to →
+    slice_get code.checked.now.events index ≡ Some event →
+    Steps code index event more before after →
     run at 0 (window (index + (1 + more)) to code.checked.now.events)
     (window (index + (1 + more)) to (noticed code.checked.now.bytes true document)) after
     ≡ run at 0 (window index to code.checked.now.events)
     (window index to (noticed code.checked.now.bytes true document)) before
 turn-runs code at document index to event more before after supplies flat lt got steps =
-    let here : Seen code.checked.now document index event = seen code.checked.now document index event flat got in
+    let here : Seen code.checked.now document index event =
+    seen code.checked.now document index event flat got in
     let both = steps at here.one supplies here.there in
     ap (λ s. run at 0 (window (index + (1 + more)) to code.checked.now.events)
     (window (index + (1 + more)) to (noticed code.checked.now.bytes true document)) s) both.1
     ∙ window-step at code.checked.now.events (noticed code.checked.now.bytes true document) index to
-    (index + (1 + more)) event here.one before lt got here.got (next (passes event here.one.inside) both.0)
+    (index + (1 + more)) event here.one before lt got here.got
+    (next (passes event here.one.inside) both.0)
   where
     next : (p : ℕ) → more ≡ p → index + (1 + more) ≡ suc index + p
     next p e = omega (arith, e)
 
 -- what fits from an event on fits from the next one on
-window-fits : (events : List Event) (seen : List Noticed) (i to next captured : ℕ) (event : Event) (one : Noticed) →
+window-fits : (events : List Event) (seen : List Noticed) (i to next captured : ℕ)
+    (event : Event) (one : Noticed) →
     i < to → slice_get events i ≡ Some event → slice_get seen i ≡ Some one →
     next ≡ suc i + passes event one.inside →
     fits 0 captured (window i to events) (window i to seen) ≡ true →
@@ -77,29 +89,35 @@ window-fits : (events : List Event) (seen : List Noticed) (i to next captured : 
 window-fits events seen i to next captured event one lt got there e f =
     subst (λ es. fits 0 (captured_after event captured) es (window next to seen) ≡ true)
     (window-drop events (suc i) to (passes event one.inside) next e)
-    (subst (λ ts. fits 0 (captured_after event captured) (drop (passes event one.inside) (window (suc i) to events)) ts
-    ≡ true)
+    (subst (λ ts. fits 0 (captured_after event captured)
+    (drop (passes event one.inside) (window (suc i) to events)) ts ≡ true)
     (window-drop seen (suc i) to (passes event one.inside) next e)
     (fits-step captured event one (window (suc i) to events) (window (suc i) to seen)
-    (subst (λ es. fits 0 captured es (one ∷ window (suc i) to seen) ≡ true) (window-first events i to event lt got)
-    (subst (λ ts. fits 0 captured (window i to events) ts ≡ true) (window-first seen i to one lt there) f))))
+    (subst (λ es. fits 0 captured es (one ∷ window (suc i) to seen) ≡ true) (window-first events i
+    to event lt got) (subst (λ ts. fits 0 captured (window i to events) ts ≡ true)
+    (window-first seen i to one lt there) f))))
 
 -- after the event, in the state that it leaves
-pub turn-fits : (code : Supplied) (at : Given) (document : Forest) (index to : ℕ) (event : Event) (more : ℕ)
-    (before after : State) → Supplies code at → flatten document ≡ code.checked.now.events → index < to →
-    slice_get code.checked.now.events index ≡ Some event → Steps code index event more before after →
+pub turn-fits : (code : Supplied) (at : Given) (document : Forest) (index to : ℕ) (event : Event)
+    (more : ℕ) (before after : State) → Supplies code at →
+    flatten document ≡ code.checked.now.events → index < to →
+    slice_get code.checked.now.events index ≡ Some event →
+    Steps code index event more before after →
     fits 0 (length before.below) (window index to code.checked.now.events)
     (window index to (noticed code.checked.now.bytes true document)) ≡ true →
     fits 0 (length after.below) (window (index + (1 + more)) to code.checked.now.events)
     (window (index + (1 + more)) to (noticed code.checked.now.bytes true document)) ≡ true
 turn-fits code at document index to event more before after supplies flat lt got steps f =
-    let here : Seen code.checked.now document index event = seen code.checked.now document index event flat got in
+    let here : Seen code.checked.now document index event =
+    seen code.checked.now document index event flat got in
     let both = steps at here.one supplies here.there in
     let all = noticed code.checked.now.bytes true document in
-    subst (λ n. fits 0 n (window (index + (1 + more)) to code.checked.now.events) (window (index + (1 + more)) to all)
-    ≡ true)
-    (sym (ap (λ (s : State). length s.below) both.1 ∙ stepped-captured at event here.one.told before))
-    (window-fits code.checked.now.events all index to (index + (1 + more)) (length before.below) event here.one lt
+    subst (λ n. fits 0 n (window (index + (1 + more)) to code.checked.now.events)
+    (window (index + (1 + more)) to all) ≡ true)
+    (sym (ap (λ (s : State). length s.below) both.1
+    ∙ stepped-captured at event here.one.told before))
+    (window-fits code.checked.now.events all index to (index + (1 + more))
+    (length before.below) event here.one lt
     got here.got (next (passes event here.one.inside) both.0) f)
   where
     next : (p : ℕ) → more ≡ p → index + (1 + more) ≡ suc index + p
@@ -122,7 +140,8 @@ entry-passes event inside e f =
     ∙ ap (λ b. if b then inside else 0) f
 
 entry-steps : (at : Given) (event : Event) (one : Noticed) (state : State) → event.kind ≡ Enter →
-    is_passed event.name ≡ false → stepped at event one.told state ≡ entered at one.told event.name state
+    is_passed event.name ≡ false →
+    stepped at event one.told state ≡ entered at one.told event.name state
 entry-steps at event one state e f =
     ap (λ k. elim k [
       | Enter ↦ if is_passed event.name then passed state else entered at one.told event.name state
@@ -151,8 +170,10 @@ module _ (code : Supplied) (index to : ℕ) (event : Event) (before after : Stat
   leaf-next next n p e f = omega (arith, e, f)
 
   -- going on after both events is as going on from the first
-  pub leaf-runs : (at : Given) (document : Forest) (next : ℕ) → next ≡ suc (suc index) → Supplies code at →
-      flatten document ≡ code.checked.now.events → index < to → slice_get code.checked.now.events index ≡ Some event →
+  pub leaf-runs : (at : Given) (document : Forest) (next : ℕ) →
+      next ≡ suc (suc index) → Supplies code at →
+      flatten document ≡ code.checked.now.events → index < to →
+      slice_get code.checked.now.events index ≡ Some event →
       run at 0 (window next to code.checked.now.events)
       (window next to (noticed code.checked.now.bytes true document)) after
       ≡ run at 0 (window index to code.checked.now.events)
@@ -170,15 +191,18 @@ module _ (code : Supplied) (index to : ℕ) (event : Event) (before after : Stat
       ∙ ap (λ n. exited at one.told n within) (sym leafs.exits.3)
       ∙ sym (exit-steps at exit one within leafs.exits.2))
       ∙ window-step at code.checked.now.events all (suc index) to next exit one within leafs.within
-      leafs.exits.1 there
-      (leaf-next next (suc index) (passes exit one.inside) comes (exit-passes exit one.inside leafs.exits.2))
-      ∙ ap (λ s. run at 0 (window (suc index) to code.checked.now.events) (window (suc index) to all) s)
-      (sym (entry-steps at event one before leafs.enters rare))
-      ∙ window-step at code.checked.now.events all index to (suc index) event one before lt got here.got
-      (leaf-next (suc index) index (passes event one.inside) refl (entry-passes event one.inside leafs.enters rare))
+      leafs.exits.1 there (leaf-next next (suc index) (passes exit one.inside) comes
+      (exit-passes exit one.inside leafs.exits.2))
+      ∙ ap (λ s. run at 0 (window (suc index) to code.checked.now.events)
+      (window (suc index) to all) s) (sym (entry-steps at event one before leafs.enters rare))
+      ∙ window-step at code.checked.now.events all index to (suc index) event one before lt got
+      here.got (leaf-next (suc index) index (passes event one.inside) refl
+      (entry-passes event one.inside leafs.enters rare))
 
-  pub leaf-fits : (at : Given) (document : Forest) (next : ℕ) → next ≡ suc (suc index) → Supplies code at →
-      flatten document ≡ code.checked.now.events → index < to → slice_get code.checked.now.events index ≡ Some event →
+  pub leaf-fits : (at : Given) (document : Forest) (next : ℕ) →
+      next ≡ suc (suc index) → Supplies code at →
+      flatten document ≡ code.checked.now.events → index < to →
+      slice_get code.checked.now.events index ≡ Some event →
       fits 0 (length before.below) (window index to code.checked.now.events)
       (window index to (noticed code.checked.now.bytes true document)) ≡ true →
       fits 0 (length after.below) (window next to code.checked.now.events)
@@ -192,20 +216,22 @@ module _ (code : Supplied) (index to : ℕ) (event : Event) (before after : Stat
       let within : State = entered at one.told event.name before in
       let rare = not_passed event.name leafs.alone in
       let there = at_index code document (suc index) one flat (leafs.noticed one here.there) in
-      let inner = window-fits events all index to (suc index) (length before.below) event one lt got here.got
-      (leaf-next (suc index) index (passes event one.inside) refl (entry-passes event one.inside leafs.enters rare)) f
-      in
-      let behind = window-fits events all (suc index) to next (captured_after event (length before.below)) exit one
-      leafs.within leafs.exits.1 there
-      (leaf-next next (suc index) (passes exit one.inside) comes (exit-passes exit one.inside leafs.exits.2)) inner in
+      let inner = window-fits events all index to (suc index) (length before.below) event one
+      lt got here.got (leaf-next (suc index) index (passes event one.inside) refl
+      (entry-passes event one.inside leafs.enters rare)) f in
+      let behind = window-fits events all (suc index) to next
+      (captured_after event (length before.below)) exit one
+      leafs.within leafs.exits.1 there (leaf-next next (suc index) (passes exit one.inside) comes
+      (exit-passes exit one.inside leafs.exits.2)) inner in
       subst (λ n. fits 0 n (window next to events) (window next to all) ≡ true)
       (sym (ap (λ (s : State). length s.below) (leafs.left at one supplies here.there
-      ∙ sym (alone event.name leafs.alone at one.told before) ∙ ap (λ n. exited at one.told n within)
-      (sym leafs.exits.3)
+      ∙ sym (alone event.name leafs.alone at one.told before)
+      ∙ ap (λ n. exited at one.told n within) (sym leafs.exits.3)
       ∙ sym (exit-steps at exit one within leafs.exits.2))
       ∙ stepped-captured at exit one.told within
       ∙ ap (λ n. captured_after exit n) (ap (λ (s : State). length s.below)
-      (sym (entry-steps at event one before leafs.enters rare)) ∙ stepped-captured at event one.told before)))
+      (sym (entry-steps at event one before leafs.enters rare))
+      ∙ stepped-captured at event one.told before)))
       behind
 
   module _ (at : Given) (checked : IsChecked code.checked.now) (supplies : Supplies code at)
@@ -240,7 +266,8 @@ lt-later : (index to end : ℕ) → index < to → to ≤ end → index < end
 lt-later index to end lt le = omega (arith, lt, le)
 
 -- what is so up to one end is so up to a later one
-leafs-later : (code : Supplied) (index to end : ℕ) (event : Event) (before after : State) → to ≤ end →
+leafs-later : (code : Supplied) (index to end : ℕ) (event : Event) (before after : State) →
+    to ≤ end →
     Leafs code index to event before after → Leafs code index end event before after
 leafs-later code index to end event before after le leafs = record {
   enters = leafs.enters;
@@ -258,29 +285,32 @@ goes-none code from to state = record {
   fits = λ at document end supplies flat le f. f;
 }
 
-pub goes-turn : (code : Supplied) (from index to : ℕ) (event : Event) (more : ℕ) (first before after : State) →
-    index < to → slice_get code.checked.now.events index ≡ Some event → Steps code index event more before after →
+pub goes-turn :
+    (code : Supplied) (from index to : ℕ) (event : Event) (more : ℕ) (first before after : State) →
+    index < to → slice_get code.checked.now.events index ≡ Some event →
+    Steps code index event more before after →
     Goes code from index to first before → Goes code from (index + (1 + more)) to first after
 goes-turn code from index to event more first before after lt got steps goes = record {
   runs = λ at document end supplies flat le.
-      turn-runs code at document index end event more before after supplies flat (lt-later index to end lt le) got steps
-      ∙ goes.runs at document end supplies flat le;
+      turn-runs code at document index end event more before after supplies flat
+      (lt-later index to end lt le) got steps ∙ goes.runs at document end supplies flat le;
   fits = λ at document end supplies flat le f.
-      turn-fits code at document index end event more before after supplies flat (lt-later index to end lt le) got steps
-      (goes.fits at document end supplies flat le f);
+      turn-fits code at document index end event more before after supplies flat
+      (lt-later index to end lt le) got steps (goes.fits at document end supplies flat le f);
 }
 
-pub goes-leaf : (code : Supplied) (from index to next : ℕ) (event : Event) (first before after : State) →
+pub goes-leaf :
+    (code : Supplied) (from index to next : ℕ) (event : Event) (first before after : State) →
     next ≡ suc (suc index) → index < to → slice_get code.checked.now.events index ≡ Some event →
     Leafs code index to event before after → Goes code from index to first before →
     Goes code from next to first after
 goes-leaf code from index to next event first before after comes lt got leafs goes = record {
   runs = λ at document end supplies flat le.
-      leaf-runs code index end event before after (leafs-later code index to end event before after le leafs) at
-      document next comes supplies flat (lt-later index to end lt le) got
+      leaf-runs code index end event before after (leafs-later code index to end event before after
+      le leafs) at document next comes supplies flat (lt-later index to end lt le) got
       ∙ goes.runs at document end supplies flat le;
   fits = λ at document end supplies flat le f.
-      leaf-fits code index end event before after (leafs-later code index to end event before after le leafs) at
-      document next comes supplies flat (lt-later index to end lt le) got
+      leaf-fits code index end event before after (leafs-later code index to end event before after
+      le leafs) at document next comes supplies flat (lt-later index to end lt le) got
       (goes.fits at document end supplies flat le f);
 }

@@ -1,5 +1,6 @@
 -- The events between two indices, one after another.
-use Rattle.std.proofs.Common.{◌≡◌, ◌≤◌, ◌<◌, ℕ, zero, suc, ◌+◌, ◌-◌, Some, List, [], ◌∷◌, take, drop, refl, sym, ap, ◌∙◌, arith}
+use Rattle.std.proofs.Common.{◌≡◌, ◌≤◌, ◌<◌, ℕ, zero, suc, ◌+◌, ◌-◌, Some, List, [], ◌∷◌, take}
+use Rattle.std.proofs.Common.{drop, refl, sym, ap, ◌∙◌, arith}
 use Rattle.std.specs.Prelude.{slice_get}
 use Rattle.std.proofs.lemmas.List.{drop-drop}
 use Rattle.md_base.specs.declared.event.Event.{Event}
@@ -8,7 +9,8 @@ use Rattle.md_shape.specs.Run.{Noticed, passes, stepped, run}
 use Rattle.md_shape.specs.Steps.{State}
 use Rattle.md_html.specs.Windows.{window}
 
-drop-got : {A : Type 0} (xs : List A) (i : ℕ) (x : A) → slice_get xs i ≡ Some x → drop i xs ≡ x ∷ drop (suc i) xs
+drop-got : {A : Type 0} (xs : List A) (i : ℕ) (x : A) → slice_get xs i ≡ Some x →
+    drop i xs ≡ x ∷ drop (suc i) xs
 drop-got [] zero x e = cc
 drop-got [] (suc i) x e = cc
 drop-got (y ∷ xs) zero x e = ap (λ z. z ∷ xs) (some e)
@@ -17,7 +19,8 @@ drop-got (y ∷ xs) zero x e = ap (λ z. z ∷ xs) (some e)
     some f = cc
 drop-got (y ∷ xs) (suc i) x e = drop-got xs i x e
 
-pub window-first : {A : Type 0} (xs : List A) (i to : ℕ) (x : A) → i < to → slice_get xs i ≡ Some x →
+pub window-first : {A : Type 0} (xs : List A) (i to : ℕ) (x : A) → i < to →
+    slice_get xs i ≡ Some x →
     window i to xs ≡ x ∷ window (suc i) to xs
 window-first xs i to x lt e =
     ap (λ ys. take (to - i) ys) (drop-got xs i x e)
@@ -57,35 +60,43 @@ window-drop xs i to n next e =
     less f = omega (arith, f)
 
 -- events that are passed over
-run-none : (given : Given) (left : ℕ) (events : List Event) (state : State) → run given left events [] state ≡ state
+run-none : (given : Given) (left : ℕ) (events : List Event) (state : State) →
+    run given left events [] state ≡ state
 run-none given left [] state = refl
 run-none given left (event ∷ events) state = refl
 
-run-passing : (given : Given) (left : ℕ) (events : List Event) (seen : List Noticed) (state : State) →
+run-passing :
+    (given : Given) (left : ℕ) (events : List Event) (seen : List Noticed) (state : State) →
     run given left events seen state ≡ run given 0 (drop left events) (drop left seen) state
 run-passing given zero events seen state = refl
 run-passing given (suc left) [] seen state = refl
-run-passing given (suc left) (event ∷ events) [] state = sym (run-none given 0 (drop left events) state)
-run-passing given (suc left) (event ∷ events) (one ∷ seen) state = run-passing given left events seen state
+run-passing given (suc left) (event ∷ events) [] state =
+    sym (run-none given 0 (drop left events) state)
+run-passing given (suc left) (event ∷ events) (one ∷ seen) state =
+    run-passing given left events seen state
 
 -- one event further
-pub window-step : (given : Given) (events : List Event) (seen : List Noticed) (i to next : ℕ) (event : Event)
-    (one : Noticed) (state : State) → i < to → slice_get events i ≡ Some event → slice_get seen i ≡ Some one →
+pub window-step :
+    (given : Given) (events : List Event) (seen : List Noticed) (i to next : ℕ) (event : Event)
+    (one : Noticed) (state : State) → i < to → slice_get events i ≡ Some event →
+    slice_get seen i ≡ Some one →
     next ≡ suc i + passes event one.inside →
     run given 0 (window next to events) (window next to seen) (stepped given event one.told state)
     ≡ run given 0 (window i to events) (window i to seen) state
 window-step given events seen i to next event one state lt got there e =
     let after : State = stepped given event one.told state in
     sym (ap (λ es. run given 0 es (window i to seen) state) (window-first events i to event lt got)
-    ∙ ap (λ ts. run given 0 (event ∷ window (suc i) to events) ts state) (window-first seen i to one lt there)
-    ∙ run-passing given (passes event one.inside) (window (suc i) to events) (window (suc i) to seen) after
+    ∙ ap (λ ts. run given 0 (event ∷ window (suc i) to events) ts state)
+    (window-first seen i to one lt there) ∙ run-passing given (passes event one.inside)
+    (window (suc i) to events) (window (suc i) to seen) after
     ∙ ap (λ es. run given 0 es (drop (passes event one.inside) (window (suc i) to seen)) after)
     (window-drop events (suc i) to (passes event one.inside) next e)
     ∙ ap (λ ts. run given 0 (window next to events) ts after)
     (window-drop seen (suc i) to (passes event one.inside) next e))
 
 -- no event is left
-pub window-end : (given : Given) (events : List Event) (seen : List Noticed) (i to : ℕ) (state : State) → to ≤ i →
+pub window-end : (given : Given) (events : List Event) (seen : List Noticed) (i to : ℕ)
+    (state : State) → to ≤ i →
     run given 0 (window i to events) (window i to seen) state ≡ state
 window-end given events seen i to state le =
     ap (λ n. run given 0 (take n (drop i events)) (take n (drop i seen)) state) (none le)

@@ -1,5 +1,7 @@
--- Whether each captured text that some events end has begun before, so that none of what is printed before goes away.
-use Rattle.std.specs.Prelude.{ℕ, zero, suc, ◌-◌, Bool, true, false, ◌&&◌, not, if◌then◌else◌, List, [], ◌∷◌}
+-- Whether each captured text that some events end has begun before, so that none of what is printed
+-- before goes away.
+use Rattle.std.specs.Prelude.{ℕ, zero, suc, ◌-◌, Bool, true, false, ◌&&◌, not, if◌then◌else◌, List}
+use Rattle.std.specs.Prelude.{[], ◌∷◌}
 use Rattle.md_base.specs.declared.event.Event.{Event}
 use Rattle.md_base.specs.declared.event.Kind.TheVariants.{Enter, Exit}
 use Rattle.md_shape.specs.Run.{Noticed, passes}
@@ -7,7 +9,8 @@ use Rattle.md_shape.specs.Steps.{captures, is_passed}
 
 -- a text begins at an event, or one ends there
 abbrev pub begins : Event → Bool
-begins event = elim event.kind [ Enter ↦ captures event.name && not (is_passed event.name) | Exit ↦ false ]
+begins event =
+    elim event.kind [ Enter ↦ captures event.name && not (is_passed event.name) | Exit ↦ false ]
 
 abbrev pub ends : Event → Bool
 ends event = elim event.kind [ Enter ↦ false | Exit ↦ captures event.name ]
@@ -19,7 +22,8 @@ may_end event (suc captured) = true
 
 -- how many are captured after an event
 abbrev pub captured_after : Event → ℕ → ℕ
-captured_after event captured = if begins event then suc captured else (if ends event then captured - 1 else captured)
+captured_after event captured =
+    if begins event then suc captured else (if ends event then captured - 1 else captured)
 
 abbrev pub is_none : ℕ → Bool
 is_none zero = true
@@ -31,4 +35,5 @@ fits passed_over captured [] seen = is_none captured
 fits passed_over captured (event ∷ events) [] = false
 fits (suc left) captured (event ∷ events) (one ∷ seen) = fits left captured events seen
 fits zero captured (event ∷ events) (one ∷ seen) =
-    may_end event captured && fits (passes event one.inside) (captured_after event captured) events seen
+    may_end event captured
+    && fits (passes event one.inside) (captured_after event captured) events seen

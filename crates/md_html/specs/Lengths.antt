@@ -13,4 +13,5 @@ lengths (Node name start end children rest) =
 -- no event stands before the one before it, nor the first before an index
 abbrev pub GoesForward : ℕ → List Event → Type 0
 GoesForward index [] = Unit {0}
-GoesForward index (event ∷ events) = (index ≤ event.point.index) × GoesForward event.point.index events
+GoesForward index (event ∷ events) =
+    (index ≤ event.point.index) × GoesForward event.point.index events

@@ -1,5 +1,5 @@
--- What a safe text is, and which options are refused; how much work events are, and why there is no text within
--- limits; and what only contracts of private functions speak of.
+-- What a safe text is, and which options are refused; how much work events are, and why there is no
+-- text within limits; and what only contracts of private functions speak of.
 pub mod Safe
 pub mod SafeHtml
 pub mod Nesting
@@ -9,8 +9,8 @@ pub mod Lengths
 pub mod Within
 pub mod SafeWithin
 pub mod Counting
--- The events between two indices, what is done at one of them, and the text of all: only contracts of private functions
--- speak of these.
+-- The events between two indices, what is done at one of them, and the text of all: only contracts
+-- of private functions speak of these.
 pub mod Windows
 pub mod Fits
 pub mod Stepping

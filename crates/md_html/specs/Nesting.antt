@@ -1,5 +1,7 @@
--- Whether events have a link in a link, told as they are gone over one after another. No public contract speaks of this.
-use Rattle.std.specs.Prelude.{ℕ, zero, suc, Bool, true, false, ◌&&◌, ◌||◌, if◌then◌else◌, List, [], ◌∷◌}
+-- Whether events have a link in a link, told as they are gone over one after another. No public
+-- contract speaks of this.
+use Rattle.std.specs.Prelude.{ℕ, zero, suc, Bool, true, false, ◌&&◌, ◌||◌, if◌then◌else◌, List, []}
+use Rattle.std.specs.Prelude.{◌∷◌}
 use Rattle.md_base.specs.declared.event.Event.{Event}
 use Rattle.md_base.specs.declared.event.Kind.{Kind}
 use Rattle.md_base.specs.declared.event.Kind.TheVariants.{Enter, Exit}
@@ -26,18 +28,22 @@ one_less (suc count) = count
 
 -- in a link or not, and in so many images, an event begins a link in a link
 abbrev pub is_nested : Bool → ℕ → Event → Bool
-is_nested in_link images event = is_entry event.kind && (is_none images && (in_link && prints_link event.name))
+is_nested in_link images event =
+    is_entry event.kind && (is_none images && (in_link && prints_link event.name))
 
 -- whether what comes after it is in a link, and in how many images
 abbrev pub link_after : Bool → ℕ → Event → Bool
-link_after in_link images event = if is_none images && is_link event.name then is_entry event.kind else in_link
+link_after in_link images event =
+    if is_none images && is_link event.name then is_entry event.kind else in_link
 
 abbrev pub images_after : ℕ → Event → ℕ
 images_after images event =
-    if is_image event.name then (if is_entry event.kind then suc images else one_less images) else images
+    if is_image event.name
+    then (if is_entry event.kind then suc images else one_less images) else images
 
 -- one of some events begins a link in a link
 abbrev pub nests : Bool → ℕ → List Event → Bool
 nests in_link images [] = false
 nests in_link images (event ∷ events) =
-    is_nested in_link images event || nests (link_after in_link images event) (images_after images event) events
+    is_nested in_link images event
+    || nests (link_after in_link images event) (images_after images event) events

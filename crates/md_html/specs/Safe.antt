@@ -10,8 +10,8 @@ use Rattle.md_safe.specs.Options.{KeepsImages}
 use Rattle.md_html.specs.declared.safe_html.SafeError.{SafeError}
 use Rattle.md_html.specs.declared.safe_html.SafeError.TheVariants.{Options, Compile}
 
--- a text with exactly one reading, in which each link and each image has no protocol or a permitted one, and everything
--- stands where it may
+-- a text with exactly one reading, in which each link and each image has no protocol or a permitted
+-- one, and everything stands where it may
 pub record IsSafe (text : List ℕ) : Type 0 where
   pub safe_links : HasOneReadingWith is_safe_link text
   pub safe_images : HasOneReadingWith is_safe_image text

@@ -28,7 +28,8 @@ Opens code index name more before after =
     × (after ≡ (if is_passed name then passed before else entered at one.told name before))
 
 -- the node that an event enters is left by the next one, and that it was entered changes nothing
-pub record Leafs (code : Supplied) (index to : ℕ) (event : Event) (before after : State) : Type 0 where
+pub record Leafs (code : Supplied) (index to : ℕ) (event : Event)
+    (before after : State) : Type 0 where
   pub enters : event.kind ≡ Enter
   pub exits : ExitsAt code.checked.now.events (suc index) event.name
   pub within : suc index < to
@@ -37,8 +38,8 @@ pub record Leafs (code : Supplied) (index to : ℕ) (event : Event) (before afte
       IsNoticedAt code.checked.now (suc index) one
   pub left : Leaves code index event.name before after
 
--- up to any end that isn't before `to`, going on from one event is as going on from an earlier one; and
--- if each captured text that ended there had begun, then so here
+-- up to any end that isn't before `to`, going on from one event is as going on from an earlier one;
+-- and if each captured text that ended there had begun, then so here
 pub record Goes (code : Supplied) (from next to : ℕ) (before after : State) : Type 0 where
   pub runs : (at : Given) (document : Forest) (end : ℕ) → Supplies code at →
       flatten document ≡ code.checked.now.events → to ≤ end →

@@ -10,11 +10,13 @@ use Rattle.md_html.specs.declared.unnested.UnnestedError.TheVariants.{Nested, Sa
 
 -- of a document that the events flatten a link stands in a link
 abbrev pub AreNested : List Event → Type 0
-AreNested events = (document : Forest) → flatten document ≡ events → has_nested_link false document ≡ true
+AreNested events =
+    (document : Forest) → flatten document ≡ events → has_nested_link false document ≡ true
 
 -- in none of these documents does a link stand in a link
 abbrev pub AreUnnested : List Event → Type 0
-AreUnnested events = (document : Forest) → flatten document ≡ events → has_nested_link false document ≡ false
+AreUnnested events =
+    (document : Forest) → flatten document ≡ events → has_nested_link false document ≡ false
 
 -- a claim about why there is no safe text, where that is the cause
 abbrev pub OfSafe : (SafeError → Type 0) → UnnestedError → Type 0

@@ -1,10 +1,13 @@
--- How much a list of events gives to read and to print, told of the events alone: they may be no document.
-use Rattle.std.specs.Prelude.{ℕ, ◌+◌, ◌-◌, ◌*◌, max, suc, Bool, true, false, ◌||◌, if◌then◌else◌, List, [], ◌∷◌}
+-- How much a list of events gives to read and to print, told of the events alone: they
+-- may be no document.
+use Rattle.std.specs.Prelude.{ℕ, ◌+◌, ◌-◌, ◌*◌, max, suc, Bool, true, false, ◌||◌, if◌then◌else◌}
+use Rattle.std.specs.Prelude.{List, [], ◌∷◌}
 use Rattle.md_base.specs.declared.event.Event.{Event}
 use Rattle.md_base.specs.declared.event.Kind.TheVariants.{Enter, Exit}
 use Rattle.md_base.specs.declared.event.Name.{Name}
 use Rattle.md_base.specs.declared.event.Name.TheVariants.{Definition, Image, Link, Resource}
-use Rattle.md_base.specs.declared.event.Name.TheVariants.{GfmTable, GfmTableDelimiterCellValue, GfmTableRow}
+use Rattle.md_base.specs.declared.event.Name.TheVariants.{GfmTable, GfmTableDelimiterCellValue}
+use Rattle.md_base.specs.declared.event.Name.TheVariants.{GfmTableRow}
 use Rattle.md_tree.specs.Texts.{is_text_name, is_identifier_name}
 
 -- the text of a node of this name is read, or it identifies what it stands in
@@ -23,11 +26,13 @@ abbrev pub depth_after : ℕ → Event → ℕ
 depth_after depth event =
     if enters is_read event then suc depth else if exits is_read event then depth - 1 else depth
 
--- the way on through the document from an index, each byte of it counted for every open node that is read
+-- the way on through the document from an index, each byte of it counted for every open
+-- node that is read
 abbrev pub read_from : ℕ → ℕ → List Event → ℕ
 read_from index depth [] = 0
 read_from index depth (event ∷ events) =
-    depth * (event.point.index - index) + read_from event.point.index (depth_after depth event) events
+    depth * (event.point.index - index)
+    + read_from event.point.index (depth_after depth event) events
 
 -- the lengths of the nodes that are read, added up: more where indices go back
 abbrev pub read_length : List Event → ℕ
@@ -39,13 +44,15 @@ is_definition name = elim name [ Definition ↦ true | _ ↦ false ]
 -- the events before the next one of a definition
 abbrev pub before_definition : List Event → List Event
 before_definition [] = []
-before_definition (event ∷ events) = if is_definition event.name then [] else event ∷ before_definition events
+before_definition (event ∷ events) =
+    if is_definition event.name then [] else event ∷ before_definition events
 
 -- what is read in one definition, at most
 abbrev pub longest_definition : List Event → ℕ
 longest_definition [] = 0
 longest_definition (event ∷ events) =
-    max (if enters is_definition event then read_length (before_definition events) else 0) (longest_definition events)
+    max (if enters is_definition event then read_length (before_definition events) else 0)
+    (longest_definition events)
 
 -- how many events enter a node whose name passes a test
 abbrev pub entries : (Name → Bool) → List Event → ℕ
@@ -82,6 +89,7 @@ cells columns [] = 0
 cells columns (event ∷ events) =
     (if exits is_row event then columns else 0) + cells (columns_after columns event) events
 
--- what is read; the longest definition for each reference, since what it leads to is printed there; and the cells
+-- what is read; the longest definition for each reference, since what it leads to is printed
+-- there; and the cells
 abbrev pub work : List Event → ℕ
 work events = read_length events + references events * longest_definition events + cells 0 events

@@ -1,6 +1,7 @@
 //! Events to HTML.
 
-ghost use Rattle.std.specs.Prelude.{◌≡◌, ◌≤◌, ◌<◌, ◌^◌, OnOk, IfOk, IfErr, false, string_bytes, length, ◌*◌};
+ghost use Rattle.std.specs.Prelude.{◌≡◌, ◌≤◌, ◌<◌, ◌^◌, OnOk, IfOk, IfErr, false, string_bytes};
+ghost use Rattle.std.specs.Prelude.{length, ◌*◌};
 ghost use Rattle.md_base.specs.Reference.{name_table};
 ghost use Rattle.md_base.specs.Tree.{Forest, flatten};
 ghost use Rattle.md_tree.specs.Grammar.{IsChecked, handed};
@@ -31,23 +32,26 @@ pub struct Counted {
     pub visits: usize,
 }
 
-/// The HTML of a list of Markdown events over a document's bytes: the meaning of the document that the list flattens.
+/// The HTML of a list of Markdown events over a document's bytes: the meaning of the document that
+/// the list flattens.
 ///
-/// `names` is the table of named character references. Nothing is assumed of events, bytes, options or names. Where
-/// HTML isn't allowed and the heading of the footnotes is the usual one, the text has exactly one reading in the HTML
-/// grammar. Where dangerous protocols aren't allowed either, each link in it has no protocol or a permitted one;
-/// where any image source isn't allowed either, so has each image. The default options are such. Where footnote ids
-/// go by number and the text has one reading, no two ids in it are equal, with any prefix and any protocols. The same
-/// holds in the web's own words: a text with one reading is what the HTML Standard's tokenizer emits of it, and by the
-/// URL Standard a link, or an image, has no scheme of its own or a permitted one. In that reading each element stands
-/// where it may: an item in a list, a row in a table, a block in no paragraph. Where no link of the document stands in a
-/// link, the Standard's tree construction builds of the text, set into a `div` or a cell, the reading's own tree.
+/// `names` is the table of named character references. Nothing is assumed of events, bytes, options
+/// or names. Where HTML isn't allowed and the heading of the footnotes is the usual one, the text
+/// has exactly one reading in the HTML grammar. Where dangerous protocols aren't allowed either,
+/// each link in it has no protocol or a permitted one; where any image source isn't allowed either,
+/// so has each image. The default options are such. Where footnote ids go by number and the text
+/// has one reading, no two ids in it are equal, with any prefix and any protocols. The same holds
+/// in the web's own words: a text with one reading is what the HTML Standard's tokenizer emits of
+/// it, and by the URL Standard a link, or an image, has no scheme of its own or a permitted one. In
+/// that reading each element stands where it may: an item in a list, a row in a table, a block in
+/// no paragraph. Where no link of the document stands in a link, the Standard's tree construction
+/// builds of the text, set into a `div` or a cell, the reading's own tree.
 ///
 /// # Errors
 ///
-/// Names an event where the list is no flattening of a document of the event grammar over these bytes and names, as
-/// [`check`] does; or says that it is out of memory. If several rules are broken, which of them is
-/// named is left open.
+/// Names an event where the list is no flattening of a document of the event grammar over these
+/// bytes and names, as [`check`] does; or says that it is out of memory. If several rules are
+/// broken, which of them is named is left open.
 ///
 /// # Examples
 ///
@@ -77,15 +81,19 @@ pub fn compile(
         → HasOneReadingWith is_safe_link (string_bytes text)) }
     ensures safe_images { IfOk result (λ text. KeepsImages options.now
         → HasOneReadingWith is_safe_image (string_bytes text)) }
-    ensures contained { IfOk result (λ text. KeepsGrammar options.now → IsContained (string_bytes text)) }
+    ensures contained { IfOk result
+        (λ text. KeepsGrammar options.now → IsContained (string_bytes text)) }
     ensures tree { IfOk result (λ text. (document : Forest) → flatten document ≡ events.now
-        → has_nested_link false document ≡ false → KeepsGrammar options.now → IsBuiltAsRead (string_bytes text)) }
-    ensures tokenized { IfOk result (λ text. KeepsGrammar options.now → IsTokenizedAsRead (string_bytes text)) }
+        → has_nested_link false document ≡ false → KeepsGrammar options.now
+        → IsBuiltAsRead (string_bytes text)) }
+    ensures tokenized { IfOk result
+        (λ text. KeepsGrammar options.now → IsTokenizedAsRead (string_bytes text)) }
     ensures safe_link_tokens { IfOk result (λ text. KeepsLinks options.now
         → HasTokensWith has_safe_links (string_bytes text)) }
     ensures safe_image_tokens { IfOk result (λ text. KeepsImages options.now
         → HasTokensWith has_safe_images (string_bytes text)) }
-    ensures distinct_ids { IfOk result (λ text. KeepsIds options.now → HasDistinctIds (string_bytes text)) }
+    ensures distinct_ids { IfOk result
+        (λ text. KeepsIds options.now → HasDistinctIds (string_bytes text)) }
 
     ensures outside { IfErr result (IsOutside (handed events.now bytes.now names.now)) }
     ensures order { IfErr result (IsOrder (handed events.now bytes.now names.now)) }
@@ -126,16 +134,19 @@ pub fn compile_counted(
         → HasOneReadingWith is_safe_link (string_bytes counted.text)) }
     ensures safe_images { IfOk result (λ counted. KeepsImages options.now
         → HasOneReadingWith is_safe_image (string_bytes counted.text)) }
-    ensures contained { IfOk result (λ counted. KeepsGrammar options.now → IsContained (string_bytes counted.text)) }
+    ensures contained { IfOk result
+        (λ counted. KeepsGrammar options.now → IsContained (string_bytes counted.text)) }
     ensures tree { IfOk result (λ counted. (document : Forest) → flatten document ≡ events.now
         → has_nested_link false document ≡ false → KeepsGrammar options.now
         → IsBuiltAsRead (string_bytes counted.text)) }
-    ensures tokenized { IfOk result (λ counted. KeepsGrammar options.now → IsTokenizedAsRead (string_bytes counted.text)) }
+    ensures tokenized { IfOk result
+        (λ counted. KeepsGrammar options.now → IsTokenizedAsRead (string_bytes counted.text)) }
     ensures safe_link_tokens { IfOk result (λ counted. KeepsLinks options.now
         → HasTokensWith has_safe_links (string_bytes counted.text)) }
     ensures safe_image_tokens { IfOk result (λ counted. KeepsImages options.now
         → HasTokensWith has_safe_images (string_bytes counted.text)) }
-    ensures distinct_ids { IfOk result (λ counted. KeepsIds options.now → HasDistinctIds (string_bytes counted.text)) }
+    ensures distinct_ids { IfOk result
+        (λ counted. KeepsIds options.now → HasDistinctIds (string_bytes counted.text)) }
     ensures least { IfOk result (λ counted. 2 * length events.now ≤ counted.visits) }
     ensures most { IfOk result (λ counted. counted.visits ≤ 3 * length events.now) }
     ensures exact { IfOk result (λ counted. counted.visits ≡ 2 * length events.now) }
@@ -168,7 +179,8 @@ pub fn compile_checked(
     checked: &Checked,
     options: &CompileOptions,
 ) -> Result<String, AllocError>
-    ensures meaning { IfOk result (λ text. (document : Forest) → flatten document ≡ checked.now.events →
+    ensures meaning { IfOk result
+        (λ text. (document : Forest) → flatten document ≡ checked.now.events →
         string_bytes text ≡ meaning options.now checked.now.names checked.now.bytes document) }
     ensures one_reading { IfOk result (λ text. KeepsGrammar options.now
         → HasOneReadingWith any_attribute (string_bytes text)) }
@@ -176,44 +188,55 @@ pub fn compile_checked(
         → HasOneReadingWith is_safe_link (string_bytes text)) }
     ensures safe_images { IfOk result (λ text. KeepsImages options.now
         → HasOneReadingWith is_safe_image (string_bytes text)) }
-    ensures contained { IfOk result (λ text. KeepsGrammar options.now → IsContained (string_bytes text)) }
+    ensures contained { IfOk result
+        (λ text. KeepsGrammar options.now → IsContained (string_bytes text)) }
     ensures tree { IfOk result (λ text. (document : Forest) → flatten document ≡ checked.now.events
-        → has_nested_link false document ≡ false → KeepsGrammar options.now → IsBuiltAsRead (string_bytes text)) }
-    ensures tokenized { IfOk result (λ text. KeepsGrammar options.now → IsTokenizedAsRead (string_bytes text)) }
+        → has_nested_link false document ≡ false → KeepsGrammar options.now
+        → IsBuiltAsRead (string_bytes text)) }
+    ensures tokenized { IfOk result
+        (λ text. KeepsGrammar options.now → IsTokenizedAsRead (string_bytes text)) }
     ensures safe_link_tokens { IfOk result (λ text. KeepsLinks options.now
         → HasTokensWith has_safe_links (string_bytes text)) }
     ensures safe_image_tokens { IfOk result (λ text. KeepsImages options.now
         → HasTokensWith has_safe_images (string_bytes text)) }
-    ensures distinct_ids { IfOk result (λ text. KeepsIds options.now → HasDistinctIds (string_bytes text)) }
+    ensures distinct_ids { IfOk result
+        (λ text. KeepsIds options.now → HasDistinctIds (string_bytes text)) }
 {
     let counted = count_checked(alloc, checked, options)?;
     Ok(counted.text)
 }
 
-/// The HTML of events that have passed a check, and how many events were visited for it, by the check as well.
+/// The HTML of events that have passed a check, and how many events were visited for it, by
+/// the check as well.
 fn count_checked(
     alloc: Global,
     checked: &Checked,
     options: &CompileOptions,
 ) -> Result<Counted, AllocError>
-    ensures meaning { IfOk result (λ counted. (document : Forest) → flatten document ≡ checked.now.events →
-        string_bytes counted.text ≡ meaning options.now checked.now.names checked.now.bytes document) }
+    ensures meaning { IfOk result
+        (λ counted. (document : Forest) → flatten document ≡ checked.now.events →
+        string_bytes counted.text
+        ≡ meaning options.now checked.now.names checked.now.bytes document) }
     ensures one_reading { IfOk result (λ counted. KeepsGrammar options.now
         → HasOneReadingWith any_attribute (string_bytes counted.text)) }
     ensures safe_links { IfOk result (λ counted. KeepsLinks options.now
         → HasOneReadingWith is_safe_link (string_bytes counted.text)) }
     ensures safe_images { IfOk result (λ counted. KeepsImages options.now
         → HasOneReadingWith is_safe_image (string_bytes counted.text)) }
-    ensures contained { IfOk result (λ counted. KeepsGrammar options.now → IsContained (string_bytes counted.text)) }
-    ensures tree { IfOk result (λ counted. (document : Forest) → flatten document ≡ checked.now.events
+    ensures contained { IfOk result
+        (λ counted. KeepsGrammar options.now → IsContained (string_bytes counted.text)) }
+    ensures tree { IfOk result
+        (λ counted. (document : Forest) → flatten document ≡ checked.now.events
         → has_nested_link false document ≡ false → KeepsGrammar options.now
         → IsBuiltAsRead (string_bytes counted.text)) }
-    ensures tokenized { IfOk result (λ counted. KeepsGrammar options.now → IsTokenizedAsRead (string_bytes counted.text)) }
+    ensures tokenized { IfOk result
+        (λ counted. KeepsGrammar options.now → IsTokenizedAsRead (string_bytes counted.text)) }
     ensures safe_link_tokens { IfOk result (λ counted. KeepsLinks options.now
         → HasTokensWith has_safe_links (string_bytes counted.text)) }
     ensures safe_image_tokens { IfOk result (λ counted. KeepsImages options.now
         → HasTokensWith has_safe_images (string_bytes counted.text)) }
-    ensures distinct_ids { IfOk result (λ counted. KeepsIds options.now → HasDistinctIds (string_bytes counted.text)) }
+    ensures distinct_ids { IfOk result
+        (λ counted. KeepsIds options.now → HasDistinctIds (string_bytes counted.text)) }
     ensures exact { IfOk result (λ counted. counted.visits ≡ 2 * length checked.now.events) }
 {
     let text = render(alloc, checked, options)?;

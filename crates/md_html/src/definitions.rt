@@ -61,8 +61,10 @@ fn target_at<'a>(
 ) -> Result<Target, AllocError>
     requires supplied { (at : At.Given) × Supplies given.now at }
     requires enters { EntersAt given.now.checked.now.events index name.Definition }
-    ensures { IfOk result (λ target. (at : At.Given) (document : Forest) (one : steps.Noticed) → Supplies given.now at
-        → flatten document ≡ given.now.checked.now.events → IsNoticedAt given.now.checked.now index one
+    ensures { IfOk result
+        (λ target. (at : At.Given) (document : Forest) (one : steps.Noticed) → Supplies given.now at
+        → flatten document ≡ given.now.checked.now.events
+        → IsNoticedAt given.now.checked.now index one
         → target ≡ (own_defined at given.now.checked.now.events
         (steps.noticed given.now.checked.now.bytes true document) index one).target) }
 {
@@ -80,8 +82,9 @@ fn run_definition<'a>(
     requires supplied { (at : At.Given) × Supplies given.now at }
     requires enters { EntersAt given.now.checked.now.events index name.Definition }
     requires new { printer.old ≡ beginning }
-    ensures { OnOk result ((at : At.Given) (document : Forest) (one : steps.Noticed) → Supplies given.now at
-        → flatten document ≡ given.now.checked.now.events → IsNoticedAt given.now.checked.now index one
+    ensures { OnOk result ((at : At.Given) (document : Forest) (one : steps.Noticed)
+        → Supplies given.now at → flatten document ≡ given.now.checked.now.events
+        → IsNoticedAt given.now.checked.now index one
         → printer.new ≡ steps.run at 0 (within index one.inside given.now.checked.now.events)
         (within index one.inside (steps.noticed given.now.checked.now.bytes true document))
         (entered at one.told name.Definition beginning)) }

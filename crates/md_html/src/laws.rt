@@ -9,15 +9,15 @@ ghost use Rattle.md_html.specs.Lengths.{lengths, GoesForward};
 
 /// Where HTML isn't allowed, the tag filter changes no meaning.
 pub fn tagfilter_is_moot_when_escaped()
-    ensures { (filter : Bool) (options : CompileOptions) (names : List (List ℕ × List ℕ)) (bytes : List ℕ)
-        (document : Forest)
+    ensures { (filter : Bool) (options : CompileOptions) (names : List (List ℕ × List ℕ))
+        (bytes : List ℕ) (document : Forest)
         → options.allow_dangerous_html ≡ false
         → meaning (record options { gfm_tagfilter = filter }) names bytes document
         ≡ meaning options names bytes document }
 {}
 
-/// What work counts as read is no less than the lengths of a document's nodes that are read, and just these where no
-/// event stands before the one before it.
+/// What work counts as read is no less than the lengths of a document's nodes that are read, and
+/// just these where no event stands before the one before it.
 pub fn work_counts_what_is_read()
     ensures no_less { (document : Forest) → lengths document ≤ read_length (flatten document) }
     ensures exact { (document : Forest) → GoesForward 0 (flatten document)

@@ -34,7 +34,8 @@ pub fn render(
     checked: &Checked,
     options: &CompileOptions,
 ) -> Result<String, AllocError>
-    ensures meaning { IfOk result (λ text. (document : Forest) → flatten document ≡ checked.now.events
+    ensures meaning { IfOk result
+        (λ text. (document : Forest) → flatten document ≡ checked.now.events
         → string_bytes text ≡ meaning options.now checked.now.names checked.now.bytes document) }
 {
     steps_print_what_is_meant();
@@ -63,13 +64,14 @@ pub fn render(
 /// The text of all events and of the footnotes' section.
 fn print(given: &Given) -> Result<String, AllocError>
     requires supplied { (at : At.Given) × Supplies given.now at }
-    ensures { IfOk result (λ text. (at : At.Given) (document : Forest) → Supplies given.now at
-        → flatten document ≡ given.now.checked.now.events → string_bytes text ≡ text_of at document) }
+    ensures { IfOk result (λ text. (at : At.Given) (document : Forest) → Supplies given.now at →
+        flatten document ≡ given.now.checked.now.events → string_bytes text ≡ text_of at document) }
 {
     let mut printer = Printer::new(given.alloc);
     printer.reserve(given.checked.bytes().len());
     let ran = run(&mut printer, given, 0, given.checked.events().len());
-    // The printer is used up before the run's error is answered, so that no path has its many parts to drop.
+    // The printer is used up before the run's error is answered, so that no path has its
+    // many parts to drop.
     let text = printer.into_text(given.alloc, given.options, given.ending)?;
     ran?;
     Ok(text)

@@ -1,6 +1,7 @@
 //! The HTML of events, where it isn't longer than a limit.
 
-ghost use Rattle.std.specs.Prelude.{◌≡◌, ◌≤◌, ◌<◌, IfOk, IfSome, None, true, false, length, string_bytes};
+ghost use Rattle.std.specs.Prelude.{◌≡◌, ◌≤◌, ◌<◌, IfOk, IfSome, None, true, false, length};
+ghost use Rattle.std.specs.Prelude.{string_bytes};
 ghost use Rattle.md_base.specs.Tree.{Forest, flatten};
 ghost use Rattle.md_meaning.specs.Meaning.{meaning};
 ghost use Rattle.md_meaning.specs.Meaning.At as At;
@@ -21,8 +22,8 @@ use std::alloc::{AllocError, Global};
 /// After so many events it is seen whether the text is too long.
 const AT_ONCE: usize = 16;
 
-/// The HTML of events that have passed a check, or none where it is longer than a limit. Printing stops as soon as no
-/// text is captured and what is printed is longer.
+/// The HTML of events that have passed a check, or none where it is longer than a limit. Printing
+/// stops as soon as no text is captured and what is printed is longer.
 ///
 /// # Errors
 ///
@@ -46,7 +47,8 @@ pub fn render_within(
     ensures meaning { IfOk result (λ answer. IfSome answer (λ text. (document : Forest)
         → flatten document ≡ checked.now.events
         → string_bytes text ≡ meaning options.now checked.now.names checked.now.bytes document)) }
-    ensures within { IfOk result (λ answer. IfSome answer (λ text. length (string_bytes text) ≤ limit)) }
+    ensures within { IfOk result
+        (λ answer. IfSome answer (λ text. length (string_bytes text) ≤ limit)) }
     ensures too_long { IfOk result (λ answer. answer ≡ None → (document : Forest)
         → flatten document ≡ checked.now.events
         → limit < length (meaning options.now checked.now.names checked.now.bytes document)) }
@@ -80,7 +82,8 @@ fn print_within(given: &Given, limit: usize) -> Result<Option<String>, AllocErro
     ensures text { IfOk result (λ answer. IfSome answer (λ text. (at : At.Given) (document : Forest)
         → Supplies given.now at → flatten document ≡ given.now.checked.now.events
         → string_bytes text ≡ text_of at document)) }
-    ensures within { IfOk result (λ answer. IfSome answer (λ text. length (string_bytes text) ≤ limit)) }
+    ensures within { IfOk result
+        (λ answer. IfSome answer (λ text. length (string_bytes text) ≤ limit)) }
     ensures too_long { IfOk result (λ answer. answer ≡ None → (at : At.Given) (document : Forest)
         → Supplies given.now at → flatten document ≡ given.now.checked.now.events
         → limit < length (text_of at document)) }
@@ -88,7 +91,8 @@ fn print_within(given: &Given, limit: usize) -> Result<Option<String>, AllocErro
     let mut printer = Printer::new(given.alloc);
     printer.reserve(given.checked.bytes().len());
     let ran = run_within(&mut printer, given, limit);
-    // The printer is used up before the run's answer is looked at, so that no path has its many parts to drop.
+    // The printer is used up before the run's answer is looked at, so that no path has its
+    // many parts to drop.
     let text = printer.into_text(given.alloc, given.options, given.ending)?;
     let is_whole = ran?;
     if is_whole && text.len() <= limit {
@@ -98,7 +102,8 @@ fn print_within(given: &Given, limit: usize) -> Result<Option<String>, AllocErro
     }
 }
 
-/// Prints all events, until the text is longer than a limit for sure; answers whether all were printed.
+/// Prints all events, until the text is longer than a limit for sure; answers whether
+/// all were printed.
 fn run_within<'a>(
     printer: &mut Printer<'a>,
     given: &Given<'a>,
@@ -107,11 +112,12 @@ fn run_within<'a>(
     requires supplied { (at : At.Given) × Supplies given.now at }
     requires new { printer.old ≡ beginning }
     ensures whole { IfOk result (λ whole. whole ≡ true → (at : At.Given) (document : Forest)
-        → Supplies given.now at → flatten document ≡ given.now.checked.now.events
-        → printer.new ≡ steps.run at 0 (flatten document) (steps.noticed at.bytes true document) beginning) }
+        → Supplies given.now at → flatten document ≡ given.now.checked.now.events → printer.new
+        ≡ steps.run at 0 (flatten document) (steps.noticed at.bytes true document) beginning) }
     ensures too_long { IfOk result (λ whole. whole ≡ false → (at : At.Given) (document : Forest)
         → Supplies given.now at → flatten document ≡ given.now.checked.now.events
-        → limit < length (steps.run at 0 (flatten document) (steps.noticed at.bytes true document) beginning).text) }
+        → limit < length (steps.run at 0 (flatten document)
+        (steps.noticed at.bytes true document) beginning).text) }
 {
     let count = given.checked.events().len();
     let mut index = 0;

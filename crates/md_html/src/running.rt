@@ -1,6 +1,7 @@
 //! Going over the events, one after another.
 
-ghost use Rattle.std.specs.Prelude.{◌≡◌, ◌≤◌, ◌<◌, ◌^◌, OnOk, IfOk, Some, true, false, length, slice_get};
+ghost use Rattle.std.specs.Prelude.{◌≡◌, ◌≤◌, ◌<◌, ◌^◌, OnOk, IfOk, Some, true, false, length};
+ghost use Rattle.std.specs.Prelude.{slice_get};
 ghost use Rattle.md_base.specs.Tree.{Forest, flatten};
 ghost use Rattle.md_base.specs.declared.event.Event.{Event as AnyEvent};
 ghost use Rattle.md_meaning.specs.Meaning.At as At;
@@ -17,8 +18,8 @@ use md_emit::{Given, Printer};
 use md_told::{inside_at, is_leaf_at};
 use std::alloc::AllocError;
 
-/// Prints the events from one index up to another, and answers the index of the next one: a definition that begins
-/// before the end is passed over whole.
+/// Prints the events from one index up to another, and answers the index of the next one: a
+/// definition that begins before the end is passed over whole.
 ///
 /// # Errors
 ///
@@ -56,7 +57,8 @@ pub(crate) fn run<'a>(
     Ok(index)
 }
 
-/// Goes over a node without children, if it is entered here and has a frequent name; answers whether it did.
+/// Goes over a node without children, if it is entered here and has a frequent name;
+/// answers whether it did.
 #[inline(always)]
 fn leaf<'a>(
     printer: &mut Printer<'a>,
@@ -67,7 +69,8 @@ fn leaf<'a>(
 ) -> Result<bool, AllocError>
     requires there { slice_get given.now.checked.now.events index ≡ Some event }
     requires before { index < to }
-    ensures left { IfOk result (λ done. done ≡ true → Leafs given.now index to event printer.old printer.new) }
+    ensures left { IfOk result
+        (λ done. done ≡ true → Leafs given.now index to event printer.old printer.new) }
     ensures same { IfOk result (λ done. done ≡ false → printer.new ≡ printer.old) }
 {
     match event.kind {

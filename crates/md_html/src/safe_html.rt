@@ -23,8 +23,8 @@ use std::fmt;
 use std::marker::Model;
 use thiserror::Error;
 
-/// A text that has exactly one reading in the HTML grammar, in which each `href` and `src` has no protocol or a
-/// permitted one, and each element stands where it may. Only [`compile_safe`] and
+/// A text that has exactly one reading in the HTML grammar, in which each `href` and `src` has no
+/// protocol or a permitted one, and each element stands where it may. Only [`compile_safe`] and
 /// [`compile_safe_within`](crate::compile_safe_within) make one.
 #[derive(Drop)]
 pub struct SafeHtml {
@@ -110,13 +110,14 @@ impl From<CompileError> for SafeError {
 
 /// The HTML of a list of Markdown events, as [`compile`] gives it, where the options are safe.
 ///
-/// The options are safe where `allow_any_img_src`, `allow_dangerous_html` and `allow_dangerous_protocol` are off, and
-/// `gfm_footnote_label_tag_name` and `gfm_footnote_label_attributes` are unset. The default options are such.
+/// The options are safe where `allow_any_img_src`, `allow_dangerous_html` and
+/// `allow_dangerous_protocol` are off, and `gfm_footnote_label_tag_name` and
+/// `gfm_footnote_label_attributes` are unset. The default options are such.
 ///
 /// # Errors
 ///
-/// [`SafeError::Options`] exactly where the options aren't safe, whatever else is handed in; else the refusal of
-/// [`compile`].
+/// [`SafeError::Options`] exactly where the options aren't safe, whatever else is handed in; else
+/// the refusal of [`compile`].
 ///
 /// # Examples
 ///
@@ -140,7 +141,8 @@ pub fn compile_safe(
     ensures contained { IfOk result (λ html. IsContained html) }
     ensures tree { IfOk result (λ html. (document : Forest) → flatten document ≡ events.now
         → has_nested_link false document ≡ false → IsBuiltAsRead html) }
-    ensures distinct_ids { IfOk result (λ html. options.now.gfm_footnote_number_ids ≡ true → HasDistinctIds html) }
+    ensures distinct_ids { IfOk result
+        (λ html. options.now.gfm_footnote_number_ids ≡ true → HasDistinctIds html) }
 
     ensures outside { IfErr result (OfCompile (IsOutside (handed events.now bytes.now names.now))) }
     ensures order { IfErr result (OfCompile (IsOrder (handed events.now bytes.now names.now))) }

@@ -1,4 +1,5 @@
-//! Safe texts of documents in which no link stands in a link: a browser builds of them the tree that they are read as.
+//! Safe texts of documents in which no link stands in a link: a browser builds of them the tree
+//! that they are read as.
 
 ghost use Rattle.std.specs.Prelude.{◌≡◌, ◌<◌, ◌^◌, OnOk, IfOk, IfErr, true, false};
 ghost use Rattle.md_base.specs.Reference.{name_table};
@@ -57,13 +58,14 @@ impl From<SafeError> for UnnestedError {
     }
 }
 
-/// The HTML of a list of Markdown events, as [`compile_safe`] gives it, where no link stands in a link: so wherever flow
-/// content may be set, the HTML Standard's tree construction builds the tree that the text is read as.
+/// The HTML of a list of Markdown events, as [`compile_safe`] gives it, where no link stands in a
+/// link: so wherever flow content may be set, the HTML Standard's tree construction builds the tree
+/// that the text is read as.
 ///
 /// # Errors
 ///
-/// [`UnnestedError::Nested`] exactly where [`compile_safe`] gives a text, or lacks memory for it, and a link stands in a
-/// link, as [`has_nested_link`] tells; else what [`compile_safe`] answers.
+/// [`UnnestedError::Nested`] exactly where [`compile_safe`] gives a text, or lacks memory for it,
+/// and a link stands in a link, as [`has_nested_link`] tells; else what [`compile_safe`] answers.
 ///
 /// # Examples
 ///
@@ -85,17 +87,24 @@ pub fn compile_unnested(
         html ≡ meaning options.now (name_table names.now) bytes.now document) }
     ensures tokens { IfOk result (λ html. IsSafelyTokenized html) }
     ensures contained { IfOk result (λ html. IsContained html) }
-    ensures distinct_ids { IfOk result (λ html. options.now.gfm_footnote_number_ids ≡ true → HasDistinctIds html) }
+    ensures distinct_ids { IfOk result
+        (λ html. options.now.gfm_footnote_number_ids ≡ true → HasDistinctIds html) }
 
     ensures nested { IfErr result (OfNested (AreNested events.now)) }
     ensures nested_safe { IfErr result (OfNested (KeepsImages options.now)) }
-    ensures nested_grammatical { IfErr result (OfNested (IsChecked (handed events.now bytes.now names.now))) }
+    ensures nested_grammatical { IfErr result
+        (OfNested (IsChecked (handed events.now bytes.now names.now))) }
     ensures options { IfErr result (OfSafe (IsRefusedFor options.now)) }
-    ensures outside { IfErr result (OfSafe (OfCompile (IsOutside (handed events.now bytes.now names.now)))) }
-    ensures order { IfErr result (OfSafe (OfCompile (IsOrder (handed events.now bytes.now names.now)))) }
-    ensures mdx { IfErr result (OfSafe (OfCompile (IsMdx (handed events.now bytes.now names.now)))) }
-    ensures of_node { IfErr result (OfSafe (OfCompile (IsOfNode (handed events.now bytes.now names.now)))) }
-    ensures lost { IfErr result (OfSafe (OfCompile (IsLost (handed events.now bytes.now names.now)))) }
+    ensures outside { IfErr result
+        (OfSafe (OfCompile (IsOutside (handed events.now bytes.now names.now)))) }
+    ensures order { IfErr result
+        (OfSafe (OfCompile (IsOrder (handed events.now bytes.now names.now)))) }
+    ensures mdx { IfErr result
+        (OfSafe (OfCompile (IsMdx (handed events.now bytes.now names.now)))) }
+    ensures of_node { IfErr result
+        (OfSafe (OfCompile (IsOfNode (handed events.now bytes.now names.now)))) }
+    ensures lost { IfErr result
+        (OfSafe (OfCompile (IsLost (handed events.now bytes.now names.now)))) }
 {
     let html = compile_safe(alloc, events, bytes, options, names)?;
     if has_nested_link(events) {
@@ -104,8 +113,9 @@ pub fn compile_unnested(
     Ok(html)
 }
 
-/// Whether of the document that a list of events flattens a link stands in a link, of which neither stands in an image.
-/// Links are also automatic ones that are none by letters alone, and calls of footnotes.
+/// Whether of the document that a list of events flattens a link stands in a link, of which
+/// neither stands in an image. Links are also automatic ones that are none by letters alone, and
+/// calls of footnotes.
 ///
 /// # Examples
 ///
@@ -115,7 +125,8 @@ pub fn compile_unnested(
 /// }
 /// ```
 pub fn has_nested_link(events: &[Event]) -> bool
-    ensures { (document : Forest) → flatten document ≡ events.now → result ≡ has_nested_link false document }
+    ensures { (document : Forest) → flatten document ≡ events.now
+        → result ≡ has_nested_link false document }
 {
     let mut in_link = false;
     let mut images = 0;

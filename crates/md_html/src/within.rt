@@ -1,6 +1,7 @@
 //! Texts within limits: how long a text may be, and how much work it may take.
 
-ghost use Rattle.std.specs.Prelude.{◌≡◌, ◌≤◌, ◌<◌, OnOk, IfOk, IfErr, true, false, length, string_bytes};
+ghost use Rattle.std.specs.Prelude.{◌≡◌, ◌≤◌, ◌<◌, OnOk, IfOk, IfErr, true, false, length};
+ghost use Rattle.std.specs.Prelude.{string_bytes};
 ghost use Rattle.md_base.specs.Reference.{name_table};
 ghost use Rattle.md_base.specs.Tree.{Forest, flatten};
 ghost use Rattle.md_tree.specs.Grammar.{IsChecked, handed};
@@ -34,9 +35,10 @@ use thiserror::Error;
 pub struct Limits {
     /// How many bytes the text may have.
     pub text: usize,
-    /// How much there may be to read and to print, as [`work_of`](crate::work_of) counts it: the lengths of texts and
-    /// of labels (of a parser's events the document's length, and that of labels again), the longest definition for
-    /// each link or image that leads to one, and for each row of a table its columns.
+    /// How much there may be to read and to print, as [`work_of`](crate::work_of) counts it: the
+    /// lengths of texts and of labels (of a parser's events the document's length, and that of
+    /// labels again), the longest definition for each link or image that leads to one, and for each
+    /// row of a table its columns.
     pub work: usize,
 }
 
@@ -89,16 +91,18 @@ impl From<AllocError> for WithinError {
     }
 }
 
-/// The HTML of a list of Markdown events, as [`compile`](crate::compile) gives it, where it is within limits.
+/// The HTML of a list of Markdown events, as [`compile`](crate::compile) gives it, where it
+/// is within limits.
 ///
-/// What it costs goes by these limits, though no clause can say so: time and memory grow with the number of events, the
-/// document's length and `limits.work`, and printing stops soon after the text is too long.
+/// What it costs goes by these limits, though no clause can say so: time and memory grow with the
+/// number of events, the document's length and `limits.work`, and printing stops soon after the
+/// text is too long.
 ///
 /// # Errors
 ///
-/// [`WithinError::TooMuch`] exactly where there is more work than `limits.work`, before anything else is looked at;
-/// [`WithinError::TooLong`] only where the events are a document's whose text has more than `limits.text` bytes; else
-/// the refusal of [`compile`](crate::compile).
+/// [`WithinError::TooMuch`] exactly where there is more work than `limits.work`, before anything
+/// else is looked at; [`WithinError::TooLong`] only where the events are a document's whose text
+/// has more than `limits.text` bytes; else the refusal of [`compile`](crate::compile).
 ///
 /// # Examples
 ///
@@ -125,20 +129,25 @@ pub fn compile_within(
         → HasOneReadingWith is_safe_link (string_bytes text)) }
     ensures safe_images { IfOk result (λ text. KeepsImages options.now
         → HasOneReadingWith is_safe_image (string_bytes text)) }
-    ensures contained { IfOk result (λ text. KeepsGrammar options.now → IsContained (string_bytes text)) }
+    ensures contained { IfOk result
+        (λ text. KeepsGrammar options.now → IsContained (string_bytes text)) }
     ensures tree { IfOk result (λ text. (document : Forest) → flatten document ≡ events.now
-        → has_nested_link false document ≡ false → KeepsGrammar options.now → IsBuiltAsRead (string_bytes text)) }
-    ensures tokenized { IfOk result (λ text. KeepsGrammar options.now → IsTokenizedAsRead (string_bytes text)) }
+        → has_nested_link false document ≡ false → KeepsGrammar options.now
+        → IsBuiltAsRead (string_bytes text)) }
+    ensures tokenized { IfOk result
+        (λ text. KeepsGrammar options.now → IsTokenizedAsRead (string_bytes text)) }
     ensures safe_link_tokens { IfOk result (λ text. KeepsLinks options.now
         → HasTokensWith has_safe_links (string_bytes text)) }
     ensures safe_image_tokens { IfOk result (λ text. KeepsImages options.now
         → HasTokensWith has_safe_images (string_bytes text)) }
-    ensures distinct_ids { IfOk result (λ text. KeepsIds options.now → HasDistinctIds (string_bytes text)) }
+    ensures distinct_ids { IfOk result
+        (λ text. KeepsIds options.now → HasDistinctIds (string_bytes text)) }
 
     ensures too_much { IfErr result (IsTooMuchFor events.now limits.work) }
-    ensures too_long { IfErr result (OfTooLong (IsLonger options.now (handed events.now bytes.now names.now)
-        limits.text)) }
-    ensures long_grammatical { IfErr result (OfTooLong (IsChecked (handed events.now bytes.now names.now))) }
+    ensures too_long { IfErr result
+        (OfTooLong (IsLonger options.now (handed events.now bytes.now names.now) limits.text)) }
+    ensures long_grammatical { IfErr result
+        (OfTooLong (IsChecked (handed events.now bytes.now names.now))) }
     ensures outside { IfErr result (OfWithin (IsOutside (handed events.now bytes.now names.now))) }
     ensures order { IfErr result (OfWithin (IsOrder (handed events.now bytes.now names.now))) }
     ensures mdx { IfErr result (OfWithin (IsMdx (handed events.now bytes.now names.now))) }
@@ -189,13 +198,13 @@ impl From<WithinError> for SafeWithinError {
     }
 }
 
-/// The HTML of a list of Markdown events, as [`compile_safe`](crate::compile_safe) gives it, where it is within limits:
-/// what a server calls that takes text from strangers.
+/// The HTML of a list of Markdown events, as [`compile_safe`](crate::compile_safe) gives it, where
+/// it is within limits: what a server calls that takes text from strangers.
 ///
 /// # Errors
 ///
-/// [`SafeWithinError::Options`] exactly where the options aren't safe, whatever else is handed in; else the refusal of
-/// [`compile_within`].
+/// [`SafeWithinError::Options`] exactly where the options aren't safe, whatever else is handed in;
+/// else the refusal of [`compile_within`].
 ///
 /// # Examples
 ///
@@ -222,18 +231,24 @@ pub fn compile_safe_within(
     ensures contained { IfOk result (λ html. IsContained html) }
     ensures tree { IfOk result (λ html. (document : Forest) → flatten document ≡ events.now
         → has_nested_link false document ≡ false → IsBuiltAsRead html) }
-    ensures distinct_ids { IfOk result (λ html. options.now.gfm_footnote_number_ids ≡ true → HasDistinctIds html) }
+    ensures distinct_ids { IfOk result
+        (λ html. options.now.gfm_footnote_number_ids ≡ true → HasDistinctIds html) }
 
     ensures too_much { IfErr result (OfLimits (IsTooMuchFor events.now limits.work)) }
     ensures too_long { IfErr result (OfLimits (OfTooLong (IsLonger options.now
         (handed events.now bytes.now names.now) limits.text))) }
     ensures long_grammatical { IfErr result (OfLimits (OfTooLong (IsChecked
         (handed events.now bytes.now names.now)))) }
-    ensures outside { IfErr result (OfLimits (OfWithin (IsOutside (handed events.now bytes.now names.now)))) }
-    ensures order { IfErr result (OfLimits (OfWithin (IsOrder (handed events.now bytes.now names.now)))) }
-    ensures mdx { IfErr result (OfLimits (OfWithin (IsMdx (handed events.now bytes.now names.now)))) }
-    ensures of_node { IfErr result (OfLimits (OfWithin (IsOfNode (handed events.now bytes.now names.now)))) }
-    ensures lost { IfErr result (OfLimits (OfWithin (IsLost (handed events.now bytes.now names.now)))) }
+    ensures outside { IfErr result
+        (OfLimits (OfWithin (IsOutside (handed events.now bytes.now names.now)))) }
+    ensures order { IfErr result
+        (OfLimits (OfWithin (IsOrder (handed events.now bytes.now names.now)))) }
+    ensures mdx { IfErr result
+        (OfLimits (OfWithin (IsMdx (handed events.now bytes.now names.now)))) }
+    ensures of_node { IfErr result
+        (OfLimits (OfWithin (IsOfNode (handed events.now bytes.now names.now)))) }
+    ensures lost { IfErr result
+        (OfLimits (OfWithin (IsLost (handed events.now bytes.now names.now)))) }
 {
     if !are_safe(options) {
         return Err(SafeWithinError::Options);

@@ -1,9 +1,11 @@
 //! How much a list of events gives to read and to print.
 
-ghost use Rattle.std.specs.Prelude.{◌≡◌, ◌+◌, ◌-◌, ◌*◌, ◌^◌, ◌<◌, min, max, true, false, if◌then◌else◌, nat_lt};
+ghost use Rattle.std.specs.Prelude.{◌≡◌, ◌+◌, ◌-◌, ◌*◌, ◌^◌, ◌<◌, min, max, true, false};
+ghost use Rattle.std.specs.Prelude.{if◌then◌else◌, nat_lt};
 ghost use Rattle.md_html.specs.Work.{is_read, enters, exits, depth_after, read_length};
 ghost use Rattle.md_html.specs.Work.{is_definition, before_definition, longest_definition};
-ghost use Rattle.md_html.specs.Work.{entries, is_media, is_resource, is_row, columns_after, cells, work};
+ghost use Rattle.md_html.specs.Work.{entries, is_media, is_resource, is_row, columns_after, cells};
+ghost use Rattle.md_html.specs.Work.{work};
 ghost use Rattle.md_html.specs.Counting.{capped, is_read_standing};
 
 use md_base::name_tests::is_link_definition;
@@ -12,9 +14,9 @@ use md_pattern::{Reading, Standing, standing_of};
 
 /// How much a list of events gives to read and to print, or `usize::MAX` where it is more.
 ///
-/// Counted are the lengths of texts and of labels: of a parser's events at most the document's length, and once more
-/// that of each label; for each link and image that leads to a definition the length of the longest definition; and
-/// for each row of a table its columns.
+/// Counted are the lengths of texts and of labels: of a parser's events at most the document's
+/// length, and once more that of each label; for each link and image that leads to a definition the
+/// length of the longest definition; and for each row of a table its columns.
 ///
 /// # Examples
 ///
@@ -131,7 +133,8 @@ impl Progress {
         requires { self.depth < 2 ^ 63 }
         ensures index { result.index ≡ event.now.point.index }
         ensures depth { result.depth ≡ depth_after self.depth event.now }
-        ensures length { result.length ≡ capped (self.length + self.depth * (event.now.point.index - self.index)) }
+        ensures length { result.length
+            ≡ capped (self.length + self.depth * (event.now.point.index - self.index)) }
     {
         let step = event.point.index.saturating_sub(self.index);
         let read = product(self.depth, step);

@@ -1,5 +1,6 @@
 -- Identifiers of calls, each once: which are among some, and what leaving one out changes.
-use Rattle.std.proofs.Common.{◌≡◌, ℕ, ◌+◌, Bool, true, false, ◌||◌, not, cond, List, [], ◌∷◌, refl, ap, sym, ◌∙◌, arith, bytes_eq}
+use Rattle.std.proofs.Common.{◌≡◌, ℕ, ◌+◌, Bool, true, false, ◌||◌, not, cond, List, [], ◌∷◌, refl}
+use Rattle.std.proofs.Common.{ap, sym, ◌∙◌, arith, bytes_eq}
 use Rattle.std.specs.Prelude.{if◌then◌else◌, filter}
 use Rattle.std.specs.List.{list_any}
 use Rattle.std.specs.Bool.{one_answer}
@@ -37,9 +38,11 @@ pub others_stay : (x z : List ℕ) (ys : List (List ℕ)) → bytes_eq x z ≡ f
     is_in z (others_than x ys) ≡ is_in z ys
 others_stay x z [] h = refl
 others_stay x z (y ∷ ys) h =
-    elim (bytes_eq y x) as (λ b. bytes_eq y x ≡ b → is_in z (cond (not b) (y ∷ others_than x ys) (others_than x ys))
+    elim (bytes_eq y x) as
+    (λ b. bytes_eq y x ≡ b → is_in z (cond (not b) (y ∷ others_than x ys) (others_than x ys))
     ≡ bytes_eq y z || is_in z ys) [
-      | true ↦ λ e. others_stay x z ys h ∙ ap (λ b. b || is_in z ys) (sym (ap (λ w. bytes_eq w z) (same y x e) ∙ h))
+      | true ↦ λ e. others_stay x z ys h
+          ∙ ap (λ b. b || is_in z ys) (sym (ap (λ w. bytes_eq w z) (same y x e) ∙ h))
       | false ↦ λ e. ap (λ b. bytes_eq y z || b) (others_stay x z ys h)
     ] refl
 
@@ -47,7 +50,8 @@ others_stay x z (y ∷ ys) h =
 pub left_out : (x : List ℕ) (ys : List (List ℕ)) → is_in x (others_than x ys) ≡ false
 left_out x [] = refl
 left_out x (y ∷ ys) =
-    elim (bytes_eq y x) as (λ b. bytes_eq y x ≡ b → is_in x (cond (not b) (y ∷ others_than x ys) (others_than x ys))
+    elim (bytes_eq y x) as
+    (λ b. bytes_eq y x ≡ b → is_in x (cond (not b) (y ∷ others_than x ys) (others_than x ys))
     ≡ false) [
       | true ↦ λ e. left_out x ys
       | false ↦ λ e. ap (λ b. b || is_in x (others_than x ys)) e ∙ left_out x ys
@@ -56,7 +60,8 @@ left_out x (y ∷ ys) =
 pub others-apart : (x : List ℕ) (ys : List (List ℕ)) → Apart ys → Apart (others_than x ys)
 others-apart x [] apart = tt
 others-apart x (y ∷ ys) apart =
-    elim (bytes_eq y x) as (λ b. bytes_eq y x ≡ b → Apart (cond (not b) (y ∷ others_than x ys) (others_than x ys))) [
+    elim (bytes_eq y x) as
+    (λ b. bytes_eq y x ≡ b → Apart (cond (not b) (y ∷ others_than x ys) (others_than x ys))) [
       | true ↦ λ e. others-apart x ys apart.1
       | false ↦ λ e. (
         others_stay x y ys (bytes_eq-sym x y ∙ e) ∙ apart.0,
@@ -68,7 +73,8 @@ others-apart x (y ∷ ys) apart =
 pub is_in-distinct : (xs : List (List ℕ)) (z : List ℕ) → is_in z (distinct xs) ≡ is_in z xs
 is_in-distinct [] z = refl
 is_in-distinct (x ∷ xs) z =
-    elim (bytes_eq x z) as (λ b. bytes_eq x z ≡ b → b || is_in z (others_than x (distinct xs)) ≡ b || is_in z xs) [
+    elim (bytes_eq x z) as
+    (λ b. bytes_eq x z ≡ b → b || is_in z (others_than x (distinct xs)) ≡ b || is_in z xs) [
       | true ↦ λ e. refl
       | false ↦ λ e. others_stay x z (distinct xs) e ∙ is_in-distinct xs z
     ] refl
@@ -84,9 +90,10 @@ zero_plus : (n : ℕ) → 0 + n ≡ n
 zero_plus n = omega arith
 
 -- who isn't there is called never
-pub count-missing : (calls : List (List ℕ)) (z : List ℕ) → is_in z calls ≡ false → count_of calls z ≡ 0
+pub count-missing : (calls : List (List ℕ)) (z : List ℕ) → is_in z calls ≡ false →
+    count_of calls z ≡ 0
 count-missing [] z h = refl
 count-missing (call ∷ calls) z h =
-    ap (λ b. (if b then 1 else 0) + count_of calls z) (or_parts (bytes_eq call z) (is_in z calls) h).0
-    ∙ zero_plus (count_of calls z)
+    ap (λ b. (if b then 1 else 0) + count_of calls z)
+    (or_parts (bytes_eq call z) (is_in z calls) h).0 ∙ zero_plus (count_of calls z)
     ∙ count-missing calls z (or_parts (bytes_eq call z) (is_in z calls) h).1

@@ -27,16 +27,26 @@ use Rattle.md_meaning.specs.Meaning.Footnotes.{section}
 
 -- the line ending that is used: the text of the document's first, else that of the options
 abbrev pub ending_at : CompileOptions → List ℕ → Option Position → List ℕ
-ending_at options bytes place = option_map_or (text_in bytes) place (ending_text options.default_line_ending)
+ending_at options bytes place =
+    option_map_or (text_in bytes) place (ending_text options.default_line_ending)
 
--- the meaning of a document over its bytes, given its calls and then its definitions as well; the section of its
--- footnotes stands at the end
+-- the meaning of a document over its bytes, given its calls and then its definitions as well; the
+-- section of its footnotes stands at the end
 abbrev pub meaning : CompileOptions → List (List ℕ × List ℕ) → List ℕ → Forest → List ℕ
 meaning options names bytes document =
     let ending = ending_at options bytes (first_ending document) in
-    let alone : Given =
-    record { bytes = bytes; names = names; options = options; ending = ending; calls = []; definitions = [] } in
-    let called : Given = record alone { calls = (outcome alone outermost nothing_before document).calls } in
-    let given = record called { definitions = (outcome called outermost nothing_before document).definitions } in
+    let alone : Given = record {
+      bytes = bytes;
+      names = names;
+      options = options;
+      ending = ending;
+      calls = [];
+      definitions = [];
+    } in
+    let called : Given =
+    record alone { calls = (outcome alone outermost nothing_before document).calls } in
+    let given = record called {
+      definitions = (outcome called outermost nothing_before document).definitions;
+    } in
     let all : Outcome = outcome given outermost nothing_before document in
     layout ending (all.pieces ++ section given all.footnotes)

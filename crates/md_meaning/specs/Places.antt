@@ -1,4 +1,5 @@
--- Places that a node's children tell, and what is read there, for the contracts of what looks it up.
+-- Places that a node's children tell, and what is read there, for the contracts of
+-- what looks it up.
 use Rattle.std.specs.Prelude.{ℕ, if◌then◌else◌, List, [], Option, Some, None}
 use Rattle.md_base.specs.declared.event.Point.{Point}
 use Rattle.md_base.specs.declared.event.Position.{Position}
@@ -16,7 +17,8 @@ position start end children = record { start = start; end = end }
 
 -- how long a mark is, the columns of tabs that are cut at its ends counted
 abbrev pub length_of : List ℕ → Position → ℕ
-length_of bytes place = if fits bytes place.start place.end then columns place.start place.end else 0
+length_of bytes place =
+    if fits bytes place.start place.end then columns place.start place.end else 0
 
 -- the place of the text in a label
 abbrev pub text_in_label : Forest → Option Position
@@ -28,4 +30,5 @@ label_in_prefix children = first_on_spine is_footnote_label position children
 
 -- the identifier at a place
 abbrev pub identifier_at : List ℕ → Option Position → List ℕ
-identifier_at bytes place = elim place [ None ↦ [] | Some at ↦ normalized (label_of bytes at.start at.end) ]
+identifier_at bytes place =
+    elim place [ None ↦ [] | Some at ↦ normalized (label_of bytes at.start at.end) ]

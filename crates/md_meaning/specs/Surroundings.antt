@@ -16,4 +16,5 @@ spine_inside name spine = if is_transparent name then spine else []
 
 -- the names on the spine after a node
 abbrev pub spine_after_node : Name → Forest → List Name → List Name
-spine_after_node name children spine = spine ++ (if is_transparent name then spine_names children else name ∷ [])
+spine_after_node name children spine =
+    spine ++ (if is_transparent name then spine_names children else name ∷ [])

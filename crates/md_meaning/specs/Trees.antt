@@ -1,5 +1,6 @@
--- Worked trees by what they are about, each with the bytes that it lies over, the options where some are set, and the
--- text that is its meaning. What texts with footnotes have in common has names.
+-- Worked trees by what they are about, each with the bytes that it lies over, the options
+-- where some are set, and the text that is its meaning. What texts with footnotes have in
+-- common has names.
 pub mod Blocks
 pub mod Lists
 pub mod Spans
@@ -26,8 +27,10 @@ at_column index columns = record { line = 1; column = 1; index = index; vs = col
 -- the call of a footnote, by the ids of both and the footnote's number
 abbrev pub call_tag : (footnote call number : String) → List ℕ
 call_tag footnote call number =
-    codes "<sup><a href=\"#user-content-fn-" ++ codes footnote ++ codes "\" id=\"user-content-fnref-" ++ codes call
-    ++ codes "\" data-footnote-ref=\"\" aria-describedby=\"footnote-label\">" ++ codes number ++ codes "</a></sup>"
+    codes "<sup><a href=\"#user-content-fn-" ++ codes footnote
+    ++ codes "\" id=\"user-content-fnref-" ++ codes call
+    ++ codes "\" data-footnote-ref=\"\" aria-describedby=\"footnote-label\">" ++ codes number
+    ++ codes "</a></sup>"
 
 -- the head of the section of footnotes
 abbrev pub section_head : List ℕ
@@ -36,7 +39,8 @@ section_head = codes "<section data-footnotes=\"\" class=\"footnotes\">"
 
 -- the tag of the way back to a call
 abbrev pub way_back_tag : String → List ℕ
-way_back_tag call = codes "<a href=\"#user-content-fnref-" ++ codes call ++ codes "\" data-footnote-backref=\"\""
+way_back_tag call =
+    codes "<a href=\"#user-content-fnref-" ++ codes call ++ codes "\" data-footnote-backref=\"\""
     ++ codes " aria-label=\"Back to content\" class=\"data-footnote-backref\">"
 
 -- the way back to the first call of a footnote, with its arrow (U+21A9)
@@ -46,9 +50,11 @@ way_back call = way_back_tag call ++ (226 ∷ 134 ∷ 169 ∷ []) ++ codes "</a>
 -- the way back to a later one, with the number of it among the calls of the footnote
 abbrev pub numbered_way_back : (call number : String) → List ℕ
 numbered_way_back call number =
-    way_back_tag call ++ (226 ∷ 134 ∷ 169 ∷ []) ++ codes "<sup>" ++ codes number ++ codes "</sup></a>"
+    way_back_tag call ++ (226 ∷ 134 ∷ 169 ∷ []) ++ codes "<sup>" ++ codes number
+    ++ codes "</sup></a>"
 
--- under these options and no names of references, the meaning of the tree over the bytes is this text
+-- under these options and no names of references, the meaning of the tree over the
+-- bytes is this text
 abbrev pub MeansWith : CompileOptions → List ℕ → Forest → List ℕ → Type 0
 MeansWith options bytes document text = meaning options [] bytes document ≡ text
 

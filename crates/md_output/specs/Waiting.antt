@@ -1,6 +1,7 @@
--- How the texts stand in memory: one after another, with the heads that wait to be put in beside them. No public
--- contract speaks of this.
-use Rattle.std.specs.Prelude.{◌≡◌, ℕ, Bool, true, false, not, ◌<◌, ◌≤◌, ◌⊎◌, ◌==◌, nat_lt, if◌then◌else◌, List, [], ◌∷◌, ◌++◌, length, take, drop}
+-- How the texts stand in memory: one after another, with the heads that wait to be put in beside
+-- them. No public contract speaks of this.
+use Rattle.std.specs.Prelude.{◌≡◌, ℕ, Bool, true, false, not, ◌<◌, ◌≤◌, ◌⊎◌, ◌==◌, nat_lt}
+use Rattle.std.specs.Prelude.{if◌then◌else◌, List, [], ◌∷◌, ◌++◌, length, take, drop}
 use Rattle.std.specs.Str.{IsUtf8}
 use Rattle.md_output.specs.declared.heads.Head.{Head}
 use Rattle.md_output.specs.declared.output.Start.{Start}
@@ -14,14 +15,15 @@ text_of heads head = drop head.from (take head.to heads)
 abbrev pub merged : List ℕ → List ℕ → ℕ → List Head → List ℕ
 merged bytes heads from [] = drop from bytes
 merged bytes heads from (head ∷ waiting) =
-    drop from (take head.place bytes) ++ (text_of heads head ++ merged bytes heads head.place waiting)
+    drop from (take head.place bytes)
+    ++ (text_of heads head ++ merged bytes heads head.place waiting)
 
 -- the texts before a start, where the outer ones start
 abbrev pub before : List ℕ → List ℕ → List Head → Start → List Start → List (List ℕ)
 before bytes heads waiting start [] = []
 before bytes heads waiting start (outer ∷ others) =
-    merged (take start.place bytes) (take start.heads heads) outer.place (drop outer.first (take start.first waiting))
-    ∷ before bytes heads waiting outer others
+    merged (take start.place bytes) (take start.heads heads) outer.place
+    (drop outer.first (take start.first waiting)) ∷ before bytes heads waiting outer others
 
 -- the texts of some bytes and heads
 abbrev pub texts_of : List ℕ → List ℕ → List Head → Start → List Start → Texts
@@ -37,24 +39,26 @@ pub record IsHead (heads : List ℕ) (head : Head) : Type 0 where
   pub from : IsUtf8 (take head.from heads)
   pub to : IsUtf8 (take head.to heads)
 
--- Places from `from` on up to a limit, in order, each between characters; and no head but an empty one is put at the
--- limit.
+-- Places from `from` on up to a limit, in order, each between characters; and no head but an empty
+-- one is put at the limit.
 abbrev pub Fit : List ℕ → List ℕ → ℕ → ℕ → List Head → Type 0
 Fit bytes heads limit from [] = (from ≤ limit) × IsUtf8 (take from bytes)
 Fit bytes heads limit from (head ∷ waiting) =
     (from ≤ head.place) × IsUtf8 (take from bytes) × IsHead heads head
     × ((head.from ≡ head.to) ⊎ (head.place < limit)) × Fit bytes heads limit head.place waiting
 
--- So in each of the texts before a start, where the texts of their heads are before those of later ones.
+-- So in each of the texts before a start, where the texts of their heads are before
+-- those of later ones.
 abbrev pub AllFit : List ℕ → List ℕ → List Head → Start → List Start → Type 0
 AllFit bytes heads waiting start [] = Unit {0}
 AllFit bytes heads waiting start (outer ∷ others) =
     (outer.first ≤ start.first) × (outer.heads ≤ start.heads) × IsUtf8 (take outer.heads heads)
-    × Fit bytes (take start.heads heads) start.place outer.place (drop outer.first (take start.first waiting))
-    × AllFit bytes heads waiting outer others
+    × Fit bytes (take start.heads heads) start.place outer.place
+    (drop outer.first (take start.first waiting)) × AllFit bytes heads waiting outer others
 
 -- and in the innermost
-pub record IsSound (bytes heads : List ℕ) (waiting : List Head) (start : Start) (outers : List Start) : Type 0 where
+pub record IsSound (bytes heads : List ℕ) (waiting : List Head) (start : Start)
+    (outers : List Start) : Type 0 where
   pub first : start.first ≤ length waiting
   pub within : start.heads ≤ length heads
   pub utf8 : IsUtf8 (take start.heads heads)
@@ -79,4 +83,5 @@ waits (head ∷ next ∷ waiting) = true
 
 -- the texts of heads, where the heads from an index on are forgotten, whose texts start at a place
 abbrev pub texts_from : ℕ → ℕ → List Head → List ℕ → List ℕ
-texts_from first place waiting heads = if nat_lt first (length waiting) then take place heads else heads
+texts_from first place waiting heads =
+    if nat_lt first (length waiting) then take place heads else heads

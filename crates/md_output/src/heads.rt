@@ -1,13 +1,14 @@
 //! Heads that wait to be put into a text.
 
-ghost use Rattle.std.specs.Prelude.{◌≡◌, ◌≤◌, ◌∷◌, ◌++◌, OnOk, OnErr, string_bytes, length, take, drop, vec_len};
+ghost use Rattle.std.specs.Prelude.{◌≡◌, ◌≤◌, ◌∷◌, ◌++◌, OnOk, OnErr, string_bytes, length, take};
+ghost use Rattle.std.specs.Prelude.{drop, vec_len};
 ghost use Rattle.std.specs.Str.{IsCharBoundary};
 ghost use Rattle.md_output.specs.Waiting.{merged, Fit, is_open, waits, without_open, texts_from};
 
 use std::alloc::AllocError;
 
-/// A head that waits: where it goes, and where its text stands among the texts of heads. An empty one keeps the place
-/// of a label that is open.
+/// A head that waits: where it goes, and where its text stands among the texts of heads. An empty
+/// one keeps the place of a label that is open.
 #[derive(Clone, Copy)]
 pub(crate) struct Head {
     pub(crate) place: usize,
@@ -15,7 +16,8 @@ pub(crate) struct Head {
     pub(crate) to: usize,
 }
 
-/// Whether one of some heads waits, or there are several: then the first may be put at once no more.
+/// Whether one of some heads waits, or there are several: then the first may be put
+/// at once no more.
 #[inline(always)]
 pub(crate) fn waits(waiting: &[Head]) -> bool
     ensures { result ≡ waits waiting.now }
@@ -37,7 +39,8 @@ fn is_open(waiting: &[Head]) -> bool
     }
 }
 
-/// Lets a head wait before those from an index on, in the place that was kept for it if there is one.
+/// Lets a head wait before those from an index on, in the place that was kept for it
+/// if there is one.
 pub(crate) fn wait_first(
     waiting: &mut Vec<Head>,
     first: usize,
@@ -61,7 +64,8 @@ pub(crate) fn wait_first(
 pub(crate) fn forget_from(heads: &mut String, waiting: &mut Vec<Head>, first: usize, place: usize)
     requires { IsCharBoundary (string_bytes heads.old) place }
     ensures items { waiting.new.items ≡ take first waiting.old.items }
-    ensures texts { string_bytes heads.new ≡ texts_from first place waiting.old.items (string_bytes heads.old) }
+    ensures texts { string_bytes heads.new
+        ≡ texts_from first place waiting.old.items (string_bytes heads.old) }
 {
     if waiting.len() > first {
         waiting.truncate(first);
@@ -82,7 +86,8 @@ pub(crate) fn push_merged(
     start: usize,
 ) -> Result<(), AllocError>
     requires { Fit text.now heads.now (length text.now) start waiting.now }
-    ensures { OnOk result (string_bytes out.new ≡ string_bytes out.old ++ merged text.now heads.now start waiting.now) }
+    ensures { OnOk result (string_bytes out.new
+        ≡ string_bytes out.old ++ merged text.now heads.now start waiting.now) }
 {
     let mut done = start;
     let mut rest = waiting;

@@ -1,6 +1,7 @@
 //! One text in which captured texts begin one after another.
 
-ghost use Rattle.std.specs.Prelude.{◌≡◌, ◌≤◌, ◌<◌, ◌∷◌, ◌++◌, [], OnOk, IfOk, true, if◌then◌else◌, length, map, string_bytes};
+ghost use Rattle.std.specs.Prelude.{◌≡◌, ◌≤◌, ◌<◌, ◌∷◌, ◌++◌, [], OnOk, IfOk, true, if◌then◌else◌};
+ghost use Rattle.std.specs.Prelude.{length, map, string_bytes};
 ghost use Rattle.md_output.specs.Texts as texts;
 ghost use Rattle.md_output.specs.Texts.{first_or, others_of};
 ghost use Rattle.md_meaning.specs.Meaning.Layout.{Needed, laid_after, begins_line};
@@ -12,13 +13,16 @@ use md_text::{push_encoded, push_sanitized, push_sanitized_with_protocols};
 use std::alloc::{AllocError, Global};
 use std::marker::Model;
 
-/// Of how many bytes of a document room is made for at once: room that grows by doubling costs little after that.
+/// Of how many bytes of a document room is made for at once: room that grows by doubling costs
+/// little after that.
 const MOST_ROOM: usize = 4096;
 
-/// A label up to this length is taken aside: to put its head in later, where all is copied, would cost more.
+/// A label up to this length is taken aside: to put its head in later, where all is copied,
+/// would cost more.
 const SHORT_LABEL: usize = 512;
 
-/// Where a text starts, which of the heads that wait is the first in it, and where their texts start.
+/// Where a text starts, which of the heads that wait is the first in it, and where
+/// their texts start.
 #[derive(Clone, Copy)]
 struct Start {
     place: usize,
@@ -35,9 +39,9 @@ const NO_START: Start = Start {
 
 /// One text, in which captured texts begin one after another.
 ///
-/// A short label is taken aside by [`Output::lift`], and put again behind its head. Before a long one, or one in which
-/// others wait, a head waits until the text is taken out, when all that wait are put in by one copy: so labels in one
-/// another cost no more than others.
+/// A short label is taken aside by [`Output::lift`], and put again behind its head. Before a long
+/// one, or one in which others wait, a head waits until the text is taken out, when all that wait
+/// are put in by one copy: so labels in one another cost no more than others.
 ///
 /// # Examples
 ///
@@ -53,7 +57,8 @@ const NO_START: Start = Start {
 #[derive(Drop)]
 pub struct Output {
     bytes: String,
-    /// The texts of heads, one after another, and the heads that wait, in the order of their places.
+    /// The texts of heads, one after another, and the heads that wait, in the order
+    /// of their places.
     heads: String,
     waiting: Vec<Head>,
     /// Where the innermost text starts, and where the ones before it do, the innermost last.
@@ -68,11 +73,11 @@ impl Model for Output {
 
     ghost Value = { texts.Texts };
 
-    ghost view = { λ o. placed.texts_of (string_bytes o.bytes) (string_bytes o.heads) o.waiting.items o.start
-        (reverse o.outers.items) };
+    ghost view = { λ o. placed.texts_of (string_bytes o.bytes) (string_bytes o.heads)
+        o.waiting.items o.start (reverse o.outers.items) };
 
-    ghost invariant = { λ o. placed.IsSound (string_bytes o.bytes) (string_bytes o.heads) o.waiting.items o.start
-        (reverse o.outers.items) };
+    ghost invariant = { λ o. placed.IsSound (string_bytes o.bytes) (string_bytes o.heads)
+        o.waiting.items o.start (reverse o.outers.items) };
 }
 
 impl Output {
@@ -118,13 +123,15 @@ impl Output {
     /// Only where memory runs out.
     #[inline(always)]
     pub fn put(&mut self, text: &str) -> Result<(), AllocError>
-        ensures { OnOk result (self.new ≡ record { text = self.old.text ++ text.now; below = self.old.below }) }
+        ensures { OnOk result
+            (self.new ≡ record { text = self.old.text ++ text.now; below = self.old.below }) }
     {
         self.bytes.push_str(text)?;
         Ok(())
     }
 
-    /// Puts a text, made safe to stand in HTML where `escaping` says so, and without NUL in any case.
+    /// Puts a text, made safe to stand in HTML where `escaping` says so, and without
+    /// NUL in any case.
     ///
     /// # Errors
     ///
@@ -140,7 +147,8 @@ impl Output {
         Ok(())
     }
 
-    /// Puts a URL, normalized and escaped. Where memory runs out no text is left, and so no beginning of a URL.
+    /// Puts a URL, normalized and escaped. Where memory runs out no text is left, and so no
+    /// beginning of a URL.
     ///
     /// # Errors
     ///
@@ -166,7 +174,8 @@ impl Output {
         }
     }
 
-    /// Puts a URL in the same way, or nothing if its protocol isn't among these. Where memory runs out no text is left.
+    /// Puts a URL in the same way, or nothing if its protocol isn't among these. Where memory runs
+    /// out no text is left.
     ///
     /// # Errors
     ///
@@ -177,7 +186,8 @@ impl Output {
         protocols: &[&str],
     ) -> Result<(), AllocError>
         ensures { OnOk result (self.new ≡ record {
-          text = self.old.text ++ sanitized_with (map (λ protocol. protocol.now) protocols.now) url.now;
+          text = self.old.text
+              ++ sanitized_with (map (λ protocol. protocol.now) protocols.now) url.now;
           below = self.old.below;
         }) }
     {
@@ -230,7 +240,8 @@ impl Output {
     /// Only where memory runs out.
     #[inline(always)]
     pub fn capture(&mut self) -> Result<(), AllocError>
-        ensures { OnOk result (self.new ≡ record { text = []; below = self.old.text ∷ self.old.below }) }
+        ensures { OnOk result
+            (self.new ≡ record { text = []; below = self.old.text ∷ self.old.below }) }
     {
         self.outers.push(self.start)?;
         self.start = Start {
@@ -241,15 +252,16 @@ impl Output {
         Ok(())
     }
 
-    /// Begins a text that a head may be put before. Before a text that [`Output::capture`] began it may be put too, at
-    /// more cost where heads wait in that.
+    /// Begins a text that a head may be put before. Before a text that [`Output::capture`] began it
+    /// may be put too, at more cost where heads wait in that.
     ///
     /// # Errors
     ///
     /// Only where memory runs out.
     #[inline(always)]
     pub fn capture_label(&mut self) -> Result<(), AllocError>
-        ensures { OnOk result (self.new ≡ record { text = []; below = self.old.text ∷ self.old.below }) }
+        ensures { OnOk result
+            (self.new ≡ record { text = []; below = self.old.text ∷ self.old.below }) }
     {
         self.capture()?;
         self.keep_place()
@@ -269,8 +281,8 @@ impl Output {
         Ok(())
     }
 
-    /// Takes the innermost text away and adds it to another, where it is short and no head waits in it; answers whether
-    /// it did.
+    /// Takes the innermost text away and adds it to another, where it is short and no head waits in
+    /// it; answers whether it did.
     ///
     /// # Errors
     ///
@@ -288,14 +300,16 @@ impl Output {
         Ok(true)
     }
 
-    /// Puts a head before the innermost text: one that isn't empty it waits before until the text is taken out.
+    /// Puts a head before the innermost text: one that isn't empty it waits before until the
+    /// text is taken out.
     ///
     /// # Errors
     ///
     /// Only where memory runs out.
     #[cold]
     pub fn put_before(&mut self, head: &str) -> Result<(), AllocError>
-        ensures { OnOk result (self.new ≡ record { text = head.now ++ self.old.text; below = self.old.below }) }
+        ensures { OnOk result
+            (self.new ≡ record { text = head.now ++ self.old.text; below = self.old.below }) }
     {
         if self.bytes.len() == self.start.place {
             return self.put(head);
@@ -319,7 +333,8 @@ impl Output {
         self.bytes.len() - self.start.place
     }
 
-    /// Whether no text is captured and the only one is longer than this, even without the heads that wait in it.
+    /// Whether no text is captured and the only one is longer than this, even without the heads
+    /// that wait in it.
     #[inline(always)]
     pub fn is_longer(&self, limit: usize) -> bool
         ensures { result ≡ true → (self.now.below ≡ []) × (limit < length self.now.text) }
@@ -367,7 +382,8 @@ impl Output {
     /// Ends the innermost text, which goes.
     #[inline(always)]
     pub fn discard(&mut self)
-        ensures { self.new ≡ record { text = first_or [] self.old.below; below = others_of self.old.below } }
+        ensures { self.new
+            ≡ record { text = first_or [] self.old.below; below = others_of self.old.below } }
     {
         self.take_away();
         self.end();

@@ -8,7 +8,8 @@ use std::test::Fail;
 /// Before a label of so many bytes a head waits.
 const LONG: usize = 600;
 
-/// Steps, and the text after them, then `|` and the texts that were moved, where `~` stands for a long text.
+/// Steps, and the text after them, then `|` and the texts that were moved, where `~` stands
+/// for a long text.
 const CASES: [(&str, &str); 10] = [
     // labels in one another: short, long, one beside another in a third
     ("(a(b2)c1)&", "1a2bc&amp;|"),

@@ -1,6 +1,7 @@
 -- One more attribute in the pieces that a test picks is one more in their tokens.
 use Rattle.std.specs.Str.{bytes_eq}
-use Rattle.std.proofs.Common.{◌≡◌, ℕ, suc, Bool, true, false, not, cond, List, [], ◌∷◌, ◌++◌, map, filter, refl, sym, ap, ◌∙◌, subst}
+use Rattle.std.proofs.Common.{◌≡◌, ℕ, suc, Bool, true, false, not, cond, List, [], ◌∷◌, ◌++◌, map}
+use Rattle.std.proofs.Common.{filter, refl, sym, ap, ◌∙◌, subst}
 use Rattle.std.specs.List.{list_all, list_any}
 use Rattle.std.specs.Cmp.Lexicographic.{bytes_decides}
 use Rattle.std.proofs.lemmas.Bool.{and_parts, and_from, or_parts, or_from, not-true, cond_both}
@@ -8,12 +9,14 @@ use Rattle.md_base.proofs.Lies.{lie}
 use Rattle.md_text.specs.Bytes.{is_one_of}
 use Rattle.md_text.specs.References.{is_escaped}
 use Rattle.md_text.specs.Html.{Attribute}
-use Rattle.md_safe.specs.Token.{Token, Character, StartTag, EndTag, EndOfFile, Doctype, TokenAttribute}
+use Rattle.md_safe.specs.Token.{Token, Character, StartTag, EndTag, EndOfFile, Doctype}
+use Rattle.md_safe.specs.Token.{TokenAttribute}
 use Rattle.md_safe.specs.Tokens.{seen, seen_attributes, is_listed}
 use Rattle.md_safe.specs.SafeTokens.{attributes_pass}
 use Rattle.md_page.specs.Added.{with_attribute, added}
 use Rattle.md_page.specs.Attributed.{is_addition, is_listed_beside}
-use Rattle.md_page.specs.Pieces.{Piece, Words, Opening, Single, Closing, all_tokens, are_sound, are_plain, is_name, is_tag_name, void_names, begins_with_words}
+use Rattle.md_page.specs.Pieces.{Piece, Words, Opening, Single, Closing, all_tokens, are_sound}
+use Rattle.md_page.specs.Pieces.{are_plain, is_name, is_tag_name, void_names, begins_with_words}
 
 -- an attribute as a tokenizer sees it
 abbrev pub seen_attribute : Attribute → TokenAttribute
@@ -41,30 +44,36 @@ pub record PicksElements (test : Token → Bool) : Type 0 where
 pub record MayAdd (test : Token → Bool) (new : ℕ → Attribute) : Type 0 where
   pub named : (n : ℕ) → is_name (new n).name ≡ true
   pub escaped : (n : ℕ) → is_escaped (new n).value ≡ true
-  pub fresh : (n : ℕ) (name : List ℕ) (x : List Attribute) → test (StartTag name (seen_attributes x) false) ≡ true →
+  pub fresh : (n : ℕ) (name : List ℕ) (x : List Attribute) →
+      test (StartTag name (seen_attributes x) false) ≡ true →
       list_any (λ a. bytes_eq (new n).name a.name) x ≡ false
 
 -- ---- tokens
 
-seen-append : (x y : List Attribute) → seen_attributes (x ++ y) ≡ seen_attributes x ++ seen_attributes y
+seen-append : (x y : List Attribute) →
+    seen_attributes (x ++ y) ≡ seen_attributes x ++ seen_attributes y
 seen-append [] y = refl
 seen-append (a ∷ x) y = ap (λ z. seen_attribute a ∷ z) (seen-append x y)
 
 -- a token that doesn't pass stays
-added-other : (test : Token → Bool) (attribute : ℕ → TokenAttribute) (n : ℕ) (t : Token) (ts : List Token) →
+added-other :
+    (test : Token → Bool) (attribute : ℕ → TokenAttribute) (n : ℕ) (t : Token) (ts : List Token) →
     test t ≡ false → added test attribute n (t ∷ ts) ≡ t ∷ added test attribute n ts
 added-other test attribute n t ts e =
     ap (λ b. cond b (with_attribute t (attribute n) ∷ added test attribute (suc n) ts)
     (t ∷ added test attribute n ts)) e
 
-added-characters : (test : Token → Bool) (attribute : ℕ → TokenAttribute) (n : ℕ) (x : List ℕ) (ts : List Token) →
-    PicksElements test → added test attribute n (map Character x ++ ts) ≡ map Character x ++ added test attribute n ts
+added-characters :
+    (test : Token → Bool) (attribute : ℕ → TokenAttribute) (n : ℕ) (x : List ℕ) (ts : List Token) →
+    PicksElements test →
+    added test attribute n (map Character x ++ ts) ≡ map Character x ++ added test attribute n ts
 added-characters test attribute n [] ts p = refl
 added-characters test attribute n (b ∷ x) ts p =
     added-other test attribute n (Character b) (map Character x ++ ts) (p.characters b)
     ∙ ap (λ y. Character b ∷ y) (added-characters test attribute n x ts p)
 
-pub changed-tokens : (test : Token → Bool) (new : ℕ → Attribute) (n : ℕ) (x : List Piece) → PicksElements test →
+pub changed-tokens : (test : Token → Bool) (new : ℕ → Attribute) (n : ℕ) (x : List Piece) →
+    PicksElements test →
     are_sound x ≡ true →
     all_tokens (changed test new n x) ≡ added test (λ k. seen_attribute (new k)) n (all_tokens x)
 changed-tokens test new n [] p h =
@@ -86,11 +95,12 @@ changed-tokens test new n (Opening name x ∷ more) p h =
     by : (b : Bool) → all_tokens (changed test new (suc n) more) ≡ go (suc n) →
         all_tokens (changed test new n more) ≡ go n →
         all_tokens (cond b (Opening name (x ++ (new n ∷ [])) ∷ changed test new (suc n) more)
-        (Opening name x ∷ changed test new n more))
-        ≡ cond b (StartTag name (seen_attributes x ++ (seen_attribute (new n) ∷ [])) false ∷ go (suc n))
+        (Opening name x ∷ changed test new n more)) ≡ cond b
+        (StartTag name (seen_attributes x ++ (seen_attribute (new n) ∷ [])) false ∷ go (suc n))
         (StartTag name (seen_attributes x) false ∷ go n)
     by true e f =
-        ap (λ a. StartTag name a false ∷ all_tokens (changed test new (suc n) more)) (seen-append x (new n ∷ []))
+        ap (λ a. StartTag name a false ∷ all_tokens (changed test new (suc n) more))
+        (seen-append x (new n ∷ []))
         ∙ ap (λ y. StartTag name (seen_attributes x ++ (seen_attribute (new n) ∷ [])) false ∷ y) e
     by false e f = ap (λ y. StartTag name (seen_attributes x) false ∷ y) f
 changed-tokens test new n (Single name x ∷ more) p h =
@@ -103,7 +113,8 @@ changed-tokens test new n (Single name x ∷ more) p h =
 changed-tokens test new n (Closing name ∷ more) p h =
     let q = and_parts (is_tag_name name) (are_sound more) h in
     ap (λ y. EndTag name ∷ y) (changed-tokens test new n more p q.1)
-    ∙ sym (added-other test (λ k. seen_attribute (new k)) n (EndTag name) (all_tokens more) (p.ends name))
+    ∙ sym (added-other test (λ k. seen_attribute (new k)) n (EndTag name)
+    (all_tokens more) (p.ends name))
 
 -- ---- soundness
 
@@ -114,7 +125,8 @@ bytes_eq-back x y e = by (bytes_eq y x) refl
     by true f = lie (sym e ∙ (bytes_decides x y).1 (sym ((bytes_decides y x).0 f)))
     by false f = refl
 
-none-append : (p : Attribute → Bool) (x : List Attribute) (a : Attribute) → list_any p x ≡ false → p a ≡ false →
+none-append : (p : Attribute → Bool) (x : List Attribute) (a : Attribute) →
+    list_any p x ≡ false → p a ≡ false →
     list_any p (x ++ (a ∷ [])) ≡ false
 none-append p [] a h k = or_from (p a) false k refl
 none-append p (b ∷ x) a h k =
@@ -122,7 +134,8 @@ none-append p (b ∷ x) a h k =
     or_from (p b) (list_any p (x ++ (a ∷ []))) q.0 (none-append p x a q.1 k)
 
 plain-more : (x : List Attribute) (a : Attribute) → are_plain x ≡ true → is_name a.name ≡ true →
-    is_escaped a.value ≡ true → list_any (λ b. bytes_eq a.name b.name) x ≡ false → are_plain (x ++ (a ∷ [])) ≡ true
+    is_escaped a.value ≡ true → list_any (λ b. bytes_eq a.name b.name) x ≡ false →
+    are_plain (x ++ (a ∷ [])) ≡ true
 plain-more [] a h named escaped fresh =
     and_from (is_name a.name) _ named (and_from (is_escaped a.value) true escaped refl)
 plain-more (b ∷ x) a h named escaped fresh =
@@ -133,9 +146,9 @@ plain-more (b ∷ x) a h named escaped fresh =
     let f = or_parts (bytes_eq a.name b.name) (list_any (λ b. bytes_eq a.name b.name) x) fresh in
     and_from (is_name b.name) _ p.0
     (and_from (is_escaped b.value) _ q.0
-    (and_from (not (list_any (λ later. bytes_eq b.name later.name) (x ++ (a ∷ [])))) (are_plain (x ++ (a ∷ [])))
-    (ap not (none-append (λ later. bytes_eq b.name later.name) x a (not-true _ r.0) (bytes_eq-back a.name b.name f.0)))
-    (plain-more x a r.1 named escaped f.1)))
+    (and_from (not (list_any (λ later. bytes_eq b.name later.name) (x ++ (a ∷ []))))
+    (are_plain (x ++ (a ∷ []))) (ap not (none-append (λ later. bytes_eq b.name later.name) x a
+    (not-true _ r.0) (bytes_eq-back a.name b.name f.0))) (plain-more x a r.1 named escaped f.1)))
 
 changed-words : (test : Token → Bool) (new : ℕ → Attribute) (n : ℕ) (x : List Piece) →
     begins_with_words (changed test new n x) ≡ begins_with_words x
@@ -148,14 +161,16 @@ changed-words test new n (Opening name x ∷ more) =
 changed-words test new n (Single name x ∷ more) = refl
 changed-words test new n (Closing name ∷ more) = refl
 
-pub changed-sound : (test : Token → Bool) (new : ℕ → Attribute) (n : ℕ) (x : List Piece) → MayAdd test new →
+pub changed-sound : (test : Token → Bool) (new : ℕ → Attribute) (n : ℕ) (x : List Piece) →
+    MayAdd test new →
     are_sound x ≡ true → are_sound (changed test new n x) ≡ true
 changed-sound test new n [] m h = refl
 changed-sound test new n (Words text ∷ more) m h =
     let q = and_parts (is_escaped text) _ h in
     let r = and_parts (not (begins_with_words more)) (are_sound more) q.1 in
     and_from (is_escaped text) _ q.0
-    (and_from (not (begins_with_words (changed test new n more))) (are_sound (changed test new n more))
+    (and_from (not (begins_with_words (changed test new n more)))
+    (are_sound (changed test new n more))
     (ap not (changed-words test new n more) ∙ r.0) (changed-sound test new n more m r.1))
 changed-sound test new n (Opening name x ∷ more) m h =
     let q = and_parts (is_tag_name name) _ h in
@@ -167,16 +182,18 @@ changed-sound test new n (Opening name x ∷ more) m h =
     (and_from (are_plain (x ++ (new n ∷ []))) (are_sound (changed test new (suc n) more))
     (plain-more x (new n) r.0 (m.named n) (m.escaped n) (m.fresh n name x passes))
     (changed-sound test new (suc n) more m r.1)))
-    (λ _. and_from (is_tag_name name) _ q.0
-    (and_from (are_plain x) (are_sound (changed test new n more)) r.0 (changed-sound test new n more m r.1)))
+    (λ _. and_from (is_tag_name name) _ q.0 (and_from (are_plain x)
+    (are_sound (changed test new n more)) r.0 (changed-sound test new n more m r.1)))
 changed-sound test new n (Single name x ∷ more) m h =
     let q = and_parts (is_one_of void_names name) _ h in
     let r = and_parts (are_plain x) (are_sound more) q.1 in
     and_from (is_one_of void_names name) _ q.0
-    (and_from (are_plain x) (are_sound (changed test new n more)) r.0 (changed-sound test new n more m r.1))
+    (and_from (are_plain x) (are_sound (changed test new n more)) r.0
+    (changed-sound test new n more m r.1))
 changed-sound test new n (Closing name ∷ more) m h =
     let q = and_parts (is_tag_name name) (are_sound more) h in
-    and_from (is_tag_name name) (are_sound (changed test new n more)) q.0 (changed-sound test new n more m q.1)
+    and_from (is_tag_name name) (are_sound (changed test new n more)) q.0
+    (changed-sound test new n more m q.1)
 
 -- ---- tests of tokens
 
@@ -189,11 +206,14 @@ added-all p test attribute n (t ∷ x) f h =
     let q = and_parts (p t) (list_all p x) h in
     cond_both (test t) (with_attribute t (attribute n) ∷ added test attribute (suc n) x)
     (t ∷ added test attribute n x) (λ y. list_all p y ≡ true)
-    (λ passes. and_from (p (with_attribute t (attribute n))) (list_all p (added test attribute (suc n) x))
+    (λ passes. and_from (p (with_attribute t (attribute n)))
+    (list_all p (added test attribute (suc n) x))
     (f n t passes q.0) (added-all p test attribute (suc n) x f q.1))
-    (λ _. and_from (p t) (list_all p (added test attribute n x)) q.0 (added-all p test attribute n x f q.1))
+    (λ _. and_from (p t) (list_all p (added test attribute n x)) q.0
+    (added-all p test attribute n x f q.1))
 
-all-more : (q : TokenAttribute → Bool) (x : List TokenAttribute) (a : TokenAttribute) → list_all q x ≡ true →
+all-more : (q : TokenAttribute → Bool) (x : List TokenAttribute) (a : TokenAttribute) →
+    list_all q x ≡ true →
     q a ≡ true → list_all q (x ++ (a ∷ [])) ≡ true
 all-more q [] a h k = and_from (q a) true k refl
 all-more q (b ∷ x) a h k =
@@ -210,7 +230,8 @@ passes-more q (EndTag name) a k h = refl
 passes-more q EndOfFile a k h = refl
 
 -- one more attribute that is left out
-filter-more : (keep : TokenAttribute → Bool) (x : List TokenAttribute) (a : TokenAttribute) → keep a ≡ false →
+filter-more : (keep : TokenAttribute → Bool) (x : List TokenAttribute) (a : TokenAttribute) →
+    keep a ≡ false →
     filter keep (x ++ (a ∷ [])) ≡ filter keep x
 filter-more keep [] a k = ap (λ b. cond b (a ∷ []) []) k
 filter-more keep (b ∷ x) a k =
@@ -220,7 +241,8 @@ filter-more keep (b ∷ x) a k =
 abbrev pub is_addition_to : Token → TokenAttribute → Bool
 is_addition_to token a = elim token [ StartTag name x flag ↦ is_addition name a | _ ↦ true ]
 
-pub listed-more : (t : Token) (a : TokenAttribute) → is_addition_to t a ≡ true → is_listed_beside t ≡ true →
+pub listed-more : (t : Token) (a : TokenAttribute) → is_addition_to t a ≡ true →
+    is_listed_beside t ≡ true →
     is_listed_beside (with_attribute t a) ≡ true
 listed-more (Doctype name) a k h = h
 listed-more (Character b) a k h = h

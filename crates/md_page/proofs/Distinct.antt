@@ -1,7 +1,9 @@
 -- The ids that headings get are distinct, and none of them was there before.
 use Rattle.std.specs.Str.{bytes_eq}
 use Rattle.std.specs.Prelude.{nat_eq}
-use Rattle.std.proofs.Common.{◌≡◌, ℕ, ◌+◌, ◌≤◌, ◌<◌, ◌^◌, suc, Bool, true, false, not, ◌||◌, cond, List, [], ◌∷◌, ◌++◌, length, refl, sym, ap, ◌∙◌, codes, eq-eqb, inl, inr, arith}
+use Rattle.std.proofs.Common.{◌≡◌, ℕ, ◌+◌, ◌≤◌, ◌<◌, ◌^◌, suc, Bool, true, false, not, ◌||◌, cond}
+use Rattle.std.proofs.Common.{List, [], ◌∷◌, ◌++◌, length, refl, sym, ap, ◌∙◌, codes, eq-eqb, inl}
+use Rattle.std.proofs.Common.{inr, arith}
 use Rattle.std.specs.List.{list_all, list_any, starts_with}
 use Rattle.std.specs.Fmt.{decimal}
 use Rattle.std.specs.Cmp.Lexicographic.{bytes_decides}
@@ -11,8 +13,10 @@ use Rattle.std.proofs.lemmas.List.{append_cancel_left}
 use Rattle.md_base.proofs.Lies.{lie}
 use Rattle.md_text.specs.Bytes.{is_one_of}
 use Rattle.md_text.specs.Ids.{are_distinct}
-use Rattle.md_safe.specs.Token.{Token, TokenAttribute, Doctype, Character, StartTag, EndTag, EndOfFile}
-use Rattle.md_page.specs.Added.{added, with_attribute, has_attribute, gets_id, heading_names, shown, id_of, with_heading_ids, heading_of, headings_after, headings_of}
+use Rattle.md_safe.specs.Token.{Token, TokenAttribute, Doctype, Character, StartTag, EndTag}
+use Rattle.md_safe.specs.Token.{EndOfFile}
+use Rattle.md_page.specs.Added.{added, with_attribute, has_attribute, gets_id, heading_names, shown}
+use Rattle.md_page.specs.Added.{id_of, with_heading_ids, heading_of, headings_after, headings_of}
 use Rattle.md_page.specs.Ids.{ids_in, ids_at, ids_among, none_begins}
 
 -- a text among some
@@ -41,7 +45,8 @@ all-parts p (x ∷ xs) ys h =
 begins-itself : (prefix more : List ℕ) → starts_with nat_eq (prefix ++ more) prefix ≡ true
 begins-itself [] more = refl
 begins-itself (b ∷ prefix) more =
-    and_from (nat_eq b b) (starts_with nat_eq (prefix ++ more) prefix) (eq-eqb b b refl) (begins-itself prefix more)
+    and_from (nat_eq b b) (starts_with nat_eq (prefix ++ more) prefix) (eq-eqb b b refl)
+    (begins-itself prefix more)
 
 -- what doesn't begin so isn't one that does
 other_than : (prefix w more : List ℕ) → not (starts_with nat_eq w prefix) ≡ true →
@@ -92,7 +97,8 @@ new-ids prefix n (Character b) h = lie h
 new-ids prefix n (StartTag name x flag) h =
     let p = and_parts (is_one_of heading_names name) (not (has_attribute (codes "id") x)) h in
     ids-more x (id_of prefix n) refl
-    ∙ ap (λ y. y ++ ((shown prefix ++ decimal (suc n)) ∷ [])) (no-ids x (not-true (has_attribute (codes "id") x) p.1))
+    ∙ ap (λ y. y ++ ((shown prefix ++ decimal (suc n)) ∷ []))
+    (no-ids x (not-true (has_attribute (codes "id") x) p.1))
 new-ids prefix n (EndTag name) h = lie h
 new-ids prefix n EndOfFile h = lie h
 
@@ -104,10 +110,12 @@ begins-out : (prefix more : List ℕ) (xs : List (List ℕ)) → none_begins pre
 begins-out prefix more [] h = refl
 begins-out prefix more (x ∷ xs) h =
     let p = and_parts (not (starts_with nat_eq x prefix)) (none_begins prefix xs) h in
-    or_from (bytes_eq x (prefix ++ more)) (is_in (prefix ++ more) xs) (by (bytes_eq x (prefix ++ more)) refl p.0)
+    or_from (bytes_eq x (prefix ++ more)) (is_in (prefix ++ more) xs)
+    (by (bytes_eq x (prefix ++ more)) refl p.0)
     (begins-out prefix more xs p.1)
   where
-    by : (b : Bool) → bytes_eq x (prefix ++ more) ≡ b → not (starts_with nat_eq x prefix) ≡ true → b ≡ false
+    by : (b : Bool) → bytes_eq x (prefix ++ more) ≡ b →
+        not (starts_with nat_eq x prefix) ≡ true → b ≡ false
     by true e other =
         lie (sym (not-true (starts_with nat_eq x prefix) other)
         ∙ ap (λ w. starts_with nat_eq w prefix) ((bytes_decides x (prefix ++ more)).0 e)
@@ -122,15 +130,15 @@ ids_then prefix n x = ids_among (added gets_id (id_of prefix) n x)
 then-picked : (prefix : List ℕ) (n : ℕ) (t : Token) (x : List Token) → gets_id t ≡ true →
     ids_then prefix n (t ∷ x) ≡ (shown prefix ++ decimal (suc n)) ∷ ids_then prefix (suc n) x
 then-picked prefix n t x h =
-    ap (λ b. ids_among (cond b (with_attribute t (id_of prefix n) ∷ added gets_id (id_of prefix) (suc n) x)
-    (t ∷ added gets_id (id_of prefix) n x))) h
+    ap (λ b. ids_among (cond b (with_attribute t (id_of prefix n)
+    ∷ added gets_id (id_of prefix) (suc n) x) (t ∷ added gets_id (id_of prefix) n x))) h
     ∙ ap (λ y. y ++ ids_then prefix (suc n) x) (new-ids prefix n t h)
 
 then-passed : (prefix : List ℕ) (n : ℕ) (t : Token) (x : List Token) → gets_id t ≡ false →
     ids_then prefix n (t ∷ x) ≡ ids_at t ++ ids_then prefix n x
 then-passed prefix n t x h =
-    ap (λ b. ids_among (cond b (with_attribute t (id_of prefix n) ∷ added gets_id (id_of prefix) (suc n) x)
-    (t ∷ added gets_id (id_of prefix) n x))) h
+    ap (λ b. ids_among (cond b (with_attribute t (id_of prefix n)
+    ∷ added gets_id (id_of prefix) (suc n) x) (t ∷ added gets_id (id_of prefix) n x))) h
 
 -- how many headings come after so many
 count-picked : (n : ℕ) (t : Token) (x : List Token) → gets_id t ≡ true →
@@ -144,39 +152,47 @@ count-passed n t x h =
     ap (λ b. length (cond b (heading_of n t x ∷ headings_after (suc n) x) (headings_after n x))) h
 
 -- what wasn't there and doesn't begin with the prefix isn't there
-old-out : (prefix w : List ℕ) (n : ℕ) (x : List Token) → not (starts_with nat_eq w (shown prefix)) ≡ true →
+old-out : (prefix w : List ℕ) (n : ℕ) (x : List Token) →
+    not (starts_with nat_eq w (shown prefix)) ≡ true →
     is_in w (ids_among x) ≡ false → is_in w (ids_then prefix n x) ≡ false
 old-out prefix w n [] other h = refl
 old-out prefix w n (t ∷ x) other h =
-    let p = or_parts (is_in w (ids_at t)) (is_in w (ids_among x)) (sym (in-append w (ids_at t) (ids_among x)) ∙ h) in
+    let p = or_parts (is_in w (ids_at t)) (is_in w (ids_among x))
+    (sym (in-append w (ids_at t) (ids_among x)) ∙ h) in
     elim (cases_Bool (gets_id t)) [
       | inl yes_it ↦
           ap (is_in w) (then-picked prefix n t x yes_it)
-          ∙ or_from (bytes_eq (shown prefix ++ decimal (suc n)) w) (is_in w (ids_then prefix (suc n) x))
-          (other_than (shown prefix) w (decimal (suc n)) other) (old-out prefix w (suc n) x other p.1)
+          ∙ or_from (bytes_eq (shown prefix ++ decimal (suc n)) w) (is_in w
+          (ids_then prefix (suc n) x)) (other_than (shown prefix) w (decimal (suc n)) other)
+          (old-out prefix w (suc n) x other p.1)
       | inr no_it ↦
           ap (is_in w) (then-passed prefix n t x no_it)
-          ∙ in-append w (ids_at t) (ids_then prefix n x)
-          ∙ or_from (is_in w (ids_at t)) (is_in w (ids_then prefix n x)) p.0 (old-out prefix w n x other p.1)
+          ∙ in-append w (ids_at t) (ids_then prefix n x) ∙ or_from (is_in w (ids_at t))
+          (is_in w (ids_then prefix n x)) p.0 (old-out prefix w n x other p.1)
     ]
 
 -- a number that was given before isn't given again
-new-out : (prefix : List ℕ) (k n : ℕ) (x : List Token) → none_begins (shown prefix) (ids_among x) ≡ true → k ≤ n →
-    n + length (headings_after n x) < 2 ^ 64 → is_in (shown prefix ++ decimal k) (ids_then prefix n x) ≡ false
+new-out : (prefix : List ℕ) (k n : ℕ) (x : List Token) →
+    none_begins (shown prefix) (ids_among x) ≡ true → k ≤ n →
+    n + length (headings_after n x) < 2 ^ 64 →
+    is_in (shown prefix ++ decimal k) (ids_then prefix n x) ≡ false
 new-out prefix k n [] h l few = refl
 new-out prefix k n (t ∷ x) h l few =
     let w = shown prefix ++ decimal k in
-    let p = all-parts (λ id. not (starts_with nat_eq id (shown prefix))) (ids_at t) (ids_among x) h in
+    let p =
+    all-parts (λ id. not (starts_with nat_eq id (shown prefix))) (ids_at t) (ids_among x) h in
     elim (cases_Bool (gets_id t)) [
       | inl yes_it ↦ (let c = count-picked n t x yes_it in
           ap (is_in w) (then-picked prefix n t x yes_it)
-          ∙ or_from (bytes_eq (shown prefix ++ decimal (suc n)) w) (is_in w (ids_then prefix (suc n) x))
-          (other_number (shown prefix) (suc n) k (omega (arith, c, few)) (omega (arith, c, few)) (λ e. omega (arith, e)))
+          ∙ or_from (bytes_eq (shown prefix ++ decimal (suc n)) w)
+          (is_in w (ids_then prefix (suc n) x)) (other_number (shown prefix) (suc n) k
+          (omega (arith, c, few)) (omega (arith, c, few)) (λ e. omega (arith, e)))
           (new-out prefix k (suc n) x p.1 (omega arith) (omega (arith, c, few))))
       | inr no_it ↦ (let c = count-passed n t x no_it in
           ap (is_in w) (then-passed prefix n t x no_it)
           ∙ in-append w (ids_at t) (ids_then prefix n x)
-          ∙ or_from (is_in w (ids_at t)) (is_in w (ids_then prefix n x)) (begins-out (shown prefix) (decimal k) (ids_at t) p.0)
+          ∙ or_from (is_in w (ids_at t)) (is_in w (ids_then prefix n x))
+          (begins-out (shown prefix) (decimal k) (ids_at t) p.0)
           (new-out prefix k n x p.1 l (omega (arith, c, few))))
     ]
 
@@ -188,23 +204,27 @@ distinct-later (x ∷ xs) ys h =
     distinct-later xs ys (and_parts (not (is_in x (xs ++ ys))) (are_distinct (xs ++ ys)) h).1
 
 distinct-front : (prefix : List ℕ) (xs ys zs : List (List ℕ)) → none_begins prefix xs ≡ true →
-    ((w : List ℕ) → not (starts_with nat_eq w prefix) ≡ true → is_in w ys ≡ false → is_in w zs ≡ false) →
+    ((w : List ℕ) → not (starts_with nat_eq w prefix) ≡ true → is_in w ys ≡ false →
+    is_in w zs ≡ false) →
     are_distinct zs ≡ true → are_distinct (xs ++ ys) ≡ true → are_distinct (xs ++ zs) ≡ true
 distinct-front prefix [] ys zs n f d h = d
 distinct-front prefix (x ∷ xs) ys zs n f d h =
     let p = and_parts (not (starts_with nat_eq x prefix)) (none_begins prefix xs) n in
     let q = and_parts (not (is_in x (xs ++ ys))) (are_distinct (xs ++ ys)) h in
-    let r = or_parts (is_in x xs) (is_in x ys) (sym (in-append x xs ys) ∙ not-true (is_in x (xs ++ ys)) q.0) in
+    let r = or_parts (is_in x xs) (is_in x ys)
+    (sym (in-append x xs ys) ∙ not-true (is_in x (xs ++ ys)) q.0) in
     and_from (not (is_in x (xs ++ zs))) (are_distinct (xs ++ zs))
     (ap not (in-append x xs zs ∙ or_from (is_in x xs) (is_in x zs) r.0 (f x p.0 r.1)))
     (distinct-front prefix xs ys zs p.1 f d q.1)
 
-distinct-then : (prefix : List ℕ) (n : ℕ) (x : List Token) → none_begins (shown prefix) (ids_among x) ≡ true →
+distinct-then : (prefix : List ℕ) (n : ℕ) (x : List Token) →
+    none_begins (shown prefix) (ids_among x) ≡ true →
     n + length (headings_after n x) < 2 ^ 64 → are_distinct (ids_among x) ≡ true →
     are_distinct (ids_then prefix n x) ≡ true
 distinct-then prefix n [] h few d = refl
 distinct-then prefix n (t ∷ x) h few d =
-    let p = all-parts (λ id. not (starts_with nat_eq id (shown prefix))) (ids_at t) (ids_among x) h in
+    let p =
+    all-parts (λ id. not (starts_with nat_eq id (shown prefix))) (ids_at t) (ids_among x) h in
     let later = distinct-later (ids_at t) (ids_among x) d in
     elim (cases_Bool (gets_id t)) [
       | inl yes_it ↦ (let c = count-picked n t x yes_it in

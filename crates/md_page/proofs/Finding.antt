@@ -1,5 +1,7 @@
 -- A scan up to the first tag that is picked, and past it, by places.
-use Rattle.std.proofs.Common.{◌≡◌, ℕ, ◌+◌, ◌-◌, suc, Bool, true, false, List, [], ◌∷◌, ◌++◌, length, take, drop, refl, sym, ap, ◌∙◌, subst, append_assoc, slice_range, add-one, arith}
+use Rattle.std.proofs.Common.{◌≡◌, ℕ, ◌+◌, ◌-◌, suc, Bool, true, false, List, [], ◌∷◌, ◌++◌, length}
+use Rattle.std.proofs.Common.{take, drop, refl, sym, ap, ◌∙◌, subst, append_assoc, slice_range}
+use Rattle.std.proofs.Common.{add-one, arith}
 use Rattle.std.specs.List.{list_all}
 use Rattle.std.proofs.lemmas.List.{take_rest, drop-drop, drop_more, take-append-drop}
 use Rattle.std.proofs.Math.Seq.{take-add}
@@ -14,8 +16,10 @@ pub from_place : (byte : ℕ) (text : List ℕ) (at run : ℕ) →
 from_place byte text at run h = subst (λ x. IsFirstOf byte x run) (take_rest text at) h
 
 -- into the first tag that is picked
-into : (picks : List ℕ → Bool) (add : ℕ → List ℕ) (n : ℕ) (text : List ℕ) (at : ℕ) → IsTagAt picks text at →
-    scanned picks add false n text ≡ take (at + 1) text ++ scanned picks add true n (drop (at + 1) text)
+into : (picks : List ℕ → Bool) (add : ℕ → List ℕ) (n : ℕ) (text : List ℕ) (at : ℕ) →
+    IsTagAt picks text at →
+    scanned picks add false n text
+    ≡ take (at + 1) text ++ scanned picks add true n (drop (at + 1) text)
 into picks add n text at h =
     let tag = drop (suc at) text in
     clear-scanned picks add n at text h.before
@@ -34,21 +38,26 @@ to_end picks add n text at end h =
     let tag = drop at text in
     let later = scanned picks add false (suc n) (drop (end + 1) tag) in
     ap (λ x. take at text ++ scanned picks add true n x) (around 62 tag end h)
-    ∙ ap (λ x. take at text ++ x) (scanned-inside picks add n (take end tag) (drop (end + 1) tag) h.before)
+    ∙ ap (λ x. take at text ++ x)
+    (scanned-inside picks add n (take end tag) (drop (end + 1) tag) h.before)
     ∙ sym (append_assoc (take at text) (take end tag) (add n ++ (62 ∷ later)))
     ∙ ap (λ x. x ++ (add n ++ (62 ∷ later))) (sym (take-add at end text))
     ∙ ap (λ x. take (at + end) text ++ (add n ++ scanned picks add false (suc n) x))
-    (sym (ap (λ b. b ∷ drop (end + 1) tag) h.is) ∙ sym (drop_more tag end 0 h.within) ∙ drop-drop end at text)
+    (sym (ap (λ b. b ∷ drop (end + 1) tag) h.is) ∙ sym (drop_more tag end 0 h.within)
+    ∙ drop-drop end at text)
 
 -- up to the end of the first tag that is picked
-pub picked : (picks : List ℕ → Bool) (add : ℕ → List ℕ) (n : ℕ) (text : List ℕ) (at end : ℕ) → IsTagAt picks text at →
+pub picked : (picks : List ℕ → Bool) (add : ℕ → List ℕ) (n : ℕ) (text : List ℕ) (at end : ℕ) →
+    IsTagAt picks text at →
     IsFirstOf 62 (drop (at + 1) text) end →
-    scanned picks add false n text
-    ≡ take (at + 1 + end) text ++ (add n ++ scanned picks add false (suc n) (drop (at + 1 + end) text))
-picked picks add n text at end h ends = into picks add n text at h ∙ to_end picks add n text (at + 1) end ends
+    scanned picks add false n text ≡ take (at + 1 + end) text
+    ++ (add n ++ scanned picks add false (suc n) (drop (at + 1 + end) text))
+picked picks add n text at end h ends =
+    into picks add n text at h ∙ to_end picks add n text (at + 1) end ends
 
 -- a tag that is picked and never ends
-pub unended : (picks : List ℕ → Bool) (add : ℕ → List ℕ) (n : ℕ) (text : List ℕ) (at : ℕ) → IsTagAt picks text at →
+pub unended : (picks : List ℕ → Bool) (add : ℕ → List ℕ) (n : ℕ) (text : List ℕ) (at : ℕ) →
+    IsTagAt picks text at →
     list_all (differs 62) (drop (at + 1) text) ≡ true → scanned picks add false n text ≡ text
 unended picks add n text at h none =
     into picks add n text at h
@@ -78,11 +87,15 @@ from_start bytes n = ap (λ m. take m bytes) (whole n)
 
 -- what is written, and after it what becomes of the rest, stays the whole
 pub turned : (picks : List ℕ → Bool) (add : ℕ → List ℕ) (n : ℕ) (rest : List ℕ) (end : ℕ)
-    (out out' out'' front attribute rest' whole : List ℕ) → out' ≡ out ++ front → front ≡ take end rest →
+    (out out' out'' front attribute rest' whole : List ℕ) → out' ≡ out ++ front →
+    front ≡ take end rest →
     out'' ≡ out' ++ attribute → attribute ≡ add n → rest' ≡ drop end rest →
-    scanned picks add false n rest ≡ take end rest ++ (add n ++ scanned picks add false (suc n) (drop end rest)) →
-    out ++ scanned picks add false n rest ≡ whole → out'' ++ scanned picks add false (suc n) rest' ≡ whole
-turned picks add n rest end out out' out'' front attribute rest' whole first fronted second added later scan all =
+    scanned picks add false n rest
+    ≡ take end rest ++ (add n ++ scanned picks add false (suc n) (drop end rest)) →
+    out ++ scanned picks add false n rest ≡ whole →
+    out'' ++ scanned picks add false (suc n) rest' ≡ whole
+turned picks add n rest end out out' out'' front attribute rest' whole first fronted second
+    added later scan all =
     let on = scanned picks add false (suc n) (drop end rest) in
     ap (λ x. out'' ++ scanned picks add false (suc n) x) later
     ∙ ap (λ x. x ++ on) (second ∙ ap (λ x. x ++ attribute) (first ∙ ap (λ x. out ++ x) fronted)

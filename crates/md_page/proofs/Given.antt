@@ -1,5 +1,6 @@
 -- The page around a title and a safe text.
-use Rattle.std.proofs.Common.{◌≡◌, ℕ, true, false, ◌&&◌, List, [], ◌∷◌, ◌++◌, refl, sym, ap, ◌∙◌, subst}
+use Rattle.std.proofs.Common.{◌≡◌, ℕ, true, false, ◌&&◌, List, [], ◌∷◌, ◌++◌, refl, sym, ap, ◌∙◌}
+use Rattle.std.proofs.Common.{subst}
 use Rattle.std.specs.List.{list_all}
 use Rattle.std.proofs.lemmas.Bool.{and_from}
 use Rattle.std.proofs.lemmas.List.{append-nil}
@@ -34,9 +35,11 @@ titled_by-written (b ∷ rest) = append-nil (b ∷ rest)
 titled_by-title : (text : List ℕ) → is_escaped text ≡ true → is_title (titled_by text) ≡ true
 titled_by-title [] e = refl
 titled_by-title (b ∷ rest) e =
-    and_from (is_escaped (b ∷ rest) && true) true (and_from (is_escaped (b ∷ rest)) true e refl) refl
+    and_from (is_escaped (b ∷ rest) && true) true
+    (and_from (is_escaped (b ∷ rest)) true e refl) refl
 
-pub page_given : (title body text : List ℕ) → text ≡ page_text title body → IsSafe body → IsPageOf title body text
+pub page_given : (title body text : List ℕ) → text ≡ page_text title body → IsSafe body →
+    IsPageOf title body text
 page_given title body text e safe =
     let escaped = encoded true title in
     let head = titled_by escaped in
@@ -56,7 +59,8 @@ page_given title body text e safe =
       head = head;
       inside = inside;
       page = page;
-      only = λ other_head other_inside other. one_page text other_head other_inside head inside other page;
+      only = λ other_head other_inside other.
+          one_page text other_head other_inside head inside other page;
       titled = ap read_back (titled_by-written escaped) ∙ read_back-encoded title;
       reading = safe.safe_links.reading;
       safe_links = safe.safe_links.passes;
@@ -77,7 +81,8 @@ page_emitted title body text e safe =
     (page-tokenized escaped body (is_escaped-encoded title) safe.safe_links safe.safe_images))
 
 -- and the document is built of it, where the body's text is built as it is read
-pub page_constructed : (title body text : List ℕ) → text ≡ page_text title body → IsSafe body → IsBuiltAsRead body →
+pub page_constructed : (title body text : List ℕ) → text ≡ page_text title body → IsSafe body →
+    IsBuiltAsRead body →
     IsBuiltPage (with_line_feeds (encoded false title)) body text
 page_constructed title body text e safe built =
     let escaped = encoded true title in
@@ -90,8 +95,8 @@ page_constructed title body text e safe built =
       tokenized = subst (λ f. IsTokenized text (page_tokens characters f))
           (built.only emitted.inside emitted.reading) emitted.tokenized;
       built = text-page-built characters body
-          (subst (λ t. list_all is_character t ≡ true)
-          (seen-is escaped (is_escaped-encoded title) ∙ ap with_line_feeds (read_back-encoded title))
+          (subst (λ t. list_all is_character t ≡ true) (seen-is escaped (is_escaped-encoded title)
+          ∙ ap with_line_feeds (read_back-encoded title))
           (seen-characters escaped (is_escaped-encoded title)))
           built;
     }

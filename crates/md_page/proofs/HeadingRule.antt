@@ -1,23 +1,29 @@
 -- A heading that gets an `id`: its bytes tell what its token does.
 use Rattle.std.specs.Str.{bytes_eq}
 use Rattle.std.specs.Prelude.{is_none, nat_le}
-use Rattle.std.proofs.Common.{◌≡◌, ℕ, ◌+◌, ◌≤◌, ◌==◌, suc, Bool, true, false, not, ◌&&◌, cond, List, [], ◌∷◌, ◌++◌, length, drop, refl, sym, ap, ap₂, ◌∙◌, subst, append_assoc, inl, inr, codes, ne_eqb, arith}
+use Rattle.std.proofs.Common.{◌≡◌, ℕ, ◌+◌, ◌≤◌, ◌==◌, suc, Bool, true, false, not, ◌&&◌, cond, List}
+use Rattle.std.proofs.Common.{[], ◌∷◌, ◌++◌, length, drop, refl, sym, ap, ap₂, ◌∙◌, subst}
+use Rattle.std.proofs.Common.{append_assoc, inl, inr, codes, ne_eqb, arith}
 use Rattle.std.specs.List.{list_all}
 use Rattle.std.specs.Option.{option_map_or}
 use Rattle.std.specs.Fmt.{decimal}
 use Rattle.std.specs.Cmp.Lexicographic.{bytes_decides}
-use Rattle.std.proofs.lemmas.Bool.{and_parts, and_from, not-true, or_cases, or_right, cases_Bool, cases_eq, eqb-true, leb-true}
+use Rattle.std.proofs.lemmas.Bool.{and_parts, and_from, not-true, or_cases, or_right, cases_Bool}
+use Rattle.std.proofs.lemmas.Bool.{cases_eq, eqb-true, leb-true}
 use Rattle.md_base.proofs.Lies.{lie}
 use Rattle.md_text.specs.Bytes.{is_one_of, is_between}
 use Rattle.md_text.specs.Encode.{encoded}
 use Rattle.md_text.specs.Html.{Attribute, written_attributes}
 use Rattle.md_text.proofs.EncodeLemmas.{and_false}
-use Rattle.md_safe.specs.Token.{Token, Doctype, Character, StartTag, EndTag, EndOfFile, TokenAttribute}
+use Rattle.md_safe.specs.Token.{Token, Doctype, Character, StartTag, EndTag, EndOfFile}
+use Rattle.md_safe.specs.Token.{TokenAttribute}
 use Rattle.md_safe.specs.Tokenizer.{IsTokenized}
 use Rattle.md_safe.specs.Tokens.{seen_attributes}
-use Rattle.md_page.specs.Added.{added, with_attribute, id_of, gets_id, has_attribute, heading_names, with_heading_ids}
+use Rattle.md_page.specs.Added.{added, with_attribute, id_of, gets_id, has_attribute, heading_names}
+use Rattle.md_page.specs.Added.{with_heading_ids}
 use Rattle.md_page.specs.Pieces.{are_plain, is_name_byte, begins_with_letter, IsWritten}
-use Rattle.md_page.specs.Scan.{before_angle, value_of, want_id, begins_heading, picks_heading, new_id, with_new}
+use Rattle.md_page.specs.Scan.{before_angle, value_of, want_id, begins_heading, picks_heading}
+use Rattle.md_page.specs.Scan.{new_id, with_new}
 use Rattle.md_page.proofs.Parts.{before-run}
 use Rattle.md_page.proofs.Plain.{void-name}
 use Rattle.md_page.proofs.Numbers.{numbered-escaped, numbered-seen}
@@ -31,7 +37,8 @@ use Rattle.md_page.proofs.LinkRule.{both, value_of-found, none-found, before-att
 of_one : (P : List ℕ → Type 0) (known name : List ℕ) → P known → bytes_eq name known ≡ true → P name
 of_one P known name p e = subst P (sym ((bytes_decides name known).0 e)) p
 
-pub by_heading : (P : List ℕ → Type 0) → P (codes "h1") → P (codes "h2") → P (codes "h3") → P (codes "h4") →
+pub by_heading : (P : List ℕ → Type 0) → P (codes "h1") → P (codes "h2") →
+    P (codes "h3") → P (codes "h4") →
     P (codes "h5") → P (codes "h6") → (name : List ℕ) → is_one_of heading_names name ≡ true → P name
 by_heading P one two three four five six name h = elim (or_cases (bytes_eq name (codes "h1")) _ h) [
   | inl e ↦ of_one P (codes "h1") name one e
@@ -88,7 +95,8 @@ level_named c h = elim (cases_eq c 49) [
   ]
 ]
   where
-    outside : (c : ℕ) → is_between 49 54 c ≡ true → (c ≡ 49 → ⊥) → (c ≡ 50 → ⊥) → (c ≡ 51 → ⊥) → (c ≡ 52 → ⊥) →
+    outside : (c : ℕ) → is_between 49 54 c ≡ true → (c ≡ 49 → ⊥) → (c ≡ 50 → ⊥) →
+        (c ≡ 51 → ⊥) → (c ≡ 52 → ⊥) →
         (c ≡ 53 → ⊥) → (c ≡ 54 → ⊥) → ⊥
     outside c h n1 n2 n3 n4 n5 n6 =
         let p = and_parts (nat_le 49 c) (nat_le c 54) h in
@@ -108,16 +116,19 @@ pair-named b c =
 wants-id : (x : List Attribute) → are_plain x ≡ true →
     want_id (written_attributes x) ≡ not (has_attribute (codes "id") (seen_attributes x))
 wants-id [] h = refl
-wants-id (a ∷ x) h = ap is_none (value_of-found (codes "id") (a ∷ x) h) ∙ none-found (codes "id") (a ∷ x)
+wants-id (a ∷ x) h =
+    ap is_none (value_of-found (codes "id") (a ∷ x) h) ∙ none-found (codes "id") (a ∷ x)
 
 -- after a name of one byte no level comes
-short : (b : ℕ) (x : List Attribute) (r : List ℕ) → begins_heading (b ∷ (written_attributes x ++ (62 ∷ r))) ≡ false
+short : (b : ℕ) (x : List Attribute) (r : List ℕ) →
+    begins_heading (b ∷ (written_attributes x ++ (62 ∷ r))) ≡ false
 short b [] r = and_false (b == 104)
 short b (a ∷ x) r = and_false (b == 104)
 
 picks-name : (name : List ℕ) (x : List Attribute) (r : List ℕ) → begins_with_letter name ≡ true →
     list_all is_name_byte name ≡ true → are_plain x ≡ true →
-    picks_heading (name ++ (written_attributes x ++ (62 ∷ r))) ≡ gets_id (StartTag name (seen_attributes x) false)
+    picks_heading (name ++ (written_attributes x ++ (62 ∷ r)))
+    ≡ gets_id (StartTag name (seen_attributes x) false)
 picks-name [] x r b n h = lie b
 picks-name (b ∷ []) x r l n h =
     let tail = written_attributes x ++ (62 ∷ r) in
@@ -125,8 +136,8 @@ picks-name (b ∷ []) x r l n h =
     ∙ sym (ap (λ t. t && not (has_attribute (codes "id") (seen_attributes x)))
     (no_heading (b ∷ []) (λ e. absurd (omega (arith, e)))))
 picks-name (b ∷ c ∷ []) x r l n h =
-    ap (λ v. ((b == 104) && is_between 49 54 c) && option_map_or want_id v false) (before-attributes x r h)
-    ∙ ap (λ t. t && want_id (written_attributes x)) (pair-named b c)
+    ap (λ v. ((b == 104) && is_between 49 54 c) && option_map_or want_id v false)
+    (before-attributes x r h) ∙ ap (λ t. t && want_id (written_attributes x)) (pair-named b c)
     ∙ ap (λ t. is_one_of heading_names (b ∷ c ∷ []) && t) (wants-id x h)
 picks-name (b ∷ c ∷ d ∷ name) x r l n h =
     let p = and_parts (is_name_byte b) (list_all is_name_byte (c ∷ d ∷ name)) n in
@@ -136,9 +147,8 @@ picks-name (b ∷ c ∷ d ∷ name) x r l n h =
     let begins = (b == 104) && is_between 49 54 c in
     ap (λ y. begins && option_map_or want_id (before_angle y) false)
     (sym (append_assoc (d ∷ name) (written_attributes x) (62 ∷ r)))
-    ∙ ap (λ v. begins && option_map_or want_id v false)
-    (before-run inside r (all-join _ (d ∷ name) (written_attributes x) (name-differs 62 (d ∷ name) refl q.1)
-    (attributes-differ 62 x closes h)))
+    ∙ ap (λ v. begins && option_map_or want_id v false) (before-run inside r (all-join _ (d ∷ name)
+    (written_attributes x) (name-differs 62 (d ∷ name) refl q.1) (attributes-differ 62 x closes h)))
     ∙ ap (λ t. begins && ((t && true) && is_none (value_of (codes " id=") inside)))
     (ne_eqb 32 d (λ e. lie (ap is_name_byte e ∙ s.0)))
     ∙ and_false begins
@@ -151,7 +161,8 @@ heading-picks = record {
       (let p = and_parts (begins_with_letter name) _ named in
       picks-name name x r p.0 (and_parts (list_all is_name_byte name) _ p.1).0 plain);
   voids = λ name r h.
-      not-true (picks_heading (name ++ r)) (void-name (λ n. not (picks_heading (n ++ r))) name refl h);
+      not-true (picks_heading (name ++ r))
+      (void-name (λ n. not (picks_heading (n ++ r))) name refl h);
   ends = slash;
 }
   where
@@ -165,8 +176,8 @@ heading-elements = record {
   ends = λ name. refl;
   end_of_file = refl;
   voids = λ name x h.
-      ap (λ c. c && not (has_attribute (codes "id") x))
-      (not-true (is_one_of heading_names name) (void-name (λ n. not (is_one_of heading_names n)) name refl h));
+      ap (λ c. c && not (has_attribute (codes "id") x)) (not-true (is_one_of heading_names name)
+      (void-name (λ n. not (is_one_of heading_names n)) name refl h));
 }
 
 pub heading-may : (prefix : List ℕ) → MayAdd gets_id (new_id prefix)
@@ -184,7 +195,8 @@ heading-listed prefix n (Doctype name) h = refl
 heading-listed prefix n (Character b) h = refl
 heading-listed prefix n (StartTag name x flag) h =
     or_right (bytes_eq name (codes "a") && false) (is_one_of heading_names name && true)
-    (and_from (is_one_of heading_names name) true (and_parts (is_one_of heading_names name) _ h).0 refl)
+    (and_from (is_one_of heading_names name) true
+    (and_parts (is_one_of heading_names name) _ h).0 refl)
 heading-listed prefix n (EndTag name) h = refl
 heading-listed prefix n EndOfFile h = refl
 
@@ -198,22 +210,28 @@ heading-rule prefix = record {
   images = λ n. refl;
 }
 
-pub heading-written : (prefix text : List ℕ) → IsWritten text → IsWritten (with_new picks_heading (new_id prefix) text)
-heading-written prefix text w = keeps picks_heading gets_id (new_id prefix) (heading-rule prefix) text w
+pub heading-written : (prefix text : List ℕ) → IsWritten text →
+    IsWritten (with_new picks_heading (new_id prefix) text)
+heading-written prefix text w =
+    keeps picks_heading gets_id (new_id prefix) (heading-rule prefix) text w
 
 -- attributes that are seen alike are added alike
-added-same : (test : Token → Bool) (f g : ℕ → TokenAttribute) → ((n : ℕ) → f n ≡ g n) → (n : ℕ) (x : List Token) →
+added-same : (test : Token → Bool) (f g : ℕ → TokenAttribute) → ((n : ℕ) → f n ≡ g n) →
+    (n : ℕ) (x : List Token) →
     added test f n x ≡ added test g n x
 added-same test f g same n [] = refl
-added-same test f g same n (t ∷ x) = by (test t) (added-same test f g same (suc n) x) (added-same test f g same n x)
+added-same test f g same n (t ∷ x) =
+    by (test t) (added-same test f g same (suc n) x) (added-same test f g same n x)
   where
-    by : (b : Bool) → added test f (suc n) x ≡ added test g (suc n) x → added test f n x ≡ added test g n x →
+    by : (b : Bool) → added test f (suc n) x ≡ added test g (suc n) x →
+        added test f n x ≡ added test g n x →
         cond b (with_attribute t (f n) ∷ added test f (suc n) x) (t ∷ added test f n x)
         ≡ cond b (with_attribute t (g n) ∷ added test g (suc n) x) (t ∷ added test g n x)
     by true on off = ap₂ (λ a y. with_attribute t a ∷ y) (same n) on
     by false on off = ap (λ y. t ∷ y) off
 
-pub heading-tokens : (prefix text : List ℕ) → IsWritten text → (x : List Token) → IsTokenized text x →
+pub heading-tokens : (prefix text : List ℕ) → IsWritten text → (x : List Token) →
+    IsTokenized text x →
     IsTokenized (with_new picks_heading (new_id prefix) text) (with_heading_ids prefix x)
 heading-tokens prefix text w x h =
     subst (IsTokenized (with_new picks_heading (new_id prefix) text))
@@ -228,7 +246,8 @@ id-written prefix start n e =
     let last = decimal (n + 1) ++ (34 ∷ []) in
     ap (λ s. s ++ last) e
     ∙ append_assoc (codes " id=\"") (encoded true prefix) last
-    ∙ ap (λ y. codes " id=\"" ++ y) (sym (append_assoc (encoded true prefix) (decimal (n + 1)) (34 ∷ [])))
+    ∙ ap (λ y. codes " id=\"" ++ y)
+    (sym (append_assoc (encoded true prefix) (decimal (n + 1)) (34 ∷ [])))
     ∙ ap (λ m. codes " id=\"" ++ ((encoded true prefix ++ decimal m) ++ (34 ∷ []))) (next n)
   where
     next : (n : ℕ) → n + 1 ≡ suc n

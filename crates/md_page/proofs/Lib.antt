@@ -1,8 +1,8 @@
 -- The lemmas of pages: a page around a title and a safe text can be read in one way.
 pub mod Pages
 pub mod Given
--- Lemmas: pieces are tokenized as their tokens; one more attribute in a piece is one more in its token; and the program
--- finds each tag that gets one.
+-- Lemmas: pieces are tokenized as their tokens; one more attribute in a piece is one more in its
+-- token; and the program finds each tag that gets one.
 pub mod Plain
 pub mod PieceRuns
 pub mod FromForest

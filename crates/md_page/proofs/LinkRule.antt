@@ -1,11 +1,14 @@
 -- A link that gets a `rel`: its bytes tell what its token does.
 use Rattle.std.specs.Str.{bytes_eq}
 use Rattle.std.specs.Prelude.{nat_eq, is_none}
-use Rattle.std.proofs.Common.{◌≡◌, ℕ, ◌==◌, Bool, true, false, not, ◌&&◌, ◌||◌, cond, List, [], ◌∷◌, ◌++◌, drop, refl, sym, ap, ◌∙◌, subst, append_assoc, inl, inr, Option, Some, None, codes, ne_eqb}
+use Rattle.std.proofs.Common.{◌≡◌, ℕ, ◌==◌, Bool, true, false, not, ◌&&◌, ◌||◌, cond, List, [], ◌∷◌}
+use Rattle.std.proofs.Common.{◌++◌, drop, refl, sym, ap, ◌∙◌, subst, append_assoc, inl, inr, Option}
+use Rattle.std.proofs.Common.{Some, None, codes, ne_eqb}
 use Rattle.std.specs.List.{list_all, list_any, starts_with}
 use Rattle.std.specs.Option.{option_map_or}
 use Rattle.std.specs.Cmp.Lexicographic.{bytes_decides}
-use Rattle.std.proofs.lemmas.Bool.{and_parts, and_from, not-true, or_parts, or_from, or_left, cases_Bool, cases_eq}
+use Rattle.std.proofs.lemmas.Bool.{and_parts, and_from, not-true, or_parts, or_from, or_left}
+use Rattle.std.proofs.lemmas.Bool.{cases_Bool, cases_eq}
 use Rattle.std.proofs.lemmas.List.{append_cancel_right}
 use Rattle.md_base.proofs.Lies.{lie}
 use Rattle.md_base.specs.Identifier.{is_nonempty}
@@ -21,14 +24,17 @@ use Rattle.md_safe.specs.Tokenizer.{IsTokenized}
 use Rattle.md_safe.specs.Tokens.{seen, seen_attributes}
 use Rattle.md_safe.proofs.EscapedCases.{IsPlain, by_escaped}
 use Rattle.md_safe.proofs.Schemes.{seen-is}
-use Rattle.md_page.specs.Added.{added, gets_rel, leads_away, has_attribute, shown, with_link_rel, heading_names}
+use Rattle.md_page.specs.Added.{added, gets_rel, leads_away, has_attribute, shown, with_link_rel}
+use Rattle.md_page.specs.Added.{heading_names}
 use Rattle.md_page.specs.Pieces.{are_plain, is_name, is_name_byte, begins_with_letter, IsWritten}
-use Rattle.md_page.specs.Scan.{differs, before_angle, parts_of, value_in, value_of, is_away, want_rel, picks_link, new_rel, with_new}
+use Rattle.md_page.specs.Scan.{differs, before_angle, parts_of, value_in, value_of, is_away}
+use Rattle.md_page.specs.Scan.{want_rel, picks_link, new_rel, with_new}
 use Rattle.md_page.proofs.Parts.{parts-filled, parts-run, value_in-step, before-run}
 use Rattle.md_page.proofs.Plain.{void-name}
 use Rattle.md_page.proofs.Adding.{PicksElements, MayAdd, seen_attribute, is_addition_to}
 use Rattle.md_page.proofs.Rules.{IsRule, keeps, becomes}
-use Rattle.md_page.proofs.Scanning.{escaped-differs, name-differs, all-join, attributes-differ, closes, PicksBy}
+use Rattle.md_page.proofs.Scanning.{escaped-differs, name-differs, all-join, attributes-differ}
+use Rattle.md_page.proofs.Scanning.{closes, PicksBy}
 
 -- two tests that pass together
 pub both : (a b : Bool) → (a ≡ true → b ≡ true) → (b ≡ true → a ≡ true) → a ≡ b
@@ -53,8 +59,8 @@ tail_of x y e = cc
 framed-eq : (key name : List ℕ) → bytes_eq (framed key) (framed name) ≡ bytes_eq key name
 framed-eq key name =
     both (bytes_eq (framed key) (framed name)) (bytes_eq key name)
-    (λ h. (bytes_decides key name).1
-    (append_cancel_right key name (61 ∷ []) (tail_of _ _ ((bytes_decides (framed key) (framed name)).0 h))))
+    (λ h. (bytes_decides key name).1 (append_cancel_right key name (61 ∷ [])
+    (tail_of _ _ ((bytes_decides (framed key) (framed name)).0 h))))
     (λ h. (bytes_decides (framed key) (framed name)).1 (ap framed ((bytes_decides key name).0 h)))
 
 pub value_of-found : (key : List ℕ) (x : List Attribute) → are_plain x ≡ true →
@@ -71,9 +77,11 @@ value_of-found key (a ∷ x) h =
     ap (λ y. value_in (framed key) (parts_of (32 ∷ y))) (sym (append_assoc a.name (61 ∷ []) (34
     ∷ (a.value ++ (34 ∷ later)))))
     ∙ ap (value_in (framed key)) (parts-run (framed a.name) (a.value ++ (34 ∷ later)) front
-    ∙ ap (λ y. framed a.name ∷ y) (parts-run a.value later (escaped-differs 34 a.value (λ rest. refl) q.0)))
+    ∙ ap (λ y. framed a.name ∷ y)
+    (parts-run a.value later (escaped-differs 34 a.value (λ rest. refl) q.0)))
     ∙ value_in-step (framed key) (framed a.name) a.value (parts_of later) (parts-filled later)
-    ∙ ap (λ c. cond c (Some a.value) (value_in (framed key) (parts_of later))) (framed-eq key a.name)
+    ∙ ap (λ c. cond c (Some a.value) (value_in (framed key) (parts_of later)))
+    (framed-eq key a.name)
     ∙ ap (λ y. cond (bytes_eq key a.name) (Some a.value) y) (value_of-found key x r.1)
 
 -- there is none exactly if no attribute has the name
@@ -83,7 +91,8 @@ none-found key [] = refl
 none-found key (a ∷ x) = by (bytes_eq key a.name) (none-found key x)
   where
     by : (c : Bool) → is_none (found key x) ≡ not (has_attribute key (seen_attributes x)) →
-        is_none (cond c (Some a.value) (found key x)) ≡ not (c || has_attribute key (seen_attributes x))
+        is_none (cond c (Some a.value) (found key x))
+        ≡ not (c || has_attribute key (seen_attributes x))
     by true e = refl
     by false e = e
 
@@ -98,15 +107,16 @@ away-plain b rest p = elim (cases_eq b 13) [
   | inl is ↦ subst (λ b. away (seen (b ∷ rest)) ≡ away (b ∷ rest)) (sym is) (returned rest)
   | inr ne ↦
       ap (λ c. away (read_back (cond c (cond (begins_with_line_feed rest) (with_line_feeds rest)
-      (10 ∷ with_line_feeds rest)) (b ∷ with_line_feeds rest)))) (ne_eqb b 13 ne)
-      ∙ ap away (read_back-other b (with_line_feeds rest) (λ e. lie (sym p.no_and ∙ ap (λ c. c == 38) e)))
+      (10 ∷ with_line_feeds rest)) (b ∷ with_line_feeds rest)))) (ne_eqb b 13 ne) ∙ ap away
+      (read_back-other b (with_line_feeds rest) (λ e. lie (sym p.no_and ∙ ap (λ c. c == 38) e)))
 ]
   where
     returned : (rest : List ℕ) → away (seen (13 ∷ rest)) ≡ away (13 ∷ rest)
     returned [] = refl
     returned (c ∷ rest) = elim (cases_eq c 10) [
       | inl is ↦ subst (λ c. away (seen (13 ∷ c ∷ rest)) ≡ away (13 ∷ c ∷ rest)) (sym is) refl
-      | inr ne ↦ ap (λ t. away (read_back (cond t (with_line_feeds (c ∷ rest)) (10 ∷ with_line_feeds (c ∷ rest)))))
+      | inr ne ↦ ap (λ t.
+          away (read_back (cond t (with_line_feeds (c ∷ rest)) (10 ∷ with_line_feeds (c ∷ rest)))))
           (ne_eqb c 10 ne)
     ]
 
@@ -120,8 +130,10 @@ none-away : (x : List Attribute) → list_any (λ a. bytes_eq (codes "href") a.n
     list_any leads_away (seen_attributes x) ≡ false
 none-away [] h = refl
 none-away (a ∷ x) h =
-    let p = or_parts (bytes_eq (codes "href") a.name) (list_any (λ a. bytes_eq (codes "href") a.name) x) h in
-    or_from (bytes_eq (codes "href") a.name && away (seen a.value)) (list_any leads_away (seen_attributes x))
+    let p = or_parts (bytes_eq (codes "href") a.name)
+    (list_any (λ a. bytes_eq (codes "href") a.name) x) h in
+    or_from (bytes_eq (codes "href") a.name && away (seen a.value))
+    (list_any leads_away (seen_attributes x))
     (ap (λ c. c && away (seen a.value)) p.0) (none-away x p.1)
 
 found-away : (x : List Attribute) → are_plain x ≡ true →
@@ -132,11 +144,13 @@ found-away (a ∷ x) h =
     let p = and_parts (is_name a.name) _ h in
     let q = and_parts (is_escaped a.value) _ p.1 in
     let r = and_parts (not alone) (are_plain x) q.1 in
-    by (bytes_eq (codes "href") a.name) refl (away-seen a.value q.0) (not-true alone r.0) (found-away x r.1)
+    by (bytes_eq (codes "href") a.name) refl (away-seen a.value q.0)
+    (not-true alone r.0) (found-away x r.1)
   where
     by : (c : Bool) → bytes_eq (codes "href") a.name ≡ c → away (seen a.value) ≡ is_away a.value →
         list_any (λ later. bytes_eq a.name later.name) x ≡ false →
-        option_map_or is_away (found (codes "href") x) false ≡ list_any leads_away (seen_attributes x) →
+        option_map_or is_away (found (codes "href") x) false
+        ≡ list_any leads_away (seen_attributes x) →
         option_map_or is_away (cond c (Some a.value) (found (codes "href") x)) false
         ≡ ((c && away (seen a.value)) || list_any leads_away (seen_attributes x))
     by true is same none on =
@@ -157,23 +171,28 @@ pub before-attributes : (x : List Attribute) (r : List ℕ) → are_plain x ≡ 
 before-attributes x r h = before-run (written_attributes x) r (attributes-differ 62 x closes h)
 
 wants : (x : List Attribute) → are_plain x ≡ true → want_rel (written_attributes x)
-    ≡ (list_any leads_away (seen_attributes x) && not (has_attribute (codes "rel") (seen_attributes x)))
+    ≡ (list_any leads_away (seen_attributes x)
+    && not (has_attribute (codes "rel") (seen_attributes x)))
 wants x h =
-    ap (λ v. option_map_or is_away v false && is_none (value_of (framed (codes "rel")) (written_attributes x)))
+    ap (λ v. option_map_or is_away v false
+    && is_none (value_of (framed (codes "rel")) (written_attributes x)))
     (value_of-found (codes "href") x h)
-    ∙ ap (λ t. t && is_none (value_of (framed (codes "rel")) (written_attributes x))) (found-away x h)
-    ∙ ap (λ v. list_any leads_away (seen_attributes x) && is_none v) (value_of-found (codes "rel") x h)
+    ∙ ap (λ t. t && is_none (value_of (framed (codes "rel")) (written_attributes x)))
+    (found-away x h) ∙ ap (λ v. list_any leads_away (seen_attributes x) && is_none v)
+    (value_of-found (codes "rel") x h)
     ∙ ap (λ t. list_any leads_away (seen_attributes x) && t) (none-found (codes "rel") x)
 
 -- an `a`
 picks-a : (x : List Attribute) (r : List ℕ) → are_plain x ≡ true →
-    picks_link (97 ∷ (written_attributes x ++ (62 ∷ r))) ≡ gets_rel (StartTag (codes "a") (seen_attributes x) false)
+    picks_link (97 ∷ (written_attributes x ++ (62 ∷ r)))
+    ≡ gets_rel (StartTag (codes "a") (seen_attributes x) false)
 picks-a [] r h = refl
 picks-a (a ∷ x) r h =
     ap (λ v. option_map_or want_rel v false) (before-attributes (a ∷ x) r h) ∙ wants (a ∷ x) h
 
 -- any other name
-no-a : (name tail : List ℕ) → list_all is_name_byte name ≡ true → bytes_eq name (codes "a") ≡ false →
+no-a : (name tail : List ℕ) → list_all is_name_byte name ≡ true →
+    bytes_eq name (codes "a") ≡ false →
     begins_with_letter name ≡ true → begins_with (codes "a ") (name ++ tail) ≡ false
 no-a [] tail h ne f = lie f
 no-a (b ∷ []) tail h ne f = elim (cases_eq b 97) [
@@ -183,7 +202,8 @@ no-a (b ∷ []) tail h ne f = elim (cases_eq b 97) [
 no-a (b ∷ c ∷ name) tail h ne f =
     let p = and_parts (is_name_byte b) (list_all is_name_byte (c ∷ name)) h in
     let q = and_parts (is_name_byte c) (list_all is_name_byte name) p.1 in
-    ap (λ t. (97 == b) && (t && true)) (ne_eqb 32 c (λ e. lie (ap is_name_byte e ∙ q.0))) ∙ and_false (97 == b)
+    ap (λ t. (97 == b) && (t && true)) (ne_eqb 32 c (λ e. lie (ap is_name_byte e ∙ q.0)))
+    ∙ and_false (97 == b)
 
 pub link-picks : PicksBy picks_link gets_rel
 link-picks = record {
@@ -191,8 +211,8 @@ link-picks = record {
       elim (cases_Bool (bytes_eq name (codes "a"))) [
         | inl is ↦
             subst (λ n. picks_link (n ++ (written_attributes x ++ (62 ∷ r)))
-            ≡ gets_rel (StartTag n (seen_attributes x) false)) (sym ((bytes_decides name (codes "a")).0 is))
-            (picks-a x r plain)
+            ≡ gets_rel (StartTag n (seen_attributes x) false))
+            (sym ((bytes_decides name (codes "a")).0 is)) (picks-a x r plain)
         | inr other ↦ (let p = and_parts (begins_with_letter name) _ named in
             let q = and_parts (list_all is_name_byte name) _ p.1 in
             let tail = written_attributes x ++ (62 ∷ r) in
@@ -201,7 +221,8 @@ link-picks = record {
             ∙ sym (ap (λ c. c && (list_any leads_away (seen_attributes x)
             && not (has_attribute (codes "rel") (seen_attributes x)))) other))
       ];
-  voids = λ name r h. not-true (picks_link (name ++ r)) (void-name (λ n. not (picks_link (n ++ r))) name refl h);
+  voids = λ name r h.
+      not-true (picks_link (name ++ r)) (void-name (λ n. not (picks_link (n ++ r))) name refl h);
   ends = λ r. refl;
 }
 
@@ -212,7 +233,8 @@ link-elements = record {
   end_of_file = refl;
   voids = λ name x h.
       ap (λ c. c && (list_any leads_away x && not (has_attribute (codes "rel") x)))
-      (not-true (bytes_eq name (codes "a")) (void-name (λ n. not (bytes_eq n (codes "a"))) name refl h));
+      (not-true (bytes_eq name (codes "a"))
+      (void-name (λ n. not (bytes_eq n (codes "a"))) name refl h));
 }
 
 -- an attribute is among those that are seen exactly if it is among those that are written
@@ -253,10 +275,12 @@ link-rule text = record {
 
 -- what a tokenizer sees of an escaped text
 pub seen-encoded : (text : List ℕ) → seen (encoded true text) ≡ shown text
-seen-encoded text = seen-is (encoded true text) (is_escaped-encoded text) ∙ ap with_line_feeds (read_back-encoded text)
+seen-encoded text = seen-is (encoded true text) (is_escaped-encoded text)
+    ∙ ap with_line_feeds (read_back-encoded text)
 
 -- a text with these links, and its tokens
-pub link-written : (rel text : List ℕ) → IsWritten text → IsWritten (with_new picks_link (new_rel rel) text)
+pub link-written : (rel text : List ℕ) → IsWritten text →
+    IsWritten (with_new picks_link (new_rel rel) text)
 link-written rel text w = keeps picks_link gets_rel (new_rel rel) (link-rule rel) text w
 
 pub link-tokens : (rel text : List ℕ) → IsWritten text → (x : List Token) → IsTokenized text x →

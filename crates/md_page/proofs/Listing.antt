@@ -1,6 +1,9 @@
 -- The headings that are found by bytes are those of the tokens.
 use Rattle.std.specs.Str.{bytes_eq}
-use Rattle.std.proofs.Common.{◌≡◌, ℕ, ◌+◌, ◌-◌, ◌≤◌, ◌==◌, suc, Bool, true, false, not, ◌&&◌, cond, List, [], ◌∷◌, ◌++◌, map, length, drop, refl, sym, ap, ap₂, ◌∙◌, subst, append_assoc, append-nil, codes, ne_eqb, eqb, eq-eqb, arith, add-one}
+use Rattle.std.proofs.Common.{◌≡◌, ℕ, ◌+◌, ◌-◌, ◌≤◌, ◌==◌, suc, Bool, true, false, not, ◌&&◌, cond}
+use Rattle.std.proofs.Common.{List, [], ◌∷◌, ◌++◌, map, length, drop, refl, sym, ap, ap₂, ◌∙◌}
+use Rattle.std.proofs.Common.{subst, append_assoc, append-nil, codes, ne_eqb, eqb, eq-eqb, arith}
+use Rattle.std.proofs.Common.{add-one}
 use Rattle.std.specs.List.{list_all}
 use Rattle.std.specs.Cmp.Lexicographic.{bytes_decides}
 use Rattle.std.proofs.lemmas.Bool.{and_parts, and_from, not-true, eqb-true, cond_both}
@@ -19,13 +22,18 @@ use Rattle.md_safe.specs.Tokens.{seen, seen_attributes}
 use Rattle.md_safe.proofs.EscapedCases.{by_escaped}
 use Rattle.md_safe.proofs.LineFeeds.{line_feeds-escaped, line_feeds-name}
 use Rattle.md_safe.proofs.Steps.{past}
-use Rattle.md_page.specs.Added.{Listed, gets_id, heading_names, characters_before, heading_of, headings_after, headings_of}
-use Rattle.md_page.specs.Pieces.{Piece, Words, Opening, Single, Closing, all_written, all_tokens, are_sound, are_plain, is_name_byte, is_tag_name, void_names, begins_with_letter, begins_with_words, IsWritten}
-use Rattle.md_page.specs.Scan.{differs, past_angle, lined_byte, closes_heading, text_before, picks_heading, scanned_heading, scanned_headings, clear, IsTagAt}
+use Rattle.md_page.specs.Added.{Listed, gets_id, heading_names, characters_before, heading_of}
+use Rattle.md_page.specs.Added.{headings_after, headings_of}
+use Rattle.md_page.specs.Pieces.{Piece, Words, Opening, Single, Closing, all_written, all_tokens}
+use Rattle.md_page.specs.Pieces.{are_sound, are_plain, is_name_byte, is_tag_name, void_names}
+use Rattle.md_page.specs.Pieces.{begins_with_letter, begins_with_words, IsWritten}
+use Rattle.md_page.specs.Scan.{differs, past_angle, lined_byte, closes_heading, text_before}
+use Rattle.md_page.specs.Scan.{picks_heading, scanned_heading, scanned_headings, clear, IsTagAt}
 use Rattle.md_page.proofs.Plain.{void-name}
 use Rattle.md_page.proofs.Passing.{clear-headings, drop-at}
 use Rattle.md_page.proofs.PieceRuns.{after_text}
-use Rattle.md_page.proofs.Scanning.{escaped-differs, name-differs, all-join, tag-differs, opens, closes, name_bytes, between}
+use Rattle.md_page.proofs.Scanning.{escaped-differs, name-differs, all-join, tag-differs, opens}
+use Rattle.md_page.proofs.Scanning.{closes, name_bytes, between}
 use Rattle.md_page.proofs.Rules.{attributed}
 use Rattle.md_page.proofs.LinkRule.{both}
 use Rattle.md_page.proofs.HeadingRule.{by_heading, heading-picks, heading-elements}
@@ -41,22 +49,28 @@ encoded-back x h =
     ∙ ap (λ y. y ++ encoded true (read_back rest))
     (encoded_byte-plain true b p.no_nul p.no_and p.no_quote p.no_less p.no_more)
     ∙ ap (λ y. b ∷ y) later)
-    (λ rest later. ap (λ y. codes "&amp;" ++ y) later) (λ rest later. ap (λ y. codes "&quot;" ++ y) later)
-    (λ rest later. ap (λ y. codes "&lt;" ++ y) later) (λ rest later. ap (λ y. codes "&gt;" ++ y) later) x h
+    (λ rest later. ap (λ y. codes "&amp;" ++ y) later)
+    (λ rest later. ap (λ y. codes "&quot;" ++ y) later)
+    (λ rest later. ap (λ y. codes "&lt;" ++ y) later)
+    (λ rest later. ap (λ y. codes "&gt;" ++ y) later) x h
 
 encoded-seen : (x : List ℕ) → is_escaped x ≡ true → encoded true (seen x) ≡ with_line_feeds x
 encoded-seen x h = encoded-back (with_line_feeds x) (line_feeds-escaped x h)
 
-pub lined-step : (b : ℕ) (rest : List ℕ) → with_line_feeds (b ∷ rest) ≡ lined_byte b rest ++ with_line_feeds rest
+pub lined-step : (b : ℕ) (rest : List ℕ) →
+    with_line_feeds (b ∷ rest) ≡ lined_byte b rest ++ with_line_feeds rest
 lined-step b rest = by (b == 13) (begins_with_line_feed rest)
   where
-    by : (return feed : Bool) → cond return (cond feed (with_line_feeds rest) (10 ∷ with_line_feeds rest))
-        (b ∷ with_line_feeds rest) ≡ cond return (cond feed [] (10 ∷ [])) (b ∷ []) ++ with_line_feeds rest
+    by : (return feed : Bool) →
+        cond return (cond feed (with_line_feeds rest) (10 ∷ with_line_feeds rest))
+        (b ∷ with_line_feeds rest)
+        ≡ cond return (cond feed [] (10 ∷ [])) (b ∷ []) ++ with_line_feeds rest
     by true true = refl
     by true false = refl
     by false feed = refl
 
-lined-append : (b : ℕ) (x r : List ℕ) → begins_with_line_feed r ≡ false → lined_byte b (x ++ r) ≡ lined_byte b x
+lined-append : (b : ℕ) (x r : List ℕ) → begins_with_line_feed r ≡ false →
+    lined_byte b (x ++ r) ≡ lined_byte b x
 lined-append b [] r h = ap (λ t. cond (b == 13) (cond t [] (10 ∷ [])) (b ∷ [])) h
 lined-append b (c ∷ x) r h = refl
 
@@ -66,7 +80,8 @@ text-byte : (digit b : ℕ) (rest : List ℕ) → differs 60 b ≡ true →
 text-byte digit b rest h = past _ (not-true (b == 60) h) refl
 
 -- a text outside tags, before what doesn't begin with a line feed
-pub text-run : (digit : ℕ) (x r : List ℕ) → list_all (differs 60) x ≡ true → begins_with_line_feed r ≡ false →
+pub text-run : (digit : ℕ) (x r : List ℕ) → list_all (differs 60) x ≡ true →
+    begins_with_line_feed r ≡ false →
     text_before digit false (x ++ r) ≡ with_line_feeds x ++ text_before digit false r
 text-run digit [] r h n = refl
 text-run digit (b ∷ x) r h n =
@@ -97,7 +112,8 @@ past-none (b ∷ x) h =
     past _ (not-true (b == 62) p.0) (past-none x p.1)
 
 -- whatever is inside a tag goes
-pub text-inside : (digit : ℕ) (x : List ℕ) → text_before digit true x ≡ text_before digit false (past_angle x)
+pub text-inside : (digit : ℕ) (x : List ℕ) →
+    text_before digit true x ≡ text_before digit false (past_angle x)
 text-inside digit [] = refl
 text-inside digit (b ∷ x) = by (b == 62) (text-inside digit x)
   where
@@ -107,7 +123,8 @@ text-inside digit (b ∷ x) = by (b == 62) (text-inside digit x)
     by false e = e
 
 -- a `<` before an end tag of the heading, and before any other tag
-pub text-closes : (digit : ℕ) (tag : List ℕ) → closes_heading digit tag ≡ true → text_before digit false (60 ∷ tag) ≡ []
+pub text-closes : (digit : ℕ) (tag : List ℕ) → closes_heading digit tag ≡ true →
+    text_before digit false (60 ∷ tag) ≡ []
 text-closes digit tag e = ap (λ t. cond t [] (text_before digit true tag)) e
 
 pub text-opens : (digit : ℕ) (tag : List ℕ) → closes_heading digit tag ≡ false →
@@ -134,7 +151,8 @@ tail_of : (b c : ℕ) (x y : List ℕ) → b ∷ x ≡ c ∷ y → x ≡ y
 tail_of b c x y e = cc
 
 -- a text that begins so is that and what follows it
-begins-is : (start text : List ℕ) → begins_with start text ≡ true → text ≡ start ++ drop (length start) text
+begins-is : (start text : List ℕ) → begins_with start text ≡ true →
+    text ≡ start ++ drop (length start) text
 begins-is [] text h = refl
 begins-is (s ∷ start) [] h = cc
 begins-is (s ∷ start) (b ∷ text) h =
@@ -142,7 +160,8 @@ begins-is (s ∷ start) (b ∷ text) h =
     ap₂ (λ c x. c ∷ x) (sym (eqb-true s b p.0)) (begins-is start text p.1)
 
 -- an end tag is the heading's exactly if it has its name
-closes-name : (digit : ℕ) (name r : List ℕ) → is_name_byte digit ≡ true → list_all is_name_byte name ≡ true →
+closes-name : (digit : ℕ) (name r : List ℕ) → is_name_byte digit ≡ true →
+    list_all is_name_byte name ≡ true →
     closes_heading digit (47 ∷ (name ++ (62 ∷ r))) ≡ bytes_eq name (104 ∷ digit ∷ [])
 closes-name digit name r d h =
     both (closes_heading digit (47 ∷ (name ++ (62 ∷ r)))) (bytes_eq name (104 ∷ digit ∷ []))
@@ -154,17 +173,20 @@ closes-name digit name r d h =
     (split is_name_byte name (104 ∷ digit ∷ []) (62 ∷ r) (62 ∷ rest) h
     (and_from (is_name_byte digit) true d refl) refl refl is).0))
     (λ e. subst (λ n. closes_heading digit (47 ∷ (n ++ (62 ∷ r))) ≡ true)
-    (sym ((bytes_decides name (104 ∷ digit ∷ [])).0 e)) (ap (λ t. t && true) (eq-eqb digit digit refl)))
+    (sym ((bytes_decides name (104 ∷ digit ∷ [])).0 e))
+    (ap (λ t. t && true) (eq-eqb digit digit refl)))
 
 pub text-pieces : (digit : ℕ) (x : List Piece) → is_name_byte digit ≡ true → are_sound x ≡ true →
-    text_before digit false (all_written x) ≡ encoded true (characters_before (104 ∷ digit ∷ []) (all_tokens x))
+    text_before digit false (all_written x)
+    ≡ encoded true (characters_before (104 ∷ digit ∷ []) (all_tokens x))
 text-pieces digit [] d h = refl
 text-pieces digit (Words text ∷ more) d h =
     let q = and_parts (is_escaped text) _ h in
     let r = and_parts (not (begins_with_words more)) (are_sound more) q.1 in
     let name = 104 ∷ digit ∷ [] in
     let later = characters_before name (all_tokens more) in
-    text-run digit text (all_written more) (escaped-differs 60 text opens.escaped q.0) (after_text more r.0)
+    text-run digit text (all_written more) (escaped-differs 60 text opens.escaped q.0)
+    (after_text more r.0)
     ∙ ap₂ (λ y z. y ++ z) (sym (encoded-seen text q.0)) (text-pieces digit more d r.1)
     ∙ sym (encoded-append true (seen text) later)
     ∙ ap (encoded true) (sym (characters-run name (seen text) (all_tokens more)))
@@ -172,7 +194,8 @@ text-pieces digit (Opening name x ∷ more) d h =
     let q = and_parts (is_tag_name name) _ h in
     let r = and_parts (are_plain x) (are_sound more) q.1 in
     let tail = written_attributes x ++ (62 ∷ all_written more) in
-    text-opens digit (name ++ tail) (no_slash name tail digit (and_parts (begins_with_letter name) _ q.0).0)
+    text-opens digit (name ++ tail)
+    (no_slash name tail digit (and_parts (begins_with_letter name) _ q.0).0)
     ∙ ap (text_before digit true) (between name x (62 ∷ all_written more))
     ∙ text-past digit (name ++ written_attributes x) (all_written more)
     (tag-differs 62 name x closes (name_bytes name q.0) r.0)
@@ -183,7 +206,8 @@ text-pieces digit (Single name x ∷ more) d h =
     let inside = name ++ written_attributes x in
     let bytes = void-name (list_all is_name_byte) name refl q.0 in
     let tail = written_attributes x ++ (32 ∷ 47 ∷ 62 ∷ all_written more) in
-    text-opens digit (name ++ tail) (no_slash name tail digit (void-name begins_with_letter name refl q.0))
+    text-opens digit (name ++ tail)
+    (no_slash name tail digit (void-name begins_with_letter name refl q.0))
     ∙ ap (text_before digit true) (between name x (32 ∷ 47 ∷ 62 ∷ all_written more)
     ∙ sym (append_assoc inside (32 ∷ 47 ∷ []) (62 ∷ all_written more)))
     ∙ text-past digit (inside ++ (32 ∷ 47 ∷ [])) (all_written more)
@@ -217,19 +241,21 @@ pub headings-run : (n : ℕ) (x r : List ℕ) → list_all (differs 60) x ≡ tr
 headings-run n [] r h = refl
 headings-run n (b ∷ x) r h =
     let p = and_parts (differs 60 b) (list_all (differs 60) x) h in
-    ap (λ t. cond (t && picks_heading (x ++ r)) (scanned_heading (suc n) (x ++ r) ∷ scanned_headings (suc n) (x ++ r))
-    (scanned_headings n (x ++ r))) (not-true (b == 60) p.0)
+    ap (λ t. cond (t && picks_heading (x ++ r)) (scanned_heading (suc n) (x ++ r)
+    ∷ scanned_headings (suc n) (x ++ r)) (scanned_headings n (x ++ r))) (not-true (b == 60) p.0)
     ∙ headings-run n x r p.1
 
 pub headings-picked : (n : ℕ) (tag : List ℕ) → picks_heading tag ≡ true →
     scanned_headings n (60 ∷ tag) ≡ scanned_heading (suc n) tag ∷ scanned_headings (suc n) tag
 headings-picked n tag e =
-    ap (λ t. cond t (scanned_heading (suc n) tag ∷ scanned_headings (suc n) tag) (scanned_headings n tag)) e
+    ap (λ t. cond t (scanned_heading (suc n) tag ∷ scanned_headings (suc n) tag)
+    (scanned_headings n tag)) e
 
 pub headings-passed : (n : ℕ) (tag : List ℕ) → picks_heading tag ≡ false →
     scanned_headings n (60 ∷ tag) ≡ scanned_headings n tag
 headings-passed n tag e =
-    ap (λ t. cond t (scanned_heading (suc n) tag ∷ scanned_headings (suc n) tag) (scanned_headings n tag)) e
+    ap (λ t. cond t (scanned_heading (suc n) tag ∷ scanned_headings (suc n) tag)
+    (scanned_headings n tag)) e
 
 headings-characters : (n : ℕ) (x : List ℕ) (more : List Token) →
     headings_after n (map Character x ++ more) ≡ headings_after n more
@@ -242,7 +268,8 @@ one_heading : (n : ℕ) (name : List ℕ) (x : List Attribute) (more : List Piec
     scanned_heading (suc n) (name ++ (written_attributes x ++ (62 ∷ all_written more)))
     ≡ heading_of n (StartTag name (seen_attributes x) false) (all_tokens more)
 one_heading n name x more named plain sound =
-    by_heading (λ name. scanned_heading (suc n) (name ++ (written_attributes x ++ (62 ∷ all_written more)))
+    by_heading (λ name.
+    scanned_heading (suc n) (name ++ (written_attributes x ++ (62 ∷ all_written more)))
     ≡ heading_of n (StartTag name (seen_attributes x) false) (all_tokens more))
     (at 49 refl) (at 50 refl) (at 51 refl) (at 52 refl) (at 53 refl) (at 54 refl) name named
   where
@@ -252,9 +279,11 @@ one_heading n name x more named plain sound =
     at digit d =
         let inside = 104 ∷ digit ∷ written_attributes x in
         let bytes : list_all (differs 62) inside ≡ true =
-        tag-differs 62 (104 ∷ digit ∷ []) x closes (and_from (is_name_byte digit) true d refl) plain in
+        tag-differs 62 (104 ∷ digit ∷ []) x closes
+        (and_from (is_name_byte digit) true d refl) plain in
         ap (λ t. record { level = digit - 48; number = suc n; text = t })
-        (ap (text_before digit false) (past-run inside (all_written more) bytes) ∙ text-pieces digit more d sound)
+        (ap (text_before digit false) (past-run inside (all_written more) bytes)
+        ∙ text-pieces digit more d sound)
 
 pub headings-pieces : (n : ℕ) (x : List Piece) → are_sound x ≡ true →
     scanned_headings n (all_written x) ≡ headings_after n (all_tokens x)
@@ -272,7 +301,8 @@ headings-pieces n (Opening name x ∷ more) h =
     (heading-picks.elements name x (all_written more) q.0 r.0)
     (λ m. ap (scanned_headings m) (between name x (62 ∷ all_written more))
     ∙ headings-run m (name ++ written_attributes x) (62 ∷ all_written more) bytes)
-    (λ passes. one_heading n name x more (and_parts (is_one_of heading_names name) _ passes).0 r.0 r.1)
+    (λ passes. one_heading n name x more
+    (and_parts (is_one_of heading_names name) _ passes).0 r.0 r.1)
     refl (headings-pieces (suc n) more r.1) (headings-pieces n more r.1)
   where
     tag : List ℕ
@@ -283,7 +313,8 @@ headings-pieces n (Opening name x ∷ more) h =
 
     by : (b : Bool) → picks_heading tag ≡ b →
         ((m : ℕ) → scanned_headings m tag ≡ scanned_headings m (all_written more)) →
-        (gets_id token ≡ true → scanned_heading (suc n) tag ≡ heading_of n token (all_tokens more)) →
+        (gets_id token ≡ true →
+        scanned_heading (suc n) tag ≡ heading_of n token (all_tokens more)) →
         gets_id token ≡ b →
         scanned_headings (suc n) (all_written more) ≡ headings_after (suc n) (all_tokens more) →
         scanned_headings n (all_written more) ≡ headings_after n (all_tokens more) →
@@ -298,7 +329,8 @@ headings-pieces n (Single name x ∷ more) h =
     let r = and_parts (are_plain x) (are_sound more) q.1 in
     let bytes = void-name (list_all is_name_byte) name refl q.0 in
     let on = 32 ∷ 47 ∷ 62 ∷ all_written more in
-    headings-passed n (name ++ (written_attributes x ++ on)) (heading-picks.voids name (written_attributes x ++ on) q.0)
+    headings-passed n (name ++ (written_attributes x ++ on))
+    (heading-picks.voids name (written_attributes x ++ on) q.0)
     ∙ ap (scanned_headings n) (between name x on)
     ∙ headings-run n (name ++ written_attributes x) on (tag-differs 60 name x opens bytes r.0)
     ∙ headings-pieces n more r.1
@@ -307,14 +339,16 @@ headings-pieces n (Single name x ∷ more) h =
     (heading-elements.voids name (seen_attributes x) q.0))
 headings-pieces n (Closing name ∷ more) h =
     let q = and_parts (is_tag_name name) (are_sound more) h in
-    headings-passed n (47 ∷ (name ++ (62 ∷ all_written more))) (heading-picks.ends (name ++ (62 ∷ all_written more)))
+    headings-passed n (47 ∷ (name ++ (62 ∷ all_written more)))
+    (heading-picks.ends (name ++ (62 ∷ all_written more)))
     ∙ headings-run n name (62 ∷ all_written more) (name-differs 60 name refl (name_bytes name q.0))
     ∙ headings-pieces n more q.1
 
 -- ---- by the turns of the program
 
 -- a text up to a carriage return
-pub lined-run : (x r : List ℕ) → list_all (differs 13) x ≡ true → with_line_feeds (x ++ r) ≡ x ++ with_line_feeds r
+pub lined-run : (x r : List ℕ) → list_all (differs 13) x ≡ true →
+    with_line_feeds (x ++ r) ≡ x ++ with_line_feeds r
 lined-run x r h = line_feeds-name x r h
 
 pub lined-all : (x : List ℕ) → list_all (differs 13) x ≡ true → with_line_feeds x ≡ x
@@ -333,13 +367,15 @@ past-shorter (b ∷ x) =
 
 -- a text outside tags up to a `<`, and one without
 pub text-to : (digit : ℕ) (x tag : List ℕ) → list_all (differs 60) x ≡ true →
-    text_before digit false (x ++ (60 ∷ tag)) ≡ with_line_feeds x ++ text_before digit false (60 ∷ tag)
+    text_before digit false (x ++ (60 ∷ tag))
+    ≡ with_line_feeds x ++ text_before digit false (60 ∷ tag)
 text-to digit x tag h = text-run digit x (60 ∷ tag) h refl
 
 pub text-all : (digit : ℕ) (x : List ℕ) → list_all (differs 60) x ≡ true →
     text_before digit false x ≡ with_line_feeds x
 text-all digit x h =
-    ap (text_before digit false) (sym (append-nil x)) ∙ text-run digit x [] h refl ∙ append-nil (with_line_feeds x)
+    ap (text_before digit false) (sym (append-nil x)) ∙ text-run digit x [] h refl
+    ∙ append-nil (with_line_feeds x)
 
 pub lined-turn : (out line after rest out' out'' whole : List ℕ) → rest ≡ line ++ (13 ∷ after) →
     list_all (differs 13) line ≡ true → out' ≡ out ++ line →
@@ -361,19 +397,23 @@ text-first : (digit : ℕ) (out words tag rest out' whole : List ℕ) → rest �
 text-first digit out words tag rest out' whole is none first all =
     let on = text_before digit false (60 ∷ tag) in
     ap (λ y. y ++ on) first ∙ append_assoc out (with_line_feeds words) on
-    ∙ ap (λ y. out ++ y) (sym (ap (text_before digit false) is ∙ text-to digit words tag none)) ∙ all
+    ∙ ap (λ y. out ++ y) (sym (ap (text_before digit false) is ∙ text-to digit words tag none))
+    ∙ all
 
 -- the heading ends
 pub text-ends : (digit : ℕ) (out words tag rest out' whole : List ℕ) → rest ≡ words ++ (60 ∷ tag) →
-    list_all (differs 60) words ≡ true → out' ≡ out ++ with_line_feeds words → closes_heading digit tag ≡ true →
+    list_all (differs 60) words ≡ true → out' ≡ out ++ with_line_feeds words →
+    closes_heading digit tag ≡ true →
     out ++ text_before digit false rest ≡ whole → out' ≡ whole
 text-ends digit out words tag rest out' whole is none first ends all =
     sym (append-nil out') ∙ ap (λ y. out' ++ y) (sym (text-closes digit tag ends))
     ∙ text-first digit out words tag rest out' whole is none first all
 
 -- a tag is passed
-pub text-turn : (digit : ℕ) (out words tag rest out' rest' whole : List ℕ) → rest ≡ words ++ (60 ∷ tag) →
-    list_all (differs 60) words ≡ true → out' ≡ out ++ with_line_feeds words → closes_heading digit tag ≡ false →
+pub text-turn : (digit : ℕ) (out words tag rest out' rest' whole : List ℕ) →
+    rest ≡ words ++ (60 ∷ tag) →
+    list_all (differs 60) words ≡ true → out' ≡ out ++ with_line_feeds words →
+    closes_heading digit tag ≡ false →
     rest' ≡ past_angle tag → out ++ text_before digit false rest ≡ whole →
     out' ++ text_before digit false rest' ≡ whole
 text-turn digit out words tag rest out' rest' whole is none first on later all =
@@ -383,8 +423,10 @@ text-turn digit out words tag rest out' rest' whole is none first on later all =
 
 -- a heading is found
 pub heading-turn : (n m at : ℕ) (found found' : List Listed) (rest : List ℕ) (whole : List Listed) →
-    IsTagAt picks_heading rest at → m ≡ n + 1 → found' ≡ found ++ (scanned_heading m (drop (at + 1) rest) ∷ []) →
-    found ++ scanned_headings n rest ≡ whole → found' ++ scanned_headings m (drop (at + 1) rest) ≡ whole
+    IsTagAt picks_heading rest at → m ≡ n + 1 →
+    found' ≡ found ++ (scanned_heading m (drop (at + 1) rest) ∷ []) →
+    found ++ scanned_headings n rest ≡ whole →
+    found' ++ scanned_headings m (drop (at + 1) rest) ≡ whole
 heading-turn n m at found found' rest whole h next more all =
     let number : m ≡ suc n = omega arith in
     subst (λ m. found' ≡ found ++ (scanned_heading m (drop (at + 1) rest) ∷ []) →
@@ -396,7 +438,8 @@ heading-turn n m at found found' rest whole h next more all =
     tag : List ℕ
     tag = drop (suc at) rest
 
-    turned : found' ≡ found ++ (scanned_heading (suc n) tag ∷ []) → found' ++ scanned_headings (suc n) tag ≡ whole
+    turned : found' ≡ found ++ (scanned_heading (suc n) tag ∷ []) →
+        found' ++ scanned_headings (suc n) tag ≡ whole
     turned more =
         ap (λ y. y ++ scanned_headings (suc n) tag) more
         ∙ append_assoc found (scanned_heading (suc n) tag ∷ []) (scanned_headings (suc n) tag)
@@ -406,7 +449,8 @@ heading-turn n m at found found' rest whole h next more all =
         ∙ all
 
 -- no heading is left
-pub headings-all : (n : ℕ) (x : List ℕ) → clear picks_heading (length x) x ≡ true → scanned_headings n x ≡ []
+pub headings-all : (n : ℕ) (x : List ℕ) → clear picks_heading (length x) x ≡ true →
+    scanned_headings n x ≡ []
 headings-all n x h = clear-headings n (length x) x h ∙ ap (scanned_headings n) (all x)
   where
     all : (x : List ℕ) → drop (length x) x ≡ []

@@ -1,8 +1,10 @@
 -- A number in decimal digits, as it is written and seen.
-use Rattle.std.proofs.Common.{◌≡◌, ℕ, ◌<◌, ◌/◌, ◌%◌, ◌==◌, zero, suc, Bool, true, false, not, ◌&&◌, List, [], ◌∷◌, ◌++◌, refl, sym, ap, ◌∙◌, arith, append-nil}
+use Rattle.std.proofs.Common.{◌≡◌, ℕ, ◌<◌, ◌/◌, ◌%◌, ◌==◌, zero, suc, Bool, true, false, not, ◌&&◌}
+use Rattle.std.proofs.Common.{List, [], ◌∷◌, ◌++◌, refl, sym, ap, ◌∙◌, arith, append-nil}
 use Rattle.std.specs.Fmt.{decimal, digits, digits_onto, digit_glyph}
 use Rattle.std.specs.List.{list_all}
-use Rattle.std.proofs.lemmas.Bool.{and_parts, and_from, cond_both, agree_below_at, not-true, eqb-false}
+use Rattle.std.proofs.lemmas.Bool.{and_parts, and_from, cond_both, agree_below_at, not-true}
+use Rattle.std.proofs.lemmas.Bool.{eqb-false}
 use Rattle.md_text.specs.Bytes.{is_between}
 use Rattle.md_text.specs.Encode.{encoded}
 use Rattle.md_text.specs.References.{is_escaped, is_escaped_byte, read_back}
@@ -32,9 +34,11 @@ onto-itself zero n acc h = h
 onto-itself (suc k) n acc h =
     let l : n % 10 < 10 = omega arith in
     let first : list_all is_itself (digit_glyph false (n % 10) ∷ acc) ≡ true =
-    and_from (is_itself (digit_glyph false (n % 10))) (list_all is_itself acc) (glyph-itself (n % 10) l) h in
+    and_from (is_itself (digit_glyph false (n % 10))) (list_all is_itself acc)
+    (glyph-itself (n % 10) l) h in
     cond_both (n / 10 == 0) (digit_glyph false (n % 10) ∷ acc)
-    (digits_onto k 10 false (n / 10) (digit_glyph false (n % 10) ∷ acc)) (λ x. list_all is_itself x ≡ true)
+    (digits_onto k 10 false (n / 10) (digit_glyph false (n % 10) ∷ acc))
+    (λ x. list_all is_itself x ≡ true)
     (λ _. first) (λ _. onto-itself k (n / 10) (digit_glyph false (n % 10) ∷ acc) first)
 
 decimal-itself : (n : ℕ) → list_all is_itself (decimal n) ≡ true
@@ -77,31 +81,37 @@ itself-back : (x : List ℕ) → list_all is_itself x ≡ true → read_back x �
 itself-back [] h = refl
 itself-back (b ∷ x) h =
     let p = and_parts (is_itself b) (list_all is_itself x) h in
-    read_back-other b x (eqb-false b 38 (itself_parts b p.0).plain.no_and) ∙ ap (λ y. b ∷ y) (itself-back x p.1)
+    read_back-other b x (eqb-false b 38 (itself_parts b p.0).plain.no_and)
+    ∙ ap (λ y. b ∷ y) (itself-back x p.1)
 
 itself-returns : (x : List ℕ) → list_all is_itself x ≡ true → list_all no_return x ≡ true
 itself-returns [] h = refl
 itself-returns (b ∷ x) h =
     let p = and_parts (is_itself b) (list_all is_itself x) h in
-    and_from (no_return b) (list_all no_return x) (ap not (itself_parts b p.0).no_return) (itself-returns x p.1)
+    and_from (no_return b) (list_all no_return x) (ap not (itself_parts b p.0).no_return)
+    (itself-returns x p.1)
 
 itself-begins : (x : List ℕ) → list_all is_itself x ≡ true → begins_with_line_feed x ≡ false
 itself-begins [] h = refl
-itself-begins (b ∷ x) h = (itself_parts b (and_parts (is_itself b) (list_all is_itself x) h).0).no_feed
+itself-begins (b ∷ x) h =
+    (itself_parts b (and_parts (is_itself b) (list_all is_itself x) h).0).no_feed
 
 -- an escaped text and a number
-pub numbered-escaped : (prefix : List ℕ) (n : ℕ) → is_escaped (encoded true prefix ++ decimal n) ≡ true
+pub numbered-escaped : (prefix : List ℕ) (n : ℕ) →
+    is_escaped (encoded true prefix ++ decimal n) ≡ true
 numbered-escaped prefix n =
     escaped-append (encoded true prefix) (decimal n) (is_escaped-encoded prefix)
     (itself-escaped (decimal n) (decimal-itself n))
 
-pub numbered-seen : (prefix : List ℕ) (n : ℕ) → seen (encoded true prefix ++ decimal n) ≡ shown prefix ++ decimal n
+pub numbered-seen : (prefix : List ℕ) (n : ℕ) →
+    seen (encoded true prefix ++ decimal n) ≡ shown prefix ++ decimal n
 numbered-seen prefix n =
     let h = decimal-itself n in
     let digits = decimal n in
     seen-is (encoded true prefix ++ digits) (numbered-escaped prefix n)
-    ∙ ap with_line_feeds (read_back-before prefix digits ∙ ap (λ x. encoded false prefix ++ x) (itself-back digits h))
+    ∙ ap with_line_feeds
+    (read_back-before prefix digits ∙ ap (λ x. encoded false prefix ++ x) (itself-back digits h))
     ∙ line_feeds-append (encoded false prefix) digits (itself-begins digits h)
     ∙ ap (λ x. with_line_feeds (encoded false prefix) ++ x)
-    (ap with_line_feeds (sym (append-nil digits)) ∙ line_feeds-name digits [] (itself-returns digits h)
-    ∙ append-nil digits)
+    (ap with_line_feeds (sym (append-nil digits))
+    ∙ line_feeds-name digits [] (itself-returns digits h) ∙ append-nil digits)

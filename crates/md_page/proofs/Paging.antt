@@ -50,23 +50,24 @@ page-runs : (title : List ℕ) (x : List Piece) → is_escaped title ≡ true �
 page-runs title x e h =
     let end_text = codes "</body></html>\n" in
     let ends : IsTokenized end_text after_body =
-    end-runs (codes "body") (codes "</html>\n") (EndTag (codes "html") ∷ Character 10 ∷ EndOfFile ∷ []) refl
-    (end-runs (codes "html") (codes "\n") (Character 10 ∷ EndOfFile ∷ []) refl
+    end-runs (codes "body") (codes "</html>\n") (EndTag (codes "html") ∷ Character 10 ∷ EndOfFile
+    ∷ []) refl (end-runs (codes "html") (codes "\n") (Character 10 ∷ EndOfFile ∷ []) refl
     (loud (Character 10) refl record { steps = 1; emits = refl })) in
     let body_text = with_line_feeds (all_written x ++ end_text) in
     let rest = codes "</title></head><body>" ++ (all_written x ++ end_text) in
     let after = going_on (all_tokens x) after_body in
     let after_head : List Token = plain_tag (codes "body") ∷ after in
     let after_title : List Token = EndTag (codes "head") ∷ after_head in
-    let bodied = element-runs (codes "body") [] body_text after refl refl (pieces-before x end_text after_body h refl ends) in
+    let bodied = element-runs (codes "body") [] body_text after refl refl
+    (pieces-before x end_text after_body h refl ends) in
     let headed = end-runs (codes "head") (codes "<body>" ++ body_text) after_head refl bodied in
     let title_tokens = map Character (seen title) ++ (EndTag (codes "title") ∷ after_title) in
     let titled = rcdata-runs (with_line_feeds title) (line_feeds-escaped title e)
     (codes "</title></head><body>" ++ body_text) (EndTag (codes "title") ∷ after_title)
     (title_ends (codes "</head><body>" ++ body_text) after_title headed) in
     let lines = with_line_feeds (title ++ rest) in
-    let from_title = along Rcdata (with_line_feeds title ++ with_line_feeds rest) lines title_tokens title_tokens
-    (sym (line_feeds-append title rest refl)) refl titled in
+    let from_title = along Rcdata (with_line_feeds title ++ with_line_feeds rest) lines title_tokens
+    title_tokens (sym (line_feeds-append title rest refl)) refl titled in
     let charset : Attribute = record { name = codes "charset"; value = codes "utf-8" } in
     let at_title = title_begins lines title_tokens from_title in
     let meta = void-runs (codes "meta") (charset ∷ []) (codes "<title>" ++ lines)
@@ -75,9 +76,11 @@ page-runs title x e h =
     let meta_tokens : List Token =
     StartTag (codes "meta") (charset_seen ∷ []) true ∷ plain_tag (codes "title") ∷ title_tokens in
     let head = element-runs (codes "head") [] meta_text meta_tokens refl refl meta in
-    let html = element-runs (codes "html") [] (codes "<head>" ++ meta_text) (plain_tag (codes "head")
+    let html =
+    element-runs (codes "html") [] (codes "<head>" ++ meta_text) (plain_tag (codes "head")
     ∷ meta_tokens) refl refl head in
-    doctype (codes "\n<html><head>" ++ meta_text) (Character 10 ∷ plain_tag (codes "html") ∷ plain_tag (codes "head")
+    doctype (codes "\n<html><head>" ++ meta_text)
+    (Character 10 ∷ plain_tag (codes "html") ∷ plain_tag (codes "head")
     ∷ meta_tokens) (loud (Character 10) refl html)
 
 -- ---- safe tokens
@@ -93,7 +96,8 @@ on-all p (Character b ∷ x) after h k =
     and_from (p (Character b)) (list_all p (going_on x after)) q.0 (on-all p x after q.1 k)
 on-all p (StartTag name attributes flag ∷ x) after h k =
     let q = and_parts (p (StartTag name attributes flag)) (list_all p x) h in
-    and_from (p (StartTag name attributes flag)) (list_all p (going_on x after)) q.0 (on-all p x after q.1 k)
+    and_from (p (StartTag name attributes flag)) (list_all p (going_on x after)) q.0
+    (on-all p x after q.1 k)
 on-all p (EndTag name ∷ x) after h k =
     let q = and_parts (p (EndTag name)) (list_all p x) h in
     and_from (p (EndTag name)) (list_all p (going_on x after)) q.0 (on-all p x after q.1 k)
@@ -101,19 +105,22 @@ on-all p (EndOfFile ∷ x) after h k = k
 
 abbrev after_title : List Token → List Token
 after_title body =
-    EndTag (codes "title") ∷ EndTag (codes "head") ∷ plain_tag (codes "body") ∷ going_on body after_body
+    EndTag (codes "title") ∷ EndTag (codes "head") ∷ plain_tag (codes "body")
+    ∷ going_on body after_body
 
 page-links : (title : List ℕ) (x : List Token) → list_all has_safe_links x ≡ true →
     list_all has_safe_links (page_around title x) ≡ true
 page-links title x h =
     all-append has_safe_links (map Character title) (after_title x)
-    (all-characters has_safe_links is_safe_link links-pass title) (on-all has_safe_links x after_body h refl)
+    (all-characters has_safe_links is_safe_link links-pass title)
+    (on-all has_safe_links x after_body h refl)
 
 page-images : (title : List ℕ) (x : List Token) → list_all has_safe_images x ≡ true →
     list_all has_safe_images (page_around title x) ≡ true
 page-images title x h =
     all-append has_safe_images (map Character title) (after_title x)
-    (all-characters has_safe_images is_safe_image images-pass title) (on-all has_safe_images x after_body h refl)
+    (all-characters has_safe_images is_safe_image images-pass title)
+    (on-all has_safe_images x after_body h refl)
 
 pub page-emitted : (title body : List ℕ) → IsWritten body → (x : List Token) → IsTokenized body x →
     IsSafePage (page_text (encoded true title) body) (page_around (shown title) x)
@@ -124,15 +131,17 @@ page-emitted title body w x h =
     let same : x ≡ all_tokens w.pieces = (attributed body w).only x h in
     let runs : IsTokenized text emits =
     subst (λ b. IsTokenized (page_text (encoded true title) b) emits) w.written_so
-    (subst (λ y. IsTokenized (page_text (encoded true title) (all_written w.pieces)) (page_around (shown title) y))
-    (sym same)
+    (subst (λ y. IsTokenized (page_text (encoded true title) (all_written w.pieces))
+    (page_around (shown title) y)) (sym same)
     (subst (λ c. IsTokenized (page_text (encoded true title) (all_written w.pieces))
     (page_around c (all_tokens w.pieces))) (seen-encoded title)
     (page-runs (encoded true title) w.pieces (is_escaped-encoded title) w.sound))) in
     record {
       tokenized = runs;
       only = λ other k. one_run Data (with_line_feeds text) other emits k runs;
-      safe_links = page-links (shown title) x (subst (λ y. list_all has_safe_links y ≡ true) (sym same) w.safe_links);
+      safe_links = page-links (shown title) x
+          (subst (λ y. list_all has_safe_links y ≡ true) (sym same) w.safe_links);
       safe_images =
-          page-images (shown title) x (subst (λ y. list_all has_safe_images y ≡ true) (sym same) w.safe_images);
+          page-images (shown title) x
+          (subst (λ y. list_all has_safe_images y ≡ true) (sym same) w.safe_images);
     }

@@ -1,5 +1,7 @@
 -- Places before which no tag begins that is picked.
-use Rattle.std.proofs.Common.{◌≡◌, ◌≤◌, ◌<◌, ℕ, zero, suc, ◌+◌, ◌-◌, ◌==◌, Bool, true, false, not, ◌&&◌, cond, List, [], ◌∷◌, ◌++◌, length, take, drop, get_or, refl, sym, ap, ◌∙◌, subst, arith, add-one, ne_eqb, eq-eqb}
+use Rattle.std.proofs.Common.{◌≡◌, ◌≤◌, ◌<◌, ℕ, zero, suc, ◌+◌, ◌-◌, ◌==◌, Bool, true, false, not}
+use Rattle.std.proofs.Common.{◌&&◌, cond, List, [], ◌∷◌, ◌++◌, length, take, drop, get_or, refl}
+use Rattle.std.proofs.Common.{sym, ap, ◌∙◌, subst, arith, add-one, ne_eqb, eq-eqb}
 use Rattle.std.specs.Prelude.{slice_index, Option, Some, None, MatchOption}
 use Rattle.std.specs.List.{list_all}
 use Rattle.std.proofs.lemmas.Bool.{and_parts, and_from, not-true}
@@ -10,13 +12,17 @@ use Rattle.md_text.specs.Bytes.{is_between}
 use Rattle.md_text.specs.References.{begins_with}
 use Rattle.md_page.specs.declared.scan.Rule.{Rule}
 use Rattle.md_page.specs.declared.scan.Rule.TheVariants.{Link, Heading}
-use Rattle.md_page.specs.Scan.{differs, IsFirstOf, clear, IsPassed, IsAngleFrom, picks_of, picks_heading, before_angle, want_rel, want_id, scanned, scanned_heading, scanned_headings}
+use Rattle.md_page.specs.Scan.{differs, IsFirstOf, clear, IsPassed, IsAngleFrom, picks_of}
+use Rattle.md_page.specs.Scan.{picks_heading, before_angle, want_rel, want_id, scanned}
+use Rattle.md_page.specs.Scan.{scanned_heading, scanned_headings}
 
 -- one byte more
-pub clear-one : (picks : List ℕ → Bool) (k : ℕ) (text : List ℕ) → k < length text → clear picks k text ≡ true →
+pub clear-one : (picks : List ℕ → Bool) (k : ℕ) (text : List ℕ) → k < length text →
+    clear picks k text ≡ true →
     ((get_or text k 0 == 60) && picks (drop (suc k) text)) ≡ false → clear picks (suc k) text ≡ true
 clear-one picks k [] within h e = absurd (omega (arith, within))
-clear-one picks zero (b ∷ rest) within h e = and_from (not ((b == 60) && picks rest)) true (ap not e) refl
+clear-one picks zero (b ∷ rest) within h e =
+    and_from (not ((b == 60) && picks rest)) true (ap not e) refl
 clear-one picks (suc k) (b ∷ rest) within h e =
     let p = and_parts (not ((b == 60) && picks rest)) (clear picks k rest) h in
     and_from (not ((b == 60) && picks rest)) (clear picks (suc k) rest) p.0
@@ -39,13 +45,15 @@ clear-more picks (suc j) k [] a b = subst (λ n. clear picks n [] ≡ true) (nex
 clear-more picks (suc j) k (x ∷ rest) a b =
     let p = and_parts (not ((x == 60) && picks rest)) (clear picks j rest) a in
     subst (λ n. clear picks n (x ∷ rest) ≡ true) (next j k)
-    (and_from (not ((x == 60) && picks rest)) (clear picks (j + k) rest) p.0 (clear-more picks j k rest p.1 b))
+    (and_from (not ((x == 60) && picks rest)) (clear picks (j + k) rest) p.0
+    (clear-more picks j k rest p.1 b))
   where
     next : (j k : ℕ) → suc (j + k) ≡ suc j + k
     next j k = omega arith
 
 -- none begins where no `<` stands
-pub clear-run : (picks : List ℕ → Bool) (k : ℕ) (text : List ℕ) → list_all (differs 60) (take k text) ≡ true →
+pub clear-run : (picks : List ℕ → Bool) (k : ℕ) (text : List ℕ) →
+    list_all (differs 60) (take k text) ≡ true →
     clear picks k text ≡ true
 clear-run picks zero text h = refl
 clear-run picks (suc k) [] h = refl
@@ -80,8 +88,8 @@ clear-headings n zero text h = refl
 clear-headings n (suc k) [] h = refl
 clear-headings n (suc k) (b ∷ rest) h =
     let p = and_parts (not ((b == 60) && picks_heading rest)) (clear picks_heading k rest) h in
-    ap (λ t. cond t (scanned_heading (suc n) rest ∷ scanned_headings (suc n) rest) (scanned_headings n rest))
-    (not-true ((b == 60) && picks_heading rest) p.0)
+    ap (λ t. cond t (scanned_heading (suc n) rest ∷ scanned_headings (suc n) rest)
+    (scanned_headings n rest)) (not-true ((b == 60) && picks_heading rest) p.0)
     ∙ clear-headings n k rest p.1
 
 -- ---- a text at a `<`
@@ -107,7 +115,8 @@ angle-unpicked Heading [] = refl
 angle-unpicked Heading (b ∷ rest) = refl
 
 -- before a `<` none begins
-pub before-angle : (rule : Rule) (text : List ℕ) (at : ℕ) → at + 1 < length text → slice_index text (at + 1) ≡ 60 →
+pub before-angle : (rule : Rule) (text : List ℕ) (at : ℕ) → at + 1 < length text →
+    slice_index text (at + 1) ≡ 60 →
     IsPassed rule text at (at + 1)
 before-angle rule text at within is = λ h.
     subst (λ m. clear (picks_of rule) m text ≡ true) (sym (add-one at))
@@ -124,13 +133,14 @@ before-angle rule text at within is = λ h.
 -- none begins here, and the next byte is no `<`
 pub past-two : (rule : Rule) (text : List ℕ) (at : ℕ) → at + 1 < length text →
     (slice_index text (at + 1) == 60) ≡ false →
-    ((slice_index text at == 60) && picks_of rule (drop (suc at) text)) ≡ false → IsPassed rule text at (at + 2)
+    ((slice_index text at == 60) && picks_of rule (drop (suc at) text)) ≡ false →
+    IsPassed rule text at (at + 2)
 past-two rule text at within other none = λ h.
     subst (λ m. clear (picks_of rule) m text ≡ true) (two at)
     (clear-one (picks_of rule) (suc at) text (omega (arith, within))
     (clear-one (picks_of rule) at text (omega (arith, within)) h none)
-    (ap (λ m. (get_or text m 0 == 60) && picks_of rule (drop (suc (suc at)) text)) (sym (add-one at))
-    ∙ ap (λ t. t && picks_of rule (drop (suc (suc at)) text)) other))
+    (ap (λ m. (get_or text m 0 == 60) && picks_of rule (drop (suc (suc at)) text))
+    (sym (add-one at)) ∙ ap (λ t. t && picks_of rule (drop (suc (suc at)) text)) other))
   where
     two : (at : ℕ) → suc (suc at) ≡ at + 2
     two at = omega arith
@@ -146,29 +156,34 @@ to-angle rule text at run found =
       within = inside;
       angle = got-dropped text at run ∙ found.is;
       passed = λ h.
-          clear-more (picks_of rule) at run text h (clear-run (picks_of rule) run (drop at text) found.before);
+          clear-more (picks_of rule) at run text h
+          (clear-run (picks_of rule) run (drop at text) found.before);
     }
   where
     more : (a b : ℕ) → a ≤ a + b
     more a b = omega arith
 
-    got-dropped : (text : List ℕ) (at run : ℕ) → get_or text (at + run) 0 ≡ get_or (drop at text) run 0
+    got-dropped : (text : List ℕ) (at run : ℕ) →
+        get_or text (at + run) 0 ≡ get_or (drop at text) run 0
     got-dropped text zero run = ap (λ m. get_or text m 0) (none run)
       where
         none : (n : ℕ) → 0 + n ≡ n
         none n = omega arith
     got-dropped [] (suc at) run = refl
-    got-dropped (b ∷ text) (suc at) run = ap (λ m. get_or (b ∷ text) m 0) (next at run) ∙ got-dropped text at run
+    got-dropped (b ∷ text) (suc at) run =
+        ap (λ m. get_or (b ∷ text) m 0) (next at run) ∙ got-dropped text at run
       where
         next : (a b : ℕ) → suc a + b ≡ suc (a + b)
         next a b = omega arith
 
 -- no `<` is left
-pub to-end : (rule : Rule) (text : List ℕ) (at : ℕ) → at ≤ length text → list_all (differs 60) (drop at text) ≡ true →
+pub to-end : (rule : Rule) (text : List ℕ) (at : ℕ) → at ≤ length text →
+    list_all (differs 60) (drop at text) ≡ true →
     IsPassed rule text at (length text)
 to-end rule text at within none = λ h.
     subst (λ m. clear (picks_of rule) m text ≡ true) (whole (length-drop at text))
-    (clear-more (picks_of rule) at (length (drop at text)) text h (clear-all (picks_of rule) (drop at text) none))
+    (clear-more (picks_of rule) at (length (drop at text)) text h
+    (clear-all (picks_of rule) (drop at text) none))
   where
     whole : length (drop at text) ≡ length text - at → at + length (drop at text) ≡ length text
     whole e = omega (arith, e, within)
@@ -192,8 +207,10 @@ from-near rule text at near (Some angle) later passed on = record {
 -- ---- where a tag may begin
 
 -- what stands from a place on
-from-there : (text : List ℕ) (at : ℕ) → at < length text → drop at text ≡ slice_index text at ∷ drop (suc at) text
-from-there text at within = drop_more text at 0 within ∙ ap (λ m. slice_index text at ∷ drop m text) (add-one at)
+from-there : (text : List ℕ) (at : ℕ) → at < length text →
+    drop at text ≡ slice_index text at ∷ drop (suc at) text
+from-there text at within =
+    drop_more text at 0 within ∙ ap (λ m. slice_index text at ∷ drop m text) (add-one at)
 
 pub both-not : (a b : Bool) → b ≡ false → (a && b) ≡ false
 both-not true b e = e
@@ -207,7 +224,8 @@ abbrev pub letter_of : Rule → ℕ
 letter_of Link = 97
 letter_of Heading = 104
 
-unbegun : (rule : Rule) (b : ℕ) (rest : List ℕ) → (b == letter_of rule) ≡ false → picks_of rule (b ∷ rest) ≡ false
+unbegun : (rule : Rule) (b : ℕ) (rest : List ℕ) → (b == letter_of rule) ≡ false →
+    picks_of rule (b ∷ rest) ≡ false
 unbegun Link b rest other =
     ap (λ t. (t && begins_with (32 ∷ []) rest) && option_map_or want_rel (before_angle rest) false)
     (turned-round 97 b other)
@@ -217,7 +235,8 @@ unbegun Heading b (level ∷ rest) other =
 
 -- another letter
 pub unnamed : (rule : Rule) (text : List ℕ) (at : ℕ) → at + 1 < length text →
-    (slice_index text (at + 1) == letter_of rule) ≡ false → picks_of rule (drop (suc at) text) ≡ false
+    (slice_index text (at + 1) == letter_of rule) ≡ false →
+    picks_of rule (drop (suc at) text) ≡ false
 unnamed rule text at within other =
     ap (picks_of rule) (from-there text (suc at) (omega (arith, within)))
     ∙ unbegun rule (slice_index text (suc at)) (drop (suc (suc at)) text)
@@ -225,17 +244,20 @@ unnamed rule text at within other =
 
 -- no level
 pub unlevelled : (text : List ℕ) (at : ℕ) → at + 2 < length text →
-    is_between 49 54 (slice_index text (at + 2)) ≡ false → picks_heading (drop (suc at) text) ≡ false
+    is_between 49 54 (slice_index text (at + 2)) ≡ false →
+    picks_heading (drop (suc at) text) ≡ false
 unlevelled text at within other =
     ap picks_heading (from-there text (suc at) (omega (arith, within))
-    ∙ ap (λ t. slice_index text (suc at) ∷ t) (from-there text (suc (suc at)) (omega (arith, within))))
-    ∙ low (slice_index text (suc at)) (slice_index text (suc (suc at))) (drop (suc (suc (suc at))) text)
+    ∙ ap (λ t. slice_index text (suc at) ∷ t)
+    (from-there text (suc (suc at)) (omega (arith, within)))) ∙ low (slice_index text (suc at))
+    (slice_index text (suc (suc at))) (drop (suc (suc (suc at))) text)
     (ap (λ m. is_between 49 54 (slice_index text m)) (two at) ∙ other)
   where
     two : (at : ℕ) → suc (suc at) ≡ at + 2
     two at = omega arith
 
-    low : (b level : ℕ) (rest : List ℕ) → is_between 49 54 level ≡ false → picks_heading (b ∷ level ∷ rest) ≡ false
+    low : (b level : ℕ) (rest : List ℕ) → is_between 49 54 level ≡ false →
+        picks_heading (b ∷ level ∷ rest) ≡ false
     low b level rest other =
         ap (λ t. t && option_map_or want_id (before_angle rest) false)
         (both-not (b == 104) (is_between 49 54 level) other)

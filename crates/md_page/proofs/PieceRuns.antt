@@ -1,5 +1,6 @@
 -- Sound pieces are tokenized as their tokens.
-use Rattle.std.proofs.Common.{◌≡◌, ℕ, true, false, not, List, [], ◌∷◌, ◌++◌, map, refl, sym, ap, ◌∙◌, subst, append_assoc, append-nil}
+use Rattle.std.proofs.Common.{◌≡◌, ℕ, true, false, not, List, [], ◌∷◌, ◌++◌, map, refl, sym, ap}
+use Rattle.std.proofs.Common.{◌∙◌, subst, append_assoc, append-nil}
 use Rattle.std.specs.List.{list_all}
 use Rattle.std.proofs.lemmas.Bool.{and_parts}
 use Rattle.md_base.proofs.Lies.{lie}
@@ -14,19 +15,24 @@ use Rattle.md_safe.specs.Tokens.{seen, seen_attributes}
 use Rattle.md_safe.proofs.LineFeeds.{line_feeds-append, line_feeds-name, line_feeds-escaped}
 use Rattle.md_safe.proofs.GoodNames.{is_good_byte, is_good_name, begins_tag, are_good}
 use Rattle.md_safe.proofs.Steps.{along, text-runs}
-use Rattle.md_safe.proofs.TagRuns.{lined, line_feeds-attributes, good-no_return, element-runs, void-runs, end-runs}
-use Rattle.md_page.specs.Pieces.{Piece, Words, Opening, Single, Closing, all_written, all_tokens, are_sound, are_plain, is_tag_name, void_names, begins_with_words}
+use Rattle.md_safe.proofs.TagRuns.{lined, line_feeds-attributes, good-no_return, element-runs}
+use Rattle.md_safe.proofs.TagRuns.{void-runs, end-runs}
+use Rattle.md_page.specs.Pieces.{Piece, Words, Opening, Single, Closing, all_written, all_tokens}
+use Rattle.md_page.specs.Pieces.{are_sound, are_plain, is_tag_name, void_names, begins_with_words}
 use Rattle.md_page.specs.PageAround.{going_on}
 use Rattle.md_page.proofs.Plain.{good_name, good_attributes, void-name}
 
-good-line_feeds : (name r : List ℕ) → is_good_name name ≡ true → with_line_feeds (name ++ r) ≡ name ++ with_line_feeds r
+good-line_feeds : (name r : List ℕ) → is_good_name name ≡ true →
+    with_line_feeds (name ++ r) ≡ name ++ with_line_feeds r
 good-line_feeds name r g =
     let p = and_parts (begins_tag name) _ g in
     line_feeds-name name r (good-no_return name (and_parts (list_all is_good_byte name) _ p.1).0)
 
 -- a tag's name and its attributes, and what follows them
-tag-line_feeds : (name : List ℕ) (x : List Attribute) (r : List ℕ) → is_good_name name ≡ true → are_good x ≡ true →
-    name ++ attributes_before (lined x) (with_line_feeds r) ≡ with_line_feeds (name ++ (written_attributes x ++ r))
+tag-line_feeds : (name : List ℕ) (x : List Attribute) (r : List ℕ) →
+    is_good_name name ≡ true → are_good x ≡ true →
+    name ++ attributes_before (lined x) (with_line_feeds r)
+    ≡ with_line_feeds (name ++ (written_attributes x ++ r))
 tag-line_feeds name x r g h =
     ap (λ y. name ++ y) (sym (line_feeds-attributes x r h))
     ∙ sym (good-line_feeds name (attributes_before x r) g)
@@ -36,7 +42,8 @@ tag-line_feeds name x r g h =
 abbrev written_before : List Piece → List ℕ → List ℕ
 written_before [] r = r
 written_before (Words text ∷ more) r = text ++ written_before more r
-written_before (Opening name x ∷ more) r = 60 ∷ (name ++ (written_attributes x ++ (62 ∷ written_before more r)))
+written_before (Opening name x ∷ more) r =
+    60 ∷ (name ++ (written_attributes x ++ (62 ∷ written_before more r)))
 written_before (Single name x ∷ more) r =
     60 ∷ (name ++ (written_attributes x ++ (32 ∷ 47 ∷ 62 ∷ written_before more r)))
 written_before (Closing name ∷ more) r = 60 ∷ 47 ∷ (name ++ (62 ∷ written_before more r))
@@ -50,7 +57,8 @@ before-written (Opening name x ∷ more) r =
     ∙ ap (λ y. name ++ y) (append_assoc (written_attributes x) (62 ∷ all_written more) r
     ∙ ap (λ y. written_attributes x ++ (62 ∷ y)) (before-written more r)))
 before-written (Single name x ∷ more) r =
-    ap (λ y. 60 ∷ y) (append_assoc name (written_attributes x ++ (32 ∷ 47 ∷ 62 ∷ all_written more)) r
+    ap (λ y. 60 ∷ y)
+    (append_assoc name (written_attributes x ++ (32 ∷ 47 ∷ 62 ∷ all_written more)) r
     ∙ ap (λ y. name ++ y) (append_assoc (written_attributes x) (32 ∷ 47 ∷ 62 ∷ all_written more) r
     ∙ ap (λ y. written_attributes x ++ (32 ∷ 47 ∷ 62 ∷ y)) (before-written more r)))
 before-written (Closing name ∷ more) r =
@@ -71,7 +79,8 @@ characters-on : (x : List ℕ) (more t : List Token) →
 characters-on [] more t = refl
 characters-on (b ∷ x) more t = ap (λ y. Character b ∷ y) (characters-on x more t)
 
-before-run : (x : List Piece) (r : List ℕ) (t : List Token) → are_sound x ≡ true → begins_with_line_feed r ≡ false →
+before-run : (x : List Piece) (r : List ℕ) (t : List Token) → are_sound x ≡ true →
+    begins_with_line_feed r ≡ false →
     IsTokenized r t → IsTokenized (written_before x r) (going_on (all_tokens x) t)
 before-run [] r t h n k = k
 before-run (Words text ∷ more) r t h n k =
@@ -81,7 +90,8 @@ before-run (Words text ∷ more) r t h n k =
     let on = going_on (all_tokens more) t in
     along Data (with_line_feeds text ++ with_line_feeds later) (with_line_feeds (text ++ later))
     (map Character (seen text) ++ on) (going_on (map Character (seen text) ++ all_tokens more) t)
-    (sym (line_feeds-append text later (after_words more r q.0 n))) (sym (characters-on (seen text) (all_tokens more) t))
+    (sym (line_feeds-append text later (after_words more r q.0 n)))
+    (sym (characters-on (seen text) (all_tokens more) t))
     (text-runs (with_line_feeds text) (line_feeds-escaped text p.0) (with_line_feeds later) on
     (before-run more r t q.1 n k))
 before-run (Opening name x ∷ more) r t h n k =
@@ -114,20 +124,24 @@ before-run (Closing name ∷ more) r t h n k =
     let later = written_before more r in
     let on = going_on (all_tokens more) t in
     let out : List Token = EndTag name ∷ on in
-    along Data (60 ∷ 47 ∷ (name ++ (62 ∷ with_line_feeds later))) (60 ∷ 47 ∷ with_line_feeds (name ++ (62 ∷ later)))
+    along Data (60 ∷ 47 ∷ (name ++ (62 ∷ with_line_feeds later)))
+    (60 ∷ 47 ∷ with_line_feeds (name ++ (62 ∷ later)))
     out out (ap (λ y. 60 ∷ 47 ∷ y) (sym (good-line_feeds name (62 ∷ later) good))) refl
     (end-runs name (with_line_feeds later) on good (before-run more r t p.1 n k))
 
 pub pieces-before : (x : List Piece) (r : List ℕ) (t : List Token) → are_sound x ≡ true →
-    begins_with_line_feed r ≡ false → IsTokenized r t → IsTokenized (all_written x ++ r) (going_on (all_tokens x) t)
+    begins_with_line_feed r ≡ false → IsTokenized r t →
+    IsTokenized (all_written x ++ r) (going_on (all_tokens x) t)
 pieces-before x r t h n k =
-    subst (λ y. IsTokenized y (going_on (all_tokens x) t)) (sym (before-written x r)) (before-run x r t h n k)
+    subst (λ y. IsTokenized y (going_on (all_tokens x) t)) (sym (before-written x r))
+    (before-run x r t h n k)
 
 -- in place of the end of file the end of file
 on-end : (x : List Piece) → going_on (all_tokens x) (EndOfFile ∷ []) ≡ all_tokens x
 on-end [] = refl
 on-end (Words text ∷ more) =
-    characters-on (seen text) (all_tokens more) (EndOfFile ∷ []) ∙ ap (λ y. map Character (seen text) ++ y) (on-end more)
+    characters-on (seen text) (all_tokens more) (EndOfFile ∷ [])
+    ∙ ap (λ y. map Character (seen text) ++ y) (on-end more)
 on-end (Opening name x ∷ more) = ap (λ y. StartTag name (seen_attributes x) false ∷ y) (on-end more)
 on-end (Single name x ∷ more) = ap (λ y. StartTag name (seen_attributes x) true ∷ y) (on-end more)
 on-end (Closing name ∷ more) = ap (λ y. EndTag name ∷ y) (on-end more)
@@ -138,6 +152,8 @@ pieces-run x h =
     (subst (IsTokenized (all_written x ++ [])) (on-end x)
     (pieces-before x [] (EndOfFile ∷ []) h refl record { steps = 1; emits = refl }))
 
-pub after_text : (x : List Piece) → not (begins_with_words x) ≡ true → begins_with_line_feed (all_written x) ≡ false
+pub after_text : (x : List Piece) → not (begins_with_words x) ≡ true →
+    begins_with_line_feed (all_written x) ≡ false
 after_text x h =
-    ap begins_with_line_feed (sym (append-nil (all_written x)) ∙ before-written x []) ∙ after_words x [] h refl
+    ap begins_with_line_feed (sym (append-nil (all_written x)) ∙ before-written x [])
+    ∙ after_words x [] h refl

@@ -1,6 +1,8 @@
--- Names and attributes of pieces: the tokenizer takes them as they are, and so are those of the grammar's tables.
+-- Names and attributes of pieces: the tokenizer takes them as they are, and so are those of the
+-- grammar's tables.
 use Rattle.std.specs.Str.{bytes_eq}
-use Rattle.std.proofs.Common.{◌≡◌, ℕ, ◌==◌, Bool, true, false, not, ◌&&◌, ◌||◌, List, [], ◌∷◌, refl, sym, ap, ◌∙◌, subst, inl, inr, ne_eqb}
+use Rattle.std.proofs.Common.{◌≡◌, ℕ, ◌==◌, Bool, true, false, not, ◌&&◌, ◌||◌, List, [], ◌∷◌, refl}
+use Rattle.std.proofs.Common.{sym, ap, ◌∙◌, subst, inl, inr, ne_eqb}
 use Rattle.std.specs.List.{list_all, list_any}
 use Rattle.std.specs.Cmp.Lexicographic.{bytes_decides}
 use Rattle.std.proofs.lemmas.Bool.{and_parts, and_from, or_cases, or_from}
@@ -12,8 +14,10 @@ use Rattle.md_text.specs.Bytes.{is_between, is_letter, is_one_of}
 use Rattle.md_text.specs.References.{is_escaped}
 use Rattle.md_text.specs.Html.{Attribute, is_tag, are_attributes, elements, void_tags}
 use Rattle.md_safe.specs.Tokenizer.{is_space, switching}
-use Rattle.md_safe.proofs.GoodNames.{is_good_byte, is_good_name, is_good_attribute_name, begins_tag, are_good}
-use Rattle.md_page.specs.Pieces.{is_name_byte, is_name, is_tag_name, begins_with_letter, are_plain, void_names}
+use Rattle.md_safe.proofs.GoodNames.{is_good_byte, is_good_name, is_good_attribute_name, begins_tag}
+use Rattle.md_safe.proofs.GoodNames.{are_good}
+use Rattle.md_page.specs.Pieces.{is_name_byte, is_name, is_tag_name, begins_with_letter, are_plain}
+use Rattle.md_page.specs.Pieces.{void_names}
 
 -- ---- bytes of names
 
@@ -27,8 +31,8 @@ no_upper b h = grind (arith, nat_tests)
 good_byte : (b : ℕ) → is_name_byte b ≡ true → is_good_byte b ≡ true
 good_byte b h =
     and_from (not (is_space b)) _
-    (ap not (or_from ((b == 9) || (b == 10) || (b == 12)) (b == 32)
-    (or_from ((b == 9) || (b == 10)) (b == 12) (or_from (b == 9) (b == 10) (no_name b 9 refl h) (no_name b 10 refl h))
+    (ap not (or_from ((b == 9) || (b == 10) || (b == 12)) (b == 32) (or_from ((b == 9) || (b == 10))
+    (b == 12) (or_from (b == 9) (b == 10) (no_name b 9 refl h) (no_name b 10 refl h))
     (no_name b 12 refl h)) (no_name b 32 refl h)))
     (and_from (not (b == 47)) _ (ap not (no_name b 47 refl h))
     (and_from (not (b == 62)) _ (ap not (no_name b 62 refl h))
@@ -42,7 +46,8 @@ good_bytes (b ∷ name) h =
     let p = and_parts (is_name_byte b) (list_all is_name_byte name) h in
     and_from (is_good_byte b) (list_all is_good_byte name) (good_byte b p.0) (good_bytes name p.1)
 
-letter_begins : (b : ℕ) → is_between 97 122 b ≡ true → (not (b == 33) && (not (b == 47) && is_letter b)) ≡ true
+letter_begins : (b : ℕ) → is_between 97 122 b ≡ true →
+    (not (b == 33) && (not (b == 47) && is_letter b)) ≡ true
 letter_begins b h = grind (arith, nat_tests)
 
 begins : (name : List ℕ) → begins_with_letter name ≡ true → begins_tag name ≡ true
@@ -54,7 +59,8 @@ good_name name h =
     let p = and_parts (begins_with_letter name) _ h in
     let q = and_parts (list_all is_name_byte name) (not (is_one_of switching name)) p.1 in
     and_from (begins_tag name) _ (begins name p.0)
-    (and_from (list_all is_good_byte name) (not (is_one_of switching name)) (good_bytes name q.0) q.1)
+    (and_from (list_all is_good_byte name) (not (is_one_of switching name))
+    (good_bytes name q.0) q.1)
 
 pub good_attributes : (x : List Attribute) → are_plain x ≡ true → are_good x ≡ true
 good_attributes [] h = refl
@@ -73,7 +79,8 @@ good_attributes (a ∷ x) h =
 -- each rule has names of these kinds
 abbrev rules_are_plain : (List ℕ → Bool) → List (List ℕ × List (List ℕ)) → Bool
 rules_are_plain named [] = true
-rules_are_plain named (rule ∷ rules) = named rule.0 && (list_all is_name rule.1 && rules_are_plain named rules)
+rules_are_plain named (rule ∷ rules) =
+    named rule.0 && (list_all is_name rule.1 && rules_are_plain named rules)
 
 listed-plain : (listed : List (List ℕ)) (name : List ℕ) → list_all is_name listed ≡ true →
     is_one_of listed name ≡ true → is_name name ≡ true
@@ -90,14 +97,18 @@ attributes-plain : (listed : List (List ℕ)) (x : List Attribute) → list_all 
 attributes-plain listed [] g e = refl
 attributes-plain listed (a ∷ x) g e =
     let alone = not (list_any (λ later. bytes_eq a.name later.name) x) in
-    let p = and_parts (is_one_of listed a.name && is_escaped a.value && alone) (are_attributes listed x) e in
+    let p = and_parts (is_one_of listed a.name && is_escaped a.value && alone)
+    (are_attributes listed x) e in
     let q = and_parts (is_one_of listed a.name && is_escaped a.value) alone p.0 in
     let r = and_parts (is_one_of listed a.name) (is_escaped a.value) q.0 in
     and_from (is_name a.name) _ (listed-plain listed a.name g r.0)
-    (and_from (is_escaped a.value) _ r.1 (and_from alone (are_plain x) q.1 (attributes-plain listed x g p.1)))
+    (and_from (is_escaped a.value) _ r.1
+    (and_from alone (are_plain x) q.1 (attributes-plain listed x g p.1)))
 
-tag-plain : (named : List ℕ → Bool) (rules : List (List ℕ × List (List ℕ))) (name : List ℕ) (x : List Attribute) →
-    rules_are_plain named rules ≡ true → is_tag rules name x ≡ true → (named name ≡ true) × (are_plain x ≡ true)
+tag-plain : (named : List ℕ → Bool) (rules : List (List ℕ × List (List ℕ))) (name : List ℕ)
+    (x : List Attribute) →
+    rules_are_plain named rules ≡ true → is_tag rules name x ≡ true →
+    (named name ≡ true) × (are_plain x ≡ true)
 tag-plain named [] name x g e = lie e
 tag-plain named (rule ∷ rules) name x g e =
     let p = and_parts (named rule.0) (list_all is_name rule.1 && rules_are_plain named rules) g in
@@ -121,7 +132,8 @@ void-plain name x e = tag-plain (is_one_of void_names) void_tags name x refl e
 -- ---- void names are names
 
 -- a listed name that each of a list is
-one-plain : (named : List ℕ → Bool) (texts : List (List ℕ)) (name : List ℕ) → list_all named texts ≡ true →
+one-plain : (named : List ℕ → Bool) (texts : List (List ℕ)) (name : List ℕ) →
+    list_all named texts ≡ true →
     is_one_of texts name ≡ true → named name ≡ true
 one-plain named [] name g e = lie e
 one-plain named (t ∷ ts) name g e =

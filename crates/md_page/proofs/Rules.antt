@@ -13,14 +13,17 @@ use Rattle.md_page.specs.Attributed.{IsAttributed, is_listed_beside}
 use Rattle.md_page.specs.Pieces.{Piece, all_written, all_tokens, are_sound, IsWritten}
 use Rattle.md_page.specs.Scan.{with_new}
 use Rattle.md_page.proofs.PieceRuns.{pieces-run}
-use Rattle.md_page.proofs.Adding.{PicksElements, MayAdd, seen_attribute, changed, changed-tokens, changed-sound, added-all, passes-more, is_addition_to, listed-more}
+use Rattle.md_page.proofs.Adding.{PicksElements, MayAdd, seen_attribute, changed, changed-tokens}
+use Rattle.md_page.proofs.Adding.{changed-sound, added-all, passes-more, is_addition_to}
+use Rattle.md_page.proofs.Adding.{listed-more}
 use Rattle.md_page.proofs.Scanning.{PicksBy, scanned-pieces}
 
 pub record IsRule (picks : List ℕ → Bool) (test : Token → Bool) (new : ℕ → Attribute) : Type 0 where
   pub picks_by : PicksBy picks test
   pub elements : PicksElements test
   pub may_add : MayAdd test new
-  pub listed : (n : ℕ) (t : Token) → test t ≡ true → is_addition_to t (seen_attribute (new n)) ≡ true
+  pub listed : (n : ℕ) (t : Token) → test t ≡ true →
+      is_addition_to t (seen_attribute (new n)) ≡ true
   pub links : (n : ℕ) → is_permitted (codes "href") link_protocols (seen_attribute (new n)) ≡ true
   pub images : (n : ℕ) → is_permitted (codes "src") image_protocols (seen_attribute (new n)) ≡ true
 
@@ -38,7 +41,8 @@ attributed text w =
     }
 
 -- what each token passes, and with one more attribute still does, all pass
-still : (picks : List ℕ → Bool) (test : Token → Bool) (new : ℕ → Attribute) → IsRule picks test new →
+still : (picks : List ℕ → Bool) (test : Token → Bool) (new : ℕ → Attribute) →
+    IsRule picks test new →
     (x : List Piece) → are_sound x ≡ true → (p : Token → Bool) →
     ((n : ℕ) (t : Token) → test t ≡ true → p t ≡ true →
     p (with_attribute t (seen_attribute (new n))) ≡ true) →
@@ -47,7 +51,8 @@ still picks test new rule x sound p f h =
     subst (λ y. list_all p y ≡ true) (sym (changed-tokens test new 0 x rule.elements sound))
     (added-all p test (λ n. seen_attribute (new n)) 0 (all_tokens x) f h)
 
-pub keeps : (picks : List ℕ → Bool) (test : Token → Bool) (new : ℕ → Attribute) → IsRule picks test new →
+pub keeps : (picks : List ℕ → Bool) (test : Token → Bool) (new : ℕ → Attribute) →
+    IsRule picks test new →
     (text : List ℕ) → IsWritten text → IsWritten (with_new picks new text)
 keeps picks test new rule text w =
     let x = w.pieces in
@@ -55,22 +60,24 @@ keeps picks test new rule text w =
       pieces = changed test new 0 x;
       sound = changed-sound test new 0 x rule.may_add w.sound;
       written_so =
-          sym (scanned-pieces picks test new 0 x rule.picks_by w.sound) ∙ ap (with_new picks new) w.written_so;
+          sym (scanned-pieces picks test new 0 x rule.picks_by w.sound)
+          ∙ ap (with_new picks new) w.written_so;
       listed =
-          still picks test new rule x w.sound is_listed_beside
-          (λ n t passes before. listed-more t (seen_attribute (new n)) (rule.listed n t passes) before) w.listed;
+          still picks test new rule x w.sound is_listed_beside (λ n t passes before. listed-more t
+          (seen_attribute (new n)) (rule.listed n t passes) before) w.listed;
       safe_links =
           still picks test new rule x w.sound has_safe_links
-          (λ n t passes before. passes-more (is_permitted (codes "href") link_protocols) t (seen_attribute (new n))
-          (rule.links n) before) w.safe_links;
+          (λ n t passes before. passes-more (is_permitted (codes "href") link_protocols) t
+          (seen_attribute (new n)) (rule.links n) before) w.safe_links;
       safe_images =
           still picks test new rule x w.sound has_safe_images
-          (λ n t passes before. passes-more (is_permitted (codes "src") image_protocols) t (seen_attribute (new n))
-          (rule.images n) before) w.safe_images;
+          (λ n t passes before. passes-more (is_permitted (codes "src") image_protocols) t
+          (seen_attribute (new n)) (rule.images n) before) w.safe_images;
     }
 
 -- whatever the text is tokenized as, it is then tokenized as that with what the rule adds
-pub becomes : (picks : List ℕ → Bool) (test : Token → Bool) (new : ℕ → Attribute) → IsRule picks test new →
+pub becomes : (picks : List ℕ → Bool) (test : Token → Bool) (new : ℕ → Attribute) →
+    IsRule picks test new →
     (text : List ℕ) → IsWritten text → (x : List Token) → IsTokenized text x →
     IsTokenized (with_new picks new text) (added test (λ n. seen_attribute (new n)) 0 x)
 unfolding attributed
@@ -84,6 +91,7 @@ becomes picks test new rule text w x h =
     changed-tokens test new 0 y rule.elements w.sound
     ∙ ap (added test (λ n. seen_attribute (new n)) 0) (sym same) in
     let written : all_written after ≡ with_new picks new text =
-    sym (scanned-pieces picks test new 0 y rule.picks_by w.sound) ∙ ap (with_new picks new) w.written_so in
+    sym (scanned-pieces picks test new 0 y rule.picks_by w.sound)
+    ∙ ap (with_new picks new) w.written_so in
     subst (λ t. IsTokenized t (added test (λ n. seen_attribute (new n)) 0 x)) written
     (subst (IsTokenized (all_written after)) tokens runs)

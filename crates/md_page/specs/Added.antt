@@ -1,13 +1,16 @@
--- What the calls add, in the words of the HTML Standard's tokenizer: start tags with one more attribute.
+-- What the calls add, in the words of the HTML Standard's tokenizer: start tags with
+-- one more attribute.
 use Rattle.std.specs.Str.{bytes_eq}
-use Rattle.std.specs.Prelude.{ℕ, suc, ◌-◌, Bool, true, false, not, ◌&&◌, if◌then◌else◌, nat_eq, slice_index, List, [], ◌∷◌, ◌++◌, codes}
+use Rattle.std.specs.Prelude.{ℕ, suc, ◌-◌, Bool, true, false, not, ◌&&◌, if◌then◌else◌, nat_eq}
+use Rattle.std.specs.Prelude.{slice_index, List, [], ◌∷◌, ◌++◌, codes}
 use Rattle.std.specs.List.{list_any, starts_with}
 use Rattle.std.specs.Fmt.{decimal}
 use Rattle.md_base.specs.Identifier.{is_nonempty}
 use Rattle.md_text.specs.Bytes.{is_one_of}
 use Rattle.md_text.specs.Encode.{encoded}
 use Rattle.md_safe.specs.Input.{with_line_feeds}
-use Rattle.md_safe.specs.Token.{Token, TokenAttribute, Doctype, Character, StartTag, EndTag, EndOfFile}
+use Rattle.md_safe.specs.Token.{Token, TokenAttribute, Doctype, Character, StartTag, EndTag}
+use Rattle.md_safe.specs.Token.{EndOfFile}
 
 -- a start tag with one more attribute, its last
 abbrev pub with_attribute : Token → TokenAttribute → Token
@@ -31,7 +34,8 @@ has_attribute name attributes = list_any (λ a. bytes_eq name a.name) attributes
 
 -- an `href` that isn't empty and doesn't begin with `#`
 abbrev pub leads_away : TokenAttribute → Bool
-leads_away a = bytes_eq (codes "href") a.name && (is_nonempty a.value && not (starts_with nat_eq a.value (codes "#")))
+leads_away a = bytes_eq (codes "href") a.name
+    && (is_nonempty a.value && not (starts_with nat_eq a.value (codes "#")))
 
 -- a start tag `a` with such an `href` and without a `rel`
 abbrev pub gets_rel : Token → Bool
@@ -41,7 +45,8 @@ gets_rel token = elim token [
   | _ ↦ false
 ]
 
--- what a tokenizer sees of a text that was escaped: U+FFFD for each NUL, and a line feed for each line ending
+-- what a tokenizer sees of a text that was escaped: U+FFFD for each NUL, and a line feed for
+-- each line ending
 abbrev pub shown : List ℕ → List ℕ
 shown text = with_line_feeds (encoded false text)
 
@@ -62,7 +67,8 @@ heading_names = codes "h1" ∷ codes "h2" ∷ codes "h3" ∷ codes "h4" ∷ code
 -- a heading's start tag without an `id`
 abbrev pub gets_id : Token → Bool
 gets_id token = elim token [
-  | StartTag name attributes flag ↦ is_one_of heading_names name && not (has_attribute (codes "id") attributes)
+  | StartTag name attributes flag ↦
+      is_one_of heading_names name && not (has_attribute (codes "id") attributes)
   | _ ↦ false
 ]
 
@@ -84,7 +90,8 @@ pub record Listed : Type 0 where
 abbrev pub characters_before : List ℕ → List Token → List ℕ
 characters_before name [] = []
 characters_before name (Character b ∷ more) = b ∷ characters_before name more
-characters_before name (EndTag other ∷ more) = if bytes_eq other name then [] else characters_before name more
+characters_before name (EndTag other ∷ more) =
+    if bytes_eq other name then [] else characters_before name more
 characters_before name (StartTag other attributes flag ∷ more) = characters_before name more
 characters_before name (Doctype other ∷ more) = characters_before name more
 characters_before name (EndOfFile ∷ more) = characters_before name more

@@ -17,12 +17,13 @@ is_addition name a = (bytes_eq name (codes "a") && bytes_eq (codes "rel") a.name
 -- a tag of the grammar's tables once these are left out, or a character, or the end of file
 abbrev pub is_listed_beside : Token → Bool
 is_listed_beside token = elim token [
-  | StartTag name attributes flag ↦ is_listed (StartTag name (filter (λ a. not (is_addition name a)) attributes) flag)
+  | StartTag name attributes flag ↦
+      is_listed (StartTag name (filter (λ a. not (is_addition name a)) attributes) flag)
   | other ↦ is_listed other
 ]
 
--- the tokenizer emits exactly these tokens of the text; each tag among them is otherwise of the grammar's tables, and
--- each `href` and each `src` has no scheme of its own or a permitted one
+-- the tokenizer emits exactly these tokens of the text; each tag among them is otherwise of the
+-- grammar's tables, and each `href` and each `src` has no scheme of its own or a permitted one
 pub record IsAttributed (text : List ℕ) : Type 0 where
   pub emits : List Token
   pub tokenized : IsTokenized text emits

@@ -2,7 +2,8 @@
 use Rattle.std.specs.Prelude.{◌≡◌, ℕ, Bool, true, false, IsTrue, List, [], ◌∷◌, ◌++◌, codes}
 use Rattle.md_text.specs.Encode.{encoded}
 use Rattle.md_text.specs.References.{read_back}
-use Rattle.md_text.specs.Html.{Attribute, Forest, Empty, Text, Void, Element, IsReading, is_forest, all_attributes, written}
+use Rattle.md_text.specs.Html.{Attribute, Forest, Empty, Text, Void, Element, IsReading, is_forest}
+use Rattle.md_text.specs.Html.{all_attributes, written}
 use Rattle.md_text.specs.Safe.{is_safe_link, is_safe_image}
 
 -- `charset="utf-8"`
@@ -12,9 +13,8 @@ charset = record { name = codes "charset"; value = codes "utf-8" }
 -- `html` holds `head` and `body`; `head` holds the void `meta` and `title`
 abbrev pub page_tree : Forest → Forest → Forest
 page_tree title body =
-    Element (codes "html") []
-    (Element (codes "head") [] (Void (codes "meta") (charset ∷ []) (Element (codes "title") [] title Empty))
-    (Element (codes "body") [] body Empty))
+    Element (codes "html") [] (Element (codes "head") [] (Void (codes "meta") (charset ∷ [])
+    (Element (codes "title") [] title Empty)) (Element (codes "body") [] body Empty))
     Empty
 
 -- at most one text of the HTML grammar, and no tag
@@ -23,14 +23,16 @@ is_title Empty = true
 is_title (Text bytes Empty) = is_forest (Text bytes Empty)
 is_title _ = false
 
--- the text is the page with this title and this body: `<!doctype html>`, a line feed, the element, a line feed
+-- the text is the page with this title and this body: `<!doctype html>`, a line feed, the
+-- element, a line feed
 pub record IsPage (text : List ℕ) (title body : Forest) : Type 0 where
   pub title_is_text : IsTrue (is_title title)
   pub body_in_grammar : IsTrue (is_forest body)
   pub written_so : text ≡ codes "<!doctype html>\n" ++ written (page_tree title body) ++ codes "\n"
 
--- the text is a page in exactly one way: its title, references read back, is the one given with U+FFFD for each NUL,
--- and its body is a reading of the one given, in which each link and each image has no protocol or a permitted one
+-- the text is a page in exactly one way: its title, references read back, is the one given with
+-- U+FFFD for each NUL, and its body is a reading of the one given, in which each link and each
+-- image has no protocol or a permitted one
 pub record IsPageOf (title body text : List ℕ) : Type 0 where
   pub head : Forest
   pub inside : Forest

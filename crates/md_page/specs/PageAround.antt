@@ -16,19 +16,20 @@ going_on [] after = []
 going_on (EndOfFile ∷ more) after = after
 going_on (Doctype name ∷ more) after = Doctype name ∷ going_on more after
 going_on (Character b ∷ more) after = Character b ∷ going_on more after
-going_on (StartTag name attributes flag ∷ more) after = StartTag name attributes flag ∷ going_on more after
+going_on (StartTag name attributes flag ∷ more) after =
+    StartTag name attributes flag ∷ going_on more after
 going_on (EndTag name ∷ more) after = EndTag name ∷ going_on more after
 
 -- the tokens of a page whose title has these characters, and whose body these tokens
 abbrev pub page_around : List ℕ → List Token → List Token
 page_around title body =
     Doctype (codes "html") ∷ Character 10 ∷ plain_tag (codes "html") ∷ plain_tag (codes "head")
-    ∷ StartTag (codes "meta") (charset ∷ []) true ∷ plain_tag (codes "title")
-    ∷ (map Character title ++ (EndTag (codes "title") ∷ EndTag (codes "head") ∷ plain_tag (codes "body")
+    ∷ StartTag (codes "meta") (charset ∷ []) true ∷ plain_tag (codes "title") ∷ (map Character title
+    ++ (EndTag (codes "title") ∷ EndTag (codes "head") ∷ plain_tag (codes "body")
     ∷ going_on body after_body))
 
--- the tokenizer emits exactly these tokens of a text, and each `href` and each `src` among them has no scheme of its
--- own or a permitted one
+-- the tokenizer emits exactly these tokens of a text, and each `href` and each `src` among them has
+-- no scheme of its own or a permitted one
 pub record IsSafePage (text : List ℕ) (emits : List Token) : Type 0 where
   pub tokenized : IsTokenized text emits
   pub only : (other : List Token) → IsTokenized text other → other ≡ emits

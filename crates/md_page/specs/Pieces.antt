@@ -1,6 +1,7 @@
 -- How such a text is written, piece by piece: what its type keeps, and no public contract cites.
 use Rattle.std.specs.Str.{bytes_eq}
-use Rattle.std.specs.Prelude.{◌≡◌, ℕ, ◌==◌, Bool, true, false, not, IsTrue, ◌&&◌, ◌||◌, List, [], ◌∷◌, ◌++◌, map, codes}
+use Rattle.std.specs.Prelude.{◌≡◌, ℕ, ◌==◌, Bool, true, false, not, IsTrue, ◌&&◌, ◌||◌, List, []}
+use Rattle.std.specs.Prelude.{◌∷◌, ◌++◌, map, codes}
 use Rattle.std.specs.List.{list_any, list_all}
 use Rattle.md_base.specs.Identifier.{is_nonempty}
 use Rattle.md_text.specs.Bytes.{is_between, is_one_of}
@@ -33,8 +34,10 @@ all_written (Closing name ∷ more) = 60 ∷ 47 ∷ (name ++ (62 ∷ all_written
 abbrev pub all_tokens : List Piece → List Token
 all_tokens [] = EndOfFile ∷ []
 all_tokens (Words text ∷ more) = map Character (seen text) ++ all_tokens more
-all_tokens (Opening name attributes ∷ more) = StartTag name (seen_attributes attributes) false ∷ all_tokens more
-all_tokens (Single name attributes ∷ more) = StartTag name (seen_attributes attributes) true ∷ all_tokens more
+all_tokens (Opening name attributes ∷ more) =
+    StartTag name (seen_attributes attributes) false ∷ all_tokens more
+all_tokens (Single name attributes ∷ more) =
+    StartTag name (seen_attributes attributes) true ∷ all_tokens more
 all_tokens (Closing name ∷ more) = EndTag name ∷ all_tokens more
 
 -- a lower-case letter, a digit or a hyphen
@@ -52,7 +55,8 @@ begins_with_letter (b ∷ rest) = is_between 97 122 b
 
 -- a tag's name, and none at which tree construction gives the tokenizer another state
 abbrev pub is_tag_name : List ℕ → Bool
-is_tag_name name = begins_with_letter name && (list_all is_name_byte name && not (is_one_of switching name))
+is_tag_name name =
+    begins_with_letter name && (list_all is_name_byte name && not (is_one_of switching name))
 
 -- names and escaped values, no name twice
 abbrev pub are_plain : List Attribute → Bool
@@ -76,8 +80,10 @@ begins_with_words (Closing name ∷ more) = false
 abbrev pub are_sound : List Piece → Bool
 are_sound [] = true
 are_sound (Words text ∷ more) = is_escaped text && (not (begins_with_words more) && are_sound more)
-are_sound (Opening name attributes ∷ more) = is_tag_name name && (are_plain attributes && are_sound more)
-are_sound (Single name attributes ∷ more) = is_one_of void_names name && (are_plain attributes && are_sound more)
+are_sound (Opening name attributes ∷ more) =
+    is_tag_name name && (are_plain attributes && are_sound more)
+are_sound (Single name attributes ∷ more) =
+    is_one_of void_names name && (are_plain attributes && are_sound more)
 are_sound (Closing name ∷ more) = is_tag_name name && are_sound more
 
 -- a text is written so, and its tokens are safe and otherwise listed

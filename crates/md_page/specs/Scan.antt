@@ -1,6 +1,9 @@
 -- How the program finds the tags: words of its own, which no public contract cites.
 use Rattle.std.specs.Str.{bytes_eq}
-use Rattle.std.specs.Prelude.{◌≡◌, ℕ, zero, suc, ◌<◌, ◌≤◌, ◌-◌, ◌==◌, IsTrue, length, take, slice_index, Bool, true, false, not, ◌&&◌, ◌||◌, if◌then◌else◌, List, [], ◌∷◌, ◌++◌, drop, Option, Some, None, option_map, is_none, codes, MatchOption}
+use Rattle.std.specs.Prelude.{◌≡◌, ℕ, zero, suc, ◌<◌, ◌≤◌, ◌-◌, ◌==◌, IsTrue, length, take}
+use Rattle.std.specs.Prelude.{slice_index, Bool, true, false, not, ◌&&◌, ◌||◌, if◌then◌else◌, List}
+use Rattle.std.specs.Prelude.{[], ◌∷◌, ◌++◌, drop, Option, Some, None, option_map, is_none, codes}
+use Rattle.std.specs.Prelude.{MatchOption}
 use Rattle.std.specs.Option.{option_map_or}
 use Rattle.std.specs.List.{list_all}
 use Rattle.std.specs.Fmt.{decimal}
@@ -24,8 +27,8 @@ pub record IsFirstOf (byte : ℕ) (text : List ℕ) (at : ℕ) : Type 0 where
   pub is : slice_index text at ≡ byte
   pub before : IsTrue (list_all (differs byte) (take at text))
 
--- a text with something added before the `>` of each tag that is picked by what follows its `<`, told by how many were
--- picked before it; `inside` says that such a tag is open
+-- a text with something added before the `>` of each tag that is picked by what follows its `<`,
+-- told by how many were picked before it; `inside` says that such a tag is open
 abbrev pub scanned : (List ℕ → Bool) → (ℕ → List ℕ) → Bool → ℕ → List ℕ → List ℕ
 scanned picks add inside n [] = []
 scanned picks add inside n (b ∷ rest) =
@@ -35,7 +38,8 @@ scanned picks add inside n (b ∷ rest) =
 -- what comes before the first `>`
 abbrev pub before_angle : List ℕ → Option (List ℕ)
 before_angle [] = None
-before_angle (b ∷ rest) = if b == 62 then Some [] else option_map (λ later. b ∷ later) (before_angle rest)
+before_angle (b ∷ rest) =
+    if b == 62 then Some [] else option_map (λ later. b ∷ later) (before_angle rest)
 
 -- a byte before the first of some parts
 abbrev pub onto_first : ℕ → List (List ℕ) → List (List ℕ)
@@ -52,7 +56,8 @@ abbrev pub value_in : List ℕ → List (List ℕ) → Option (List ℕ)
 value_in key [] = None
 value_in key (name ∷ []) = None
 value_in key (name ∷ value ∷ []) = None
-value_in key (name ∷ value ∷ next ∷ more) = if bytes_eq key name then Some value else value_in key (next ∷ more)
+value_in key (name ∷ value ∷ next ∷ more) =
+    if bytes_eq key name then Some value else value_in key (next ∷ more)
 
 -- the value after this in attributes as they are written
 abbrev pub value_of : List ℕ → List ℕ → Option (List ℕ)
@@ -65,11 +70,13 @@ is_away value = is_nonempty value && not (begins_with (codes "#") value)
 -- attributes of a link that gets a `rel`
 abbrev pub want_rel : List ℕ → Bool
 want_rel attributes =
-    option_map_or is_away (value_of (codes " href=") attributes) false && is_none (value_of (codes " rel=") attributes)
+    option_map_or is_away (value_of (codes " href=") attributes) false
+    && is_none (value_of (codes " rel=") attributes)
 
 -- a link that gets a `rel`, by what follows its `<`
 abbrev pub picks_link : List ℕ → Bool
-picks_link tag = begins_with (codes "a ") tag && option_map_or want_rel (before_angle (drop 1 tag)) false
+picks_link tag =
+    begins_with (codes "a ") tag && option_map_or want_rel (before_angle (drop 1 tag)) false
 
 -- `h` and a digit from 1 to 6
 abbrev pub begins_heading : List ℕ → Bool
@@ -99,7 +106,8 @@ clear picks (suc k) (b ∷ rest) = not ((b == 60) && picks rest) && clear picks 
 
 -- where none begins before one place, none begins before another
 abbrev pub IsPassed : Rule → List ℕ → ℕ → ℕ → Type 0
-IsPassed rule text from to = clear (picks_of rule) from text ≡ true → clear (picks_of rule) to text ≡ true
+IsPassed rule text from to =
+    clear (picks_of rule) from text ≡ true → clear (picks_of rule) to text ≡ true
 
 -- the first tag that is picked begins here
 pub record IsTagAt (picks : List ℕ → Bool) (text : List ℕ) (at : ℕ) : Type 0 where

@@ -12,11 +12,12 @@ use crate::html::Html;
 use md_text::encode;
 use std::alloc::{AllocError, Global};
 
-/// A whole page: `title`, escaped, in its head, and `body` as it is, a safe text or one to whose tags attributes were
-/// added.
+/// A whole page: `title`, escaped, in its head, and `body` as it is, a safe text or one to whose
+/// tags attributes were added.
 ///
-/// Whatever tokens the HTML Standard's tokenizer emits of `body`, it emits of the page exactly the doctype, the head
-/// with the title's characters, U+FFFD for each NUL and a line feed for each line ending in them, and these tokens.
+/// Whatever tokens the HTML Standard's tokenizer emits of `body`, it emits of the page exactly the
+/// doctype, the head with the title's characters, U+FFFD for each NUL and a line feed for each line
+/// ending in them, and these tokens.
 ///
 /// # Errors
 ///

@@ -1,8 +1,10 @@
 //! The headings of a text, for a table of contents.
 
-ghost use Rattle.std.specs.Prelude.{◌≡◌, ◌++◌, ◌∷◌, ◌≤◌, [], false, if◌then◌else◌, IfOk, OnOk, length, string_bytes, map};
+ghost use Rattle.std.specs.Prelude.{◌≡◌, ◌++◌, ◌∷◌, ◌≤◌, [], false, if◌then◌else◌, IfOk, OnOk};
+ghost use Rattle.std.specs.Prelude.{length, string_bytes, map};
 ghost use Rattle.md_safe.specs.Input.{with_line_feeds, begins_with_line_feed};
-ghost use Rattle.md_page.specs.Scan.{past_angle, closes_heading, text_before, scanned_heading, scanned_headings};
+ghost use Rattle.md_page.specs.Scan.{past_angle, closes_heading, text_before, scanned_heading};
+ghost use Rattle.md_page.specs.Scan.{scanned_headings};
 ghost use Rattle.md_page.specs.Headings.{listed};
 
 use crate::scan::{Rule, next_tag, split_at_byte};
@@ -47,7 +49,8 @@ fn heading_at(alloc: Global, tag: &str, number: usize) -> Result<Heading, AllocE
     })
 }
 
-/// The texts before the end tag of a heading with this digit, each with a line feed for each line ending.
+/// The texts before the end tag of a heading with this digit, each with a line feed for
+/// each line ending.
 fn heading_text(alloc: Global, text: &str, digit: u8) -> Result<String, AllocError>
     ensures { IfOk result (λ out. string_bytes out ≡ text_before digit false text.now) }
 {
@@ -66,7 +69,8 @@ fn heading_text(alloc: Global, text: &str, digit: u8) -> Result<String, AllocErr
 
 /// Adds a text with a line feed for each line ending.
 fn push_lined(out: &mut String, text: &str) -> Result<(), AllocError>
-    ensures { OnOk result (string_bytes out.new ≡ string_bytes out.old ++ with_line_feeds text.now) }
+    ensures { OnOk result
+        (string_bytes out.new ≡ string_bytes out.old ++ with_line_feeds text.now) }
 {
     let mut rest = text;
     while let Some((line, after)) = split_at_byte(b'\r', rest) {

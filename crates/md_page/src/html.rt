@@ -27,8 +27,9 @@ impl Html for SafeHtml {
 
 /// A safe text to whose tags attributes were added.
 ///
-/// The HTML Standard's tokenizer gets through it. Each tag among the tokens is one that a safe text may have, but for
-/// the `rel` of a link and the `id` of a heading; each `href` and `src` has no scheme of its own or a permitted one.
+/// The HTML Standard's tokenizer gets through it. Each tag among the tokens is one that a safe text
+/// may have, but for the `rel` of a link and the `id` of a heading; each `href` and `src` has no
+/// scheme of its own or a permitted one.
 #[derive(Drop)]
 pub struct AttributedHtml {
     text: String,

@@ -30,12 +30,14 @@ pub struct WithHeadingIds {
 
 /// A safe text with an `id` in each heading that has none, and a list of these headings.
 ///
-/// Each start tag from `h1` to `h6` without an `id` gets one as its last attribute: `prefix`, escaped, and the
-/// heading's number, from 1. Nothing else changes: whatever the HTML Standard's tokenizer emits of the text given, it
-/// emits of the text returned the same tokens with these attributes added. The headings are listed with their level,
-/// their number and their text: the characters up to their end tag, escaped.
+/// Each start tag from `h1` to `h6` without an `id` gets one as its last attribute: `prefix`,
+/// escaped, and the heading's number, from 1. Nothing else changes: whatever the HTML Standard's
+/// tokenizer emits of the text given, it emits of the text returned the same tokens with these
+/// attributes added. The headings are listed with their level, their number and their text: the
+/// characters up to their end tag, escaped.
 ///
-/// Where no two `id`s of the text given are equal, and none begins with `prefix`, no two of the text returned are.
+/// Where no two `id`s of the text given are equal, and none begins with `prefix`, no two of the
+/// text returned are.
 ///
 /// # Errors
 ///
@@ -58,8 +60,8 @@ pub fn with_heading_ids<H: Html>(
         → IsTokenized after.html (with_heading_ids prefix.now x)) }
     ensures headings { IfOk result (λ after. (x : List Token) → IsTokenized (H.text html.now) x
         → map listed after.headings.items ≡ headings_of x) }
-    ensures distinct { IfOk result (λ after. (x : List Token) → IsTokenized (H.text html.now) x
-        → IsTrue (are_distinct (ids_among x)) → IsTrue (none_begins (shown prefix.now) (ids_among x))
+    ensures distinct { IfOk result (λ after. (x : List Token) → IsTokenized (H.text html.now) x →
+        IsTrue (are_distinct (ids_among x)) → IsTrue (none_begins (shown prefix.now) (ids_among x))
         → IsTrue (are_distinct (ids_among (with_heading_ids prefix.now x)))) }
     ensures attributed { IfOk result (λ after. IsAttributed after.html) }
 {
@@ -77,7 +79,8 @@ fn with_ids_of(
     headings: &[Heading],
 ) -> Result<String, AllocError>
     requires { map listed headings.now ≡ scanned_headings 0 text.now }
-    ensures { IfOk result (λ out. string_bytes out ≡ with_new picks_heading (new_id prefix.now) text.now) }
+    ensures { IfOk result
+        (λ out. string_bytes out ≡ with_new picks_heading (new_id prefix.now) text.now) }
 {
     if headings.is_empty() {
         return String::from_str(alloc, text);
@@ -87,7 +90,8 @@ fn with_ids_of(
 
 /// A text with an `id` in each heading that has none.
 pub(crate) fn with_ids(alloc: Global, text: &str, prefix: &str) -> Result<String, AllocError>
-    ensures { IfOk result (λ out. string_bytes out ≡ with_new picks_heading (new_id prefix.now) text.now) }
+    ensures { IfOk result
+        (λ out. string_bytes out ≡ with_new picks_heading (new_id prefix.now) text.now) }
 {
     let start = id_start(alloc, prefix)?;
     let mut out = String::with_capacity(alloc, text.len())?;
@@ -105,7 +109,8 @@ pub(crate) fn with_ids(alloc: Global, text: &str, prefix: &str) -> Result<String
 
 /// A space, and an `id` up to the end of its prefix, which is escaped.
 fn id_start(alloc: Global, prefix: &str) -> Result<String, AllocError>
-    ensures { IfOk result (λ start. string_bytes start ≡ codes " id=\"" ++ encoded true prefix.now) }
+    ensures { IfOk result
+        (λ start. string_bytes start ≡ codes " id=\"" ++ encoded true prefix.now) }
 {
     let mut start = String::from_str(alloc, " id=\"")?;
     push_encoded(&mut start, prefix, true)?;

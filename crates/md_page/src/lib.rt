@@ -29,14 +29,16 @@ use std::alloc::{AllocError, Global};
 
 /// A whole page: `title`, escaped, in its head, and `body` as it is.
 ///
-/// The page can be read in exactly one way. Its title, the references read back, is `title` with U+FFFD for each NUL;
-/// its body is the one reading of `body`, so each `href` and `src` in the page has no protocol or a permitted one. The
-/// HTML Standard's tokenizer emits exactly that of it: the doctype, the head with the title's characters, each line
-/// ending in them a line feed, and the tokens of the body.
+/// The page can be read in exactly one way. Its title, the references read back, is `title` with
+/// U+FFFD for each NUL; its body is the one reading of `body`, so each `href` and `src` in the page
+/// has no protocol or a permitted one. The HTML Standard's tokenizer emits exactly that of it: the
+/// doctype, the head with the title's characters, each line ending in them a line feed, and the
+/// tokens of the body.
 ///
-/// Where `body` is built as it is read, as the clause `tree` of `compile_safe` says of a document without a link in a
-/// link, the Standard's tree construction builds of these tokens exactly the document of that title and that body. The
-/// line feed at the page's end goes into the body, after all else in it, as the Standard says.
+/// Where `body` is built as it is read, as the clause `tree` of `compile_safe` says of a document
+/// without a link in a link, the Standard's tree construction builds of these tokens exactly the
+/// document of that title and that body. The line feed at the page's end goes into the body, after
+/// all else in it, as the Standard says.
 ///
 /// # Errors
 ///
@@ -55,7 +57,8 @@ use std::alloc::{AllocError, Global};
 pub fn page(alloc: Global, title: &str, body: &SafeHtml) -> Result<String, AllocError>
     ensures text { IfOk result (λ text. string_bytes text ≡ page_text title.now body.now) }
     ensures page { IfOk result (λ text. IsPageOf title.now body.now (string_bytes text)) }
-    ensures tokenized { IfOk result (λ text. IsTokenizedPage (with_line_feeds (encoded false title.now)) body.now
+    ensures tokenized { IfOk result
+        (λ text. IsTokenizedPage (with_line_feeds (encoded false title.now)) body.now
         (string_bytes text)) }
     ensures tree { IfOk result (λ text. IsBuiltAsRead body.now
         → IsBuiltPage (with_line_feeds (encoded false title.now)) body.now (string_bytes text)) }

@@ -16,9 +16,10 @@ use std::alloc::{AllocError, Global};
 
 /// A safe text with a `rel` in each link that leads away.
 ///
-/// Each start tag `a` whose `href` isn't empty and doesn't begin with `#`, and which has no `rel`, gets `rel` with this
-/// text, escaped, as its last attribute. Nothing else changes: whatever the HTML Standard's tokenizer emits of the text
-/// given, it emits of the text returned the same tokens with these attributes added.
+/// Each start tag `a` whose `href` isn't empty and doesn't begin with `#`, and which has no `rel`,
+/// gets `rel` with this text, escaped, as its last attribute. Nothing else changes: whatever the
+/// HTML Standard's tokenizer emits of the text given, it emits of the text returned the same tokens
+/// with these attributes added.
 ///
 /// # Errors
 ///
@@ -46,7 +47,8 @@ pub fn with_link_rel<H: Html>(
 
 /// A text with a `rel` in each link that leads away and has none.
 pub(crate) fn with_rel(alloc: Global, text: &str, rel: &str) -> Result<String, AllocError>
-    ensures { IfOk result (λ out. string_bytes out ≡ with_new picks_link (new_rel rel.now) text.now) }
+    ensures { IfOk result
+        (λ out. string_bytes out ≡ with_new picks_link (new_rel rel.now) text.now) }
 {
     if next_end(Rule::Link, text.as_bytes()).is_none() {
         return String::from_str(alloc, text);
@@ -56,7 +58,8 @@ pub(crate) fn with_rel(alloc: Global, text: &str, rel: &str) -> Result<String, A
 
 /// The same, where there is mostly such a link.
 fn with_rels(alloc: Global, text: &str, rel: &str) -> Result<String, AllocError>
-    ensures { IfOk result (λ out. string_bytes out ≡ with_new picks_link (new_rel rel.now) text.now) }
+    ensures { IfOk result
+        (λ out. string_bytes out ≡ with_new picks_link (new_rel rel.now) text.now) }
 {
     let attribute = rel_attribute(alloc, rel)?;
     let mut out = String::with_capacity(alloc, text.len())?;
@@ -72,7 +75,8 @@ fn with_rels(alloc: Global, text: &str, rel: &str) -> Result<String, AllocError>
 
 /// A space and the attribute `rel` with this text, escaped.
 fn rel_attribute(alloc: Global, rel: &str) -> Result<String, AllocError>
-    ensures { IfOk result (λ attribute. string_bytes attribute ≡ written_attributes (new_rel rel.now 0 ∷ [])) }
+    ensures { IfOk result
+        (λ attribute. string_bytes attribute ≡ written_attributes (new_rel rel.now 0 ∷ [])) }
 {
     let mut attribute = String::from_str(alloc, " rel=\"")?;
     push_encoded(&mut attribute, rel, true)?;

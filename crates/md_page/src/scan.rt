@@ -1,10 +1,14 @@
 //! The tags that get an attribute, found by their bytes.
 
-ghost use Rattle.std.specs.Prelude.{◌≡◌, ◌==◌, ◌&&◌, ℕ, suc, true, false, ◌+◌, ◌<◌, ◌≤◌, ◌++◌, ◌∷◌, [], List, IsTrue, IfSome, MatchOption, length, take, drop, slice_index, option_copied, codes, IsUtf8};
+ghost use Rattle.std.specs.Prelude.{◌≡◌, ◌==◌, ◌&&◌, ℕ, suc, true, false, ◌+◌, ◌<◌, ◌≤◌, ◌++◌, ◌∷◌};
+ghost use Rattle.std.specs.Prelude.{[], List, IsTrue, IfSome, MatchOption, length, take, drop};
+ghost use Rattle.std.specs.Prelude.{slice_index, option_copied, codes, IsUtf8};
 ghost use Rattle.std.specs.List.{list_all};
 ghost use Rattle.md_text.specs.Bytes.{is_between};
 ghost use Rattle.md_text.specs.References.{begins_with};
-ghost use Rattle.md_page.specs.Scan.{differs, IsFirstOf, parts_of, value_of, before_angle, is_away, want_rel, want_id, picks_link, picks_heading, picks_of, clear, IsPassed, IsTagAt, IsAngleFrom, IsEndAt, IsScannedTo};
+ghost use Rattle.md_page.specs.Scan.{differs, IsFirstOf, parts_of, value_of, before_angle, is_away};
+ghost use Rattle.md_page.specs.Scan.{want_rel, want_id, picks_link, picks_heading, picks_of, clear};
+ghost use Rattle.md_page.specs.Scan.{IsPassed, IsTagAt, IsAngleFrom, IsEndAt, IsScannedTo};
 
 use memchr::memchr;
 
@@ -63,7 +67,8 @@ pub(crate) fn next_tag(rule: Rule, text: &[u8]) -> Option<usize>
 #[inline(always)]
 fn next_angle(rule: Rule, text: &[u8], at: usize) -> Option<usize>
     requires { at ≤ length text.now }
-    ensures { MatchOption result (IsPassed rule text.now at (length text.now)) (IsAngleFrom rule text.now at) }
+    ensures { MatchOption result (IsPassed rule text.now at (length text.now))
+        (IsAngleFrom rule text.now at) }
 {
     if text.len() - at < NEAR + 2 {
         return first_angle(text, at);
@@ -87,8 +92,8 @@ fn first_angle(text: &[u8], at: usize) -> Option<usize>
     Some(at + run)
 }
 
-/// The index near another one where a `<` stands, or up to which no tag begins that the rule picks. Every second byte is
-/// looked at: a `<`, the letter after that of such a tag, or neither.
+/// The index near another one where a `<` stands, or up to which no tag begins that the rule picks.
+/// Every second byte is looked at: a `<`, the letter after that of such a tag, or neither.
 #[inline(always)]
 fn pass_near(rule: Rule, text: &[u8], at: usize) -> usize
     requires { at + 18 ≤ length text.now }
@@ -113,7 +118,8 @@ fn pass_near(rule: Rule, text: &[u8], at: usize) -> usize
 #[inline(always)]
 fn may_begin(rule: Rule, text: &[u8], at: usize) -> bool
     requires { at + 2 < length text.now }
-    ensures { result ≡ false → ((slice_index text.now at == 60) && picks_of rule (drop (suc at) text.now)) ≡ false }
+    ensures { result ≡ false
+        → ((slice_index text.now at == 60) && picks_of rule (drop (suc at) text.now)) ≡ false }
 {
     is_named(rule, text, at) && text[at] == b'<'
 }
@@ -157,7 +163,8 @@ fn picks_link(tag: &[u8]) -> bool
     tag.starts_with(b"a ") && !stays(tag) && before_angle(&tag[1..]).is_some_and(want_rel)
 }
 
-/// Whether a link begins with an address that is empty or within the page: most of those that are not picked do.
+/// Whether a link begins with an address that is empty or within the page: most of those that
+/// are not picked do.
 #[inline(always)]
 fn stays(tag: &[u8]) -> bool
     ensures { IsTrue result → picks_link tag.now ≡ false }
@@ -258,7 +265,8 @@ pub(crate) fn split_at_byte(byte: u8, text: &str) -> Option<(&str, &str)>
 /// The index of the first of this byte.
 #[inline(always)]
 fn find_byte(byte: u8, bytes: &[u8]) -> Option<usize>
-    ensures { MatchOption result (IsTrue (list_all (differs byte) bytes.now)) (λ at. IsFirstOf byte bytes.now at) }
+    ensures { MatchOption result (IsTrue (list_all (differs byte) bytes.now))
+        (λ at. IsFirstOf byte bytes.now at) }
 {
     if bytes.len() >= NEAR {
         let near = find_near(byte, bytes);

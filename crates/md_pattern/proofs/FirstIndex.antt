@@ -1,5 +1,7 @@
 -- The first line ending among some events is found event by event.
-use Rattle.std.proofs.Common.{◌≡◌, ◌+◌, ◌<◌, ◌≤◌, ℕ, suc, Bool, true, false, List, [], ◌∷◌, ◌++◌, Option, Some, None, refl, ap, sym, ◌∙◌, length, take, get_or, add-one, arith}
+use Rattle.std.proofs.Common.{◌≡◌, ◌+◌, ◌<◌, ◌≤◌, ℕ, suc, Bool, true, false, List, [], ◌∷◌, ◌++◌}
+use Rattle.std.proofs.Common.{Option, Some, None, refl, ap, sym, ◌∙◌, length, take, get_or, add-one}
+use Rattle.std.proofs.Common.{arith}
 use Rattle.std.specs.Prelude.{if◌then◌else◌, option_map}
 use Rattle.std.proofs.Math.Seq.{take-suc}
 use Rattle.std.proofs.lemmas.List.{length-take-le}
@@ -23,7 +25,8 @@ first_index-step : (first event : Event) (events : List Event) →
     (suc (length events)) event
 first_index-step first event events e = by (exits_line_ending first)
   where
-    by : (ends : Bool) → (if ends then Some 0 else option_map (λ i. suc i) (first_index (events ++ event ∷ [])))
+    by : (ends : Bool) →
+        (if ends then Some 0 else option_map (λ i. suc i) (first_index (events ++ event ∷ [])))
         ≡ ending_after (if ends then Some 0 else option_map (λ i. suc i) (first_index events))
         (suc (length events)) event
     by true = refl
@@ -32,9 +35,11 @@ first_index-step first event events e = by (exits_line_ending first)
 first_index-append : (events : List Event) (event : Event) →
     first_index (events ++ event ∷ []) ≡ ending_after (first_index events) (length events) event
 first_index-append [] event = refl
-first_index-append (first ∷ events) event = first_index-step first event events (first_index-append events event)
+first_index-append (first ∷ events) event =
+    first_index-step first event events (first_index-append events event)
 
-pub first_index-more : (events : List Event) (index : ℕ) (d : Event) (found : Option ℕ) → index < length events →
+pub first_index-more : (events : List Event) (index : ℕ) (d : Event) (found : Option ℕ) →
+    index < length events →
     found ≡ first_index (take index events) →
     ending_after found index (get_or events index d) ≡ first_index (take (index + 1) events)
 first_index-more events index d found inside so_far =

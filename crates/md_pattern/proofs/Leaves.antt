@@ -12,10 +12,12 @@ use Rattle.md_base.specs.NameTests.{is_table}
 use Rattle.md_base.proofs.Lies.{lie}
 use Rattle.md_pattern.specs.Told.{nothing_told}
 use Rattle.md_pattern.specs.Columns.{Collected, columns_entered, columns_exited}
-use Rattle.md_pattern.specs.Facts.{PassState, sought_inside, opened, followed, fact_of, partner_alone, definitions_with, passed_entry, passed_exit}
+use Rattle.md_pattern.specs.Facts.{PassState, sought_inside, opened, followed, fact_of}
+use Rattle.md_pattern.specs.Facts.{partner_alone, definitions_with, passed_entry, passed_exit}
 
 -- a node that is no table begins no columns, and its fact is its partner alone
-plain-entered : (name : Name) (columns : Collected) → is_table name ≡ false → columns_entered name columns ≡ columns
+plain-entered : (name : Name) (columns : Collected) → is_table name ≡ false →
+    columns_entered name columns ≡ columns
 plain-entered GfmTable columns plain = lie (sym plain)
 plain-entered _ columns plain = refl
 
@@ -31,32 +33,46 @@ after_leaf name pass = record {
       (length (Collected.tables (columns_entered name pass.columns))) 0
       (sought_inside name (OpenNode.sought pass.here)) nothing_told ∷ [])
       ++ partner_alone (length pass.facts) ∷ [];
-  columns = columns_exited name nothing_told (OpenNode.collects pass.here) (columns_entered name pass.columns);
+  columns = columns_exited name nothing_told (OpenNode.collects pass.here)
+      (columns_entered name pass.columns);
   definitions = definitions_with name (length pass.facts) pass.definitions;
   here = followed name (opened (length pass.facts) name pass.here) pass.here;
   outer = pass.outer;
 }
 
 facts-leaf : (found : List Fact) (alone : Fact) (at : ℕ → Fact) →
-    found ++ at (length found + 1) ∷ [] ≡ set (found ++ alone ∷ []) (length found) (at (length (found ++ alone ∷ [])))
+    found ++ at (length found + 1) ∷ []
+    ≡ set (found ++ alone ∷ []) (length found) (at (length (found ++ alone ∷ [])))
 facts-leaf found alone at =
     sym (set-append_seam found alone [] (at (length found + 1)))
-    ∙ ap (λ n. set (found ++ alone ∷ []) (length found) (at n)) (sym (length-append found (alone ∷ [])))
+    ∙ ap (λ n. set (found ++ alone ∷ []) (length found) (at n))
+    (sym (length-append found (alone ∷ [])))
 
-pub passed-leaf : (name : Name) (pass : PassState) → after_leaf name pass ≡ passed_exit name (passed_entry name pass)
+pub passed-leaf : (name : Name) (pass : PassState) →
+    after_leaf name pass ≡ passed_exit name (passed_entry name pass)
 passed-leaf name pass =
-    ap (λ fs. record (after_leaf name pass) { facts = fs ++ partner_alone (length pass.facts) ∷ [] })
+    ap (λ fs.
+    record (after_leaf name pass) { facts = fs ++ partner_alone (length pass.facts) ∷ [] })
     (facts-leaf pass.facts (partner_alone 0) (λ exit. fact_of name exit (length (Collected.tables
-    (columns_entered name pass.columns))) 0 (sought_inside name (OpenNode.sought pass.here)) nothing_told))
+    (columns_entered name pass.columns))) 0 (sought_inside name (OpenNode.sought pass.here))
+    nothing_told))
 
 -- the same, by what each step gave
-pub passed-leaf_by : (name : Name) (pass : PassState) (entry : ℕ) (here : OpenNode) (columns : Collected)
-    (once twice : List Fact) (definitions : List ℕ) → is_table name ≡ false → entry ≡ length pass.facts →
+pub passed-leaf_by :
+    (name : Name) (pass : PassState) (entry : ℕ) (here : OpenNode) (columns : Collected)
+    (once twice : List Fact) (definitions : List ℕ) → is_table name ≡ false →
+    entry ≡ length pass.facts →
     once ≡ pass.facts ++ partner_alone (entry + 1) ∷ [] → twice ≡ once ++ partner_alone entry ∷ [] →
     columns ≡ columns_exited name nothing_told (OpenNode.collects pass.here) pass.columns →
     definitions ≡ definitions_with name entry pass.definitions →
     here ≡ followed name (opened entry name pass.here) pass.here →
-    record { facts = twice; columns = columns; definitions = definitions; here = here; outer = pass.outer }
+    record {
+      facts = twice;
+      columns = columns;
+      definitions = definitions;
+      here = here;
+      outer = pass.outer;
+    }
     ≡ passed_exit name (passed_entry name pass)
 passed-leaf_by name pass entry here columns once twice definitions plain e1 e5 e6 e7 e8 e9 =
     rw (e9, e8, e7, e6, e5, e1) (ap (λ f. record {
@@ -65,7 +81,8 @@ passed-leaf_by name pass entry here columns once twice definitions plain e1 e5 e
       definitions = definitions_with name (length pass.facts) pass.definitions;
       here = followed name (opened (length pass.facts) name pass.here) pass.here;
       outer = pass.outer;
-    }) (plain-fact name (length pass.facts + 1) (length (Collected.tables (columns_entered name pass.columns)))
+    }) (plain-fact name (length pass.facts + 1)
+    (length (Collected.tables (columns_entered name pass.columns)))
     (OpenNode.sought pass.here) plain)
     ∙ ap (λ c. record (after_leaf name pass) {
       columns = columns_exited name nothing_told (OpenNode.collects pass.here) c;

@@ -1,13 +1,17 @@
--- Looseness told from before a blank line ending, as the pass comes to it, is that told from the blank line ending.
+-- Looseness told from before a blank line ending, as the pass comes to it, is that told from the
+-- blank line ending.
 use Rattle.std.proofs.Common.{◌≡◌, Bool, true, false, not, ◌&&◌, ◌||◌, refl, sym, ap, ◌∙◌}
 use Rattle.std.specs.Prelude.{if◌then◌else◌}
 use Rattle.md_base.proofs.Lies.{lie}
 use Rattle.md_base.specs.declared.event.Name.{Name}
-use Rattle.md_base.specs.declared.event.Name.TheVariants.{BlankLineEnding, ListItem, ListItemPrefix, SpaceOrTab}
+use Rattle.md_base.specs.declared.event.Name.TheVariants.{BlankLineEnding, ListItem, ListItemPrefix}
+use Rattle.md_base.specs.declared.event.Name.TheVariants.{SpaceOrTab}
 use Rattle.md_base.specs.Is.{is}
 use Rattle.md_base.specs.Tree.{Forest, Empty, Node}
 use Rattle.md_base.specs.Children.{is_empty}
-use Rattle.md_pattern.specs.Looseness.{is_bare, ends_bare, has_parting_blank, is_loose_without_items, has_inner_blank, is_loose_item, has_loose_item}
+use Rattle.md_pattern.specs.Looseness.{is_bare, ends_bare, has_parting_blank}
+use Rattle.md_pattern.specs.Looseness.{is_loose_without_items, has_inner_blank, is_loose_item}
+use Rattle.md_pattern.specs.Looseness.{has_loose_item}
 use Rattle.md_pattern.specs.Blanks as old
 use Rattle.md_pattern.specs.Blanks.{begins_blank, begins_space_blank, is_end}
 
@@ -15,9 +19,11 @@ use Rattle.md_pattern.specs.Blanks.{begins_blank, begins_space_blank, is_end}
 abbrev ended : Bool → Bool → Forest → Bool
 ended last but_space Empty = but_space
 ended last but_space (Node name start end children rest) =
-    if is SpaceOrTab name && is_empty rest then last else old.ends_bare (Node name start end children rest)
+    if is SpaceOrTab name && is_empty rest then last
+    else old.ends_bare (Node name start end children rest)
 
-ended-same : (last but_space : Bool) (forest : Forest) → ends_bare last but_space forest ≡ ended last but_space forest
+ended-same : (last but_space : Bool) (forest : Forest) →
+    ends_bare last but_space forest ≡ ended last but_space forest
 ended-same last but_space Empty = refl
 ended-same last but_space (Node name start end children Empty) = by (is SpaceOrTab name)
   where
@@ -31,14 +37,15 @@ ended-same last but_space (Node name start end children (Node next begin stop in
     ∙ by (is SpaceOrTab name)
   where
     by : (space : Bool) → (if is SpaceOrTab next && is_empty rest then is_bare name children
-        else old.ends_bare (Node next begin stop inner rest))
-        ≡ (if space && false then last else (if is SpaceOrTab next && is_empty rest then is_bare name children
+        else old.ends_bare (Node next begin stop inner rest)) ≡ (if space && false then last
+        else (if is SpaceOrTab next && is_empty rest then is_bare name children
         else old.ends_bare (Node next begin stop inner rest)))
     by true = refl
     by false = refl
 
 -- a space is not bare
-space_bare : (name : Name) (children : Forest) → is SpaceOrTab name ≡ true → is_bare name children ≡ false
+space_bare : (name : Name) (children : Forest) → is SpaceOrTab name ≡ true →
+    is_bare name children ≡ false
 space_bare SpaceOrTab children h = refl
 space_bare _ children h = lie h
 
@@ -55,7 +62,8 @@ bare-same (Node name start end children (Node next begin stop inner rest)) =
     by (is SpaceOrTab name)
     ∙ sym (ended-same false false (Node name start end children (Node next begin stop inner rest)))
   where
-    by : (space : Bool) → old.ends_bare (Node name start end children (Node next begin stop inner rest))
+    by : (space : Bool) →
+        old.ends_bare (Node name start end children (Node next begin stop inner rest))
         ≡ (if space && false then false
         else old.ends_bare (Node name start end children (Node next begin stop inner rest)))
     by true = refl
@@ -66,21 +74,24 @@ or-assoc true b c = refl
 or-assoc false b c = refl
 
 -- lists
-parting-same : (excused : Bool) (forest : Forest) → begins_blank forest && not excused || old.has_parting_blank forest
+parting-same : (excused : Bool) (forest : Forest) →
+    begins_blank forest && not excused || old.has_parting_blank forest
     ≡ has_parting_blank excused forest
 parting-same excused Empty = refl
 parting-same excused (Node name start end children rest) =
     ap (λ b. is BlankLineEnding name && not excused
-    || (begins_blank rest && not (is ListItem name && b) || old.has_parting_blank rest)) (bare-same children)
-    ∙ ap (λ b. is BlankLineEnding name && not excused || b)
+    || (begins_blank rest && not (is ListItem name && b) || old.has_parting_blank rest))
+    (bare-same children) ∙ ap (λ b. is BlankLineEnding name && not excused || b)
     (parting-same (is ListItem name && ends_bare false false children) rest)
 
 and-true : (b : Bool) → b ≡ b && true
 and-true true = refl
 and-true false = refl
 
-pub without-same : (children : Forest) → old.is_loose_without_items children ≡ is_loose_without_items children
-without-same children = ap (λ b. b || old.has_parting_blank children) (and-true (begins_blank children))
+pub without-same : (children : Forest) →
+    old.is_loose_without_items children ≡ is_loose_without_items children
+without-same children =
+    ap (λ b. b || old.has_parting_blank children) (and-true (begins_blank children))
     ∙ parting-same false children
 
 -- items
@@ -113,19 +124,22 @@ arranged false false false last true others = refl
 arranged false false false last false others = refl
 
 inner-same : (last but_space : Bool) (forest : Forest) →
-    begins_blank forest && not but_space || (begins_space_blank forest && not last || old.has_inner_blank forest)
+    begins_blank forest && not but_space
+    || (begins_space_blank forest && not last || old.has_inner_blank forest)
     ≡ has_inner_blank last but_space forest
 inner-same last but_space Empty = refl
 inner-same last but_space (Node name start end children rest) =
     ap (λ b. is BlankLineEnding name && not but_space || b)
-    (arranged (is SpaceOrTab name) (begins_blank rest) (begins_space_blank rest) last (is ListItemPrefix name)
-    (old.has_inner_blank rest)
-    ∙ inner-same (is ListItemPrefix name) (if is SpaceOrTab name then last else is ListItemPrefix name) rest)
+    (arranged (is SpaceOrTab name) (begins_blank rest) (begins_space_blank rest)
+    last (is ListItemPrefix name) (old.has_inner_blank rest) ∙ inner-same (is ListItemPrefix name)
+    (if is SpaceOrTab name then last else is ListItemPrefix name) rest)
 
 pub item-same : (children : Forest) → old.is_loose_item children ≡ is_loose_item children
 item-same children =
-    sym (or-assoc (begins_blank children) (begins_space_blank children) (old.has_inner_blank children))
-    ∙ ap (λ b. b || (begins_space_blank children || old.has_inner_blank children)) (and-true (begins_blank children))
+    sym (or-assoc (begins_blank children) (begins_space_blank children)
+    (old.has_inner_blank children))
+    ∙ ap (λ b. b || (begins_space_blank children || old.has_inner_blank children))
+    (and-true (begins_blank children))
     ∙ ap (λ b. begins_blank children && true || (b || old.has_inner_blank children))
     (and-true (begins_space_blank children))
     ∙ inner-same false false children

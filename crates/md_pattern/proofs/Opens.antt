@@ -1,5 +1,6 @@
 -- The open nodes, of which the vector has the innermost last: what they are where that one changes.
-use Rattle.std.proofs.Common.{◌≡◌, ℕ, false, ◌+◌, ◌-◌, ◌<◌, List, [], ◌∷◌, ◌++◌, length, get_or, take, drop, Result, Ok, Err, refl, sym, ap, subst, ◌∙◌, arith}
+use Rattle.std.proofs.Common.{◌≡◌, ℕ, false, ◌+◌, ◌-◌, ◌<◌, List, [], ◌∷◌, ◌++◌, length, get_or}
+use Rattle.std.proofs.Common.{take, drop, Result, Ok, Err, refl, sym, ap, subst, ◌∙◌, arith}
 use Rattle.std.specs.Prelude.{set, reverse, OnOk}
 use Rattle.std.proofs.Math.Seq.{set-append_seam, take-append_seam, get_or-append_seam}
 use Rattle.std.proofs.lemmas.List.{length-set, length-append, reverse-append, reverse-reverse}
@@ -9,18 +10,22 @@ use Rattle.md_pattern.specs.declared.facts.OpenNode.{OpenNode}
 use Rattle.md_pattern.specs.Columns.{Collected, columns_exited}
 use Rattle.md_pattern.specs.Told.{nothing_told}
 use Rattle.md_base.specs.NameTests.{is_table}
-use Rattle.md_pattern.specs.Facts.{PassState, opens, next_outer, others_outer, grounded, opened, followed, fact_of, partner_alone, definitions_with, passed_entry, passed_exit}
+use Rattle.md_pattern.specs.Facts.{PassState, opens, next_outer, others_outer, grounded, opened}
+use Rattle.md_pattern.specs.Facts.{followed, fact_of, partner_alone, definitions_with, passed_entry}
+use Rattle.md_pattern.specs.Facts.{passed_exit}
 use Rattle.md_pattern.proofs.Leaves.{passed-leaf_by}
 
 -- an answer of a call of which three things are known
-pub on_answer : {A E : Type 0} (P Q R S : Type 0) → (P → Q → R → S) → (result : Result A E) → OnOk result P →
+pub on_answer : {A E : Type 0} (P Q R S : Type 0) → (P → Q → R → S) →
+    (result : Result A E) → OnOk result P →
     OnOk result Q → OnOk result R → OnOk result S
 on_answer P Q R S f (Ok a) p q r = f p q r
 on_answer P Q R S f (Err e) p q r = p
 
 opens-seam : (r : List OpenNode) (x d : OpenNode) → opens (reverse r ++ x ∷ []) d ≡ x ∷ r ++ d ∷ []
 opens-seam r x d =
-    ap (λ xs. xs ++ d ∷ []) (reverse-append (reverse r) (x ∷ []) ∙ ap (λ xs. x ∷ xs) (reverse-reverse r))
+    ap (λ xs. xs ++ d ∷ [])
+    (reverse-append (reverse r) (x ∷ []) ∙ ap (λ xs. x ∷ xs) (reverse-reverse r))
 
 one_less : (n : ℕ) → (n + 1) - 1 ≡ n
 one_less n = omega arith
@@ -68,24 +73,28 @@ grounded-others [] = refl
 grounded-others (x ∷ r) = refl
 
 -- a fact that is put among others as a slice of their vector, and one that is pushed after them
-pub put_then_pushed : (facts : List Fact) (index len : ℕ) (fact whole last alone : Fact) (put pushed : List Fact) →
+pub put_then_pushed :
+    (facts : List Fact) (index len : ℕ) (fact whole last alone : Fact) (put pushed : List Fact) →
     len ≡ length facts → fact ≡ whole → put ≡ set facts index fact → last ≡ alone →
-    pushed ≡ take len (put ++ drop (length put) facts) ++ last ∷ [] → pushed ≡ set facts index whole ++ alone ∷ []
-put_then_pushed facts index len fact whole last alone put pushed len_is fact_is put_is last_is pushed_is =
-    pushed_is
-    ∙ ap (λ n. take n (put ++ drop (length put) facts) ++ last ∷ []) (len_is ∙ sym (length-set facts index fact)
-    ∙ ap length (sym put_is))
+    pushed ≡ take len (put ++ drop (length put) facts) ++ last ∷ [] →
+    pushed ≡ set facts index whole ++ alone ∷ []
+put_then_pushed facts index len fact whole last alone put pushed len_is fact_is
+    put_is last_is pushed_is =
+    pushed_is ∙ ap (λ n. take n (put ++ drop (length put) facts) ++ last ∷ [])
+    (len_is ∙ sym (length-set facts index fact) ∙ ap length (sym put_is))
     ∙ ap (λ fs. fs ++ last ∷ []) (take-append_seam put (drop (length put) facts) ∙ put_is
     ∙ ap (λ f. set facts index f) fact_is)
     ∙ ap (λ f. set facts index whole ++ f ∷ []) last_is
 
 -- the exit of a node, by what each step gave: the node, what is left, and what it is then
-pub passed_exit-by : (name : Name) (pass : PassState) (own here after : OpenNode) (facts : List Fact)
+pub passed_exit-by :
+    (name : Name) (pass : PassState) (own here after : OpenNode) (facts : List Fact)
     (columns : Collected)
-    (definitions : List ℕ) (left stack : List OpenNode) → own ≡ pass.here → left ≡ grounded pass.outer →
+    (definitions : List ℕ) (left stack : List OpenNode) → own ≡ pass.here →
+    left ≡ grounded pass.outer →
     here ≡ next_outer left → stack ≡ after ∷ others_outer left → after ≡ followed name own here →
-    facts ≡ set pass.facts own.entry (fact_of name (length pass.facts) (length pass.columns.tables) own.contributing
-    own.sought own.told) ++ partner_alone own.entry ∷ [] →
+    facts ≡ set pass.facts own.entry (fact_of name (length pass.facts) (length pass.columns.tables)
+    own.contributing own.sought own.told) ++ partner_alone own.entry ∷ [] →
     columns ≡ columns_exited name own.told here.collects pass.columns →
     definitions ≡ definitions_with name own.entry pass.definitions →
     record {
@@ -95,8 +104,8 @@ pub passed_exit-by : (name : Name) (pass : PassState) (own here after : OpenNode
       here = next_outer stack;
       outer = others_outer stack;
     } ≡ passed_exit name pass
-passed_exit-by name pass own here after facts columns definitions left stack own_is left_is here_is stack_is after_is
-    facts_is columns_is definitions_is =
+passed_exit-by name pass own here after facts columns definitions left stack own_is left_is here_is
+    stack_is after_is facts_is columns_is definitions_is =
     rw (
       stack_is,
       after_is,
@@ -111,12 +120,15 @@ passed_exit-by name pass own here after facts columns definitions left stack own
     ) refl
 
 -- a node without children, by what each step gave
-pub passed_leaf-by : (name : Name) (pass : PassState) (entry : ℕ) (here after : OpenNode) (columns : Collected)
-    (once twice : List Fact) (definitions : List ℕ) (stack : List OpenNode) → is_table name ≡ false →
+pub passed_leaf-by :
+    (name : Name) (pass : PassState) (entry : ℕ) (here after : OpenNode) (columns : Collected)
+    (once twice : List Fact) (definitions : List ℕ) (stack : List OpenNode) →
+    is_table name ≡ false →
     entry ≡ length pass.facts → once ≡ pass.facts ++ partner_alone (entry + 1) ∷ [] →
     twice ≡ once ++ partner_alone entry ∷ [] → here ≡ pass.here → stack ≡ after ∷ pass.outer →
     columns ≡ columns_exited name nothing_told here.collects pass.columns →
-    definitions ≡ definitions_with name entry pass.definitions → after ≡ followed name (opened entry name here) here →
+    definitions ≡ definitions_with name entry pass.definitions →
+    after ≡ followed name (opened entry name here) here →
     record {
       facts = twice;
       columns = columns;
@@ -124,8 +136,9 @@ pub passed_leaf-by : (name : Name) (pass : PassState) (entry : ℕ) (here after 
       here = next_outer stack;
       outer = others_outer stack;
     } ≡ passed_exit name (passed_entry name pass)
-passed_leaf-by name pass entry here after columns once twice definitions stack plain entry_is once_is twice_is here_is
-    stack_is columns_is definitions_is after_is =
-    rw stack_is (passed-leaf_by name pass entry after columns once twice definitions plain entry_is once_is twice_is
-    (columns_is ∙ ap (λ h. columns_exited name nothing_told (OpenNode.collects h) pass.columns) here_is) definitions_is
-    (after_is ∙ ap (λ h. followed name (opened entry name h) h) here_is))
+passed_leaf-by name pass entry here after columns once twice definitions stack plain entry_is
+    once_is twice_is here_is stack_is columns_is definitions_is after_is =
+    rw stack_is (passed-leaf_by name pass entry after columns once twice definitions plain
+    entry_is once_is twice_is
+    (columns_is ∙ ap (λ h. columns_exited name nothing_told (OpenNode.collects h) pass.columns)
+    here_is) definitions_is (after_is ∙ ap (λ h. followed name (opened entry name h) h) here_is))

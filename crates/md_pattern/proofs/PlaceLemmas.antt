@@ -1,5 +1,7 @@
 -- The table of places: what its letters tell, row by row and symbol by symbol.
-use Rattle.std.proofs.Common.{◌≡◌, ℕ, zero, suc, ◌+◌, ◌-◌, ◌<◌, ◌≤◌, Bool, true, false, ◌&&◌, Option, Some, None, List, [], ◌∷◌, map, length, get_or, drop, take, cond, eqb, leb, ltb, ◌||◌, refl, sym, ap, ◌∙◌, subst, arith}
+use Rattle.std.proofs.Common.{◌≡◌, ℕ, zero, suc, ◌+◌, ◌-◌, ◌<◌, ◌≤◌, Bool, true, false, ◌&&◌}
+use Rattle.std.proofs.Common.{Option, Some, None, List, [], ◌∷◌, map, length, get_or, drop, take}
+use Rattle.std.proofs.Common.{cond, eqb, leb, ltb, ◌||◌, refl, sym, ap, ◌∙◌, subst, arith}
 use Rattle.std.specs.List.{list_all}
 use Rattle.std.proofs.lemmas.List.{length-map, get_or-map, get_or-take}
 use Rattle.std.proofs.lemmas.Bool.{and_parts, eqb-true, eqb-false, leb-true, ltb-true, ltb-false}
@@ -11,19 +13,23 @@ use Rattle.md_pattern.specs.declared.kinds.Symbol.TheVariants as symbol
 use Rattle.md_pattern.specs.declared.kinds.Role.{Role}
 use Rattle.md_pattern.specs.declared.kinds.Role.TheVariants as role
 use Rattle.md_pattern.specs.declared.state.Stage.TheVariants.{Whole}
-use Rattle.md_pattern.specs.Places.{At, at, places, symbols, all_roles, place_at, told, told_from, moves, moved_from, leads, lead_from, state_at, AreRows, AreEnds, AreStarts}
+use Rattle.md_pattern.specs.Places.{At, at, places, symbols, all_roles, place_at, told, told_from}
+use Rattle.md_pattern.specs.Places.{moves, moved_from, leads, lead_from, state_at, AreRows, AreEnds}
+use Rattle.md_pattern.specs.Places.{AreStarts}
 use Rattle.md_pattern.specs.declared.state.State.{State}
 use Rattle.md_pattern.specs.declared.state.Stage.{Stage}
 use Rattle.md_pattern.specs.Pattern.{pattern_of}
 use Rattle.md_pattern.specs.Steps.{moved, advance, is_complete, may_hold, start_of}
 use Rattle.std.specs.Prelude.{option_map}
 
-pub symbol-numbered : (seen : Symbol) → get_or symbols (tag_of symbol_contract.the_type seen) symbol.Text ≡ seen
+pub symbol-numbered : (seen : Symbol) →
+    get_or symbols (tag_of symbol_contract.the_type seen) symbol.Text ≡ seen
 unfolding symbols
 symbol-numbered symbol.Text = refl
 symbol-numbered _ = refl
 
-pub role-numbered : (seen : Role) → get_or all_roles (tag_of role_contract.the_type seen) role.Childless ≡ seen
+pub role-numbered : (seen : Role) →
+    get_or all_roles (tag_of role_contract.the_type seen) role.Childless ≡ seen
 unfolding all_roles
 role-numbered role.Flow = refl
 role-numbered _ = refl
@@ -41,9 +47,11 @@ unfolding told_from
 told-row n i k [] e inside = absurd (omega (arith, inside))
 told-row n zero k (row ∷ rows) e inside =
     ap (λ m. map (λ letter. told m letter) row) (omega (arith, e))
-told-row n (suc i) k (row ∷ rows) e inside = told-row (n + 1) i k rows (omega (arith, e)) (omega (arith, inside))
+told-row n (suc i) k (row ∷ rows) e inside =
+    told-row (n + 1) i k rows (omega (arith, e)) (omega (arith, inside))
 
-lead-row : (n i k : ℕ) (rows : List (List ℕ)) → n + i ≡ k → i < length rows → lead_from n rows ≡ true →
+lead-row : (n i k : ℕ) (rows : List (List ℕ)) → n + i ≡ k → i < length rows →
+    lead_from n rows ≡ true →
     list_all (λ letter. leads k letter) (get_or rows i []) ≡ true
 unfolding lead_from
 lead-row n i k [] e inside all = absurd (omega (arith, inside))
@@ -54,13 +62,15 @@ lead-row n (suc i) k (row ∷ rows) e inside all =
     lead-row (n + 1) i k rows (omega (arith, e)) (omega (arith, inside))
     (and_parts (list_all (λ letter. leads n letter) row) (lead_from (n + 1) rows) all).1
 
-letter-leads : (k i : ℕ) (row : List ℕ) → i < length row → list_all (λ letter. leads k letter) row ≡ true →
+letter-leads : (k i : ℕ) (row : List ℕ) → i < length row →
+    list_all (λ letter. leads k letter) row ≡ true →
     leads k (get_or row i 0) ≡ true
 letter-leads k i [] inside all = absurd (omega (arith, inside))
 letter-leads k zero (letter ∷ row) inside all =
     (and_parts (leads k letter) (list_all (λ l. leads k l) row) all).0
 letter-leads k (suc i) (letter ∷ row) inside all =
-    letter-leads k i row (omega (arith, inside)) (and_parts (leads k letter) (list_all (λ l. leads k l) row) all).1
+    letter-leads k i row (omega (arith, inside))
+    (and_parts (leads k letter) (list_all (λ l. leads k l) row) all).1
 
 counted : length places ≡ 114
 unfolding places
@@ -72,7 +82,8 @@ symbols-counted = refl
 
 rows-counted : (rows : List (List ℕ)) → AreRows rows → length rows ≡ 114
 rows-counted rows are =
-    sym (length-told 0 rows) ∙ ap length are.tell ∙ length-map places (λ place. moves place) ∙ counted
+    sym (length-told 0 rows) ∙ ap length are.tell
+    ∙ length-map places (λ place. moves place) ∙ counted
 
 row-told : (rows : List (List ℕ)) (i : ℕ) → AreRows rows → i < length rows →
     map (λ letter. told i letter) (get_or rows i []) ≡ moves (place_at i)
@@ -81,16 +92,21 @@ row-told rows i are inside =
     sym (told-row 0 i i rows (omega arith) inside) ∙ ap (λ all. get_or all i []) are.tell
     ∙ get_or-map (λ place. moves place) places i (at role.Childless 0 Whole) [] few
 
-row-long : (rows : List (List ℕ)) (i : ℕ) → AreRows rows → i < length rows → length (get_or rows i []) ≡ 47
+row-long : (rows : List (List ℕ)) (i : ℕ) → AreRows rows → i < length rows →
+    length (get_or rows i []) ≡ 47
 row-long rows i are inside =
-    sym (length-map (get_or rows i []) (λ letter. told i letter)) ∙ ap length (row-told rows i are inside)
+    sym (length-map (get_or rows i []) (λ letter. told i letter))
+    ∙ ap length (row-told rows i are inside)
     ∙ length-map symbols (λ seen. moved_from (place_at i) seen) ∙ symbols-counted
 
-pub letter-told : (rows : List (List ℕ)) (i k : ℕ) (seen : Symbol) → AreRows rows → i < length rows → k < 47 →
-    get_or symbols k symbol.Text ≡ seen → told i (get_or (get_or rows i []) k 0) ≡ moved_from (place_at i) seen
+pub letter-told : (rows : List (List ℕ)) (i k : ℕ) (seen : Symbol) → AreRows rows →
+    i < length rows → k < 47 →
+    get_or symbols k symbol.Text ≡ seen →
+    told i (get_or (get_or rows i []) k 0) ≡ moved_from (place_at i) seen
 letter-told rows i k seen are inside few is =
     let row = get_or rows i [] in
-    sym (get_or-map (λ letter. told i letter) row k 0 None (subst (λ n. k < n) (sym (row-long rows i are inside)) few))
+    sym (get_or-map (λ letter. told i letter) row k 0 None
+    (subst (λ n. k < n) (sym (row-long rows i are inside)) few))
     ∙ ap (λ all. get_or all k None) (row-told rows i are inside)
     ∙ get_or-map (λ seen. moved_from (place_at i) seen) symbols k symbol.Text None
     (subst (λ n. k < n) (sym symbols-counted) few) ∙ ap (λ s. moved_from (place_at i) s) is
@@ -126,9 +142,11 @@ otherwise true x other = absurd (other refl)
 otherwise false x other = refl
 
 -- a letter that isn't the dot leads to a row
-pub told-some : (i letter : ℕ) → (letter ≡ 46 → ⊥) → told i letter ≡ Some (place_at (i + letter - 109))
+pub told-some : (i letter : ℕ) → (letter ≡ 46 → ⊥) →
+    told i letter ≡ Some (place_at (i + letter - 109))
 told-some i letter other =
-    otherwise (eqb letter 46) (Some (place_at (i + letter - 109))) (λ is. other (eqb-true letter 46 is))
+    otherwise (eqb letter 46) (Some (place_at (i + letter - 109)))
+    (λ is. other (eqb-true letter 46 is))
 
 pub told-none : (i letter : ℕ) → letter ≡ 46 → told i letter ≡ None
 told-none i letter is = ap (λ l. told i l) is
@@ -137,7 +155,8 @@ led : (a b c : Bool) (x : ℕ) → (a ≡ true → ⊥) → (a || (b && c)) ≡ 
 led true b c x other all = absurd (other refl)
 led false b c x other all = and_parts b c all
 
-pub leads-some : (i letter : ℕ) → (letter ≡ 46 → ⊥) → leads i letter ≡ true → (letter ≤ 122) × (109 ≤ i + letter)
+pub leads-some : (i letter : ℕ) → (letter ≡ 46 → ⊥) → leads i letter ≡ true →
+    (letter ≤ 122) × (109 ≤ i + letter)
 leads-some i letter other all =
     let both = led (eqb letter 46) (leb letter 122) (leb 109 (i + letter)) 0
     (λ is. other (eqb-true letter 46 is)) all in
@@ -155,17 +174,22 @@ whole-complete : (place : At) (before : Option Symbol) →
     is_complete (state_at place None) ≡ is_complete (state_at place before)
 whole-complete place before = refl
 
-pub ends-at : (letters : List ℕ) (i letter : ℕ) (before : Option Symbol) → AreEnds letters → i < length letters →
+pub ends-at : (letters : List ℕ) (i letter : ℕ) (before : Option Symbol) → AreEnds letters →
+    i < length letters →
     letter ≡ get_or letters i 0 → eqb letter 101 ≡ is_complete (state_at (place_at i) before)
 ends-at letters i letter before are inside is =
-    let few : i < length places = subst (λ n. i < n) (ends-count letters are ∙ sym counted) inside in
+    let few : i < length places =
+    subst (λ n. i < n) (ends-count letters are ∙ sym counted) inside in
     ap (λ l. eqb l 101) is ∙ sym (get_or-map (λ l. eqb l 101) letters i 0 true inside)
     ∙ ap (λ all. get_or all i true) are
-    ∙ get_or-map (λ place. is_complete (state_at place None)) places i (at role.Childless 0 Whole) true few
+    ∙ get_or-map (λ place. is_complete (state_at place None)) places i
+    (at role.Childless 0 Whole) true few
     ∙ whole-complete (place_at i) before
 
-pub ends-outside : (i : ℕ) (before : Option Symbol) → 114 ≤ i → true ≡ is_complete (state_at (place_at i) before)
-ends-outside i before past = ap (λ place. is_complete (state_at place before)) (sym (place-outside i past))
+pub ends-outside : (i : ℕ) (before : Option Symbol) → 114 ≤ i →
+    true ≡ is_complete (state_at (place_at i) before)
+ends-outside i before past =
+    ap (λ place. is_complete (state_at place before)) (sym (place-outside i past))
 
 roles-counted : length all_roles ≡ 41
 unfolding all_roles
@@ -176,7 +200,8 @@ starts-count rows are =
     sym (length-map rows (λ row. place_at row)) ∙ ap length are
     ∙ length-map all_roles (λ r. at r 0 Whole) ∙ roles-counted
 
-pub start-at : (rows : List ℕ) (i : ℕ) (r : Role) → AreStarts rows → i < 41 → get_or all_roles i role.Childless ≡ r →
+pub start-at : (rows : List ℕ) (i : ℕ) (r : Role) → AreStarts rows → i < 41 →
+    get_or all_roles i role.Childless ≡ r →
     state_at (place_at (get_or rows i 0)) None ≡ start_of r
 start-at rows i r are few is =
     ap (λ place. state_at place None)
@@ -198,7 +223,8 @@ last-holds : may_hold (place_at 113).role ≡ false
 unfolding places
 last-holds = refl
 
-test-at : (test : At → Bool) (xs : List At) (i : ℕ) (d : At) → i < length xs → list_all test xs ≡ true →
+test-at : (test : At → Bool) (xs : List At) (i : ℕ) (d : At) → i < length xs →
+    list_all test xs ≡ true →
     test (get_or xs i d) ≡ true
 test-at test [] i d inside all = absurd (omega (arith, inside))
 test-at test (x ∷ xs) zero d inside all = (and_parts (test x) (list_all test xs) all).0
@@ -218,7 +244,8 @@ last-or i false e past =
 holds-by : (i : ℕ) (b : Bool) → ltb i 113 ≡ b → b ≡ may_hold (place_at i).role
 holds-by i true e =
     let few : i < 113 = ltb-true i 113 e in
-    sym (ap (λ place. may_hold (At.role place)) (sym (get_or-take 113 places i (at role.Childless 0 Whole) few))
+    sym (ap (λ place. may_hold (At.role place))
+    (sym (get_or-take 113 places i (at role.Childless 0 Whole) few))
     ∙ test-at (λ place. may_hold place.role) (take 113 places) i (at role.Childless 0 Whole)
     (subst (λ n. i < n) (sym taken-counted) few) hold)
 holds-by i false e =
@@ -232,11 +259,14 @@ place-holds i = holds-by i (ltb i 113) refl
 mapped : (r : Role) (seen : Symbol) (next : Option (ℕ × Stage)) →
     option_map (λ place. state_at place (Some seen))
     (option_map {U = At} (λ n. record { role = r; position = n.0; stage = n.1 }) next)
-    ≡ option_map {U = State} (λ n. record { role = r; before = Some seen; position = n.0; stage = n.1 }) next
+    ≡ option_map {U = State}
+    (λ n. record { role = r; before = Some seen; position = n.0; stage = n.1 }) next
 mapped r seen None = refl
 mapped r seen (Some n) = refl
 
 pub advance-at : (place : At) (before : Option Symbol) (seen : Symbol) →
-    option_map (λ next. state_at next (Some seen)) (moved_from place seen) ≡ advance (state_at place before) seen
+    option_map (λ next. state_at next (Some seen)) (moved_from place seen)
+    ≡ advance (state_at place before) seen
 advance-at place before seen =
-    mapped place.role seen (moved place.stage place.position (drop place.position (pattern_of place.role)) seen)
+    mapped place.role seen
+    (moved place.stage place.position (drop place.position (pattern_of place.role)) seen)

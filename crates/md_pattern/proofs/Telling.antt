@@ -1,10 +1,13 @@
 -- What the pass tells of children is what is defined of them.
-use Rattle.std.proofs.Common.{◌≡◌, Bool, true, false, not, ◌&&◌, ◌||◌, cond, Option, Some, None, refl, sym, ap, ◌∙◌}
+use Rattle.std.proofs.Common.{◌≡◌, Bool, true, false, not, ◌&&◌, ◌||◌, cond, Option, Some, None}
+use Rattle.std.proofs.Common.{refl, sym, ap, ◌∙◌}
 use Rattle.std.specs.Prelude.{unwrap_or}
 use Rattle.std.specs.Option.{option_map_or}
 use Rattle.md_base.specs.declared.event.AlignKind.TheVariants as align
 use Rattle.md_base.specs.declared.event.Name.{Name}
-use Rattle.md_base.specs.declared.event.Name.TheVariants.{BlankLineEnding, ListItem, GfmTableDelimiterMarker, SpaceOrTab, ListItemPrefix, BlockQuotePrefix, BlockQuote}
+use Rattle.md_base.specs.declared.event.Name.TheVariants as name_variants
+use name_variants.{BlankLineEnding, ListItem, GfmTableDelimiterMarker, SpaceOrTab, ListItemPrefix}
+use name_variants.{BlockQuotePrefix, BlockQuote}
 use Rattle.md_pattern.specs.declared.told.Last.{Last}
 use Rattle.md_pattern.specs.declared.told.Last.TheVariants as final
 use Rattle.md_pattern.specs.declared.told.Told.{Told}
@@ -13,10 +16,13 @@ use Rattle.md_base.specs.Is.{is}
 use Rattle.md_base.specs.Children.{is_empty, last_name}
 use Rattle.md_pattern.specs.Looseness.{is_bare}
 use Rattle.md_pattern.specs.Looseness as written
-use Rattle.md_pattern.specs.Blanks.{begins_blank, begins_space_blank, is_end, ends_bare, has_parting_blank, has_inner_blank, is_loose_item, has_loose_item}
+use Rattle.md_pattern.specs.Blanks.{begins_blank, begins_space_blank, is_end, ends_bare}
+use Rattle.md_pattern.specs.Blanks.{has_parting_blank, has_inner_blank, is_loose_item}
+use Rattle.md_pattern.specs.Blanks.{has_loose_item}
 use Rattle.md_pattern.proofs.Loosened.{item-same, without-same, items-same}
 use Rattle.md_pattern.specs.Alignments.{begins_with_marker, ends_with_marker, alignment_of}
-use Rattle.md_pattern.specs.Told.{spaced, is_bare_last, quote_as, parts, loosens, is_nothing, is_marker_last, told_with, nothing_told, told_over, alignment}
+use Rattle.md_pattern.specs.Told.{spaced, is_bare_last, quote_as, parts, loosens, is_nothing}
+use Rattle.md_pattern.specs.Told.{is_marker_last, told_with, nothing_told, told_over, alignment}
 
 -- the last child is a block quote's prefix
 abbrev is_quote_last : Last → Bool
@@ -99,7 +105,8 @@ nothing_quote : (l : Last) → is_nothing (quote_as l) ≡ false
 nothing_quote final.QuotePrefix = refl
 nothing_quote _ = refl
 
-nothing_with : (name : Name) (own told : Told) → is_nothing (Told.last (told_with name own told)) ≡ false
+nothing_with : (name : Name) (own told : Told) →
+    is_nothing (Told.last (told_with name own told)) ≡ false
 nothing_with BlankLineEnding own told = refl
 nothing_with ListItem own told = nothing_item (is_bare_last own.last)
 nothing_with GfmTableDelimiterMarker own told = refl
@@ -261,8 +268,8 @@ bare_spaced_quote : (l : Last) → is_bare_last (spaced (quote_as l)) ≡ is_quo
 bare_spaced_quote final.QuotePrefix = refl
 bare_spaced_quote _ = refl
 
-bare_spaced_with : (name : Name) (own told : Told) → is_bare_last (spaced (Told.last (told_with name own told)))
-    ≡ bare_by name own.last
+bare_spaced_with : (name : Name) (own told : Told) →
+    is_bare_last (spaced (Told.last (told_with name own told))) ≡ bare_by name own.last
 bare_spaced_with BlankLineEnding own told = refl
 bare_spaced_with ListItem own told = bare_spaced_item (is_bare_last own.last)
 bare_spaced_with GfmTableDelimiterMarker own told = refl
@@ -294,7 +301,8 @@ marker_over Empty told = refl
 marker_over (Node name start end children rest) told =
     let own = told_over children nothing_told in
     marker_over rest (told_with name own told)
-    ∙ ap (λ b. option_map_or (is GfmTableDelimiterMarker) (last_name rest) b) (marker_with name own told)
+    ∙ ap (λ b. option_map_or (is GfmTableDelimiterMarker) (last_name rest) b)
+    (marker_with name own told)
     ∙ last_step (is GfmTableDelimiterMarker) (last_name rest) name
 
 begins_over : (forest : Forest) (told : Told) → Told.begins_with_marker (told_over forest told)
@@ -314,7 +322,8 @@ begins_over (Node name start end children rest) told =
 
 -- nothing stands after a marker in the last of some nodes after another
 abbrev bare_after : Last → Forest → Bool
-bare_after l forest = cond (is_end forest) (cond (is_empty forest) (is_bare_last l) (is_bare_last (spaced l)))
+bare_after l forest =
+    cond (is_end forest) (cond (is_empty forest) (is_bare_last l) (is_bare_last (spaced l)))
     (ends_bare forest)
 
 bare_step : (rest : Forest) (name : Name) (children : Forest) (own told : Told) →
@@ -333,9 +342,9 @@ bare_step Empty name children own told quote =
     by true = refl
     by false = refl
 bare_step (Node next start end inner rest) name children own told quote =
-    ap (λ b. cond (is SpaceOrTab next && is_empty rest) b (ends_bare (Node next start end inner rest)))
-    (bare_spaced_with name own told ∙ ap (λ b. is ListItemPrefix name || (is BlockQuote name && b)) quote)
-    ∙ by (is SpaceOrTab name)
+    ap (λ b. cond (is SpaceOrTab next && is_empty rest) b
+    (ends_bare (Node next start end inner rest))) (bare_spaced_with name own told
+    ∙ ap (λ b. is ListItemPrefix name || (is BlockQuote name && b)) quote) ∙ by (is SpaceOrTab name)
   where
     by : (s : Bool) → cond (is SpaceOrTab next && is_empty rest) (is_bare name children)
         (ends_bare (Node next start end inner rest)) ≡ cond (s
@@ -349,16 +358,19 @@ bare_over : (forest : Forest) (told : Told) → is_bare_last (Told.last (told_ov
 bare_over Empty told = refl
 bare_over (Node name start end children rest) told =
     let own = told_over children nothing_told in
-    bare_over rest (told_with name own told) ∙ bare_step rest name children own told (quote_over children nothing_told)
+    bare_over rest (told_with name own told)
+    ∙ bare_step rest name children own told (quote_over children nothing_told)
 
 ends_bare-end : (forest : Forest) → bare_after final.Nothing forest ≡ ends_bare forest
 ends_bare-end Empty = refl
 ends_bare-end (Node name start end children Empty) = by name
   where
-    by : (name : Name) → cond (is SpaceOrTab name && true) false (is_bare name children) ≡ is_bare name children
+    by : (name : Name) →
+        cond (is SpaceOrTab name && true) false (is_bare name children) ≡ is_bare name children
     by SpaceOrTab = refl
     by _ = refl
-ends_bare-end (Node name start end children (Node next begin stop inner rest)) = by (is SpaceOrTab name)
+ends_bare-end (Node name start end children (Node next begin stop inner rest)) =
+    by (is SpaceOrTab name)
   where
     by : (s : Bool) → cond (s && false) false (ends_bare
         (Node name start end children (Node next begin stop inner rest)))
@@ -374,12 +386,12 @@ without_over (Node name start end children rest) told =
     without_over rest (told_with name own told)
     ∙ ap (λ b. (b || (begins_blank rest && parts (Told.last (told_with name own told))))
     || has_parting_blank rest) (without_with name own told)
-    ∙ ap (λ b. ((told.without_items || (is BlankLineEnding name && parts told.last)) || (begins_blank rest && b))
-    || has_parting_blank rest)
-    (parts_with name own told ∙ ap (λ b. not (is ListItem name && b)) (bare_over children nothing_told
+    ∙ ap (λ b. ((told.without_items || (is BlankLineEnding name && parts told.last))
+    || (begins_blank rest && b)) || has_parting_blank rest) (parts_with name own told
+    ∙ ap (λ b. not (is ListItem name && b)) (bare_over children nothing_told
     ∙ ends_bare-end children))
-    ∙ or-assoc (told.without_items || (is BlankLineEnding name && parts told.last)) (begins_blank rest
-    && not (is ListItem name && ends_bare children)) (has_parting_blank rest)
+    ∙ or-assoc (told.without_items || (is BlankLineEnding name && parts told.last))
+    (begins_blank rest && not (is ListItem name && ends_bare children)) (has_parting_blank rest)
 
 -- the tests of an item, rearranged
 rearranged : (s p q r n i : Bool) → ((q && cond s n (not p)) || ((r && not p) || i))
@@ -409,17 +421,19 @@ item_over (Node name start end children rest) told =
     let own = told_over children nothing_told in
     item_over rest (told_with name own told)
     ∙ ap (λ b. b || ((begins_blank rest && loosens (Told.last (told_with name own told)))
-    || ((begins_space_blank rest && not_prefix (Told.last (told_with name own told))) || has_inner_blank rest)))
-    (item_with name own told)
+    || ((begins_space_blank rest && not_prefix (Told.last (told_with name own told)))
+    || has_inner_blank rest))) (item_with name own told)
     ∙ ap (λ b. (told.of_item || (is BlankLineEnding name && loosens told.last))
-    || ((begins_blank rest && b) || ((begins_space_blank rest && not_prefix (Told.last (told_with name own told)))
+    || ((begins_blank rest && b)
+    || ((begins_space_blank rest && not_prefix (Told.last (told_with name own told)))
     || has_inner_blank rest))) (loosens_with name own told)
     ∙ ap (λ b. (told.of_item || (is BlankLineEnding name && loosens told.last))
-    || ((begins_blank rest && cond (is SpaceOrTab name) (not_prefix told.last) (not (is ListItemPrefix name)))
+    || ((begins_blank rest
+    && cond (is SpaceOrTab name) (not_prefix told.last) (not (is ListItemPrefix name)))
     || ((begins_space_blank rest && b) || has_inner_blank rest))) (prefix_with name own told)
     ∙ ap (λ b. (told.of_item || (is BlankLineEnding name && loosens told.last))
-    || b) (rearranged (is SpaceOrTab name) (is ListItemPrefix name) (begins_blank rest) (begins_space_blank rest)
-    (not_prefix told.last) (has_inner_blank rest))
+    || b) (rearranged (is SpaceOrTab name) (is ListItemPrefix name) (begins_blank rest)
+    (begins_space_blank rest) (not_prefix told.last) (has_inner_blank rest))
     ∙ or-assoc told.of_item (is BlankLineEnding name && loosens told.last)
     (((is SpaceOrTab name && begins_blank rest) && not_prefix told.last)
     || has_inner_blank (Node name start end children rest))
@@ -429,13 +443,15 @@ and-true true = refl
 and-true false = refl
 
 -- an item's children
-of_item_told : (children : Forest) → Told.of_item (told_over children nothing_told) ≡ is_loose_item children
+of_item_told : (children : Forest) →
+    Told.of_item (told_over children nothing_told) ≡ is_loose_item children
 of_item_told children =
     item_over children nothing_told
     ∙ ap (λ b. b || ((begins_space_blank children && true) || has_inner_blank children))
     (and-true (begins_blank children))
-    ∙ ap (λ b. begins_blank children || (b || has_inner_blank children)) (and-true (begins_space_blank children))
-    ∙ sym (or-assoc (begins_blank children) (begins_space_blank children) (has_inner_blank children))
+    ∙ ap (λ b. begins_blank children || (b || has_inner_blank children))
+    (and-true (begins_space_blank children)) ∙ sym (or-assoc (begins_blank children)
+    (begins_space_blank children) (has_inner_blank children))
 
 loose_items_over : (forest : Forest) (told : Told) → Told.has_loose_item (told_over forest told)
     ≡ (told.has_loose_item || has_loose_item forest)
@@ -445,20 +461,22 @@ loose_items_over (Node name start end children rest) told =
     loose_items_over rest (told_with name own told)
     ∙ ap (λ b. b || has_loose_item rest) (loose_item_with name own told
     ∙ ap (λ b. told.has_loose_item || (is ListItem name && b)) (of_item_told children))
-    ∙ or-assoc told.has_loose_item (is ListItem name && is_loose_item children) (has_loose_item rest)
+    ∙ or-assoc told.has_loose_item (is ListItem name && is_loose_item children)
+    (has_loose_item rest)
 
 -- a list's children, its items not looked at, and looked at
 pub without_items-told : (children : Forest) → Told.without_items (told_over children nothing_told)
     ≡ written.is_loose_without_items children
 without_items-told children =
-    without_over children nothing_told ∙ ap (λ b. b || has_parting_blank children) (and-true (begins_blank children))
+    without_over children nothing_told
+    ∙ ap (λ b. b || has_parting_blank children) (and-true (begins_blank children))
     ∙ without-same children
 
 pub with_items-told : (children : Forest) → (Told.without_items (told_over children nothing_told)
     || Told.has_loose_item (told_over children nothing_told)) ≡ written.is_loose children
 with_items-told children =
-    ap (λ b. b || Told.has_loose_item (told_over children nothing_told)) (without_items-told children)
-    ∙ ap (λ b. written.is_loose_without_items children || b)
+    ap (λ b. b || Told.has_loose_item (told_over children nothing_told))
+    (without_items-told children) ∙ ap (λ b. written.is_loose_without_items children || b)
     (loose_items_over children nothing_told ∙ items-same children)
 
 pub of_item-told : (children : Forest) → Told.of_item (told_over children nothing_told)
@@ -466,13 +484,18 @@ pub of_item-told : (children : Forest) → Told.of_item (told_over children noth
 of_item-told children = of_item_told children ∙ item-same children
 
 -- a value's children
-pub alignment-told : (children : Forest) → alignment (told_over children nothing_told) ≡ alignment_of children
+pub alignment-told : (children : Forest) →
+    alignment (told_over children nothing_told) ≡ alignment_of children
 alignment-told children =
     let told = told_over children nothing_told in
-    by told.begins_with_marker (begins_with_marker children) (is_marker_last told.last) (ends_with_marker children)
-    (begins_over children nothing_told ∙ and-true (begins_with_marker children)) (marker_over children nothing_told)
+    by told.begins_with_marker (begins_with_marker children) (is_marker_last told.last)
+    (ends_with_marker children)
+    (begins_over children nothing_told ∙ and-true (begins_with_marker children))
+    (marker_over children nothing_told)
   where
-    by : (a b c d : Bool) → a ≡ b → c ≡ d → cond a (cond c align.Center align.Left) (cond c align.Right align.None)
+    by : (a b c d : Bool) → a ≡ b → c ≡ d →
+        cond a (cond c align.Center align.Left) (cond c align.Right align.None)
         ≡ cond b (cond d align.Center align.Left) (cond d align.Right align.None)
-    by a b c d e f = ap (λ x. cond x (cond c align.Center align.Left) (cond c align.Right align.None)) e
+    by a b c d e f =
+        ap (λ x. cond x (cond c align.Center align.Left) (cond c align.Right align.None)) e
         ∙ ap (λ y. cond b (cond y align.Center align.Left) (cond y align.Right align.None)) f

@@ -1,8 +1,9 @@
--- Which lists and items are loose, told from before a blank line ending. Only proofs speak of it: the pass sees the
--- nodes before a blank line ending first.
+-- Which lists and items are loose, told from before a blank line ending. Only proofs speak of it:
+-- the pass sees the nodes before a blank line ending first.
 use Rattle.std.specs.Prelude.{Bool, true, false, not, ◌&&◌, ◌||◌, if◌then◌else◌}
 use Rattle.md_base.specs.Tree.{Forest, Empty, Node}
-use Rattle.md_base.specs.declared.event.Name.TheVariants.{BlankLineEnding, ListItem, ListItemPrefix, SpaceOrTab}
+use Rattle.md_base.specs.declared.event.Name.TheVariants.{BlankLineEnding, ListItem, ListItemPrefix}
+use Rattle.md_base.specs.declared.event.Name.TheVariants.{SpaceOrTab}
 use Rattle.md_base.specs.Is.{is}
 use Rattle.md_base.specs.Children.{is_empty}
 use Rattle.md_pattern.specs.Looseness.{is_bare}
@@ -13,16 +14,19 @@ begins_blank nodes = elim nodes [ Empty ↦ false | Node name _ _ _ _ ↦ is Bla
 
 -- a space or tab, and after it a blank line ending, come first
 abbrev pub begins_space_blank : Forest → Bool
-begins_space_blank nodes = elim nodes [ Empty ↦ false | Node name _ _ _ rest ↦ is SpaceOrTab name && begins_blank rest ]
+begins_space_blank nodes =
+    elim nodes [ Empty ↦ false | Node name _ _ _ rest ↦ is SpaceOrTab name && begins_blank rest ]
 
 -- nothing is there but at most one space or tab
 abbrev pub is_end : Forest → Bool
-is_end nodes = elim nodes [ Empty ↦ true | Node name _ _ _ rest ↦ is SpaceOrTab name && is_empty rest ]
+is_end nodes =
+    elim nodes [ Empty ↦ true | Node name _ _ _ rest ↦ is SpaceOrTab name && is_empty rest ]
 
 -- the last child, a space or tab after it passed over, is bare
 abbrev pub ends_bare : Forest → Bool
 ends_bare Empty = false
-ends_bare (Node name start end children rest) = if is_end rest then is_bare name children else ends_bare rest
+ends_bare (Node name start end children rest) =
+    if is_end rest then is_bare name children else ends_bare rest
 
 -- a blank line ending stands after a child, where that is no item which ends bare
 abbrev pub has_parting_blank : Forest → Bool
@@ -34,20 +38,24 @@ has_parting_blank (Node name start end children rest) =
 abbrev pub is_loose_without_items : Forest → Bool
 is_loose_without_items children = begins_blank children || has_parting_blank children
 
--- a blank line ending stands after a child that is no item's prefix, a space or tab between passed over
+-- a blank line ending stands after a child that is no item's prefix, a space or tab
+-- between passed over
 abbrev pub has_inner_blank : Forest → Bool
 has_inner_blank Empty = false
 has_inner_blank (Node name start end children rest) = not (is ListItemPrefix name)
-    && (begins_blank rest && not (is SpaceOrTab name) || begins_space_blank rest) || has_inner_blank rest
+    && (begins_blank rest && not (is SpaceOrTab name) || begins_space_blank rest)
+    || has_inner_blank rest
 
 -- an item with these children is loose
 abbrev pub is_loose_item : Forest → Bool
-is_loose_item children = begins_blank children || begins_space_blank children || has_inner_blank children
+is_loose_item children =
+    begins_blank children || begins_space_blank children || has_inner_blank children
 
 -- a child is a loose item
 abbrev pub has_loose_item : Forest → Bool
 has_loose_item Empty = false
-has_loose_item (Node name start end children rest) = is ListItem name && is_loose_item children || has_loose_item rest
+has_loose_item (Node name start end children rest) =
+    is ListItem name && is_loose_item children || has_loose_item rest
 
 -- a list with these children is loose
 abbrev pub is_loose : Forest → Bool

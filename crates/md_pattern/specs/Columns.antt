@@ -1,8 +1,12 @@
--- The alignments of tables, found from the first column to the last. Only contracts of private functions speak of it.
-use Rattle.std.specs.Prelude.{Bool, true, false, ℕ, if◌then◌else◌, List, [], ◌∷◌, ◌++◌, length, take, drop}
+-- The alignments of tables, found from the first column to the last. Only contracts of private
+-- functions speak of it.
+use Rattle.std.specs.Prelude.{Bool, true, false, ℕ, if◌then◌else◌, List, [], ◌∷◌, ◌++◌, length}
+use Rattle.std.specs.Prelude.{take, drop}
 use Rattle.md_base.specs.declared.event.AlignKind.{AlignKind}
 use Rattle.md_base.specs.declared.event.Name.{Name}
-use Rattle.md_base.specs.declared.event.Name.TheVariants.{GfmTable, GfmTableHead, GfmTableDelimiterRow, GfmTableDelimiterCellValue, BlockQuotePrefix, SpaceOrTab, Other}
+use Rattle.md_base.specs.declared.event.Name.TheVariants as name_variants
+use name_variants.{GfmTable, GfmTableHead, GfmTableDelimiterRow, GfmTableDelimiterCellValue}
+use name_variants.{BlockQuotePrefix, SpaceOrTab, Other}
 use Rattle.md_pattern.specs.declared.columns.Part.{Part}
 use Rattle.md_pattern.specs.declared.columns.Part.TheVariants as part
 use Rattle.md_pattern.specs.declared.told.Told.{Told}
@@ -31,8 +35,8 @@ collects_where _ around = false
 abbrev pub collects_in : Name → Bool → Bool
 collects_in name around = collects_where (part_of name) around
 
--- the alignments of the tables that have ended, the columns of those that are open, and where those of each start,
--- the innermost first
+-- the alignments of the tables that have ended, the columns of those that are open, and where those
+-- of each start, the innermost first
 pub record Collected : Type 0 where
   pub tables : List (List AlignKind)
   pub pending : List AlignKind
@@ -44,7 +48,8 @@ nothing_collected = record { tables = []; pending = []; starts = [] }
 
 -- the entry of a node
 abbrev pub entered_where : Part → Collected → Collected
-entered_where part.Table columns = record columns { starts = length columns.pending ∷ columns.starts }
+entered_where part.Table columns =
+    record columns { starts = length columns.pending ∷ columns.starts }
 entered_where _ columns = columns
 
 abbrev pub columns_entered : Name → Collected → Collected
@@ -68,8 +73,9 @@ table_ended columns = record {
 }
 
 abbrev pub value_ended : AlignKind → Bool → Collected → Collected
-value_ended column collects columns =
-    record columns { pending = if collects then columns.pending ++ column ∷ [] else columns.pending }
+value_ended column collects columns = record columns {
+  pending = if collects then columns.pending ++ column ∷ [] else columns.pending;
+}
 
 -- the exit of a node
 abbrev pub exited_where : Part → Told → Bool → Collected → Collected
@@ -84,7 +90,8 @@ columns_exited name own collects columns = exited_where (part_of name) own colle
 abbrev pub tables_of : Forest → List (List AlignKind)
 tables_of Empty = []
 tables_of (Node name start end children rest) =
-    tables_of children ++ ((if is_table name then alignments children ∷ [] else []) ++ tables_of rest)
+    tables_of children
+    ++ ((if is_table name then alignments children ∷ [] else []) ++ tables_of rest)
 
 -- what is collected after some nodes
 abbrev pub columns_after : Forest → Bool → Collected → Collected

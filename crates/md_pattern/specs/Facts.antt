@@ -1,9 +1,13 @@
--- The pass over the events from the first to the last, which finds what is read or inferred of each node. Only
--- contracts of private functions speak of it.
-use Rattle.std.specs.Prelude.{ℕ, suc, Bool, true, false, if◌then◌else◌, List, [], ◌∷◌, ◌++◌, length, reverse, set}
+-- The pass over the events from the first to the last, which finds what is read or inferred of each
+-- node. Only contracts of private functions speak of it.
+use Rattle.std.specs.Prelude.{ℕ, suc, Bool, true, false, if◌then◌else◌, List, [], ◌∷◌, ◌++◌, length}
+use Rattle.std.specs.Prelude.{reverse, set}
 use Rattle.md_base.specs.declared.event.AlignKind.{AlignKind}
 use Rattle.md_base.specs.declared.event.Name.{Name}
-use Rattle.md_base.specs.declared.event.Name.TheVariants.{Paragraph, Data, LineEnding, BlankLineEnding, BlockQuote, BlockQuotePrefix, ListItem, ListItemPrefix, GfmFootnoteDefinition, Definition, GfmTable, GfmTableDelimiterCellValue, GfmTableDelimiterMarker, SpaceOrTab, Other}
+use Rattle.md_base.specs.declared.event.Name.TheVariants as name_variants
+use name_variants.{Paragraph, Data, LineEnding, BlankLineEnding, BlockQuote, BlockQuotePrefix}
+use name_variants.{ListItem, ListItemPrefix, GfmFootnoteDefinition, Definition, GfmTable}
+use name_variants.{GfmTableDelimiterCellValue, GfmTableDelimiterMarker, SpaceOrTab, Other}
 use Rattle.md_base.specs.declared.event.Kind.{Kind}
 use Rattle.md_base.specs.declared.event.Kind.TheVariants.{Enter, Exit}
 use Rattle.md_base.specs.declared.event.Event.{Event}
@@ -12,16 +16,23 @@ use Rattle.md_pattern.specs.declared.seeking.Sought.{Sought}
 use Rattle.md_pattern.specs.declared.facts.Fact.{Fact}
 use Rattle.md_pattern.specs.declared.facts.OpenNode.{OpenNode}
 use Rattle.md_base.specs.Tree.{Forest, Empty, Node}
-use Rattle.md_base.specs.NameTests.{is_transparent, is_item, is_table, is_link_definition, contributes}
+use Rattle.md_base.specs.NameTests.{is_transparent, is_item, is_table, is_link_definition}
+use Rattle.md_base.specs.NameTests.{contributes}
 use Rattle.md_pattern.specs.Partners.{index_after}
 use Rattle.md_pattern.specs.Told.{nothing_told, told_with, told_over, looseness}
 use Rattle.md_pattern.specs.Seeking.{search_of, seen}
-use Rattle.md_pattern.specs.Columns.{Collected, nothing_collected, collects_in, columns_entered, columns_exited}
+use Rattle.md_pattern.specs.Columns.{Collected, nothing_collected, collects_in, columns_entered}
+use Rattle.md_pattern.specs.Columns.{columns_exited}
 
 -- the document itself
 abbrev pub document_node : OpenNode
-document_node =
-    record { entry = 0; contributing = 0; collects = false; sought = search_of Paragraph; told = nothing_told }
+document_node = record {
+  entry = 0;
+  contributing = 0;
+  collects = false;
+  sought = search_of Paragraph;
+  told = nothing_told;
+}
 
 -- a spine on which a search begins, or goes on where the node is transparent
 abbrev pub sought_inside : Name → Sought → Sought
@@ -29,7 +40,8 @@ sought_inside name around = if is_transparent name then around else search_of na
 
 -- the search after a node, given that in it
 abbrev pub sought_after : Name → ℕ → Sought → Sought → Sought
-sought_after name entry own around = if is_transparent name then own else seen around name entry own.read_at
+sought_after name entry own around =
+    if is_transparent name then own else seen around name entry own.read_at
 
 -- the last contributing child, after one more child
 abbrev pub contributing_after : Name → ℕ → ℕ → ℕ
@@ -55,16 +67,22 @@ followed name own around = record {
   told = told_with name own.told around.told;
 }
 
--- where what is read of a node is found: which table it is, the last contributing child, or what was sought
+-- where what is read of a node is found: which table it is, the last contributing child,
+-- or what was sought
 abbrev pub read_at_of : Name → ℕ → ℕ → Sought → ℕ
 read_at_of name table contributing sought =
-    if is_table name then table
-    else (if is_item name then contributing else (if is_transparent name then 0 else sought.read_at))
+    if is_table name then table else (if is_item name then contributing
+    else (if is_transparent name then 0 else sought.read_at))
 
 -- a node that, where it has no children, tells no more than what the last child is
 abbrev pub is_simple : Name → Bool
-is_simple name =
-    elim name [ Data ↦ true | LineEnding ↦ true | SpaceOrTab ↦ true | Other number ↦ true | _ ↦ false ]
+is_simple name = elim name [
+  | Data ↦ true
+  | LineEnding ↦ true
+  | SpaceOrTab ↦ true
+  | Other number ↦ true
+  | _ ↦ false
+]
 
 -- a node as most are: it contributes, and is nothing that the node around it looks at
 abbrev pub is_common : Name → Bool
@@ -100,8 +118,8 @@ partner_alone partner = record {
   looseness = record { without_items = false; with_items = false; of_item = false };
 }
 
--- what is found at the events so far, the entries of the definitions that have ended, the innermost open node, and
--- those around it, the next one first
+-- what is found at the events so far, the entries of the definitions that have ended, the innermost
+-- open node, and those around it, the next one first
 pub record PassState : Type 0 where
   pub facts : List Fact
   pub columns : Collected
@@ -111,7 +129,13 @@ pub record PassState : Type 0 where
 
 -- before any event
 abbrev pub pass_beginning : PassState
-pass_beginning = record { facts = []; columns = nothing_collected; definitions = []; here = document_node; outer = [] }
+pass_beginning = record {
+  facts = [];
+  columns = nothing_collected;
+  definitions = [];
+  here = document_node;
+  outer = [];
+}
 
 -- the first of some open nodes, and the others
 abbrev pub next_outer : List OpenNode → OpenNode
@@ -144,17 +168,21 @@ passed_entry name pass = record {
 -- what is found of the innermost open node, which exits
 abbrev pub fact_here : Name → PassState → Fact
 fact_here name pass =
-    fact_of name (length pass.facts) (length pass.columns.tables) pass.here.contributing pass.here.sought pass.here.told
+    fact_of name (length pass.facts) (length pass.columns.tables) pass.here.contributing
+    pass.here.sought pass.here.told
 
 -- the entries of definitions, with that of one more node
 abbrev pub definitions_with : Name → ℕ → List ℕ → List ℕ
-definitions_with name entry definitions = definitions ++ (if is_link_definition name then entry ∷ [] else [])
+definitions_with name entry definitions =
+    definitions ++ (if is_link_definition name then entry ∷ [] else [])
 
 -- the exit of a node
 abbrev pub passed_exit : Name → PassState → PassState
 passed_exit name pass = record {
-  facts = set pass.facts pass.here.entry (fact_here name pass) ++ partner_alone pass.here.entry ∷ [];
-  columns = columns_exited name pass.here.told (OpenNode.collects (next_outer pass.outer)) pass.columns;
+  facts =
+      set pass.facts pass.here.entry (fact_here name pass) ++ partner_alone pass.here.entry ∷ [];
+  columns =
+      columns_exited name pass.here.told (OpenNode.collects (next_outer pass.outer)) pass.columns;
   definitions = definitions_with name pass.here.entry pass.definitions;
   here = followed name pass.here (next_outer pass.outer);
   outer = others_outer pass.outer;
@@ -174,7 +202,8 @@ passed_over (event ∷ events) pass = passed_over events (passed event.kind even
 abbrev pub contributing_over : ℕ → Forest → ℕ → ℕ
 contributing_over index Empty before = before
 contributing_over index (Node name start end children rest) before =
-    contributing_over (suc (index_after (suc index) children)) rest (contributing_after name index before)
+    contributing_over (suc (index_after (suc index) children)) rest
+    (contributing_after name index before)
 
 -- a search over some nodes
 abbrev pub sought_over : ℕ → Forest → Sought → Sought
@@ -209,15 +238,15 @@ fact_at index tables name children =
     (contributing_over (suc index) children 0)
     (sought_over (suc index) children (search_of name)) (told_over children nothing_told)
 
--- for each event of the nodes, in order, what is found at it: the first event has this index, and so many tables
--- have ended before
+-- for each event of the nodes, in order, what is found at it: the first event has this index, and
+-- so many tables have ended before
 abbrev pub facts_of : ℕ → ℕ → Forest → List Fact
 facts_of index tables Empty = []
 facts_of index tables (Node name start end children rest) =
     fact_at index tables name children
     ∷ facts_of (suc index) tables children
-    ++ partner_alone index
-    ∷ facts_of (suc (index_after (suc index) children)) (tables_with name (tables_after tables children)) rest
+    ++ partner_alone index ∷ facts_of (suc (index_after (suc index) children))
+    (tables_with name (tables_after tables children)) rest
 
 -- what is found at each event, the alignments of the tables, and the entries of the definitions
 abbrev pub facts_at : List Event → List Fact

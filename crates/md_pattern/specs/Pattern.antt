@@ -4,11 +4,21 @@ use Rattle.std.specs.List.{list_any, list_all}
 use denote.Enum.Bare.{sameb}
 use Rattle.md_pattern.specs.contracts.kinds.Symbol.{the_type}
 use Rattle.md_pattern.specs.declared.kinds.Symbol.{Symbol}
-use Rattle.md_pattern.specs.declared.kinds.Symbol.TheVariants.{Text, ReferenceMarker, LineEnding, Span, Block, SetextText, BlankLineEnding, FootnotePrefix, FootnoteLabel, ListItem, ListItemPrefix, ListItemValue, ListItemMarker, HeadingSequence, HeadingText, CodeFlowChunk, CodeFence, CodeInfo, CodeMeta, MathFence, MathFlowChunk, MathMeta, CodeTextData, MathTextData, HtmlFlowData, HtmlTextData, Label, Resource, ReferenceString, LabelText, ResourceDestination, ResourceTitle, DefinitionLabel, DefinitionDestination, DefinitionTitle, TableHead, TableBody, TableRow, TableDelimiterRow, TableCell, TableDelimiterValue, TableDelimiterMarker, TaskChecked}
+use Rattle.md_pattern.specs.declared.kinds.Symbol.TheVariants as symbol_variants
+use symbol_variants.{Text, ReferenceMarker, LineEnding, Span, Block, SetextText, BlankLineEnding}
+use symbol_variants.{FootnotePrefix, FootnoteLabel, ListItem, ListItemPrefix, ListItemValue}
+use symbol_variants.{ListItemMarker, HeadingSequence, HeadingText, CodeFlowChunk, CodeFence}
+use symbol_variants.{CodeInfo, CodeMeta, MathFence, MathFlowChunk, MathMeta, CodeTextData}
+use symbol_variants.{MathTextData, HtmlFlowData, HtmlTextData, Label, Resource, ReferenceString}
+use symbol_variants.{LabelText, ResourceDestination, ResourceTitle, DefinitionLabel}
+use symbol_variants.{DefinitionDestination, DefinitionTitle, TableHead, TableBody, TableRow}
+use symbol_variants.{TableDelimiterRow, TableCell, TableDelimiterValue, TableDelimiterMarker}
+use symbol_variants.{TaskChecked}
 use Rattle.md_pattern.specs.declared.kinds.Role.{Role}
 use Rattle.md_pattern.specs.declared.kinds.Role.TheVariants as role
 use Rattle.md_pattern.specs.declared.kinds.Class.{Class}
-use Rattle.md_pattern.specs.declared.kinds.Class.TheVariants.{String, Phrasing, Flow, Only, Either, OrLine}
+use Rattle.md_pattern.specs.declared.kinds.Class.TheVariants.{String, Phrasing, Flow, Only, Either}
+use Rattle.md_pattern.specs.declared.kinds.Class.TheVariants.{OrLine}
 use Rattle.md_pattern.specs.declared.kinds.Item.{Item}
 use Rattle.md_pattern.specs.declared.kinds.Item.TheVariants.{Once, Maybe, Many}
 
@@ -16,7 +26,8 @@ use Rattle.md_pattern.specs.declared.kinds.Item.TheVariants.{Once, Maybe, Many}
 abbrev pub members : Class → List Symbol
 members String = Text ∷ ReferenceMarker ∷ LineEnding ∷ []
 members Phrasing = Span ∷ Text ∷ ReferenceMarker ∷ LineEnding ∷ []
-members Flow = Block ∷ SetextText ∷ BlankLineEnding ∷ Span ∷ Text ∷ ReferenceMarker ∷ LineEnding ∷ []
+members Flow =
+    Block ∷ SetextText ∷ BlankLineEnding ∷ Span ∷ Text ∷ ReferenceMarker ∷ LineEnding ∷ []
 members (Only one) = one ∷ []
 members (Either one other) = one ∷ other ∷ []
 members (OrLine one) = one ∷ LineEnding ∷ BlankLineEnding ∷ []
@@ -25,7 +36,8 @@ members (OrLine one) = one ∷ LineEnding ∷ BlankLineEnding ∷ []
 abbrev pub takes : Class → Symbol → Bool
 takes class seen = list_any (λ member. sameb the_type member seen) (members class)
 
--- the pattern of each role, one item after another: one symbol of a class, at most one, or any number
+-- the pattern of each role, one item after another: one symbol of a class, at most
+-- one, or any number
 abbrev pub pattern_of : Role → List Item
 pattern_of role.Flow = Many Flow ∷ []
 pattern_of role.FootnoteDefinition = Once (Only FootnotePrefix) ∷ Many Flow ∷ []
@@ -39,11 +51,14 @@ pattern_of role.FirstOrderedPrefix = Maybe (Only ListItemValue) ∷ Once (Only L
 pattern_of role.OrderedPrefix = Maybe (Only ListItemValue) ∷ Once (Only ListItemMarker) ∷ []
 pattern_of role.Prefix = Once (Only ListItemMarker) ∷ []
 pattern_of role.Phrasing = Many Phrasing ∷ []
-pattern_of role.Heading = Once (Only HeadingSequence) ∷ Many (Either HeadingSequence HeadingText) ∷ []
+pattern_of role.Heading =
+    Once (Only HeadingSequence) ∷ Many (Either HeadingSequence HeadingText) ∷ []
 pattern_of role.CodeIndented = Many (OrLine CodeFlowChunk) ∷ []
-pattern_of role.CodeFenced = Once (Only CodeFence) ∷ Many (OrLine CodeFlowChunk) ∷ Maybe (Only CodeFence) ∷ []
+pattern_of role.CodeFenced =
+    Once (Only CodeFence) ∷ Many (OrLine CodeFlowChunk) ∷ Maybe (Only CodeFence) ∷ []
 pattern_of role.FirstCodeFence = Maybe (Only CodeInfo) ∷ Maybe (Only CodeMeta) ∷ []
-pattern_of role.Math = Once (Only MathFence) ∷ Many (OrLine MathFlowChunk) ∷ Maybe (Only MathFence) ∷ []
+pattern_of role.Math =
+    Once (Only MathFence) ∷ Many (OrLine MathFlowChunk) ∷ Maybe (Only MathFence) ∷ []
 pattern_of role.FirstMathFence = Maybe (Only MathMeta) ∷ []
 pattern_of role.CodeText = Many (Either CodeTextData LineEnding) ∷ []
 pattern_of role.MathText = Many (Either MathTextData LineEnding) ∷ []
@@ -53,7 +68,8 @@ pattern_of role.Media = Once (Only Label) ∷ Maybe (Either Resource ReferenceSt
 pattern_of role.FootnoteCall = Once (Only Label) ∷ []
 pattern_of role.Label = Many Phrasing ∷ Maybe (Only LabelText) ∷ Many Phrasing ∷ []
 pattern_of role.CallLabel = Many Phrasing ∷ Once (Only LabelText) ∷ Many Phrasing ∷ []
-pattern_of role.Resource = Many (Only LineEnding) ∷ Maybe (Only ResourceDestination) ∷ Many (Only LineEnding)
+pattern_of role.Resource =
+    Many (Only LineEnding) ∷ Maybe (Only ResourceDestination) ∷ Many (Only LineEnding)
     ∷ Maybe (Only ResourceTitle) ∷ Many (Only LineEnding) ∷ []
 pattern_of role.Definition = Once (Only DefinitionLabel) ∷ Many (Only LineEnding)
     ∷ Maybe (Only DefinitionDestination)
@@ -61,7 +77,8 @@ pattern_of role.Definition = Once (Only DefinitionLabel) ∷ Many (Only LineEndi
 pattern_of role.String = Many String ∷ []
 pattern_of role.Table = Once (Only TableHead) ∷ Many (Only LineEnding) ∷ Maybe (Only TableBody)
     ∷ Many (Only LineEnding) ∷ []
-pattern_of role.TableHead = Once (Only TableRow) ∷ Many (Only LineEnding) ∷ Once (Only TableDelimiterRow)
+pattern_of role.TableHead =
+    Once (Only TableRow) ∷ Many (Only LineEnding) ∷ Once (Only TableDelimiterRow)
     ∷ Many (Only LineEnding) ∷ []
 pattern_of role.TableBody = Many (Either TableRow LineEnding) ∷ []
 pattern_of role.TableRow = Many (Only TableCell) ∷ []
@@ -79,7 +96,8 @@ class_of (Many class) = class
 
 -- so many symbols an item may have
 abbrev pub IsCount : Item → ℕ → Type 0
-IsCount item count = elim item [ Once class ↦ count ≡ 1 | Maybe class ↦ count ≤ 1 | Many class ↦ Unit {0} ]
+IsCount item count =
+    elim item [ Once class ↦ count ≡ 1 | Maybe class ↦ count ≤ 1 | Many class ↦ Unit {0} ]
 
 -- the symbols are those of the pattern's items, one item after another
 abbrev pub Fits : List Item → List Symbol → Type 0

@@ -8,7 +8,8 @@ use Rattle.md_pattern.specs.declared.kinds.Symbol.TheVariants as symbol
 use Rattle.md_pattern.specs.declared.kinds.Role.{Role}
 use Rattle.md_pattern.specs.declared.kinds.Role.TheVariants as role
 use Rattle.md_pattern.specs.declared.state.Stage.{Stage}
-use Rattle.md_pattern.specs.declared.state.Stage.TheVariants.{Whole, Marker, Numeric, Hexadecimal, Setext}
+use Rattle.md_pattern.specs.declared.state.Stage.TheVariants.{Whole, Marker, Numeric, Hexadecimal}
+use Rattle.md_pattern.specs.declared.state.Stage.TheVariants.{Setext}
 use Rattle.md_pattern.specs.declared.state.State.{State}
 use Rattle.md_pattern.specs.Pattern.{pattern_of}
 use Rattle.md_pattern.specs.Steps.{moved, is_complete}
@@ -22,7 +23,8 @@ pub record At : Type 0 where
 
 -- the same with the last symbol
 abbrev pub state_at : At → Option Symbol → State
-state_at place before = record { role = place.role; before = before; position = place.position; stage = place.stage }
+state_at place before =
+    record { role = place.role; before = before; position = place.position; stage = place.stage }
 
 -- where a spine is after a symbol
 abbrev pub moved_from : At → Symbol → Option At
@@ -139,7 +141,8 @@ leads number letter =
 
 unfoldable pub lead_from : ℕ → List (List ℕ) → Bool
 lead_from number [] = true
-lead_from number (row ∷ rows) = list_all (λ letter. leads number letter) row && lead_from (number + 1) rows
+lead_from number (row ∷ rows) =
+    list_all (λ letter. leads number letter) row && lead_from (number + 1) rows
 
 -- each row tells what follows each symbol
 pub record AreRows (rows : List (List ℕ)) : Type 0 where
@@ -148,7 +151,8 @@ pub record AreRows (rows : List (List ℕ)) : Type 0 where
 
 -- each place has a letter that tells whether a spine may end there
 abbrev pub AreEnds : List ℕ → Type 0
-AreEnds letters = map (λ letter. letter == 101) letters ≡ map (λ place. is_complete (state_at place None)) places
+AreEnds letters =
+    map (λ letter. letter == 101) letters ≡ map (λ place. is_complete (state_at place None)) places
 
 -- the row in which the spine of each role begins
 abbrev pub AreStarts : List ℕ → Type 0

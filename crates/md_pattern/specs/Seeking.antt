@@ -1,5 +1,5 @@
--- What a name reads of the nodes on its spine: where the one node stands that it seeks. Only contracts of private
--- functions speak of it.
+-- What a name reads of the nodes on its spine: where the one node stands that it seeks. Only
+-- contracts of private functions speak of it.
 use Rattle.std.specs.Prelude.{Bool, ℕ, if◌then◌else◌}
 use Rattle.md_base.specs.declared.event.Name.{Name}
 use Rattle.md_base.specs.declared.event.Name.TheVariants as named
@@ -10,7 +10,9 @@ use Rattle.md_pattern.specs.declared.seeking.Found.TheVariants as so_far
 use Rattle.md_pattern.specs.declared.seeking.Sight.{Sight}
 use Rattle.md_pattern.specs.declared.seeking.Sight.TheVariants as looks
 use Rattle.md_pattern.specs.declared.seeking.Sought.{Sought}
-use Rattle.md_base.specs.NameTests.{is_heading_mark, is_item, is_item_prefix, is_item_value, is_label, is_label_text, is_definition_label, is_footnote_prefix, is_footnote_label}
+use Rattle.md_base.specs.NameTests.{is_heading_mark, is_item, is_item_prefix, is_item_value}
+use Rattle.md_base.specs.NameTests.{is_label, is_label_text, is_definition_label}
+use Rattle.md_base.specs.NameTests.{is_footnote_prefix, is_footnote_label}
 
 -- what the spine of a name is searched for
 abbrev pub wanted_by : Name → Wanted

@@ -58,27 +58,30 @@ inner_role _ around before = role.Childless
 abbrev pub inner_before : Standing → Option Symbol → Option Symbol
 inner_before standing before = elim standing [ Through ↦ before | _ ↦ None ]
 
--- what is said of nodes: of one by the role around it, the symbol before it on that spine, its name, start, end and
--- children
+-- what is said of nodes: of one by the role around it, the symbol before it on that spine, its
+-- name, start, end and children
 abbrev pub Claim : Type 1
 Claim = Role → Option Symbol → Name → Point → Point → Forest → Type 0
 
--- a claim holds of each node, at any depth, of nodes that stand in a node of a role after a symbol on its spine
+-- a claim holds of each node, at any depth, of nodes that stand in a node of a role after a
+-- symbol on its spine
 abbrev pub EachNode : Claim → Forest → Role → Option Symbol → Type 0
 EachNode holds Empty around before = Unit {0}
 EachNode holds (Node name start end children rest) around before =
-    holds around before name start end children
-    × EachNode holds children (inner_role (standing_of name) around before) (inner_before (standing_of name) before)
+    holds around before name start end children × EachNode holds children
+    (inner_role (standing_of name) around before) (inner_before (standing_of name) before)
     × EachNode holds rest around (last_symbol before (shown (standing_of name) (spine children)))
 
 -- a node that may have children of its own
 abbrev pub IsStanding : Standing → Role → Option Symbol → Forest → Type 0
 IsStanding Through around before children = Unit {0}
 IsStanding Space around before children = children ≡ Empty
-IsStanding (Solid symbol usual reading) around before children = Matches (role_for around before usual) (spine children)
+IsStanding (Solid symbol usual reading) around before children =
+    Matches (role_for around before usual) (spine children)
 IsStanding Mdx around before children = ⊥
 
--- a node has its shape: it stands in no childless node, its own spine matches its pattern, and it is no name of MDX
+-- a node has its shape: it stands in no childless node, its own spine matches its pattern, and it
+-- is no name of MDX
 abbrev pub IsShapedNode : Claim
 IsShapedNode around before name start end children =
     (around ≢ role.Childless) × IsStanding (standing_of name) around before children
@@ -87,6 +90,7 @@ IsShapedNode around before name start end children =
 abbrev pub AreShaped : Forest → Role → Option Symbol → Type 0
 AreShaped forest around before = EachNode IsShapedNode forest around before
 
--- a document has the shape of the grammar: so have its nodes, and its own spine matches the document's pattern
+-- a document has the shape of the grammar: so have its nodes, and its own spine matches the
+-- document's pattern
 abbrev pub IsShaped : Forest → Type 0
 IsShaped forest = AreShaped forest role.Flow None × Matches role.Flow (spine forest)

@@ -1,7 +1,9 @@
 -- Spines: what patterns see of a node's children, and the groups of neighbours on a spine.
 use Rattle.std.specs.Prelude.{◌≡◌, ◌⊎◌, ℕ, List, [], ◌∷◌, ◌++◌, replicate}
 use Rattle.md_pattern.specs.declared.kinds.Symbol.{Symbol}
-use Rattle.md_pattern.specs.declared.kinds.Symbol.TheVariants.{ReferenceMarker, ReferenceNumeric, ReferenceHexadecimal, ReferenceValue, SetextText, SetextUnderline, LineEnding}
+use Rattle.md_pattern.specs.declared.kinds.Symbol.TheVariants as symbol_variants
+use symbol_variants.{ReferenceMarker, ReferenceNumeric, ReferenceHexadecimal, ReferenceValue}
+use symbol_variants.{SetextText, SetextUnderline, LineEnding}
 use Rattle.md_pattern.specs.declared.kinds.Role.{Role}
 use Rattle.md_pattern.specs.declared.kinds.Standing.{Standing}
 use Rattle.md_pattern.specs.declared.kinds.Standing.TheVariants.{Through, Solid}
@@ -20,19 +22,22 @@ abbrev pub spine : Forest → List Symbol
 spine Empty = []
 spine (Node name start end children rest) = shown (standing_of name) (spine children) ++ spine rest
 
--- what follows the first symbol of a group on a spine: a reference's marks and value, a setext heading's underline
+-- what follows the first symbol of a group on a spine: a reference's marks and value, a setext
+-- heading's underline
 abbrev pub IsTail : Symbol → List Symbol → Type 0
 IsTail ReferenceMarker tail =
     (tail ≡ ReferenceValue ∷ []) ⊎ ((tail ≡ ReferenceNumeric ∷ ReferenceValue ∷ [])
     ⊎ (tail ≡ ReferenceNumeric ∷ ReferenceHexadecimal ∷ ReferenceValue ∷ []))
-IsTail SetextText tail = (endings : ℕ) × (tail ≡ replicate endings LineEnding ++ SetextUnderline ∷ [])
+IsTail SetextText tail =
+    (endings : ℕ) × (tail ≡ replicate endings LineEnding ++ SetextUnderline ∷ [])
 IsTail _ tail = tail ≡ []
 
 -- the spine is these first symbols, each with what follows it in its group
 abbrev pub IsGrouped : List Symbol → List Symbol → Type 0
 IsGrouped [] spine = spine ≡ []
 IsGrouped (first ∷ firsts) spine =
-    (tail others : List Symbol) × (spine ≡ first ∷ tail ++ others) × IsTail first tail × IsGrouped firsts others
+    (tail others : List Symbol) × (spine ≡ first ∷ tail ++ others) × IsTail first tail
+    × IsGrouped firsts others
 
 -- a spine matches the pattern of a role, each of its groups seen by its first symbol
 abbrev pub Matches : Role → List Symbol → Type 0
@@ -40,6 +45,7 @@ Matches role spine = (firsts : List Symbol) × IsGrouped firsts spine × Fits (p
 
 -- a group that has begun and isn't complete
 abbrev pub IsBegunGroup : List Symbol → Type 0
-IsBegunGroup group = (group ≡ ReferenceMarker ∷ []) ⊎ ((group ≡ ReferenceMarker ∷ ReferenceNumeric ∷ [])
+IsBegunGroup group =
+    (group ≡ ReferenceMarker ∷ []) ⊎ ((group ≡ ReferenceMarker ∷ ReferenceNumeric ∷ [])
     ⊎ ((group ≡ ReferenceMarker ∷ ReferenceNumeric ∷ ReferenceHexadecimal ∷ [])
     ⊎ ((endings : ℕ) × (group ≡ SetextText ∷ replicate endings LineEnding))))

@@ -1,14 +1,18 @@
 -- Reading a spine symbol by symbol.
-use Rattle.std.specs.Prelude.{ℕ, ◌+◌, Bool, true, false, ◌&&◌, if◌then◌else◌, Option, Some, None, option_map, List, [], ◌∷◌, drop}
+use Rattle.std.specs.Prelude.{ℕ, ◌+◌, Bool, true, false, ◌&&◌, if◌then◌else◌, Option, Some, None}
+use Rattle.std.specs.Prelude.{option_map, List, [], ◌∷◌, drop}
 use Rattle.std.specs.List.{list_all}
 use Rattle.md_pattern.specs.declared.kinds.Symbol.{Symbol}
-use Rattle.md_pattern.specs.declared.kinds.Symbol.TheVariants.{ReferenceMarker, ReferenceNumeric, ReferenceHexadecimal, ReferenceValue, SetextText, SetextUnderline, LineEnding}
+use Rattle.md_pattern.specs.declared.kinds.Symbol.TheVariants as symbol_variants
+use symbol_variants.{ReferenceMarker, ReferenceNumeric, ReferenceHexadecimal, ReferenceValue}
+use symbol_variants.{SetextText, SetextUnderline, LineEnding}
 use Rattle.md_pattern.specs.declared.kinds.Role.{Role}
 use Rattle.md_pattern.specs.declared.kinds.Role.TheVariants as role
 use Rattle.md_pattern.specs.declared.kinds.Item.{Item}
 use Rattle.md_pattern.specs.declared.kinds.Item.TheVariants.{Once, Many}
 use Rattle.md_pattern.specs.declared.state.Stage.{Stage}
-use Rattle.md_pattern.specs.declared.state.Stage.TheVariants.{Whole, Marker, Numeric, Hexadecimal, Setext}
+use Rattle.md_pattern.specs.declared.state.Stage.TheVariants.{Whole, Marker, Numeric, Hexadecimal}
+use Rattle.md_pattern.specs.declared.state.Stage.TheVariants.{Setext}
 use Rattle.md_pattern.specs.declared.state.State.{State}
 use Rattle.md_pattern.specs.Pattern.{pattern_of, class_of, takes}
 
@@ -34,7 +38,8 @@ abbrev pub is_optional : Item → Bool
 is_optional (Once class) = false
 is_optional _ = true
 
--- the item from which on the next symbol is taken, where the first of these items that takes the symbol is this one
+-- the item from which on the next symbol is taken, where the first of these items that takes the
+-- symbol is this one
 abbrev pub next_position : Item → ℕ → ℕ
 next_position (Many class) position = position
 next_position _ position = position + 1
@@ -48,7 +53,8 @@ seek position (item ∷ items) symbol =
 
 -- position and stage after a symbol
 abbrev pub moved : Stage → ℕ → List Item → Symbol → Option (ℕ × Stage)
-moved Whole position items symbol = option_map (λ next. (next, begun_by symbol)) (seek position items symbol)
+moved Whole position items symbol =
+    option_map (λ next. (next, begun_by symbol)) (seek position items symbol)
 moved stage position items symbol = option_map (λ next. (position, next)) (next_stage stage symbol)
 
 -- the items that are left
@@ -58,7 +64,8 @@ items_of state = drop state.position (pattern_of state.role)
 -- the state after a symbol
 abbrev pub advance : State → Symbol → Option State
 advance state symbol =
-    option_map (λ next. record { role = state.role; before = Some symbol; position = next.0; stage = next.1 })
+    option_map (λ next.
+    record { role = state.role; before = Some symbol; position = next.0; stage = next.1 })
     (moved state.stage state.position (items_of state) symbol)
 
 -- no group is open

@@ -1,10 +1,12 @@
--- What the children of a node tell of its looseness and its alignment, from the first to the last. Only contracts of
--- private functions speak of it.
+-- What the children of a node tell of its looseness and its alignment, from the first to the last.
+-- Only contracts of private functions speak of it.
 use Rattle.std.specs.Prelude.{Bool, true, false, ◌||◌, if◌then◌else◌}
 use Rattle.md_base.specs.declared.event.AlignKind.{AlignKind}
 use Rattle.md_base.specs.declared.event.AlignKind.TheVariants as align
 use Rattle.md_base.specs.declared.event.Name.{Name}
-use Rattle.md_base.specs.declared.event.Name.TheVariants.{BlankLineEnding, ListItem, GfmTableDelimiterMarker, SpaceOrTab, ListItemPrefix, BlockQuotePrefix, BlockQuote}
+use Rattle.md_base.specs.declared.event.Name.TheVariants as name_variants
+use name_variants.{BlankLineEnding, ListItem, GfmTableDelimiterMarker, SpaceOrTab, ListItemPrefix}
+use name_variants.{BlockQuotePrefix, BlockQuote}
 use Rattle.md_pattern.specs.declared.told.Last.{Last}
 use Rattle.md_pattern.specs.declared.told.Last.TheVariants as final
 use Rattle.md_pattern.specs.declared.told.Told.{Told}
@@ -63,8 +65,10 @@ told_with BlankLineEnding own before = record before {
 }
 told_with ListItem own before =
     record before { last = item_as own.last; has_loose_item = before.has_loose_item || own.of_item }
-told_with GfmTableDelimiterMarker own before =
-    record before { last = final.Marker; begins_with_marker = before.begins_with_marker || is_nothing before.last }
+told_with GfmTableDelimiterMarker own before = record before {
+  last = final.Marker;
+  begins_with_marker = before.begins_with_marker || is_nothing before.last;
+}
 told_with SpaceOrTab own before = record before { last = spaced before.last }
 told_with ListItemPrefix own before = record before { last = final.Prefix }
 told_with BlockQuotePrefix own before = record before { last = final.QuotePrefix }

@@ -35,8 +35,8 @@ fn part_of(name: Name) -> Part
     }
 }
 
-/// Whether the delimiter cell values in a node of this name are columns of the table around it; `around`: whether they
-/// are in the node around it.
+/// Whether the delimiter cell values in a node of this name are columns of the table around it;
+/// `around`: whether they are in the node around it.
 #[inline(always)]
 pub fn collects_in(name: Name, around: bool) -> bool
     ensures { result ≡ spec.collects_in name around }

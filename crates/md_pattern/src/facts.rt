@@ -1,6 +1,8 @@
-//! The pass over the events from the first to the last, which finds what is read or inferred of each node.
+//! The pass over the events from the first to the last, which finds what is read or
+//! inferred of each node.
 
-ghost use Rattle.std.specs.Prelude.{◌≡◌, ℕ, ◌+◌, true, false, OnOk, [], ◌∷◌, ◌++◌, length, map, set, not, ◌&&◌, IfOk};
+ghost use Rattle.std.specs.Prelude.{◌≡◌, ℕ, ◌+◌, true, false, OnOk, [], ◌∷◌, ◌++◌, length, map};
+ghost use Rattle.std.specs.Prelude.{set, not, ◌&&◌, IfOk};
 ghost use Rattle.md_base.specs.NameTests.{is_transparent, is_table, contributes};
 ghost use Rattle.md_pattern.specs.Facts as spec;
 ghost use Rattle.md_pattern.specs.Ending.{exits_line_ending, ending_after};
@@ -20,8 +22,9 @@ use std::marker::Model;
 pub struct Fact {
     /// The index of the other event of the node.
     pub partner: usize,
-    /// The index of the entry of what is read of the node: of an item its last contributing child,
-    /// of another node what its name reads; 0 where there is none. Of a table which of the tables it is.
+    /// The index of the entry of what is read of the node: of an item its last contributing
+    /// child, of another node what its name reads; 0 where there is none. Of a table which of
+    /// the tables it is.
     pub read_at: usize,
     /// Whether the node is loose, by its children, as a list or as an item.
     pub looseness: Looseness,
@@ -111,7 +114,8 @@ fn opened(entry: usize, name: Name, around: &OpenNode) -> OpenNode
     }
 }
 
-/// Notes a child that exits: as the last contributing one of the node around it, or among the definitions.
+/// Notes a child that exits: as the last contributing one of the node around it, or among
+/// the definitions.
 #[inline(always)]
 fn note_child(
     contributing: &mut usize,
@@ -119,8 +123,10 @@ fn note_child(
     name: Name,
     entry: usize,
 ) -> Result<(), AllocError>
-    ensures contributing { OnOk result (contributing.new ≡ spec.contributing_after name entry contributing.old) }
-    ensures definitions { OnOk result (definitions.new.items ≡ spec.definitions_with name entry definitions.old.items) }
+    ensures contributing { OnOk result
+        (contributing.new ≡ spec.contributing_after name entry contributing.old) }
+    ensures definitions { OnOk result
+        (definitions.new.items ≡ spec.definitions_with name entry definitions.old.items) }
 {
     if contributes(name) {
         *contributing = entry;
@@ -147,7 +153,8 @@ fn search_after(sought: &mut Sought, name: Name, entry: usize, own: &Sought)
     }
 }
 
-/// Where what is read of a node is found: which table it is, the last contributing child, or what was sought.
+/// Where what is read of a node is found: which table it is, the last contributing child, or
+/// what was sought.
 #[inline(always)]
 fn read_at_of(name: Name, table: usize, own: &OpenNode) -> usize
     ensures { result ≡ spec.read_at_of name table own.now.contributing own.now.sought }
@@ -163,7 +170,8 @@ fn read_at_of(name: Name, table: usize, own: &OpenNode) -> usize
 /// What is found of a node that exits at an index.
 #[inline(always)]
 fn fact_of(name: Name, exit: usize, table: usize, own: &OpenNode) -> Fact
-    ensures { result ≡ spec.fact_of name exit table own.now.contributing own.now.sought own.now.told }
+    ensures { result
+        ≡ spec.fact_of name exit table own.now.contributing own.now.sought own.now.told }
 {
     Fact {
         partner: exit,
@@ -207,7 +215,8 @@ fn push_open(open_nodes: &mut Vec<OpenNode>, node: OpenNode) -> Result<(), Alloc
     Ok(())
 }
 
-/// Adds what is known of an entry and of its own exit, which comes right after; answers the index of the entry.
+/// Adds what is known of an entry and of its own exit, which comes right after; answers the
+/// index of the entry.
 #[inline(always)]
 fn push_leaf(facts: &mut Vec<Fact>) -> Result<usize, AllocError>
     ensures entry { IfOk result (λ entry. entry ≡ length facts.old.items) }
@@ -227,7 +236,8 @@ fn push_leaf(facts: &mut Vec<Fact>) -> Result<usize, AllocError>
 /// Goes on with a search after a node without children.
 #[inline(always)]
 fn search_leaf(sought: &mut Sought, name: Name, entry: usize)
-    ensures { sought.new ≡ spec.sought_after name entry (spec.sought_inside name sought.old) sought.old }
+    ensures { sought.new
+        ≡ spec.sought_after name entry (spec.sought_inside name sought.old) sought.old }
 {
     if is_idle(*sought) || is_transparent(name) {
         return;
@@ -235,8 +245,9 @@ fn search_leaf(sought: &mut Sought, name: Name, entry: usize)
     see(sought, name, entry, 0);
 }
 
-/// What is found at each event, the alignments of the tables and the entries of the definitions, both in
-/// the order of their exits, the exit of the first line ending, and how many events were visited for it.
+/// What is found at each event, the alignments of the tables and the entries of the
+/// definitions, both in the order of their exits, the exit of the first line ending, and how
+/// many events were visited for it.
 #[derive(Drop)]
 pub struct Facts {
     /// What is found at each event, in the order of the events.
@@ -321,7 +332,8 @@ impl Pass {
         }
     }
 
-    /// Finds what a node without children tells, which exits right after its entry; a table has some.
+    /// Finds what a node without children tells, which exits right after its entry;
+    /// a table has some.
     ///
     /// # Errors
     ///
@@ -355,7 +367,8 @@ impl Pass {
     fn exit(&mut self, alloc: Global, name: Name) -> Result<(), AllocError>
         ensures { OnOk result (self.new ≡ spec.passed_exit name self.old) }
     {
-        // Many nodes have such a name: where it is written, what goes by the name is computed when this is built.
+        // Many nodes have such a name: where it is written, what goes by the name is computed
+        // when this is built.
         match name {
             Name::Other(number) => self.exit_named(alloc, Name::Other(number)),
             _ => self.exit_named(alloc, name),
@@ -474,7 +487,8 @@ fn follow_leaf(
     name: Name,
     entry: usize,
 ) -> Result<(), AllocError>
-    ensures here { OnOk result (here.new ≡ spec.followed name (spec.opened entry name here.old) here.old) }
+    ensures here { OnOk result
+        (here.new ≡ spec.followed name (spec.opened entry name here.old) here.old) }
     ensures columns { OnOk result (ended.new.columns
         ≡ columns_exited name nothing_told here.old.collects ended.old.columns) }
     ensures definitions { OnOk result (ended.new.definitions.items
@@ -566,7 +580,8 @@ fn exits_line_ending(event: &Event) -> bool
 
 /// Adds the entry of a node that exits, if it is a definition.
 fn define(definitions: &mut Vec<usize>, name: Name, entry: usize) -> Result<(), AllocError>
-    ensures { OnOk result (definitions.new.items ≡ spec.definitions_with name entry definitions.old.items) }
+    ensures { OnOk result
+        (definitions.new.items ≡ spec.definitions_with name entry definitions.old.items) }
 {
     if is_link_definition(name) {
         definitions.push(entry)?;

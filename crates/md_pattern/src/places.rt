@@ -1,4 +1,5 @@
-//! How far spines have been read, as the numbers of a table's rows, which tell what follows each symbol.
+//! How far spines have been read, as the numbers of a table's rows, which tell what
+//! follows each symbol.
 
 mod table;
 
@@ -7,18 +8,20 @@ ghost use Rattle.md_pattern.specs.declared.kinds.Symbol.{Symbol};
 ghost use Rattle.md_pattern.specs.Steps.{start_of, advance, is_complete, may_hold};
 ghost use Rattle.md_pattern.specs.declared.kinds.Symbol.TheVariants.{Text};
 ghost use Rattle.md_pattern.specs.Shape.{role_for};
-ghost use Rattle.md_pattern.specs.Places.{state_of, place_at, moved_from, symbols, told, leads, all_roles};
+ghost use Rattle.md_pattern.specs.Places.{state_of, place_at, moved_from, symbols, told, leads};
+ghost use Rattle.md_pattern.specs.Places.{all_roles};
 ghost use Rattle.md_pattern.specs.declared.kinds.Role.TheVariants.{Childless};
 
 use crate::kinds::{Role, Symbol};
 use crate::shape::{goes_by_place, role_for};
 use table::{ends, roles, rows, starts};
 
-/// How far the spine of a node has been read, but for its last symbol: as a `State` says it, by one number. What may
-/// follow doesn't go by the last symbol, so clauses name the state with none.
+/// How far the spine of a node has been read, but for its last symbol: as a `State` says it, by one
+/// number. What may follow doesn't go by the last symbol, so clauses name the state with none.
 #[derive(Clone, Copy)]
 pub struct Place {
-    /// The number of a row of the table. Past its rows it stands for the spine of a node that has no children.
+    /// The number of a row of the table. Past its rows it stands for the spine of a node that
+    /// has no children.
     pub number: u8,
 }
 
@@ -36,7 +39,8 @@ impl Place {
     /// How far the spine has been read after a symbol.
     #[inline(always)]
     pub fn after(self, symbol: Symbol) -> Option<Place>
-        ensures { option_map (λ next. state_of next (Some symbol)) result ≡ advance (state_of self None) symbol }
+        ensures { option_map (λ next. state_of next (Some symbol)) result
+            ≡ advance (state_of self None) symbol }
     {
         let letter = letter_at(self.number, symbol)?;
         if letter == b'.' {
@@ -77,7 +81,8 @@ impl Place {
         self.number < 113
     }
 
-    /// The role of the spine of a node with this usual role that stands here, after this last symbol.
+    /// The role of the spine of a node with this usual role that stands here, after
+    /// this last symbol.
     #[inline(always)]
     pub fn role_inside(self, before: Option<Symbol>, usual: Role) -> Role
         ensures { result ≡ role_for (state_of self None).role before usual }
@@ -89,11 +94,12 @@ impl Place {
         }
     }
 
-    /// Whether the spine of a node with this usual role that stands here, after this last symbol, may end where it
-    /// begins.
+    /// Whether the spine of a node with this usual role that stands here, after this last symbol,
+    /// may end where it begins.
     #[inline(always)]
     pub fn can_hold_empty(self, before: Option<Symbol>, usual: Role) -> bool
-        ensures { result ≡ is_complete (start_of (role_for (state_of self None).role before usual)) }
+        ensures { result
+            ≡ is_complete (start_of (role_for (state_of self None).role before usual)) }
     {
         match usual {
             // Those of most nodes without children.
@@ -105,7 +111,8 @@ impl Place {
     /// The same of any node.
     #[inline(never)]
     fn begins_complete(self, before: Option<Symbol>, usual: Role) -> bool
-        ensures { result ≡ is_complete (start_of (role_for (state_of self None).role before usual)) }
+        ensures { result
+            ≡ is_complete (start_of (role_for (state_of self None).role before usual)) }
     {
         Place::start(self.role_inside(before, usual)).may_end()
     }

@@ -172,7 +172,8 @@ fn refer(sought: &mut Sought, index: usize)
 /// Whether nothing is sought.
 #[inline(always)]
 pub fn is_idle(sought: Sought) -> bool
-    ensures { result ≡ true → (name : Name) (entry inner : ℕ) → spec.seen sought name entry inner ≡ sought }
+    ensures { result ≡ true → (name : Name) (entry inner : ℕ)
+        → spec.seen sought name entry inner ≡ sought }
 {
     matches!(sought.wanted, Wanted::Nothing)
 }

@@ -3,7 +3,8 @@
 ghost use Rattle.std.specs.Prelude.{◌≡◌, false, Option};
 ghost use Rattle.md_pattern.specs.declared.kinds.Role.{Role};
 ghost use Rattle.md_pattern.specs.declared.kinds.Symbol.{Symbol};
-ghost use Rattle.md_pattern.specs.Shape.{role_for, item_in, prefix_in, code_fence_after, math_fence_after, label_in};
+ghost use Rattle.md_pattern.specs.Shape.{role_for, item_in, prefix_in, code_fence_after};
+ghost use Rattle.md_pattern.specs.Shape.{math_fence_after, label_in};
 
 use crate::kinds::{Role, Symbol};
 
@@ -74,7 +75,8 @@ pub fn role_for(around: Role, before: Option<Symbol>, usual: Role) -> Role
 /// Whether a name with this usual role has another one in some places.
 #[inline(always)]
 pub(crate) fn goes_by_place(usual: Role) -> bool
-    ensures { result ≡ false → (around : Role) (before : Option Symbol) → role_for around before usual ≡ usual }
+    ensures { result ≡ false → (around : Role) (before : Option Symbol)
+        → role_for around before usual ≡ usual }
 {
     matches!(
         usual,

@@ -1,5 +1,6 @@
 -- Texts in a row.
-use Rattle.std.proofs.Common.{◌≡◌, ℕ, true, false, List, [], ◌∷◌, ◌++◌, refl, sym, ap, ◌∙◌, subst, append-nil, append_assoc}
+use Rattle.std.proofs.Common.{◌≡◌, ℕ, true, false, List, [], ◌∷◌, ◌++◌, refl, sym, ap, ◌∙◌, subst}
+use Rattle.std.proofs.Common.{append-nil, append_assoc}
 use Rattle.md_text.specs.Html.{Forest, IsReading}
 use Rattle.md_safe.specs.Input.{with_line_feeds}
 use Rattle.md_safe.specs.Token.{Token, EndOfFile}
@@ -12,7 +13,8 @@ use Rattle.md_safe.proofs.ForestLeads.{reading-ends}
 use Rattle.md_safe.proofs.Joining.{leads-on, runs-on, run-on}
 
 pub alone : (text after : List ℕ) (emits : List Token) → EndsInDataState text emits →
-    splits_newline text after ≡ false → Leads Data (with_line_feeds (text ++ after)) emits (with_line_feeds after)
+    splits_newline text after ≡ false →
+    Leads Data (with_line_feeds (text ++ after)) emits (with_line_feeds after)
 alone text after emits h n =
     subst (λ x. Leads Data x emits (with_line_feeds after)) (sym (line_feeds-apart text after n))
     (h (with_line_feeds after))
@@ -25,12 +27,15 @@ split text after emits h n =
     (h (with_line_feeds after))
 
 pub tokenized : (text after : List ℕ) (emits later : List Token) → EndsInDataState text emits →
-    splits_newline text after ≡ false → IsTokenized after later → IsTokenized (text ++ after) (emits ++ later)
+    splits_newline text after ≡ false → IsTokenized after later →
+    IsTokenized (text ++ after) (emits ++ later)
 tokenized text after emits later h n k =
-    runs-on Data (with_line_feeds (text ++ after)) (with_line_feeds after) emits later (alone text after emits h n) k
+    runs-on Data (with_line_feeds (text ++ after)) (with_line_feeds after) emits later
+    (alone text after emits h n) k
 
 pub tokenized-only : (text after : List ℕ) (emits all : List Token) → EndsInDataState text emits →
-    splits_newline text after ≡ false → IsTokenized (text ++ after) all → HasTokensAfter emits after all
+    splits_newline text after ≡ false → IsTokenized (text ++ after) all →
+    HasTokensAfter emits after all
 tokenized-only text after emits all h n k =
     let r = run-on Data (with_line_feeds (text ++ after)) (with_line_feeds after) emits all
     (alone text after emits h n) k in
@@ -40,7 +45,8 @@ pub own-tokens : (text : List ℕ) (emits : List Token) → EndsInDataState text
     IsTokenized text (emits ++ (EndOfFile ∷ []))
 own-tokens text emits h =
     subst (λ x. IsRun Data x (emits ++ (EndOfFile ∷ []))) (append-nil (with_line_feeds text))
-    (runs-on Data (with_line_feeds text ++ []) [] emits (EndOfFile ∷ []) (h []) record { steps = 1; emits = refl })
+    (runs-on Data (with_line_feeds text ++ []) [] emits (EndOfFile ∷ []) (h [])
+    record { steps = 1; emits = refl })
 
 pub join : (before text : List ℕ) (earlier emits : List Token) → EndsInDataState before earlier →
     EndsInDataState text emits → splits_newline before text ≡ false →
@@ -49,22 +55,27 @@ join before text earlier emits h k n after =
     subst (λ x. Leads Data x (earlier ++ emits) after)
     (sym (append_assoc (with_line_feeds before) (with_line_feeds text) after)
     ∙ ap (λ x. x ++ after) (sym (line_feeds-apart before text n)))
-    (leads-on Data (with_line_feeds before ++ (with_line_feeds text ++ after)) (with_line_feeds text ++ after) after
-    earlier emits (h (with_line_feeds text ++ after)) (k after))
+    (leads-on Data (with_line_feeds before ++ (with_line_feeds text ++ after)) (with_line_feeds text
+    ++ after) after earlier emits (h (with_line_feeds text ++ after)) (k after))
 
 -- a text that ends so, and one with a reading
-joined : (before text : List ℕ) (earlier : List Token) (f : Forest) → EndsInDataState before earlier →
-    IsReading text f → splits_newline before text ≡ false → EndsInDataState (before ++ text) (earlier ++ tokens f)
+joined : (before text : List ℕ) (earlier : List Token) (f : Forest) →
+    EndsInDataState before earlier →
+    IsReading text f → splits_newline before text ≡ false →
+    EndsInDataState (before ++ text) (earlier ++ tokens f)
 joined before text earlier f h reading n =
     join before text earlier (tokens f) h (reading-ends text f reading) n
 
-pub between : (before text after : List ℕ) (earlier : List Token) (f : Forest) → EndsInDataState before earlier →
-    IsReading text f → splits_newline before text ≡ false → splits_newline (before ++ text) after ≡ false →
-    Leads Data (with_line_feeds (before ++ (text ++ after))) (earlier ++ tokens f) (with_line_feeds after)
+pub between : (before text after : List ℕ) (earlier : List Token) (f : Forest) →
+    EndsInDataState before earlier →
+    IsReading text f → splits_newline before text ≡ false →
+    splits_newline (before ++ text) after ≡ false →
+    Leads Data (with_line_feeds (before ++ (text ++ after))) (earlier ++ tokens f)
+    (with_line_feeds after)
 between before text after earlier f h reading n m =
     subst (λ x. Leads Data (with_line_feeds x) (earlier ++ tokens f) (with_line_feeds after))
-    (append_assoc before text after)
-    (alone (before ++ text) after (earlier ++ tokens f) (joined before text earlier f h reading n) m)
+    (append_assoc before text after) (alone (before ++ text) after (earlier ++ tokens f)
+    (joined before text earlier f h reading n) m)
 
 pub between-tokenized : (before text after : List ℕ) (earlier later : List Token) (f : Forest) →
     EndsInDataState before earlier → IsReading text f → splits_newline before text ≡ false →
@@ -73,4 +84,5 @@ pub between-tokenized : (before text after : List ℕ) (earlier later : List Tok
 between-tokenized before text after earlier later f h reading n m k =
     subst (λ x. IsTokenized x (earlier ++ (tokens f ++ later))) (append_assoc before text after)
     (subst (λ t. IsTokenized ((before ++ text) ++ after) t) (append_assoc earlier (tokens f) later)
-    (tokenized (before ++ text) after (earlier ++ tokens f) later (joined before text earlier f h reading n) m k))
+    (tokenized (before ++ text) after (earlier ++ tokens f) later
+    (joined before text earlier f h reading n) m k))

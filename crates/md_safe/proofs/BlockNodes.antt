@@ -1,12 +1,25 @@
--- The nodes of blocks print texts with readings, whatever is claimed of texts besides: a case for each name.
-use Rattle.std.proofs.Common.{◌≡◌, ℕ, ◌≤◌, Bool, true, false, not, ◌&&◌, ◌||◌, cond, List, [], ◌∷◌, ◌++◌, refl, sym, ◌∙◌, subst, inl, inr, arith, drop, append_assoc, codes}
+-- The nodes of blocks print texts with readings, whatever is claimed of texts besides: a
+-- case for each name.
+use Rattle.std.proofs.Common.{◌≡◌, ℕ, ◌≤◌, Bool, true, false, not, ◌&&◌, ◌||◌, cond, List, [], ◌∷◌}
+use Rattle.std.proofs.Common.{◌++◌, refl, sym, ◌∙◌, subst, inl, inr, arith, drop, append_assoc}
+use Rattle.std.proofs.Common.{codes}
 use Rattle.std.specs.Prelude.{slice_get, count_by, unwrap_or}
 use Rattle.md_base.specs.Place.{serialized_between}
 use Rattle.std.specs.List.{list_any, flat_map}
 use Rattle.std.proofs.lemmas.Bool.{and_parts, not-true, or_cases}
 use Rattle.md_base.proofs.Lies.{lie}
 use Rattle.md_base.specs.declared.event.Name.{Name}
-use Rattle.md_base.specs.declared.event.Name.TheVariants.{LineEnding, BlankLineEnding, BlockQuote, ListOrdered, ListUnordered, ListItem, ListItemPrefix, ListItemValue, ListItemMarker, GfmFootnoteDefinition, GfmFootnoteDefinitionPrefix, Definition, CodeIndented, CodeFenced, CodeFencedFenceMeta, CodeFlowChunk, MathFlow, MathFlowFenceMeta, MathFlowChunk, HtmlFlow, HtmlFlowData, HeadingAtx, HeadingAtxSequence, HeadingAtxText, HeadingSetextText, HeadingSetextUnderlineSequence, GfmTable, GfmTableHead, GfmTableBody, GfmTableRow, GfmTableCell, GfmTableDelimiterRow, GfmTableDelimiterCellValue, GfmTableDelimiterMarker, Paragraph, ThematicBreak, Frontmatter, MdxEsm, MdxFlowExpression, MdxTextExpression, MdxJsxFlowTag, MdxJsxTextTag, Link}
+use Rattle.md_base.specs.declared.event.Name.TheVariants as name_variants
+use name_variants.{LineEnding, BlankLineEnding, BlockQuote, ListOrdered, ListUnordered, ListItem}
+use name_variants.{ListItemPrefix, ListItemValue, ListItemMarker, GfmFootnoteDefinition}
+use name_variants.{GfmFootnoteDefinitionPrefix, Definition, CodeIndented, CodeFenced}
+use name_variants.{CodeFencedFenceMeta, CodeFlowChunk, MathFlow, MathFlowFenceMeta, MathFlowChunk}
+use name_variants.{HtmlFlow, HtmlFlowData, HeadingAtx, HeadingAtxSequence, HeadingAtxText}
+use name_variants.{HeadingSetextText, HeadingSetextUnderlineSequence, GfmTable, GfmTableHead}
+use name_variants.{GfmTableBody, GfmTableRow, GfmTableCell, GfmTableDelimiterRow}
+use name_variants.{GfmTableDelimiterCellValue, GfmTableDelimiterMarker, Paragraph, ThematicBreak}
+use name_variants.{Frontmatter, MdxEsm, MdxFlowExpression, MdxTextExpression, MdxJsxFlowTag}
+use name_variants.{MdxJsxTextTag, Link}
 use Rattle.md_base.specs.declared.event.AlignKind.{AlignKind}
 use Rattle.md_text.specs.Encode.{encoded}
 use Rattle.md_text.proofs.EncodeLaws.{is_escaped-encoded}
@@ -19,20 +32,28 @@ use Rattle.md_pattern.specs.Looseness.{is_loose}
 use Rattle.md_meaning.specs.declared.context.Surroundings.{Surroundings}
 use Rattle.md_meaning.specs.Meaning.At.{At, Given}
 use Rattle.md_meaning.specs.Meaning.Around.{inside, is_tight}
-use Rattle.md_meaning.specs.Meaning.Layout.{Piece, Text, Needed, Forced, layout, said, on_own_line, when}
+use Rattle.md_meaning.specs.Meaning.Layout.{Piece, Text, Needed, Forced, layout, said, on_own_line}
+use Rattle.md_meaning.specs.Meaning.Layout.{when}
 use Rattle.md_meaning.specs.Meaning.Means.{prints}
 use Rattle.md_meaning.specs.Meaning.Spans.{escaped, html, is_at}
-use Rattle.md_meaning.specs.Meaning.Blocks.{list_start, ends_in_line, atx_rank, underline_rank, chunk, code_end, is_unclosed, runs_out}
+use Rattle.md_meaning.specs.Meaning.Blocks.{list_start, ends_in_line, atx_rank, underline_rank}
+use Rattle.md_meaning.specs.Meaning.Blocks.{chunk, code_end, is_unclosed, runs_out}
 use Rattle.md_meaning.specs.Meaning.Tables.{cell_of}
 use Rattle.md_shape.specs.Underlined.{is_underline}
-use Rattle.md_shape.specs.Built.{Content, Blocks, content_of, is_part, is_source, is_string, is_span, is_in_media, is_autolink}
+use Rattle.md_shape.specs.Built.{Content, Blocks, content_of, is_part, is_source, is_string}
+use Rattle.md_shape.specs.Built.{is_span, is_in_media, is_autolink}
 use Rattle.md_safe.proofs.Texts.{Escaped}
 use Rattle.md_safe.proofs.Contents.{Holds, is_blocks}
-use Rattle.md_safe.proofs.Laid.{adds-append, adds-weaker, adds-text, adds-nothing, adds-needed, adds-forced}
-use Rattle.md_safe.proofs.Tags.{Bracket, IsFramed, void-read, adds-flat, adds-pair, adds-framed, adds-nil, adds-before, adds-after, adds-escaped, framed-text, framed-needed, framed-forced}
+use Rattle.md_safe.proofs.Laid.{adds-append, adds-weaker, adds-text, adds-nothing, adds-needed}
+use Rattle.md_safe.proofs.Laid.{adds-forced}
+use Rattle.md_safe.proofs.Tags.{Bracket, IsFramed, void-read, adds-flat, adds-pair, adds-framed}
+use Rattle.md_safe.proofs.Tags.{adds-nil, adds-before, adds-after, adds-escaped, framed-text}
+use Rattle.md_safe.proofs.Tags.{framed-needed, framed-forced}
 use Rattle.md_safe.proofs.Media.{adds-cell_in, adds-empty_cells}
-use Rattle.md_safe.proofs.Elements.{bracket-plain, bracket-code, adds-heading, ordered-opening, adds-raw, code_tag, math_tag, code_closing}
-use Rattle.md_safe.proofs.Spot.{Setting, IsFitAt, IsGoodTarget, Prints, Inside, narrow-wide, wide-reading, PassesIds}
+use Rattle.md_safe.proofs.Elements.{bracket-plain, bracket-code, adds-heading, ordered-opening}
+use Rattle.md_safe.proofs.Elements.{adds-raw, code_tag, math_tag, code_closing}
+use Rattle.md_safe.proofs.Spot.{Setting, IsFitAt, IsGoodTarget, Prints, Inside, narrow-wide}
+use Rattle.md_safe.proofs.Spot.{wide-reading, PassesIds}
 use Rattle.md_safe.proofs.StringNodes.{string-node}
 use Rattle.md_safe.proofs.SpanNodes.{text-holds, span-node, media-node, autolink-node, html-escaped}
 
@@ -110,7 +131,8 @@ when-forced s false = adds-nil s.given.ending
 when-end : (s : Setting) (holds : Bool) (c : List ℕ) →
     Prints s (IsFramed c) (when holds (Needed ∷ []) ++ said c)
 when-end s holds c =
-    adds-framed s.given.ending c (when holds (Needed ∷ [])) [] (when-needed s holds) (adds-nil s.given.ending)
+    adds-framed s.given.ending c (when holds (Needed ∷ [])) [] (when-needed s holds)
+    (adds-nil s.given.ending)
 
 item-end : (s : Setting) (holds : Bool) (c : List ℕ) →
     Prints s (IsFramed c) ((cond holds [] (Needed ∷ [])) ++ said c)
@@ -134,7 +156,8 @@ fenced-end s t =
     (when-needed s (is_unclosed t))))
 
 -- a block's tags on lines of their own
-block-pair : (s : Setting) (o c : List ℕ) → Bracket s.p o c → (inner : List Piece) → Prints s (Reads s) inner →
+block-pair : (s : Setting) (o c : List ℕ) → Bracket s.p o c → (inner : List Piece) →
+    Prints s (Reads s) inner →
     Prints s (Reads s) (on_own_line o ++ (inner ++ on_own_line c))
 block-pair s o c bracket inner a =
     adds-pair s.p s.given.ending o c (on_own_line o) inner (on_own_line c) bracket
@@ -142,20 +165,24 @@ block-pair s o c bracket inner a =
 
 -- a paragraph
 paragraph-node : (s : Setting) (tight : Bool) (inner : List Piece) → Prints s (Reads s) inner →
-    Prints s (Reads s) (cond tight inner (on_own_line (codes "<p>") ++ (inner ++ said (codes "</p>"))))
+    Prints s (Reads s)
+    (cond tight inner (on_own_line (codes "<p>") ++ (inner ++ said (codes "</p>"))))
 paragraph-node s true inner a = a
 paragraph-node s false inner a =
-    adds-pair s.p s.given.ending (codes "<p>") (codes "</p>") (on_own_line (codes "<p>")) inner (said (codes "</p>"))
-    (bracket-plain s.p (codes "p") refl)
-    (framed-needed s.given.ending (codes "<p>") s.ending) a (framed-text s.given.ending (codes "</p>"))
+    adds-pair s.p s.given.ending (codes "<p>") (codes "</p>") (on_own_line (codes "<p>")) inner
+    (said (codes "</p>")) (bracket-plain s.p (codes "p") refl)
+    (framed-needed s.given.ending (codes "<p>") s.ending) a
+    (framed-text s.given.ending (codes "</p>"))
 
 pub setext-fits : (dash : Bool) → (1 ≤ cond dash 2 1) × (cond dash 2 1 ≤ 6)
 setext-fits true = (omega arith, omega arith)
 setext-fits false = (omega arith, omega arith)
 
 -- an escaped text, or pieces of one
-prints-plain : (s : Setting) (pieces : List Piece) → Prints s Escaped pieces → Prints s (Reads s) pieces
-prints-plain s pieces a = adds-weaker s.given.ending Escaped (Reads s) pieces (λ x h. s.p.plain x (text s.p.test x h)) a
+prints-plain : (s : Setting) (pieces : List Piece) → Prints s Escaped pieces →
+    Prints s (Reads s) pieces
+prints-plain s pieces a =
+    adds-weaker s.given.ending Escaped (Reads s) pieces (λ x h. s.p.plain x (text s.p.test x h)) a
 
 -- a line of code
 pub chunk-escaped : (s : Setting) (t : At) → Prints s Escaped (chunk s.given t)
@@ -170,36 +197,43 @@ holds-none s = s.p.plain [] (nothing s.p.test)
 prints-none : (s : Setting) → Prints s (Reads s) []
 prints-none s = adds-nothing s.given.ending (Reads s) (holds-none s)
 
-flow-node : (s : Setting) (t : At) (name : Name) → t.around.is_escaping ≡ true → is_flow name ≡ true →
-    IsFitAt s t name → (is_underline name ≡ true → Reads s t.before.heading) → (inner : List Piece) →
+flow-node : (s : Setting) (t : At) (name : Name) → t.around.is_escaping ≡ true →
+    is_flow name ≡ true →
+    IsFitAt s t name → (is_underline name ≡ true → Reads s t.before.heading) →
+    (inner : List Piece) →
     Inside s t Blocks name inner →
     Prints s (Reads s) (prints s.given t name inner)
 flow-node s t BlankLineEnding e is fit head inner a =
     prints-plain s (when t.is_last (Needed ∷ [])) (when-needed s t.is_last)
-flow-node s t BlockQuote e is fit head inner a = block-pair s (codes "<blockquote>") (codes "</blockquote>")
+flow-node s t BlockQuote e is fit head inner a =
+    block-pair s (codes "<blockquote>") (codes "</blockquote>")
     (bracket-plain s.p (codes "blockquote") refl) inner a
 flow-node s t ListOrdered e is fit head inner a =
     let opening = ordered-opening s.p s.given.ending s.ending s.given s.test t fit in
     let start : List Piece = list_start s.given t in
     let end : List Piece = Forced ∷ said (codes "</ol>") in
-    subst (λ x. Prints s (Reads s) (on_own_line (codes "<ol") ++ x)) (append_assoc start (said (codes ">")) (inner ++ end))
+    subst (λ x. Prints s (Reads s) (on_own_line (codes "<ol") ++ x))
+    (append_assoc start (said (codes ">")) (inner ++ end))
     (adds-pair s.p s.given.ending opening.open_tag (codes "</ol>") (on_own_line (codes "<ol")
     ++ (start ++ said (codes ">"))) inner end
     opening.bracket opening.adds a (framed-forced s.given.ending (codes "</ol>") s.ending))
 flow-node s t ListUnordered e is fit head inner a =
-    adds-pair s.p s.given.ending (codes "<ul>") (codes "</ul>") (on_own_line (codes "<ul>")) inner (Forced
-    ∷ said (codes "</ul>")) (bracket-plain s.p (codes "ul") refl)
+    adds-pair s.p s.given.ending (codes "<ul>") (codes "</ul>") (on_own_line (codes "<ul>")) inner
+    (Forced ∷ said (codes "</ul>")) (bracket-plain s.p (codes "ul") refl)
     (framed-needed s.given.ending (codes "<ul>") s.ending) a
     (framed-forced s.given.ending (codes "</ul>") s.ending)
 flow-node s t ListItem e is fit head inner a =
     adds-pair s.p s.given.ending (codes "<li>") (codes "</li>") (on_own_line (codes "<li>")) inner
-    ((cond (ends_in_line t) [] (Needed ∷ [])) ++ said (codes "</li>")) (bracket-plain s.p (codes "li") refl)
-    (framed-needed s.given.ending (codes "<li>") s.ending) a (item-end s (ends_in_line t) (codes "</li>"))
-flow-node s t Paragraph e is fit head inner a = paragraph-node s (is_tight t.around.container) inner a
+    ((cond (ends_in_line t) [] (Needed ∷ [])) ++ said (codes "</li>"))
+    (bracket-plain s.p (codes "li") refl) (framed-needed s.given.ending (codes "<li>") s.ending) a
+    (item-end s (ends_in_line t) (codes "</li>"))
+flow-node s t Paragraph e is fit head inner a =
+    paragraph-node s (is_tight t.around.container) inner a
 flow-node s t ThematicBreak e is fit head inner a =
     adds-before s.p s.given.ending (Needed ∷ []) (said (codes "<hr />"))
     (adds-escaped s.p s.given.ending (Needed ∷ []) (adds-needed s.given.ending s.ending))
-    (adds-flat s.given.ending (Reads s) (said (codes "<hr />")) refl (void-read s.p (codes "hr") [] refl refl))
+    (adds-flat s.given.ending (Reads s) (said (codes "<hr />")) refl
+    (void-read s.p (codes "hr") [] refl refl))
 flow-node s t HeadingAtx e is fit head inner a =
     adds-heading s.p s.given.ending s.ending (atx_rank t) (fit.0, fit.1) inner a
 flow-node s t HeadingSetextUnderlineSequence e is fit head inner a =
@@ -207,16 +241,18 @@ flow-node s t HeadingSetextUnderlineSequence e is fit head inner a =
     (setext-fits (is_at 45 s.given.bytes t.place.start.index)) (said t.before.heading)
     (adds-text s.given.ending (Reads s) t.before.heading (head refl))
 flow-node s t CodeIndented e is fit head inner a =
-    adds-pair s.p s.given.ending (codes "<pre><code>") code_closing (on_own_line (codes "<pre><code>")) inner
-    (code_end t) (bracket-code s.p)
+    adds-pair s.p s.given.ending (codes "<pre><code>") code_closing
+    (on_own_line (codes "<pre><code>")) inner (code_end t) (bracket-code s.p)
     (framed-needed s.given.ending (codes "<pre><code>") s.ending) a
     (when-end s (list_any is_chunk (spine_names t.children)) code_closing)
 flow-node s t CodeFenced e is fit head inner a =
     adds-raw s.p s.given.ending s.ending code_tag inner _ a (fenced-end s t)
 flow-node s t MathFlow e is fit head inner a =
     adds-raw s.p s.given.ending s.ending math_tag inner _ a (fenced-end s t)
-flow-node s t CodeFlowChunk e is fit head inner a = prints-plain s (chunk s.given t) (chunk-escaped s t)
-flow-node s t MathFlowChunk e is fit head inner a = prints-plain s (chunk s.given t) (chunk-escaped s t)
+flow-node s t CodeFlowChunk e is fit head inner a =
+    prints-plain s (chunk s.given t) (chunk-escaped s t)
+flow-node s t MathFlowChunk e is fit head inner a =
+    prints-plain s (chunk s.given t) (chunk-escaped s t)
 flow-node s t HtmlFlow e is fit head inner a =
     adds-before s.p s.given.ending (Needed ∷ []) inner
     (adds-escaped s.p s.given.ending (Needed ∷ []) (adds-needed s.given.ending s.ending)) a
@@ -243,15 +279,16 @@ hidden-node s t name is inner =
     subst (Prints s (Reads s)) (sym (hidden-prints s.given t name is inner)) (prints-none s)
 
 -- a row
-row-node : (s : Setting) (in_head : Bool) (kinds : List AlignKind) (inner : List Piece) → Prints s (Reads s) inner
+row-node : (s : Setting) (in_head : Bool) (kinds : List AlignKind) (inner : List Piece) →
+    Prints s (Reads s) inner
     → Prints s (Reads s) (on_own_line (codes "<tr>") ++ (inner
     ++ (flat_map (cell_of in_head []) kinds ++ on_own_line (codes "</tr>"))))
 row-node s in_head kinds inner a =
     let cells : List Piece = flat_map (cell_of in_head []) kinds in
     subst (λ x. Prints s (Reads s) (on_own_line (codes "<tr>") ++ x))
     (append_assoc inner cells (on_own_line (codes "</tr>")))
-    (block-pair s (codes "<tr>") (codes "</tr>") (bracket-plain s.p (codes "tr") refl) (inner ++ cells)
-    (adds-after s.p s.given.ending inner cells a
+    (block-pair s (codes "<tr>") (codes "</tr>") (bracket-plain s.p (codes "tr") refl)
+    (inner ++ cells) (adds-after s.p s.given.ending inner cells a
     (adds-empty_cells s.p s.given.ending s.ending s.given.options s.test in_head kinds)))
 
 table-node : (s : Setting) (t : At) (name : Name) → is_tabular name ≡ true → (inner : List Piece) →
@@ -263,13 +300,15 @@ table-node s t GfmTableHead is inner a = block-pair s (codes "<thead>") (codes "
 table-node s t GfmTableBody is inner a =
     adds-pair s.p s.given.ending (codes "<tbody>") (codes "</tbody>") (said (codes "<tbody>")) inner
     (on_own_line (codes "</tbody>")) (bracket-plain s.p (codes "tbody") refl)
-    (framed-text s.given.ending (codes "<tbody>")) a (framed-needed s.given.ending (codes "</tbody>") s.ending)
+    (framed-text s.given.ending (codes "<tbody>")) a
+    (framed-needed s.given.ending (codes "</tbody>") s.ending)
 table-node s t GfmTableRow is inner a =
-    row-node s t.around.in_head (drop (count_by (named GfmTableCell) (spine_names t.children)) t.before.columns) inner a
+    row-node s t.around.in_head
+    (drop (count_by (named GfmTableCell) (spine_names t.children)) t.before.columns) inner a
 table-node s t GfmTableCell is inner a =
     adds-cell_in s.p s.given.ending s.ending s.given.options s.test t.around.in_head
-    (slice_get t.before.columns (count_by (named GfmTableCell) t.before.spine)) (layout s.given.ending inner)
-    (text-holds s (Reads s) inner a)
+    (slice_get t.before.columns (count_by (named GfmTableCell) t.before.spine))
+    (layout s.given.ending inner) (text-holds s (Reads s) inner a)
 table-node s t _ is inner a = lie is
 
 -- these print their children
@@ -322,31 +361,35 @@ silent-node s t name is inner a =
 
 -- each name is of one of the tables
 covered : (name : Name) → (is_transparent name || ((is_part name || is_source name)
-    || (is_string name || (is_span name || (is_in_media name
-    || (is_autolink name || (is_flow name || (is_hidden name || (is_tabular name || is_silent name))))))))) ≡ true
+    || (is_string name || (is_span name || (is_in_media name || (is_autolink name
+    || (is_flow name || (is_hidden name || (is_tabular name || is_silent name))))))))) ≡ true
 covered LineEnding = refl
 covered _ = refl
 
 -- blocks
-pub block-node : (s : Setting) (t : At) (name : Name) → t.around.is_escaping ≡ true → is_transparent name ≡ false →
-    (is_part name || is_source name) ≡ false → IsFitAt s t name → (is_call name ≡ true → PassesIds s.p.test) →
+pub block-node : (s : Setting) (t : At) (name : Name) → t.around.is_escaping ≡ true →
+    is_transparent name ≡ false →
+    (is_part name || is_source name) ≡ false → IsFitAt s t name →
+    (is_call name ≡ true → PassesIds s.p.test) →
     (is_underline name ≡ true → Reads s t.before.heading) → IsGoodTarget t.found.resource →
-    (inner : List Piece) → Inside s t Blocks name inner → Prints s (Reads s) (prints s.given t name inner)
+    (inner : List Piece) → Inside s t Blocks name inner →
+    Prints s (Reads s) (prints s.given t name inner)
 block-node s t name e solid whole fit ids head good inner a =
     elim (or_cases (is_transparent name) _ (covered name)) [
       | inl is ↦ lie (sym solid ∙ is)
       | inr c ↦ elim (or_cases (is_part name || is_source name) _ c) [
         | inl is ↦ lie (sym whole ∙ is)
         | inr c ↦ elim (or_cases (is_string name) _ c) [
-          | inl is ↦ string-node s t Blocks name (narrow-wide s.p t.around.is_escaping t.around.in_image (Reads s) e
-              (wide-reading s.p t.around.in_image)) is fit inner a
+          | inl is ↦ string-node s t Blocks name (narrow-wide s.p t.around.is_escaping
+              t.around.in_image (Reads s) e (wide-reading s.p t.around.in_image)) is fit inner a
           | inr c ↦ elim (or_cases (is_span name) _ c) [
-            | inl is ↦ span-node s t Blocks name e (wide-reading s.p t.around.in_image) is (λ call _. ids call) good
-                inner a
+            | inl is ↦ span-node s t Blocks name e (wide-reading s.p t.around.in_image) is
+                (λ call _. ids call) good inner a
             | inr c ↦ elim (or_cases (is_in_media name) _ c) [
               | inl is ↦ media-node s t Blocks name (wide-reading s.p t.around.in_image) is inner a
               | inr c ↦ elim (or_cases (is_autolink name) _ c) [
-                | inl is ↦ autolink-node s t Blocks name (wide-reading s.p t.around.in_image) is inner
+                | inl is ↦
+                    autolink-node s t Blocks name (wide-reading s.p t.around.in_image) is inner
                 | inr c ↦ elim (or_cases (is_flow name) _ c) [
                   | inl is ↦ flow-node s t name e is fit head inner a
                   | inr c ↦ elim (or_cases (is_hidden name) _ c) [

@@ -1,5 +1,5 @@
--- What is claimed of a text: that it has a reading, and more. The lemmas on nodes take the claim as a parameter, and
--- serve both theorems.
+-- What is claimed of a text: that it has a reading, and more. The lemmas on nodes take the claim as
+-- a parameter, and serve both theorems.
 use Rattle.std.specs.List.{list_all}
 use Rattle.std.proofs.Common.{◌≡◌, ℕ, Bool, true, List, [], ◌∷◌, ◌++◌, codes}
 use Rattle.md_text.specs.Laws.{is_line_ends}
@@ -16,7 +16,8 @@ pub record Claim : Type 1 where
   pub after : (x y : List ℕ) → holds x → HasReadingWith test y → holds (x ++ y)
   pub within : (name : List ℕ) (attributes : List Attribute) (inside : List ℕ) →
       is_tag elements name attributes ≡ true → list_all test attributes ≡ true → holds inside
-      → holds (60 ∷ (name ++ (written_attributes attributes ++ (62 ∷ (inside ++ (60 ∷ 47 ∷ (name ++ (62 ∷ []))))))))
+      → holds (60 ∷ (name
+      ++ (written_attributes attributes ++ (62 ∷ (inside ++ (60 ∷ 47 ∷ (name ++ (62 ∷ []))))))))
   pub takes : (before endings inserted : List ℕ) → is_line_ends endings ≡ true →
       holds (before ++ codes "</p>" ++ endings) → HasReadingWith test inserted
       → holds (before ++ inserted ++ codes "</p>" ++ endings)

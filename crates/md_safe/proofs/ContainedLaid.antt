@@ -1,5 +1,7 @@
--- What pieces add to a text stands as some content: white space, and tags with white space around them.
-use Rattle.std.proofs.Common.{◌≡◌, ℕ, Bool, true, false, cond, List, [], ◌∷◌, ◌++◌, refl, sym, ap, ◌∙◌, subst, append_assoc, append-nil}
+-- What pieces add to a text stands as some content: white space, and tags with white
+-- space around them.
+use Rattle.std.proofs.Common.{◌≡◌, ℕ, Bool, true, false, cond, List, [], ◌∷◌, ◌++◌, refl, sym, ap}
+use Rattle.std.proofs.Common.{◌∙◌, subst, append_assoc, append-nil}
 use Rattle.std.specs.List.{list_all}
 use Rattle.std.proofs.lemmas.Bool.{and_from}
 use Rattle.std.proofs.lemmas.List.Folds.{list_all-append}
@@ -7,7 +9,8 @@ use Rattle.md_text.proofs.EscapedLemmas.{escaped-append}
 use Rattle.md_meaning.specs.Meaning.Layout.{Piece, Text, Needed, Forced, begins_line, when}
 use Rattle.md_safe.proofs.Laid.{Grows, Adds, adds-append, adds-text, adds-weaker, adds-nothing}
 use Rattle.md_safe.specs.Contents.{Content, Flow, Phrasing, is_space}
-use Rattle.md_safe.proofs.Stands.{Stands, stands-join, stands-nothing, stands-wider, stands-white, IsWhite, is_spaced, Turns}
+use Rattle.md_safe.proofs.Stands.{Stands, stands-join, stands-nothing, stands-wider, stands-white}
+use Rattle.md_safe.proofs.Stands.{IsWhite, is_spaced, Turns}
 
 -- what pieces add stands as this content
 abbrev pub Lays : (nested : Bool) → List ℕ → Content → List Piece → Type 0
@@ -35,12 +38,14 @@ white-needed ending h text = by (begins_line text)
     by true = record { added = []; grown = sym (append-nil text); it_holds = white-nothing }
     by false = record { added = ending; grown = refl; it_holds = h }
 
-pub white-when : (ending : List ℕ) (holds : Bool) (pieces : List Piece) → Adds ending IsWhite pieces →
+pub white-when : (ending : List ℕ) (holds : Bool) (pieces : List Piece) →
+    Adds ending IsWhite pieces →
     Adds ending IsWhite (when holds pieces)
 white-when ending true pieces a = a
 white-when ending false pieces a = white-nil ending
 
-pub white-both : (ending : List ℕ) (xs ys : List Piece) → Adds ending IsWhite xs → Adds ending IsWhite ys →
+pub white-both : (ending : List ℕ) (xs ys : List Piece) → Adds ending IsWhite xs →
+    Adds ending IsWhite ys →
     Adds ending IsWhite (xs ++ ys)
 white-both ending xs ys a b = adds-append ending IsWhite IsWhite IsWhite xs ys white-append a b
 
@@ -48,10 +53,13 @@ pub lays-white : (nested : Bool) (ending : List ℕ) (content : Content) (pieces
     is_spaced content ≡ true →
     Adds ending IsWhite pieces → Lays nested ending content pieces
 lays-white nested ending content pieces is a =
-    adds-weaker ending IsWhite (Stands nested content) pieces (λ x h. stands-white nested content x is h) a
+    adds-weaker ending IsWhite (Stands nested content) pieces
+    (λ x h. stands-white nested content x is h) a
 
-pub lays-nothing : (nested : Bool) (ending : List ℕ) (content : Content) → Lays nested ending content []
-lays-nothing nested ending content = adds-nothing ending (Stands nested content) (stands-nothing nested content)
+pub lays-nothing : (nested : Bool) (ending : List ℕ) (content : Content) →
+    Lays nested ending content []
+lays-nothing nested ending content =
+    adds-nothing ending (Stands nested content) (stands-nothing nested content)
 
 pub lays-both : (nested : Bool) (ending : List ℕ) (content : Content) (xs ys : List Piece) →
     Lays nested ending content xs →
@@ -60,10 +68,11 @@ lays-both nested ending content xs ys a b =
     adds-append ending (Stands nested content) (Stands nested content) (Stands nested content) xs ys
     (stands-join nested content) a b
 
-pub lays-wider : (nested : Bool) (ending : List ℕ) (pieces : List Piece) → Lays nested ending Phrasing pieces →
+pub lays-wider : (nested : Bool) (ending : List ℕ) (pieces : List Piece) →
+    Lays nested ending Phrasing pieces →
     Lays nested ending Flow pieces
-lays-wider nested ending pieces a = adds-weaker ending (Stands nested Phrasing) (Stands nested Flow) pieces
-    (stands-wider nested) a
+lays-wider nested ending pieces a =
+    adds-weaker ending (Stands nested Phrasing) (Stands nested Flow) pieces (stands-wider nested) a
 
 -- a text between white space
 pub record IsSpaced (c x : List ℕ) : Type 0 where
@@ -75,9 +84,11 @@ pub record IsSpaced (c x : List ℕ) : Type 0 where
 
 -- pieces that add white space, a text, and pieces that add white space
 pub spaced : (ending c : List ℕ) (xs ys zs : List Piece) → Adds ending IsWhite xs →
-    Adds ending (λ y. y ≡ c) ys → Adds ending IsWhite zs → Adds ending (IsSpaced c) (xs ++ (ys ++ zs))
+    Adds ending (λ y. y ≡ c) ys → Adds ending IsWhite zs →
+    Adds ending (IsSpaced c) (xs ++ (ys ++ zs))
 spaced ending c xs ys zs a t b =
-    adds-append ending IsWhite (λ w. (z : List ℕ) × (w ≡ c ++ z) × IsWhite z) (IsSpaced c) xs (ys ++ zs)
+    adds-append ending IsWhite (λ w. (z : List ℕ) × (w ≡ c ++ z) × IsWhite z)
+    (IsSpaced c) xs (ys ++ zs)
     (λ x w f g. record {
       before = x;
       after = g.0;
@@ -91,7 +102,8 @@ spaced ending c xs ys zs a t b =
 
 pub spaced-text : (ending c : List ℕ) → Adds ending (IsSpaced c) (Text c ∷ [])
 spaced-text ending c =
-    spaced ending c [] (Text c ∷ []) [] (white-nil ending) (adds-text ending (λ x. x ≡ c) c refl) (white-nil ending)
+    spaced ending c [] (Text c ∷ []) [] (white-nil ending)
+    (adds-text ending (λ x. x ≡ c) c refl) (white-nil ending)
 
 -- after pieces that add white space
 pub spaced-after : (ending c : List ℕ) (xs : List Piece) → Adds ending IsWhite xs →
@@ -99,10 +111,12 @@ pub spaced-after : (ending c : List ℕ) (xs : List Piece) → Adds ending IsWhi
 spaced-after ending c xs a =
     spaced ending c xs (Text c ∷ []) [] a (adds-text ending (λ x. x ≡ c) c refl) (white-nil ending)
 
-pub spaced-needed : (ending c : List ℕ) → IsWhite ending → Adds ending (IsSpaced c) (Needed ∷ Text c ∷ [])
+pub spaced-needed : (ending c : List ℕ) → IsWhite ending →
+    Adds ending (IsSpaced c) (Needed ∷ Text c ∷ [])
 spaced-needed ending c h = spaced-after ending c (Needed ∷ []) (white-needed ending h)
 
-pub spaced-forced : (ending c : List ℕ) → IsWhite ending → Adds ending (IsSpaced c) (Forced ∷ Text c ∷ [])
+pub spaced-forced : (ending c : List ℕ) → IsWhite ending →
+    Adds ending (IsSpaced c) (Forced ∷ Text c ∷ [])
 spaced-forced ending c h = spaced-after ending c (Forced ∷ []) (white-forced ending h)
 
 regrouped : (e o f y g c h : List ℕ) → e ++ ((o ++ (((f ++ y) ++ g) ++ c)) ++ h) ≡ (e ++ (o ++ f))
@@ -118,21 +132,27 @@ enclosed nested held content o c x y z hs cs turn a r b =
     stands-join nested held (a.after ++ y) b.before (stands-join nested held a.after y
     (stands-white nested held a.after hs a.white_after) r)
     (stands-white nested held b.before hs b.white_before) in
-    let all : Stands nested content (a.before ++ ((o ++ (((a.after ++ y) ++ b.before) ++ c)) ++ b.after)) =
+    let all :
+    Stands nested content (a.before ++ ((o ++ (((a.after ++ y) ++ b.before) ++ c)) ++ b.after)) =
     stands-join nested content a.before ((o ++ (((a.after ++ y) ++ b.before) ++ c)) ++ b.after)
-    (stands-white nested content a.before cs a.white_before)
-    (stands-join nested content (o ++ (((a.after ++ y) ++ b.before) ++ c)) b.after (turn ((a.after ++ y)
+    (stands-white nested content a.before cs a.white_before) (stands-join nested content
+    (o ++ (((a.after ++ y) ++ b.before) ++ c)) b.after (turn ((a.after ++ y)
     ++ b.before) inside)
     (stands-white nested content b.after cs b.white_after)) in
-    let parts : Stands nested content ((a.before ++ (o ++ a.after)) ++ (y ++ (b.before ++ (c ++ b.after)))) =
+    let parts :
+    Stands nested content ((a.before ++ (o ++ a.after)) ++ (y ++ (b.before ++ (c ++ b.after)))) =
     subst (Stands nested content) (regrouped a.before o a.after y b.before c b.after) all in
     subst (λ x. Stands nested content (x ++ (y ++ z))) (sym a.whole)
-    (subst (λ z. Stands nested content ((a.before ++ (o ++ a.after)) ++ (y ++ z))) (sym b.whole) parts)
+    (subst (λ z. Stands nested content ((a.before ++ (o ++ a.after)) ++ (y ++ z)))
+    (sym b.whole) parts)
 
 -- pieces between those of two texts
-pub lays-turned : (nested : Bool) (ending : List ℕ) (held content : Content) (o c : List ℕ) (xs ys zs : List Piece) →
-    is_spaced held ≡ true → is_spaced content ≡ true → Turns nested held content o c → Adds ending (IsSpaced o) xs →
-    Lays nested ending held ys → Adds ending (IsSpaced c) zs → Lays nested ending content (xs ++ (ys ++ zs))
+pub lays-turned : (nested : Bool) (ending : List ℕ) (held content : Content) (o c : List ℕ)
+    (xs ys zs : List Piece) →
+    is_spaced held ≡ true → is_spaced content ≡ true → Turns nested held content o c →
+    Adds ending (IsSpaced o) xs →
+    Lays nested ending held ys → Adds ending (IsSpaced c) zs →
+    Lays nested ending content (xs ++ (ys ++ zs))
 lays-turned nested ending held content o c xs ys zs hs cs turn a r b =
     adds-append ending (IsSpaced o) (λ w. (y : List ℕ) × (z : List ℕ) × (w ≡ y
     ++ z) × Stands nested held y × IsSpaced c z)

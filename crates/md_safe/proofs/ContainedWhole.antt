@@ -4,7 +4,8 @@ use Rattle.std.specs.Prelude.{Option, Some, None}
 use Rattle.md_base.specs.declared.event.Position.{Position}
 use Rattle.md_base.specs.Tree.{Forest}
 use Rattle.md_text.specs.declared.line_ending.LineEnding.{LineEnding as Ending}
-use Rattle.md_text.specs.declared.line_ending.LineEnding.TheVariants.{CarriageReturnLineFeed, CarriageReturn, LineFeed}
+use Rattle.md_text.specs.declared.line_ending.LineEnding.TheVariants.{CarriageReturnLineFeed}
+use Rattle.md_text.specs.declared.line_ending.LineEnding.TheVariants.{CarriageReturn, LineFeed}
 use Rattle.md_text.specs.LineEnding.{ending_text}
 use Rattle.md_text.specs.Html.{any_attribute}
 use Rattle.md_text.specs.declared.options.CompileOptions.{CompileOptions}
@@ -38,14 +39,15 @@ default-white CarriageReturn = (refl, refl)
 default-white LineFeed = (refl, refl)
 
 -- the line ending that is used is white space
-ending-white : (options : CompileOptions) (bytes : List ℕ) (place : Option Position) → IsEnding bytes place →
+ending-white : (options : CompileOptions) (bytes : List ℕ) (place : Option Position) →
+    IsEnding bytes place →
     IsWhite (ending_at options bytes place)
 ending-white options bytes None h = default-white _
 ending-white options bytes (Some place) h = line_ends-white (text_in bytes place) h
 
 -- a document that is built and placed as the grammar says
-pub meaning-stands : (nested : Bool) (bytes : List ℕ) (names : List (List ℕ × List ℕ)) (options : CompileOptions)
-    (document : Forest) →
+pub meaning-stands : (nested : Bool) (bytes : List ℕ) (names : List (List ℕ × List ℕ))
+    (options : CompileOptions) (document : Forest) →
     IsBuilt bytes Blocks document → IsPlaced Flow document → KeepsGrammar options →
     (nested ≡ false → has_nested_link false document ≡ false) → Stands nested Flow
     (meaning options names bytes document)
@@ -54,17 +56,27 @@ meaning-stands nested bytes names options document built placed keeps unnested =
     let ending : List ℕ = ending_at options bytes (first_ending document) in
     let white : IsWhite ending = ending-white options bytes (first_ending document)
     (first-is_ending bytes Blocks document built) in
-    let alone : Given =
-    record { bytes = bytes; names = names; options = options; ending = ending; calls = []; definitions = [] } in
-    let called : Given = record alone { calls = (outcome alone outermost nothing_before document).calls } in
+    let alone : Given = record {
+      bytes = bytes;
+      names = names;
+      options = options;
+      ending = ending;
+      calls = [];
+      definitions = [];
+    } in
+    let called : Given =
+    record alone { calls = (outcome alone outermost nothing_before document).calls } in
     let d : Document = record {
-      given = record called { definitions = (outcome called outermost nothing_before document).definitions };
+      given = record called {
+        definitions = (outcome called outermost nothing_before document).definitions;
+      };
       html = keeps.escapes_html;
       ending = known.0;
       titles = known.1;
     } in
     let all : Outcome = outcome d.given outermost nothing_before document in
-    let known : Means nested d Flow all = means nested d document outermost nothing_before Flow (record {
+    let known : Means nested d Flow all =
+    means nested d document outermost nothing_before Flow (record {
       white = white;
       built = built;
       placed = placed;
@@ -76,19 +88,24 @@ meaning-stands nested bytes names options document built placed keeps unnested =
     }) in
     adds-alone d.given.ending (Stands nested Flow) (all.pieces ++ section d.given all.footnotes)
     (lays-both nested d.given.ending Flow all.pieces (section d.given all.footnotes) known.prints
-    (section-prints nested d white keeps.usual_tag keeps.usual_attributes all.footnotes known.texts))
+    (section-prints nested d white keeps.usual_tag keeps.usual_attributes
+    all.footnotes known.texts))
 
-pub meaning-contained : (bytes : List ℕ) (names : List (List ℕ × List ℕ)) (options : CompileOptions) (document : Forest)
-    → IsGrammatical bytes names document → KeepsGrammar options → IsContained (meaning options names bytes document)
+pub meaning-contained :
+    (bytes : List ℕ) (names : List (List ℕ × List ℕ)) (options : CompileOptions) (document : Forest)
+    → IsGrammatical bytes names document → KeepsGrammar options →
+    IsContained (meaning options names bytes document)
 meaning-contained bytes names options document grammatical keeps =
-    contained-once true (meaning options names bytes document)
-    (meaning-stands true bytes names options document (grammatical-built bytes names document grammatical)
+    contained-once true (meaning options names bytes document) (meaning-stands true bytes names
+    options document (grammatical-built bytes names document grammatical)
     (shaped-placed document grammatical.shape) keeps (λ no. lie (sym no)))
 
-pub meaning-unnested : (bytes : List ℕ) (names : List (List ℕ × List ℕ)) (options : CompileOptions) (document : Forest)
-    → IsGrammatical bytes names document → KeepsGrammar options → has_nested_link false document ≡ false →
+pub meaning-unnested :
+    (bytes : List ℕ) (names : List (List ℕ × List ℕ)) (options : CompileOptions) (document : Forest)
+    → IsGrammatical bytes names document → KeepsGrammar options →
+    has_nested_link false document ≡ false →
     IsUnnested (meaning options names bytes document)
 meaning-unnested bytes names options document grammatical keeps unnested =
-    contained-once false (meaning options names bytes document)
-    (meaning-stands false bytes names options document (grammatical-built bytes names document grammatical)
+    contained-once false (meaning options names bytes document) (meaning-stands false bytes names
+    options document (grammatical-built bytes names document grammatical)
     (shaped-placed document grammatical.shape) keeps (λ _. unnested))

@@ -1,5 +1,7 @@
 -- How often an id stands in the section of footnotes, and in a document: at most once.
-use Rattle.std.proofs.Common.{◌≡◌, ℕ, ◌+◌, ◌≤◌, ◌<◌, ◌^◌, Bool, true, false, not, ◌==◌, cond, List, [], ◌∷◌, ◌++◌, length, refl, sym, ap, ◌∙◌, subst, arith, append_assoc, codes, bytes_eq}
+use Rattle.std.proofs.Common.{◌≡◌, ℕ, ◌+◌, ◌≤◌, ◌<◌, ◌^◌, Bool, true, false, not, ◌==◌, cond, List}
+use Rattle.std.proofs.Common.{[], ◌∷◌, ◌++◌, length, refl, sym, ap, ◌∙◌, subst, arith, append_assoc}
+use Rattle.std.proofs.Common.{codes, bytes_eq}
 use Rattle.std.specs.Prelude.{Some, find}
 use Rattle.std.specs.Option.{option_map_or}
 use Rattle.std.proofs.lemmas.Bool.{or_parts, cond_both}
@@ -8,12 +10,14 @@ use Rattle.md_text.proofs.HtmlJoin.{join}
 use Rattle.md_base.specs.Tree.{Forest}
 use Rattle.md_text.specs.References.{read_back}
 use Rattle.md_text.specs.Html.{opening_tag, closing_tag}
-use Rattle.md_text.proofs.HtmlIds.{occurs, occurs-append, Counts, counts-more, counts-join, counts-enclosed}
+use Rattle.md_text.proofs.HtmlIds.{occurs, occurs-append, Counts, counts-more, counts-join}
+use Rattle.md_text.proofs.HtmlIds.{counts-enclosed}
 use Rattle.std.specs.List.{flat_map}
 use Rattle.md_meaning.specs.Meaning.Around.{outermost}
 use Rattle.md_meaning.specs.Meaning.At.{Footnote}
 use Rattle.md_meaning.specs.Meaning.Before.{nothing_before}
-use Rattle.md_meaning.specs.Meaning.Footnotes.{id_of, distinct, place_among, item, section_start, section}
+use Rattle.md_meaning.specs.Meaning.Footnotes.{id_of, distinct, place_among, item, section_start}
+use Rattle.md_meaning.specs.Meaning.Footnotes.{section}
 use Rattle.md_meaning.specs.Meaning.Layout.{Piece, layout}
 use Rattle.md_meaning.specs.Meaning.Nodes.{Outcome, outcome}
 use Rattle.md_shape.specs.Built.{Blocks, IsBuilt}
@@ -26,7 +30,8 @@ use Rattle.md_safe.proofs.Laid.{adds-append, adds-nothing, adds-alone}
 use Rattle.md_safe.proofs.Tags.{Turns, bracket-tag, attribute}
 use Rattle.md_safe.proofs.Media.{label-escaped, id-escaped}
 use Rattle.md_safe.proofs.Spot.{Setting, Prints}
-use Rattle.md_safe.proofs.Section.{turn-after, li_id, item-prints, section-around, section_end, text_among, heading_label_of}
+use Rattle.md_safe.proofs.Section.{turn-after, li_id, item-prints, section-around, section_end}
+use Rattle.md_safe.proofs.Section.{text_among, heading_label_of}
 use Rattle.md_safe.proofs.Counted.{counting, counts-heading, TextsCount}
 use Rattle.md_safe.proofs.BlockNodes.{holds-none}
 use Rattle.md_safe.proofs.CountedForest.{Document, counted_in, read_in, counts-none, Costs, spent}
@@ -36,12 +41,15 @@ use Rattle.md_safe.proofs.Distinct.{ids_after, note_ids, label_id, document-once
 abbrev TextsFor : List ℕ → ℕ → List Footnote → List (List ℕ) → Type 0
 TextsFor w n footnotes [] = Unit {0}
 TextsFor w n footnotes (identifier ∷ others) =
-    (m : ℕ) × (k : ℕ) × (m + k ≤ n) × Counts w m (text_among footnotes identifier) × TextsFor w k footnotes others
+    (m : ℕ) × (k : ℕ) × (m + k ≤ n) × Counts w m (text_among footnotes identifier)
+    × TextsFor w k footnotes others
 
-for-more : (w : List ℕ) (n m : ℕ) (footnotes : List Footnote) (identifiers : List (List ℕ)) → n ≤ m →
+for-more : (w : List ℕ) (n m : ℕ) (footnotes : List Footnote) (identifiers : List (List ℕ)) →
+    n ≤ m →
     TextsFor w n footnotes identifiers → TextsFor w m footnotes identifiers
 for-more w n m footnotes [] more h = tt
-for-more w n m footnotes (identifier ∷ others) more h = (h.0, h.1, omega (h.2, more, arith), h.3, h.4)
+for-more w n m footnotes (identifier ∷ others) more h =
+    (h.0, h.1, omega (h.2, more, arith), h.3, h.4)
 
 -- where there are none
 for-none : (w : List ℕ) (identifiers : List (List ℕ)) → TextsFor w 0 [] identifiers
@@ -49,12 +57,14 @@ for-none w [] = tt
 for-none w (identifier ∷ others) = (0, 0, omega arith, counts-none w, for-none w others)
 
 -- one footnote more that no identifier is for
-for-others : (w : List ℕ) (n : ℕ) (footnote : Footnote) (footnotes : List Footnote) (identifiers : List (List ℕ)) →
+for-others : (w : List ℕ) (n : ℕ) (footnote : Footnote) (footnotes : List Footnote)
+    (identifiers : List (List ℕ)) →
     is_in footnote.identifier identifiers ≡ false → TextsFor w n footnotes identifiers →
     TextsFor w n (footnote ∷ footnotes) identifiers
 for-others w n footnote footnotes [] none h = tt
 for-others w n footnote footnotes (identifier ∷ others) none h =
-    let parts = or_parts (bytes_eq identifier footnote.identifier) (is_in footnote.identifier others) none in (
+    let parts =
+    or_parts (bytes_eq identifier footnote.identifier) (is_in footnote.identifier others) none in (
       h.0,
       h.1,
       h.2,
@@ -72,7 +82,8 @@ Wanted w m k footnote footnotes identifier others is = (i : ℕ) × (j : ℕ) ×
     × TextsFor w j (footnote ∷ footnotes) others
 
 -- one footnote more
-for-one : (w : List ℕ) (m k : ℕ) (footnote : Footnote) (footnotes : List Footnote) (identifiers : List (List ℕ)) →
+for-one : (w : List ℕ) (m k : ℕ) (footnote : Footnote) (footnotes : List Footnote)
+    (identifiers : List (List ℕ)) →
     Apart identifiers → Counts w m footnote.text → TextsFor w k footnotes identifiers →
     TextsFor w (m + k) (footnote ∷ footnotes) identifiers
 for-one w m k footnote footnotes [] apart own h = tt
@@ -89,16 +100,19 @@ for-one w m k footnote footnotes (identifier ∷ others) apart own h =
       omega (h.2, arith),
       own,
       for-others w h.1 footnote footnotes others
-          (subst (λ x. is_in x others ≡ false) (sym (same footnote.identifier identifier e)) apart.0) h.4,
+          (subst (λ x. is_in x others ≡ false)
+          (sym (same footnote.identifier identifier e)) apart.0) h.4,
     )
     by false e later = (h.0, m + h.1, omega (h.2, arith), h.3, later)
 
-texts-for : (w : List ℕ) (n : ℕ) (footnotes : List Footnote) (identifiers : List (List ℕ)) → Apart identifiers →
+texts-for : (w : List ℕ) (n : ℕ) (footnotes : List Footnote) (identifiers : List (List ℕ)) →
+    Apart identifiers →
     TextsCount w n footnotes → TextsFor w n footnotes identifiers
-texts-for w n [] identifiers apart h = for-more w 0 n [] identifiers (omega arith) (for-none w identifiers)
+texts-for w n [] identifiers apart h =
+    for-more w 0 n [] identifiers (omega arith) (for-none w identifiers)
 texts-for w n (footnote ∷ footnotes) identifiers apart h =
-    for-more w (h.0 + h.1) n (footnote ∷ footnotes) identifiers h.2
-    (for-one w h.0 h.1 footnote footnotes identifiers apart h.3 (texts-for w h.1 footnotes identifiers apart h.4))
+    for-more w (h.0 + h.1) n (footnote ∷ footnotes) identifiers h.2 (for-one w h.0 h.1 footnote
+    footnotes identifiers apart h.3 (texts-for w h.1 footnotes identifiers apart h.4))
 
 -- an item's tags around a text
 item-turn : (d : Document) (w : List ℕ) (n : ℕ) (v : List ℕ) → Escaped v →
@@ -109,19 +123,24 @@ item-turn d w n v h x held =
     subst (λ o. Counts w (hit + n) (o ++ (x ++ codes "</li>")))
     (ap (λ y. codes "<li id=\"" ++ y) (append_assoc v (34 ∷ []) (62 ∷ [])))
     (subst (Counts w (hit + n))
-    (append_assoc (opening_tag (codes "li") (attribute (codes "id") v ∷ [])) x (closing_tag (codes "li")))
-    (counts-enclosed w n hit (codes "li") (attribute (codes "id") v ∷ []) x (li_id v h) (omega arith) held))
+    (append_assoc (opening_tag (codes "li") (attribute (codes "id") v ∷ []))
+    x (closing_tag (codes "li"))) (counts-enclosed w n hit (codes "li")
+    (attribute (codes "id") v ∷ []) x (li_id v h) (omega arith) held))
 
-occurs-first : (w x : List ℕ) (xs : List (List ℕ)) → occurs w (x ∷ xs) ≡ occurs w (x ∷ []) + occurs w xs
+occurs-first : (w x : List ℕ) (xs : List (List ℕ)) →
+    occurs w (x ∷ xs) ≡ occurs w (x ∷ []) + occurs w xs
 occurs-first w x xs = occurs-append w (x ∷ []) xs
 
 -- the items
-items-counted : (d : Document) (w : List ℕ) (footnotes : List Footnote) (n : ℕ) (identifiers : List (List ℕ)) →
+items-counted : (d : Document) (w : List ℕ) (footnotes : List Footnote) (n : ℕ)
+    (identifiers : List (List ℕ)) →
     TextsFor w n footnotes identifiers
-    → Prints (counted_in d w 0) (Counts w (occurs w (note_ids d.given.options d.given.calls identifiers) + n))
+    → Prints (counted_in d w 0)
+    (Counts w (occurs w (note_ids d.given.options d.given.calls identifiers) + n))
     (flat_map (item d.given footnotes) identifiers)
 items-counted d w footnotes n [] texts =
-    adds-nothing d.given.ending (Counts w (0 + n)) (counts-more w 0 (0 + n) [] (omega arith) (counts-none w))
+    adds-nothing d.given.ending (Counts w (0 + n))
+    (counts-more w 0 (0 + n) [] (omega arith) (counts-none w))
 items-counted d w footnotes n (identifier ∷ others) texts =
     let number : ℕ = place_among (distinct d.given.calls) identifier in
     let id : List ℕ = id_of d.given.options (codes "fn-") identifier number in
@@ -131,17 +150,23 @@ items-counted d w footnotes n (identifier ∷ others) texts =
     adds-append d.given.ending (Counts w (hit + texts.0)) (Counts w (later + texts.1))
     (Counts w total) (item d.given footnotes identifier) (flat_map (item d.given footnotes) others)
     (λ x y a b. counts-more w ((hit + texts.0) + (later + texts.1)) total (x ++ y)
-    (omega (occurs-first w (read_back id) (note_ids d.given.options d.given.calls others), texts.2, arith))
+    (omega (
+      occurs-first w (read_back id) (note_ids d.given.options d.given.calls others),
+      texts.2,
+      arith,
+    ))
     (counts-join w (hit + texts.0) (later + texts.1) x y a b))
     (item-prints (counted_in d w texts.0) (counted_in d w (hit + texts.0)).p footnotes identifier
-    (item-turn d w texts.0 id (id-escaped d.given.options (codes "fn-") identifier number refl)) texts.3)
+    (item-turn d w texts.0 id (id-escaped d.given.options (codes "fn-") identifier number refl))
+    texts.3)
     (items-counted d w footnotes texts.1 others texts.4)
 
 -- the heading, and the tags of the section around its items
-section-counted : (d : Document) (w : List ℕ) → KeepsGrammar d.given.options → (footnotes : List Footnote) (n : ℕ) →
+section-counted : (d : Document) (w : List ℕ) → KeepsGrammar d.given.options →
+    (footnotes : List Footnote) (n : ℕ) →
     TextsFor w n footnotes (distinct d.given.calls)
-    → Prints (counted_in d w 0)
-    (Counts w (occurs w label_id + (occurs w (note_ids d.given.options d.given.calls (distinct d.given.calls)) + n)))
+    → Prints (counted_in d w 0) (Counts w (occurs w label_id
+    + (occurs w (note_ids d.given.options d.given.calls (distinct d.given.calls)) + n)))
     (section d.given footnotes)
 section-counted d w keeps footnotes n texts =
     let k : ℕ = occurs w (note_ids d.given.options d.given.calls (distinct d.given.calls)) + n in
@@ -149,11 +174,12 @@ section-counted d w keeps footnotes n texts =
     let q : Claim = (counted_in d w (occurs w label_id + k)).p in
     let label : List ℕ = heading_label_of d.given.options in
     let items : List Piece = flat_map (item d.given footnotes) (distinct d.given.calls) in
-    cond_both (not (length d.given.calls == 0)) (section_start d.given.options ++ (items ++ section_end)) []
+    cond_both (not (length d.given.calls == 0))
+    (section_start d.given.options ++ (items ++ section_end)) []
     (Prints (counted_in d w 0) (Counts w (occurs w label_id + k)))
     (λ _.
-    section-around s q
-    (turn-after s.p q (codes "<section data-footnotes=\"\" class=\"footnotes\">") (codes "</section>")
+    section-around s q (turn-after s.p q (codes "<section data-footnotes=\"\" class=\"footnotes\">")
+    (codes "</section>")
     (codes "<h2 id=\"footnote-label\" class=\"sr-only\">" ++ (label ++ codes "</h2>"))
     (bracket-tag q (codes "section") (attribute (codes "data-footnotes") []
     ∷ attribute (codes "class") (codes "footnotes") ∷ []) refl refl)
@@ -166,10 +192,12 @@ section-counted d w keeps footnotes n texts =
     (counts-more w 0 (occurs w label_id + k) [] (omega arith) (counts-none w)))
 
 -- an id stands in a document no more often than its heading, its footnotes and its calls have it
-pub document-counts : (d : Document) (w : List ℕ) (document : Forest) → KeepsGrammar d.given.options →
+pub document-counts : (d : Document) (w : List ℕ) (document : Forest) →
+    KeepsGrammar d.given.options →
     IsBuilt d.given.bytes Blocks document → IsUnderlined false document →
     (outcome d.given outermost nothing_before document).calls ≡ d.given.calls →
-    Counts w (occurs w label_id + occurs w (note_ids d.given.options d.given.calls (distinct d.given.calls))
+    Counts w
+    (occurs w label_id + occurs w (note_ids d.given.options d.given.calls (distinct d.given.calls))
     + occurs w (ids_after d.given.options d.given.calls [] d.given.calls))
     (layout d.given.ending ((outcome d.given outermost nothing_before document).pieces
     ++ section d.given (outcome d.given outermost nothing_before document).footnotes))
@@ -190,18 +218,25 @@ document-counts d w document keeps built underlined called =
     let noted : ℕ = occurs w (note_ids d.given.options d.given.calls (distinct d.given.calls)) in
     let rest : ℕ = occurs w label_id + (noted + b.notes) in
     let last : Prints (counted_in d w 0) (Counts w rest) (section d.given all.footnotes) =
-    section-counted d w keeps all.footnotes b.notes
-    (texts-for w b.notes all.footnotes (distinct d.given.calls) (distinct-apart d.given.calls) b.texts) in
+    section-counted d w keeps all.footnotes b.notes (texts-for w b.notes all.footnotes
+    (distinct d.given.calls) (distinct-apart d.given.calls) b.texts) in
     counts-more w (b.body + rest)
-    (occurs w label_id + noted + occurs w (ids_after d.given.options d.given.calls [] d.given.calls))
+    (occurs w label_id + noted
+    + occurs w (ids_after d.given.options d.given.calls [] d.given.calls))
     (layout d.given.ending (all.pieces ++ section d.given all.footnotes))
-    (omega (b.few, ap (λ calls. occurs w (ids_after d.given.options d.given.calls [] calls)) called, arith))
-    (adds-alone d.given.ending (Counts w (b.body + rest)) (all.pieces ++ section d.given all.footnotes)
-    (adds-append d.given.ending (Counts w b.body) (Counts w rest) (Counts w (b.body + rest)) all.pieces
-    (section d.given all.footnotes) (counts-join w b.body rest) b.prints last))
+    (omega (
+      b.few,
+      ap (λ calls. occurs w (ids_after d.given.options d.given.calls [] calls)) called,
+      arith,
+    ))
+    (adds-alone d.given.ending (Counts w (b.body + rest))
+    (all.pieces ++ section d.given all.footnotes)
+    (adds-append d.given.ending (Counts w b.body) (Counts w rest) (Counts w (b.body + rest))
+    all.pieces (section d.given all.footnotes) (counts-join w b.body rest) b.prints last))
 
 -- each id stands in a document once at most
-pub document-counted : (d : Document) (w : List ℕ) (document : Forest) → KeepsGrammar d.given.options →
+pub document-counted : (d : Document) (w : List ℕ) (document : Forest) →
+    KeepsGrammar d.given.options →
     d.given.options.gfm_footnote_number_ids ≡ true → IsBuilt d.given.bytes Blocks document →
     IsUnderlined false document → length d.given.calls + 2 < 2 ^ 64 →
     (outcome d.given outermost nothing_before document).calls ≡ d.given.calls

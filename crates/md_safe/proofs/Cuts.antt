@@ -1,6 +1,7 @@
 -- Single texts that end in the data state, and ones that don't.
 use Rattle.std.specs.Str.{bytes_eq}
-use Rattle.std.proofs.Common.{◌≡◌, ℕ, ◌==◌, Bool, true, false, ◌||◌, List, [], ◌∷◌, ◌++◌, refl, ap, ◌∙◌, codes}
+use Rattle.std.proofs.Common.{◌≡◌, ℕ, ◌==◌, Bool, true, false, ◌||◌, List, [], ◌∷◌, ◌++◌, refl, ap}
+use Rattle.std.proofs.Common.{◌∙◌, codes}
 use Rattle.std.specs.List.{list_any}
 use Rattle.md_safe.specs.Token.{Token, Character, StartTag, EndOfFile}
 use Rattle.md_safe.specs.Tokenizer.{Data, IsRun}
@@ -19,10 +20,12 @@ any-later p (a ∷ x) y h = by (p a) (list_any p (x ++ y)) (any-later p x y h)
     by false c e = e
 
 -- what is left would be emitted, and isn't
-lost : (p : Token → Bool) (input mid : List ℕ) (t u all : List Token) → IsRun Data mid u → IsRun Data input all →
+lost : (p : Token → Bool) (input mid : List ℕ) (t u all : List Token) → IsRun Data mid u →
+    IsRun Data input all →
     list_any p u ≡ true → list_any p all ≡ false → Leads Data input t mid → ⊥
 lost p input mid t u all k l has hasn't h =
-    by (list_any p all) (ap (list_any p) (one_run Data input all (t ++ u) l (runs-on Data input mid t u h k))
+    by (list_any p all)
+    (ap (list_any p) (one_run Data input all (t ++ u) l (runs-on Data input mid t u h k))
     ∙ any-later p t u has) hasn't
   where
     by : (b : Bool) → b ≡ true → b ≡ false → ⊥
@@ -37,31 +40,37 @@ is_start name token = elim token [ StartTag n attributes flag ↦ bytes_eq n nam
 pub reference : (emits : List Token) → EndsInDataState (codes "&") emits → ⊥
 reference emits h =
     lost (is_byte 97) (codes "&amp;") (codes "amp;") emits
-    (Character 97 ∷ Character 109 ∷ Character 112 ∷ Character 59 ∷ EndOfFile ∷ []) (Character 38 ∷ EndOfFile ∷ [])
-    record { steps = 9; emits = refl } record { steps = 9; emits = refl } refl refl (h (codes "amp;"))
+    (Character 97 ∷ Character 109 ∷ Character 112 ∷ Character 59 ∷ EndOfFile ∷ [])
+    (Character 38 ∷ EndOfFile ∷ []) record { steps = 9; emits = refl }
+    record { steps = 9; emits = refl } refl refl (h (codes "amp;"))
 
 pub tag : (emits : List Token) → EndsInDataState (codes "<div ") emits → ⊥
 tag emits h =
     lost (is_byte 62) (codes "<div >") (codes ">") emits (Character 62 ∷ EndOfFile ∷ [])
     (StartTag (codes "div") [] false ∷ EndOfFile ∷ [])
-    record { steps = 19; emits = refl } record { steps = 19; emits = refl } refl refl (h (codes ">"))
+    record { steps = 19; emits = refl } record { steps = 19; emits = refl } refl
+    refl (h (codes ">"))
 
 pub title : (emits : List Token) → EndsInDataState (codes "<title>") emits → ⊥
 title emits h =
     lost (is_start (codes "p")) (codes "<title><p>") (codes "<p>") emits
-    (StartTag (codes "p") [] false ∷ EndOfFile ∷ [])
-    (StartTag (codes "title") [] false ∷ Character 60 ∷ Character 112 ∷ Character 62 ∷ EndOfFile ∷ [])
-    record { steps = 19; emits = refl } record { steps = 19; emits = refl } refl refl (h (codes "<p>"))
+    (StartTag (codes "p") [] false ∷ EndOfFile ∷ []) (StartTag (codes "title") [] false
+    ∷ Character 60 ∷ Character 112 ∷ Character 62 ∷ EndOfFile ∷ [])
+    record { steps = 19; emits = refl } record { steps = 19; emits = refl } refl
+    refl (h (codes "<p>"))
 
 pub value : (emits : List Token) → EndsInDataState (codes "<div class=\"") emits → ⊥
 value emits h =
-    lost (is_byte 62) (codes "<div class=\"\">") (codes "\">") emits (Character 34 ∷ Character 62 ∷ EndOfFile ∷ [])
+    lost (is_byte 62) (codes "<div class=\"\">") (codes "\">") emits
+    (Character 34 ∷ Character 62 ∷ EndOfFile ∷ [])
     (StartTag (codes "div") (attribute (codes "class") [] ∷ []) false ∷ EndOfFile ∷ [])
-    record { steps = 29; emits = refl } record { steps = 29; emits = refl } refl refl (h (codes "\">"))
+    record { steps = 29; emits = refl } record { steps = 29; emits = refl } refl
+    refl (h (codes "\">"))
 
 pub two_feeds : Leads Data (10 ∷ []) (Character 10 ∷ []) (10 ∷ []) → ⊥
 two_feeds h =
-    by (one_run Data (10 ∷ []) (Character 10 ∷ EndOfFile ∷ []) (Character 10 ∷ Character 10 ∷ EndOfFile ∷ [])
+    by (one_run Data (10 ∷ []) (Character 10 ∷ EndOfFile ∷ [])
+    (Character 10 ∷ Character 10 ∷ EndOfFile ∷ [])
     record { steps = 9; emits = refl }
     (runs-on Data (10 ∷ []) (10 ∷ []) (Character 10 ∷ []) (Character 10 ∷ EndOfFile ∷ []) h
     record { steps = 9; emits = refl }))

@@ -1,11 +1,15 @@
--- What the nodes of a document mean: the induction over nodes of any content, for any claim that is kept where two
--- texts meet. It goes over all that an outcome has at once.
-use Rattle.std.proofs.Common.{◌≡◌, ℕ, Bool, true, false, ◌&&◌, ◌||◌, cond, List, [], ◌∷◌, ◌++◌, refl, sym, ap, subst, append_assoc}
+-- What the nodes of a document mean: the induction over nodes of any content, for any claim that is
+-- kept where two texts meet. It goes over all that an outcome has at once.
+use Rattle.std.proofs.Common.{◌≡◌, ℕ, Bool, true, false, ◌&&◌, ◌||◌, cond, List, [], ◌∷◌, ◌++◌}
+use Rattle.std.proofs.Common.{refl, sym, ap, subst, append_assoc}
 use Rattle.std.specs.Prelude.{Option, Some, None, unwrap_or}
 use Rattle.std.proofs.lemmas.Bool.{cond_both, or_left, or_right}
 use Rattle.md_base.proofs.Lies.{lie}
 use Rattle.md_base.specs.declared.event.Name.{Name}
-use Rattle.md_base.specs.declared.event.Name.TheVariants.{Other, BlockQuotePrefix, SpaceOrTab, HeadingSetextText, Definition, DefinitionDestinationString, DefinitionTitleString, GfmFootnoteDefinition, Resource, ResourceDestinationString, ResourceTitleString}
+use Rattle.md_base.specs.declared.event.Name.TheVariants as name_variants
+use name_variants.{Other, BlockQuotePrefix, SpaceOrTab, HeadingSetextText, Definition}
+use name_variants.{DefinitionDestinationString, DefinitionTitleString, GfmFootnoteDefinition}
+use name_variants.{Resource, ResourceDestinationString, ResourceTitleString}
 use Rattle.md_base.specs.Is.{is as named}
 use Rattle.md_base.specs.Tree.{Forest, Empty, Node}
 use Rattle.md_base.specs.NameTests.{is_transparent}
@@ -15,14 +19,18 @@ use Rattle.md_text.specs.declared.options.CompileOptions.{CompileOptions}
 use Rattle.md_tree.specs.Rules.{place}
 use Rattle.md_meaning.specs.declared.context.Surroundings.{Surroundings}
 use Rattle.md_meaning.specs.Meaning.Around.{inside}
-use Rattle.md_meaning.specs.Meaning.At.{Target, Defined, Footnote, Found, nothing_found, target_in, Before, At, identifier_of}
+use Rattle.md_meaning.specs.Meaning.At.{Target, Defined, Footnote, Found, nothing_found, target_in}
+use Rattle.md_meaning.specs.Meaning.At.{Before, At, identifier_of}
 use Rattle.md_meaning.specs.Meaning.Before.{before_children}
 use Rattle.md_meaning.specs.Meaning.Layout.{Piece, layout, when}
 use Rattle.md_meaning.specs.Meaning.Nodes.{Outcome, found_at, node, before_next, outcome}
-use Rattle.md_shape.specs.Built.{Content, Blocks, Sources, may_stand, content_of, content_inside, content_after_node, content_after, content_past, IsBuilt}
+use Rattle.md_shape.specs.Built.{Content, Blocks, Sources, may_stand, content_of, content_inside}
+use Rattle.md_shape.specs.Built.{content_after_node, content_after, content_past, IsBuilt}
 use Rattle.md_safe.proofs.Texts.{Escaped}
 use Rattle.md_safe.proofs.Media.{IsEscapedTitle}
-use Rattle.md_safe.proofs.Contents.{is_blocks, inside-blocks, asked-after-node, stays-after, Holds, Suits, Follows, second, suits-inside, suits-after-node, follows-inside, follows-after-node}
+use Rattle.md_safe.proofs.Contents.{is_blocks, inside-blocks, asked-after-node, stays-after, Holds}
+use Rattle.md_safe.proofs.Contents.{Suits, Follows, second, suits-inside, suits-after-node}
+use Rattle.md_safe.proofs.Contents.{follows-inside, follows-after-node}
 use Rattle.md_safe.proofs.Spot.{IsWhole, Setting, AreTitles, IsGoodTarget, IsFitAt, Prints, Inside}
 use Rattle.md_safe.proofs.SpanNodes.{text-holds}
 use Rattle.md_safe.proofs.BlockNodes.{Reads, holds-none}
@@ -30,9 +38,11 @@ use Rattle.md_safe.proofs.Nodes.{Knows, any-node, inside-alone}
 use Rattle.md_safe.proofs.Nodes.{Before as PrintsBefore}
 
 -- the surroundings of children suit them
-through-suits : (options : CompileOptions) (loose : Bool) (around : Surroundings) (content : Content) (name : Name) →
+through-suits : (options : CompileOptions) (loose : Bool) (around : Surroundings)
+    (content : Content) (name : Name) →
     is_transparent name ≡ true → Suits around.is_escaping around.in_image content
-    → Suits (inside options loose name around).is_escaping (inside options loose name around).in_image content
+    → Suits (inside options loose name around).is_escaping
+    (inside options loose name around).in_image content
 through-suits options loose around content (Other number) is h = h
 through-suits options loose around content BlockQuotePrefix is h = h
 through-suits options loose around content SpaceOrTab is h = h
@@ -40,14 +50,16 @@ through-suits options loose around content _ is h = lie is
 
 children-suit : (options : CompileOptions) → options.allow_dangerous_html ≡ false →
     (loose : Bool) (around : Surroundings) (content : Content) (name : Name) →
-    (is_transparent name || may_stand content name) ≡ true → Suits around.is_escaping around.in_image content
-    → Suits (inside options loose name around).is_escaping (inside options loose name around).in_image
+    (is_transparent name || may_stand content name) ≡ true →
+    Suits around.is_escaping around.in_image content
+    →
+    Suits (inside options loose name around).is_escaping (inside options loose name around).in_image
     (content_inside content name)
 children-suit options html loose around content name stands h = by (is_transparent name) refl
   where
     by : (through : Bool) → is_transparent name ≡ through →
-        Suits (inside options loose name around).is_escaping (inside options loose name around).in_image
-        (cond through content (content_of name content))
+        Suits (inside options loose name around).is_escaping
+        (inside options loose name around).in_image (cond through content (content_of name content))
     by true e = through-suits options loose around content name e h
     by false e = suits-inside options html loose around content name
         (second (is_transparent name) (may_stand content name) e stands) h
@@ -61,7 +73,8 @@ children-follow content name before children stands f = by (is_transparent name)
     by : (through : Bool) → is_transparent name ≡ through →
         Follows (cond through content (content_of name content)) (cond through before.spine [])
     by true e = f
-    by false e = follows-inside content name (second (is_transparent name) (may_stand content name) e stands)
+    by false e =
+        follows-inside content name (second (is_transparent name) (may_stand content name) e stands)
 
 -- blocks stay blocks
 blocks-past : (content : Content) (name : Name) → is_blocks content ≡ true →
@@ -69,21 +82,25 @@ blocks-past : (content : Content) (name : Name) → is_blocks content ≡ true �
 blocks-past Blocks name h = refl
 blocks-past _ name h = lie h
 
-blocks-after-node : (content : Content) (name : Name) (children : Forest) → is_blocks content ≡ true →
+blocks-after-node : (content : Content) (name : Name) (children : Forest) →
+    is_blocks content ≡ true →
     is_blocks (content_after_node content name children) ≡ true
 blocks-after-node content name children h =
     cond_both (is_transparent name) (content_after content children) (content_past content name)
-    (λ c. is_blocks c ≡ true) (λ _. stays-after (λ c. is_blocks c ≡ true) blocks-past content children h)
+    (λ c. is_blocks c ≡ true)
+    (λ _. stays-after (λ c. is_blocks c ≡ true) blocks-past content children h)
     (λ _. blocks-past content name h)
 
 -- what holds of a text among blocks is what is claimed
-blocks-read : (s : Setting) (escaping in_image : Bool) (content : Content) → is_blocks content ≡ true →
+blocks-read : (s : Setting) (escaping in_image : Bool) (content : Content) →
+    is_blocks content ≡ true →
     (x : List ℕ) → Holds s.p escaping in_image content x → Reads s x
 blocks-read s escaping in_image Blocks is x h = h
 blocks-read s escaping in_image _ is x h = lie is
 
 -- a footnote stands among blocks
-note-blocks : (content : Content) → may_stand content GfmFootnoteDefinition ≡ true → is_blocks content ≡ true
+note-blocks : (content : Content) → may_stand content GfmFootnoteDefinition ≡ true →
+    is_blocks content ≡ true
 note-blocks Blocks h = refl
 note-blocks _ h = lie h
 
@@ -114,14 +131,16 @@ titles-append : (xs ys : List Defined) → AreTitles xs → AreTitles ys → Are
 titles-append [] ys a b = b
 titles-append (x ∷ xs) ys a b = (a.0, titles-append xs ys a.1 b)
 
-read-append : (s : Setting) (xs ys : List Footnote) → AreRead s xs → AreRead s ys → AreRead s (xs ++ ys)
+read-append : (s : Setting) (xs ys : List Footnote) → AreRead s xs → AreRead s ys →
+    AreRead s (xs ++ ys)
 read-append s [] ys a b = b
 read-append s (x ∷ xs) ys a b = (a.0, read-append s xs ys a.1 b)
 
--- what nodes mean: they print what may stand where they are, before what is printed after them; what is found is good;
--- the titles of definitions are escaped, and the texts of footnotes are as claimed
-pub record Means (s : Setting) (around : Surroundings) (content : Content) (forest : Forest) (means : Outcome) :
-    Type 0 where
+-- what nodes mean: they print what may stand where they are, before what is printed after
+-- them; what is found is good; the titles of definitions are escaped, and the texts of
+-- footnotes are as claimed
+pub record Means (s : Setting) (around : Surroundings) (content : Content) (forest : Forest)
+    (means : Outcome) : Type 0 where
   pub prints : (later : List Piece) →
       Prints s (Holds s.p around.is_escaping around.in_image (content_after content forest)) later
       → Prints s (Holds s.p around.is_escaping around.in_image content) (means.pieces ++ later)
@@ -130,14 +149,16 @@ pub record Means (s : Setting) (around : Surroundings) (content : Content) (fore
   pub texts : AreRead s means.footnotes
 
 -- what is known where nodes stand
-pub record Ready (s : Setting) (around : Surroundings) (before : Before) (content : Content) : Type 0 where
+pub record Ready (s : Setting) (around : Surroundings) (before : Before)
+    (content : Content) : Type 0 where
   pub suits : Suits around.is_escaping around.in_image content
   pub follows : Follows content before.spine
   pub whole : is_blocks content ≡ true → IsWhole s.p
   pub heading : is_blocks content ≡ true → Reads s before.heading
 
 -- a node and its children: what may stand where, and what the children print
-record Inner (s : Setting) (t : At) (content : Content) (name : Name) (inner : List Piece) : Type 0 where
+record Inner (s : Setting) (t : At) (content : Content) (name : Name)
+    (inner : List Piece) : Type 0 where
   stands : (is_transparent name || may_stand content name) ≡ true
   fit : IsFitAt s t name
   suits : Suits t.around.is_escaping t.around.in_image content
@@ -150,33 +171,38 @@ nothing-found s content = record { heading = λ _. tt; title = tt; resource = tt
 
 -- what is found where a node stands
 found-node : (s : Setting) (t : At) (content : Content) (name : Name) (inner : List Piece) →
-    Inner s t content name inner → AreFound s content (found_at t name (layout s.given.ending inner))
+    Inner s t content name inner →
+    AreFound s content (found_at t name (layout s.given.ending inner))
 found-node s t content HeadingSetextText inner i = record {
-  heading = λ is. blocks-read s t.around.is_escaping t.around.in_image content is (layout s.given.ending inner)
+  heading = λ is.
+      blocks-read s t.around.is_escaping t.around.in_image content is (layout s.given.ending inner)
       (text-holds s (Holds s.p t.around.is_escaping t.around.in_image content) inner
       (inside-alone s t content HeadingSetextText i.stands i.fit i.built inner i.before));
   title = tt;
   resource = tt;
 }
-found-node s t content DefinitionDestinationString inner i = record { heading = λ _. tt; title = tt; resource = tt }
-found-node s t content ResourceDestinationString inner i = record { heading = λ _. tt; title = tt; resource = tt }
+found-node s t content DefinitionDestinationString inner i =
+    record { heading = λ _. tt; title = tt; resource = tt }
+found-node s t content ResourceDestinationString inner i =
+    record { heading = λ _. tt; title = tt; resource = tt }
 found-node s t content DefinitionTitleString inner i = record {
   heading = λ _. tt;
   title = text-holds s (λ x. t.around.is_escaping ≡ true → Escaped x) inner
       (inside-alone s t content DefinitionTitleString i.stands i.fit i.built inner i.before)
-      (suits-title t.around.is_escaping t.around.in_image content
-      (or_left (may_stand content DefinitionTitleString) (may_stand content ResourceTitleString) i.stands) i.suits);
+      (suits-title t.around.is_escaping t.around.in_image content (or_left (may_stand content
+      DefinitionTitleString) (may_stand content ResourceTitleString) i.stands) i.suits);
   resource = tt;
 }
 found-node s t content ResourceTitleString inner i = record {
   heading = λ _. tt;
   title = text-holds s (λ x. t.around.is_escaping ≡ true → Escaped x) inner
       (inside-alone s t content ResourceTitleString i.stands i.fit i.built inner i.before)
-      (suits-title t.around.is_escaping t.around.in_image content
-      (or_right (may_stand content DefinitionTitleString) (may_stand content ResourceTitleString) i.stands) i.suits);
+      (suits-title t.around.is_escaping t.around.in_image content (or_right (may_stand content
+      DefinitionTitleString) (may_stand content ResourceTitleString) i.stands) i.suits);
   resource = tt;
 }
-found-node s t content Resource inner i = record { heading = λ _. tt; title = tt; resource = i.found.title }
+found-node s t content Resource inner i =
+    record { heading = λ _. tt; title = tt; resource = i.found.title }
 found-node s t content (Other number) inner i = i.found
 found-node s t content BlockQuotePrefix inner i = i.found
 found-node s t content SpaceOrTab inner i = i.found
@@ -184,7 +210,8 @@ found-node s t content _ inner i = nothing-found s content
 
 -- the text of a footnote that is the node
 note-node : (s : Setting) (t : At) (content : Content) (name : Name) (inner : List Piece) →
-    Inner s t content name inner → named GfmFootnoteDefinition name ≡ true → Reads s (layout s.given.ending inner)
+    Inner s t content name inner → named GfmFootnoteDefinition name ≡ true →
+    Reads s (layout s.given.ending inner)
 note-node s t content GfmFootnoteDefinition inner i is =
     blocks-read s t.around.is_escaping t.around.in_image content (note-blocks content i.stands)
     (layout s.given.ending inner)
@@ -208,18 +235,21 @@ later-resource : (first later : Option Target) → IsGoodTarget first → IsGood
 later-resource first None f g = f
 later-resource first (Some x) f g = g
 
-heading-before : (s : Setting) (found : Option (List ℕ)) (before : List ℕ) → IsRead s found → Reads s before →
+heading-before : (s : Setting) (found : Option (List ℕ)) (before : List ℕ) →
+    IsRead s found → Reads s before →
     Reads s (unwrap_or found before)
 heading-before s None before f g = g
 heading-before s (Some x) before f g = f
 
 -- what is known where the children of a node stand
-pub ready-inside : (s : Setting) (around : Surroundings) (before : Before) (content : Content) (name : Name)
-    (children : Forest) → (is_transparent name || may_stand content name) ≡ true → Ready s around before content →
-    Ready s (inside s.given.options (is_loose children) name around) (before_children name children before)
-    (content_inside content name)
+pub ready-inside : (s : Setting) (around : Surroundings) (before : Before) (content : Content)
+    (name : Name) (children : Forest) → (is_transparent name || may_stand content name) ≡ true →
+    Ready s around before content →
+    Ready s (inside s.given.options (is_loose children) name around)
+    (before_children name children before) (content_inside content name)
 ready-inside s around before content name children stands r = record {
-  suits = children-suit s.given.options s.test.html (is_loose children) around content name stands r.suits;
+  suits = children-suit s.given.options s.test.html (is_loose children) around content
+      name stands r.suits;
   follows = children-follow content name before children stands r.follows;
   whole = λ h. r.whole (inside-blocks content name h);
   heading = λ h. cond_both (is_transparent name) before.heading [] (Reads s)
@@ -234,13 +264,15 @@ pub ready-after : (s : Setting) (t : At) (content : Content) (name : Name) (here
     (content_after_node content name t.children)
 ready-after s t content name here stands built own r = record {
   suits = suits-after-node t.around.is_escaping t.around.in_image content name t.children r.suits;
-  follows = follows-after-node s.given.bytes content name t.before.spine t.children stands built r.follows;
+  follows = follows-after-node s.given.bytes content name t.before.spine t.children
+      stands built r.follows;
   whole = asked-after-node (IsWhole s.p) content name t.children r.whole;
   heading = asked-after-node (Reads s (before_next t name here).heading) content name t.children
       (λ is. heading-before s here.found.heading t.before.heading (own.heading is) (r.heading is));
 }
 
-pub means : (s : Setting) (forest : Forest) (around : Surroundings) (before : Before) (content : Content) →
+pub means : (s : Setting) (forest : Forest) (around : Surroundings) (before : Before)
+    (content : Content) →
     IsBuilt s.given.bytes content forest → Ready s around before content →
     Means s around content forest (outcome s.given around before forest)
 means s Empty around before content built r = record {
@@ -306,37 +338,43 @@ means s (Node name start end children rest) around before content built r =
         heading = λ is. later-heading s here.found.heading others.found.heading (own.heading is)
             (after.found.heading (blocks-after-node content name children is));
         title = later-title here.found.title others.found.title own.title after.found.title;
-        resource = later-resource here.found.resource others.found.resource own.resource after.found.resource;
+        resource = later-resource here.found.resource others.found.resource own.resource
+            after.found.resource;
       };
       titles = titles-append here.definitions others.definitions
-          (titles-append inner.definitions (when (named Definition name) (defined ∷ [])) within.titles
-          (cond_both (named Definition name) (defined ∷ []) [] AreTitles (λ _. (within.found.title, tt)) (λ _. tt)))
-          after.titles;
+          (titles-append inner.definitions (when (named Definition name) (defined ∷ []))
+          within.titles (cond_both (named Definition name) (defined ∷ []) [] AreTitles
+          (λ _. (within.found.title, tt)) (λ _. tt))) after.titles;
       texts = read-append s here.footnotes others.footnotes
-          (read-append s inner.footnotes (when (named GfmFootnoteDefinition name) (noted ∷ [])) within.texts
-          (cond_both (named GfmFootnoteDefinition name) (noted ∷ []) [] (AreRead s)
+          (read-append s inner.footnotes (when (named GfmFootnoteDefinition name) (noted ∷ []))
+          within.texts (cond_both (named GfmFootnoteDefinition name) (noted ∷ []) [] (AreRead s)
           (λ is. (note-node s t content name inner.pieces i is, tt)) (λ _. tt)))
           after.texts;
     }
 
 -- what the children of a node that isn't transparent print
 pub inside-means : (s : Setting) (t : At) (content : Content) (name : Name) (inner : Outcome) →
-    is_transparent name ≡ false → (is_transparent name || may_stand content name) ≡ true → IsFitAt s t name →
+    is_transparent name ≡ false → (is_transparent name || may_stand content name) ≡ true →
+    IsFitAt s t name →
     IsBuilt s.given.bytes (content_inside content name) t.children →
-    Means s (inside s.given.options (is_loose t.children) name t.around) (content_inside content name) t.children inner
+    Means s (inside s.given.options (is_loose t.children) name t.around)
+    (content_inside content name) t.children inner
     → Inside s t content name inner.pieces
 inside-means s t content name inner solid stands fit built means =
     let same : content_inside content name ≡ content_of name content =
     ap (λ b. cond b content (content_of name content)) solid in
-    inside-alone s t content name (second (is_transparent name) (may_stand content name) solid stands) fit
+    inside-alone s t content name
+    (second (is_transparent name) (may_stand content name) solid stands) fit
     (subst (λ c. IsBuilt s.given.bytes c t.children) same built) inner.pieces
     (subst (λ c. PrintsBefore s t c name inner.pieces) same means.prints)
 
 -- what is found at a node whose children print and find what they may
 pub found-at : (s : Setting) (t : At) (content : Content) (name : Name) (inner : List Piece) →
     (is_transparent name || may_stand content name) ≡ true → IsFitAt s t name →
-    Suits t.around.is_escaping t.around.in_image content → IsBuilt s.given.bytes (content_inside content name) t.children
-    → PrintsBefore s t (content_inside content name) name inner → AreFound s (content_inside content name) t.found →
+    Suits t.around.is_escaping t.around.in_image content →
+    IsBuilt s.given.bytes (content_inside content name) t.children
+    → PrintsBefore s t (content_inside content name) name inner →
+    AreFound s (content_inside content name) t.found →
     AreFound s content (found_at t name (layout s.given.ending inner))
 found-at s t content name inner stands fit suits built before found =
     found-node s t content name inner (record {

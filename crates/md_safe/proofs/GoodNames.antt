@@ -1,6 +1,7 @@
 -- The names of the tables: the tokenizer takes each as it is, and none gives it another state.
 use Rattle.std.specs.Str.{bytes_eq}
-use Rattle.std.proofs.Common.{◌≡◌, ℕ, ◌==◌, Bool, true, false, not, ◌&&◌, List, [], ◌∷◌, refl, sym, subst, inl, inr, codes}
+use Rattle.std.proofs.Common.{◌≡◌, ℕ, ◌==◌, Bool, true, false, not, ◌&&◌, List, [], ◌∷◌, refl, sym}
+use Rattle.std.proofs.Common.{subst, inl, inr, codes}
 use Rattle.std.specs.List.{list_all, list_any}
 use Rattle.std.specs.Cmp.Lexicographic.{bytes_decides}
 use Rattle.std.proofs.lemmas.Bool.{and_parts, or_cases, or_parts, not-true, and_from}
@@ -22,7 +23,8 @@ begins_tag [] = false
 begins_tag (b ∷ rest) = not (b == 33) && (not (b == 47) && is_letter b)
 
 abbrev pub is_good_name : List ℕ → Bool
-is_good_name name = begins_tag name && (list_all is_good_byte name && not (is_one_of switching name))
+is_good_name name =
+    begins_tag name && (list_all is_good_byte name && not (is_one_of switching name))
 
 abbrev pub is_good_attribute_name : List ℕ → Bool
 is_good_attribute_name name = is_nonempty name && list_all is_good_byte name
@@ -38,13 +40,15 @@ rules_are_good [] = true
 rules_are_good (rule ∷ rules) =
     is_good_name rule.0 && (list_all is_good_attribute_name rule.1 && rules_are_good rules)
 
-listed-good : (listed : List (List ℕ)) (name : List ℕ) → list_all is_good_attribute_name listed ≡ true →
+listed-good : (listed : List (List ℕ)) (name : List ℕ) →
+    list_all is_good_attribute_name listed ≡ true →
     is_one_of listed name ≡ true → is_good_attribute_name name ≡ true
 listed-good [] name g e = cc
 listed-good (t ∷ ts) name g e =
     let parts = and_parts (is_good_attribute_name t) (list_all is_good_attribute_name ts) g in
     elim (or_cases (bytes_eq name t) (is_one_of ts name) e) [
-      | inl same ↦ subst (λ x. is_good_attribute_name x ≡ true) (sym ((bytes_decides name t).0 same)) parts.0
+      | inl same ↦
+          subst (λ x. is_good_attribute_name x ≡ true) (sym ((bytes_decides name t).0 same)) parts.0
       | inr later ↦ listed-good ts name parts.1 later
     ]
 
@@ -54,32 +58,39 @@ attributes-good : (listed : List (List ℕ)) (attributes : List Attribute) →
 attributes-good listed [] g e = refl
 attributes-good listed (a ∷ rest) g e =
     let alone = not (list_any (λ later. bytes_eq a.name later.name) rest) in
-    let p = and_parts (is_one_of listed a.name && is_escaped a.value && alone) (are_attributes listed rest) e in
+    let p = and_parts (is_one_of listed a.name && is_escaped a.value && alone)
+    (are_attributes listed rest) e in
     let q = and_parts (is_one_of listed a.name && is_escaped a.value) alone p.0 in
     let r = and_parts (is_one_of listed a.name) (is_escaped a.value) q.0 in
     and_from (is_good_attribute_name a.name) _ (listed-good listed a.name g r.0)
-    (and_from (is_escaped a.value) _ r.1 (and_from alone (are_good rest) q.1 (attributes-good listed rest g p.1)))
+    (and_from (is_escaped a.value) _ r.1
+    (and_from alone (are_good rest) q.1 (attributes-good listed rest g p.1)))
 
 tag-good : (rules : List (List ℕ × List (List ℕ))) (name : List ℕ) (attributes : List Attribute) →
     rules_are_good rules ≡ true → is_tag rules name attributes ≡ true →
     (is_good_name name ≡ true) × (are_good attributes ≡ true)
 tag-good [] name attributes g e = lie e
 tag-good (rule ∷ rules) name attributes g e =
-    let p = and_parts (is_good_name rule.0) (list_all is_good_attribute_name rule.1 && rules_are_good rules) g in
+    let p = and_parts (is_good_name rule.0)
+    (list_all is_good_attribute_name rule.1 && rules_are_good rules) g in
     let q = and_parts (list_all is_good_attribute_name rule.1) (rules_are_good rules) p.1 in
-    elim (or_cases (bytes_eq rule.0 name && are_attributes rule.1 attributes) (is_tag rules name attributes) e) [
-      | inl this ↦ (let r = and_parts (bytes_eq rule.0 name) (are_attributes rule.1 attributes) this in (
-        subst (λ x. is_good_name x ≡ true) ((bytes_decides rule.0 name).0 r.0) p.0,
-        attributes-good rule.1 attributes q.0 r.1,
-      ))
+    elim (or_cases (bytes_eq rule.0 name && are_attributes rule.1 attributes)
+    (is_tag rules name attributes) e) [
+      | inl this ↦
+          (let r = and_parts (bytes_eq rule.0 name) (are_attributes rule.1 attributes) this in (
+            subst (λ x. is_good_name x ≡ true) ((bytes_decides rule.0 name).0 r.0) p.0,
+            attributes-good rule.1 attributes q.0 r.1,
+          ))
       | inr later ↦ tag-good rules name attributes q.1 later
     ]
 
-pub element-good : (name : List ℕ) (attributes : List Attribute) → is_tag elements name attributes ≡ true →
+pub element-good : (name : List ℕ) (attributes : List Attribute) →
+    is_tag elements name attributes ≡ true →
     (is_good_name name ≡ true) × (are_good attributes ≡ true)
 element-good name attributes e = tag-good elements name attributes refl e
 
-pub void-good : (name : List ℕ) (attributes : List Attribute) → is_tag void_tags name attributes ≡ true →
+pub void-good : (name : List ℕ) (attributes : List Attribute) →
+    is_tag void_tags name attributes ≡ true →
     (is_good_name name ≡ true) × (are_good attributes ≡ true)
 void-good name attributes e = tag-good void_tags name attributes refl e
 
@@ -88,6 +99,8 @@ pub good-leaves : (name : List ℕ) → is_good_name name ≡ true → not (is_o
 good-leaves name g = (and_parts (list_all is_good_byte name) (not (is_one_of switching name))
     (and_parts (begins_tag name) _ g).1).1
 
-pub good-not_title : (name : List ℕ) → is_good_name name ≡ true → bytes_eq name (codes "title") ≡ false
+pub good-not_title : (name : List ℕ) → is_good_name name ≡ true →
+    bytes_eq name (codes "title") ≡ false
 good-not_title name g =
-    (or_parts (bytes_eq name (codes "title")) _ (not-true (is_one_of switching name) (good-leaves name g))).0
+    (or_parts (bytes_eq name (codes "title")) _
+    (not-true (is_one_of switching name) (good-leaves name g))).0

@@ -1,7 +1,9 @@
 -- Some steps, and then others.
-use Rattle.std.proofs.Common.{◌≡◌, ℕ, List, [], ◌++◌, refl, sym, ap, ◌∙◌, subst, append_assoc, Option, Some, None, option_map, zero, suc}
+use Rattle.std.proofs.Common.{◌≡◌, ℕ, List, [], ◌++◌, refl, sym, ap, ◌∙◌, subst, append_assoc}
+use Rattle.std.proofs.Common.{Option, Some, None, option_map, zero, suc}
 use Rattle.md_safe.specs.Token.{Token}
-use Rattle.md_safe.specs.Tokenizer.{State, Data, Step, Goes, Stops, Stuck, step, run, after_step, IsRun}
+use Rattle.md_safe.specs.Tokenizer.{State, Data, Step, Goes, Stops, Stuck, step, run, after_step}
+use Rattle.md_safe.specs.Tokenizer.{IsRun}
 use Rattle.md_safe.specs.Leads.{Leads, emitted_before, and_then, steps}
 
 from_state : (a b : State) (x y : List ℕ) (s t : List Token) → Goes s a x ≡ Goes t b y → a ≡ b
@@ -20,11 +22,13 @@ no_stuck : (t : List Token) (b : State) (y : List ℕ) → Stuck ≡ Goes t b y 
 no_stuck t b y e = cc
 
 -- what is left and what was emitted after a first step
-went : (out : List Token) (s : Step) (t : List Token) (mid : List ℕ) → emitted_before out s ≡ Goes t Data mid →
+went : (out : List Token) (s : Step) (t : List Token) (mid : List ℕ) →
+    emitted_before out s ≡ Goes t Data mid →
     (later : List Token) × (s ≡ Goes later Data mid) × (out ++ later ≡ t)
 went out (Goes later state rest) t mid e = (
   later,
-  subst (λ a. Goes later a rest ≡ Goes later Data mid) (sym (from_state state Data rest mid (out ++ later) t e))
+  subst (λ a. Goes later a rest ≡ Goes later Data mid)
+      (sym (from_state state Data rest mid (out ++ later) t e))
       (ap (λ x. Goes later Data x) (from_rest state Data rest mid (out ++ later) t e)),
   from_tokens state Data rest mid (out ++ later) t e,
 )
@@ -33,16 +37,19 @@ went out Stuck t mid e = absurd (no_stuck t Data mid e)
 
 -- a claim of a way that goes back over each step
 abbrev GoesBack : (State → List ℕ → List Token → Type 0) → Type 0
-GoesBack P = (state next : State) (input rest : List ℕ) (out t : List Token) → step state input ≡ Goes out next rest →
-    P next rest t → P state input (out ++ t)
+GoesBack P = (state next : State) (input rest : List ℕ) (out t : List Token) →
+    step state input ≡ Goes out next rest → P next rest t → P state input (out ++ t)
 
 -- of the steps after one, for `back`
 abbrev Backs : (State → List ℕ → List Token → Type 0) → List ℕ → List Token → ℕ → Type 0
-Backs P mid u n = (state : State) (input : List ℕ) (t : List Token) → steps n state input ≡ Goes t Data mid →
+Backs P mid u n =
+    (state : State) (input : List ℕ) (t : List Token) → steps n state input ≡ Goes t Data mid →
     P state input (t ++ u)
 
-back-step : (P : State → List ℕ → List Token → Type 0) → GoesBack P → (mid : List ℕ) (u : List Token) (n : ℕ) →
-    Backs P mid u n → (state : State) (input : List ℕ) (t : List Token) (s : Step) → step state input ≡ s →
+back-step : (P : State → List ℕ → List Token → Type 0) → GoesBack P →
+    (mid : List ℕ) (u : List Token) (n : ℕ) →
+    Backs P mid u n → (state : State) (input : List ℕ) (t : List Token) (s : Step) →
+    step state input ≡ s →
     and_then (steps n) s ≡ Goes t Data mid → P state input (t ++ u)
 back-step P g mid u n go state input t (Goes out next rest) is e =
     let w = went out (steps n next rest) t mid e in
@@ -52,7 +59,8 @@ back-step P g mid u n go state input t (Goes out next rest) is e =
 back-step P g mid u n go state input t (Stops out) is e = absurd (no_stop out t Data mid e)
 back-step P g mid u n go state input t Stuck is e = absurd (no_stuck t Data mid e)
 
-back : (P : State → List ℕ → List Token → Type 0) → GoesBack P → (mid : List ℕ) (u : List Token) → P Data mid u →
+back : (P : State → List ℕ → List Token → Type 0) → GoesBack P →
+    (mid : List ℕ) (u : List Token) → P Data mid u →
     (n : ℕ) → Backs P mid u n
 back P g mid u h zero state input t e =
     subst (λ x. P state input (x ++ u)) (from_tokens state Data input mid [] t e)
@@ -74,10 +82,12 @@ run-back state next input rest out t e h = record {
 }
 
 -- some steps, and then others
-pub leads-on : (state : State) (input mid left : List ℕ) (t u : List Token) → Leads state input t mid →
+pub leads-on : (state : State) (input mid left : List ℕ) (t u : List Token) →
+    Leads state input t mid →
     Leads Data mid u left → Leads state input (t ++ u) left
 leads-on state input mid left t u h k =
-    back (λ state input t. Leads state input t left) (leads-back left) mid u k h.count state input t h.goes
+    back (λ state input t. Leads state input t left) (leads-back left) mid u k h.count
+    state input t h.goes
 
 -- some steps, and then a run
 pub runs-on : (state : State) (input mid : List ℕ) (t u : List Token) → Leads state input t mid →
@@ -101,13 +111,14 @@ map_some out (Some y) x e = (y, refl, part (out ++ y) x e)
 abbrev Rest : List ℕ → List Token → List Token → Type 0
 Rest mid t all = (u : List Token) × IsRun Data mid u × (all ≡ t ++ u)
 
-runs_nothing : (state : State) (input : List ℕ) (all : List Token) → run zero state input ≡ Some all → ⊥
+runs_nothing : (state : State) (input : List ℕ) (all : List Token) →
+    run zero state input ≡ Some all → ⊥
 runs_nothing state input all e = cc
 
 -- of the steps after one, for `run-rest`
 abbrev Rests : List ℕ → ℕ → Type 0
-Rests mid n = (k : ℕ) (state : State) (input : List ℕ) (t all : List Token) → steps n state input ≡ Goes t Data mid →
-    run k state input ≡ Some all → Rest mid t all
+Rests mid n = (k : ℕ) (state : State) (input : List ℕ) (t all : List Token) →
+    steps n state input ≡ Goes t Data mid → run k state input ≡ Some all → Rest mid t all
 
 rest-step : (mid : List ℕ) (n : ℕ) → Rests mid n → (k : ℕ) (t all : List Token) (s : Step) →
     and_then (steps n) s ≡ Goes t Data mid → after_step (run k) s ≡ Some all → Rest mid t all

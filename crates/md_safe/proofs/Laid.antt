@@ -1,6 +1,8 @@
 -- What a list of pieces adds to a text: the claim on texts carried over to what is laid out.
-use Rattle.std.proofs.Common.{◌≡◌, ℕ, Bool, true, false, cond, List, [], ◌∷◌, ◌++◌, refl, sym, ap, ◌∙◌, subst, append_assoc, append-nil}
-use Rattle.md_meaning.specs.Meaning.Layout.{Piece, Text, Needed, Forced, begins_line, laid_after, layout}
+use Rattle.std.proofs.Common.{◌≡◌, ℕ, Bool, true, false, cond, List, [], ◌∷◌, ◌++◌, refl, sym, ap}
+use Rattle.std.proofs.Common.{◌∙◌, subst, append_assoc, append-nil}
+use Rattle.md_meaning.specs.Meaning.Layout.{Piece, Text, Needed, Forced, begins_line, laid_after}
+use Rattle.md_meaning.specs.Meaning.Layout.{layout}
 use Rattle.md_safe.proofs.Texts.{Escaped}
 
 pub laid-append : (ending text : List ℕ) (xs ys : List Piece) →
@@ -30,7 +32,8 @@ adds-weaker ending f g pieces weaker a text =
 
 -- one list after another
 pub adds-append : (ending : List ℕ) (f g h : List ℕ → Type 0) (xs ys : List Piece) →
-    ((x y : List ℕ) → f x → g y → h (x ++ y)) → Adds ending f xs → Adds ending g ys → Adds ending h (xs ++ ys)
+    ((x y : List ℕ) → f x → g y → h (x ++ y)) → Adds ending f xs → Adds ending g ys →
+    Adds ending h (xs ++ ys)
 adds-append ending f g h xs ys both a b text =
     let r = a text in
     let s = b (laid_after ending text xs) in
@@ -44,7 +47,8 @@ adds-append ending f g h xs ys both a b text =
 pub adds-nothing : (ending : List ℕ) (f : List ℕ → Type 0) → f [] → Adds ending f []
 adds-nothing ending f h text = record { added = []; grown = sym (append-nil text); it_holds = h }
 
-pub adds-text : (ending : List ℕ) (f : List ℕ → Type 0) (x : List ℕ) → f x → Adds ending f (Text x ∷ [])
+pub adds-text : (ending : List ℕ) (f : List ℕ → Type 0) (x : List ℕ) → f x →
+    Adds ending f (Text x ∷ [])
 adds-text ending f x h text = record { added = x; grown = refl; it_holds = h }
 
 pub adds-forced : (ending : List ℕ) → Escaped ending → Adds ending Escaped (Forced ∷ [])
@@ -62,7 +66,11 @@ pub adds-any : (ending : List ℕ) (pieces : List Piece) → Adds ending (λ x. 
 adds-any ending [] text = record { added = []; grown = sym (append-nil text); it_holds = tt }
 adds-any ending (Text more ∷ pieces) text =
     let r = adds-any ending pieces (text ++ more) in
-    record { added = more ++ r.added; grown = r.grown ∙ append_assoc text more r.added; it_holds = tt }
+    record {
+      added = more ++ r.added;
+      grown = r.grown ∙ append_assoc text more r.added;
+      it_holds = tt;
+    }
 adds-any ending (Needed ∷ pieces) text =
     by (begins_line text) (adds-any ending pieces text) (adds-any ending pieces (text ++ ending))
   where
@@ -77,10 +85,15 @@ adds-any ending (Needed ∷ pieces) text =
     }
 adds-any ending (Forced ∷ pieces) text =
     let r = adds-any ending pieces (text ++ ending) in
-    record { added = ending ++ r.added; grown = r.grown ∙ append_assoc text ending r.added; it_holds = tt }
+    record {
+      added = ending ++ r.added;
+      grown = r.grown ∙ append_assoc text ending r.added;
+      it_holds = tt;
+    }
 
 -- pieces laid out by themselves
-pub adds-alone : (ending : List ℕ) (f : List ℕ → Type 0) (pieces : List Piece) → Adds ending f pieces →
+pub adds-alone : (ending : List ℕ) (f : List ℕ → Type 0) (pieces : List Piece) →
+    Adds ending f pieces →
     f (layout ending pieces)
 adds-alone ending f pieces a =
     let r = a [] in

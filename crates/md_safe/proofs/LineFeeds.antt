@@ -1,5 +1,6 @@
 -- What line feeds for line ends leave as it is.
-use Rattle.std.proofs.Common.{◌≡◌, ℕ, ◌==◌, Bool, true, false, not, cond, List, [], ◌∷◌, ◌++◌, refl, ap, ap₂, ◌∙◌}
+use Rattle.std.proofs.Common.{◌≡◌, ℕ, ◌==◌, Bool, true, false, not, cond, List, [], ◌∷◌, ◌++◌, refl}
+use Rattle.std.proofs.Common.{ap, ap₂, ◌∙◌}
 use Rattle.std.specs.List.{list_all}
 use Rattle.std.proofs.lemmas.Bool.{and_parts, and_from, cond_both, not-true}
 use Rattle.md_text.specs.References.{is_escaped, is_escaped_byte}
@@ -49,8 +50,8 @@ pub line_feeds-escaped : (x : List ℕ) → is_escaped x ≡ true → is_escaped
 line_feeds-escaped x h =
     by_escaped (λ x. is_escaped (with_line_feeds x) ≡ true) refl
     (λ b rest plain later.
-    cond_both (b == 13) (cond (begins_with_line_feed rest) (with_line_feeds rest) (10 ∷ with_line_feeds rest))
-    (b ∷ with_line_feeds rest) (λ v. is_escaped v ≡ true)
+    cond_both (b == 13) (cond (begins_with_line_feed rest) (with_line_feeds rest)
+    (10 ∷ with_line_feeds rest)) (b ∷ with_line_feeds rest) (λ v. is_escaped v ≡ true)
     (λ _. cond_both (begins_with_line_feed rest) (with_line_feeds rest) (10 ∷ with_line_feeds rest)
     (λ v. is_escaped v ≡ true) (λ _. later) (λ _. later))
     (λ _. and_from (is_escaped_byte b (with_line_feeds rest)) (is_escaped (with_line_feeds rest))

@@ -1,6 +1,7 @@
--- What stands in a link, where links may stand in links and where not; and none does where a document has no link in a
--- link.
-use Rattle.std.proofs.Common.{◌≡◌, ◌⊎◌, inl, inr, Bool, true, false, not, ◌&&◌, ◌||◌, cond, refl, sym, ap, ◌∙◌}
+-- What stands in a link, where links may stand in links and where not; and none does where a
+-- document has no link in a link.
+use Rattle.std.proofs.Common.{◌≡◌, ◌⊎◌, inl, inr, Bool, true, false, not, ◌&&◌, ◌||◌, cond, refl}
+use Rattle.std.proofs.Common.{sym, ap, ◌∙◌}
 use Rattle.std.proofs.lemmas.Bool.{or_parts, or_left, or_right}
 use Rattle.md_base.proofs.Lies.{lie}
 use Rattle.md_base.specs.declared.event.Name.{Name}
@@ -49,7 +50,8 @@ abbrev pub inner_place : Bool → Content → Name → Content
 inner_place nested content name = cond (is_transparent name) content (place_in nested content name)
 
 pub place-other : (nested : Bool) (content : Content) (name : Name) → named Link name ≡ false →
-    place_in nested content name ≡ cond (is_linked content) (without_links (place_of name)) (place_of name)
+    place_in nested content name
+    ≡ cond (is_linked content) (without_links (place_of name)) (place_of name)
 place-other nested content Link other = lie (sym other)
 place-other nested content _ other = refl
 
@@ -89,7 +91,8 @@ inner-place-with nested content name = by (is_transparent name)
 
 -- spans without links stand only in a link, where links don't nest
 abbrev pub IsLinked : Bool → Content → Surroundings → Type 0
-IsLinked nested content around = is_linked content ≡ true → (nested ≡ false) × (around.in_link ≡ true)
+IsLinked nested content around =
+    is_linked content ≡ true → (nested ≡ false) × (around.in_link ≡ true)
 
 -- in a link is what stands in one
 inside-link : (options : CompileOptions) (loose : Bool) (name : Name) (around : Surroundings) →
@@ -101,12 +104,14 @@ never-linked : (name : Name) → is_linked (place_of name) ≡ false
 never-linked Link = refl
 never-linked _ = refl
 
-linked-place : (nested : Bool) (content : Content) (name : Name) → is_linked (place_in nested content name) ≡ true →
+linked-place : (nested : Bool) (content : Content) (name : Name) →
+    is_linked (place_in nested content name) ≡ true →
     (is_linked content ≡ true) ⊎ ((named Link name ≡ true) × (nested ≡ false))
 linked-place nested content name h = by (named Link name) refl
   where
     own : (linked : Bool) → is_linked content ≡ linked →
-        is_linked (cond linked (without_links (place_of name)) (place_of name)) ≡ true → is_linked content ≡ true
+        is_linked (cond linked (without_links (place_of name)) (place_of name)) ≡ true →
+        is_linked content ≡ true
     own true e h = e
     own false e h = lie (sym (never-linked name) ∙ h)
 
@@ -114,7 +119,8 @@ linked-place nested content name h = by (named Link name) refl
         (is_linked content ≡ true) ⊎ ((named Link name ≡ true) × (nested ≡ false))
     by true e = of_link name e h
       where
-        of_link : (name : Name) → named Link name ≡ true → is_linked (place_in nested content name) ≡ true →
+        of_link : (name : Name) → named Link name ≡ true →
+            is_linked (place_in nested content name) ≡ true →
             (is_linked content ≡ true) ⊎ ((named Link name ≡ true) × (nested ≡ false))
         of_link Link e h = link (is_linked content) nested refl refl h
           where
@@ -125,10 +131,11 @@ linked-place nested content name h = by (named Link name) refl
             link false true e f h = lie h
             link false false e f h = inr (refl, f)
         of_link _ e h = lie e
-    by false e = inl (own (is_linked content) refl (ap is_linked (sym (place-other nested content name e)) ∙ h))
+    by false e = inl (own (is_linked content) refl
+        (ap is_linked (sym (place-other nested content name e)) ∙ h))
 
-pub linked-inside : (nested : Bool) (options : CompileOptions) (loose : Bool) (content : Content) (name : Name)
-    (around : Surroundings) → IsLinked nested content around →
+pub linked-inside : (nested : Bool) (options : CompileOptions) (loose : Bool) (content : Content)
+    (name : Name) (around : Surroundings) → IsLinked nested content around →
     IsLinked nested (inner_place nested content name) (inside options loose name around)
 linked-inside nested options loose content name around linked = by (is_transparent name)
   where
@@ -140,11 +147,15 @@ linked-inside nested options loose content name around linked = by (is_transpare
     by true h = ((linked h).0, kept (linked h).1)
     by false h = elim (linked-place nested content name h) [
       | inl e ↦ ((linked e).0, kept (linked e).1)
-      | inr e ↦ (e.1, inside-link options loose name around ∙ or_left (named Link name) around.in_link e.0)
+      | inr e ↦ (
+        e.1,
+        inside-link options loose name around ∙ or_left (named Link name) around.in_link e.0,
+      )
     ]
 
 -- the parts of a node without a link in a link
-parts : (a b c d : Bool) → (a && b || c && d) ≡ false → (c ≡ true → d ≡ false) × (a ≡ true → b ≡ false)
+parts : (a b c d : Bool) → (a && b || c && d) ≡ false →
+    (c ≡ true → d ≡ false) × (a ≡ true → b ≡ false)
 parts true b c d h = (λ e. second-part b c d e h, λ _. first-part b (c && d) h)
   where
     first-part : (b x : Bool) → (b || x) ≡ false → b ≡ false
@@ -163,21 +174,27 @@ parts false b c d h = (λ e. by c d e h, λ e. lie e)
 
 unnested-parts : (name : Name) (in_link : Bool) (start end : Point) (children rest : Forest) →
     has_nested_link in_link (Node name start end children rest) ≡ false →
-    ((in_link && prints_link name || not (named Image name) && has_nested_link (named Link name || in_link) children)
+    ((in_link && prints_link name
+    || not (named Image name) && has_nested_link (named Link name || in_link) children)
     ≡ false) × (has_nested_link in_link rest ≡ false)
 unnested-parts name in_link start end children rest h =
     or_parts (in_link && prints_link name
-    || not (named Image name) && has_nested_link (named Link name || in_link) children) (has_nested_link in_link rest) h
+    || not (named Image name) && has_nested_link (named Link name || in_link) children)
+    (has_nested_link in_link rest) h
 
 pub unnested-after : (name : Name) (in_link : Bool) (start end : Point) (children rest : Forest) →
-    has_nested_link in_link (Node name start end children rest) ≡ false → has_nested_link in_link rest ≡ false
-unnested-after name in_link start end children rest h = (unnested-parts name in_link start end children rest h).1
+    has_nested_link in_link (Node name start end children rest) ≡ false →
+    has_nested_link in_link rest ≡ false
+unnested-after name in_link start end children rest h =
+    (unnested-parts name in_link start end children rest h).1
 
-no_image : (name : Name) → is_blocks (content_inside Blocks name) ≡ true → not (named Image name) ≡ true
+no_image : (name : Name) → is_blocks (content_inside Blocks name) ≡ true →
+    not (named Image name) ≡ true
 no_image Image h = lie h
 no_image _ h = refl
 
-pub unnested-inside : (options : CompileOptions) (loose : Bool) (name : Name) (around : Surroundings)
+pub unnested-inside :
+    (options : CompileOptions) (loose : Bool) (name : Name) (around : Surroundings)
     (start end : Point)
     (children rest : Forest) → is_blocks (content_inside Blocks name) ≡ true →
     has_nested_link around.in_link (Node name start end children rest) ≡ false →
@@ -189,18 +206,22 @@ unnested-inside options loose name around start end children rest blocks h =
     (unnested-parts name around.in_link start end children rest h).0).0 (no_image name blocks)
 
 -- spans that aren't without links
-pub unlinked-spans : (content : Content) → is_spans content ≡ true → (is_linked content ≡ true → content ≡ Phrasing) →
+pub unlinked-spans : (content : Content) → is_spans content ≡ true →
+    (is_linked content ≡ true → content ≡ Phrasing) →
     content ≡ Phrasing
 unlinked-spans Phrasing is h = refl
 unlinked-spans Linked is h = h refl
 unlinked-spans _ is h = lie is
 
 -- no link is printed where they are
-pub unlinked-here : (nested : Bool) (content : Content) (name : Name) (around : Surroundings) (start end : Point)
-    (children rest : Forest) → is_spans content ≡ true → prints_link name ≡ true → IsLinked nested content around →
-    (nested ≡ false → has_nested_link around.in_link (Node name start end children rest) ≡ false) → content ≡ Phrasing
+pub unlinked-here :
+    (nested : Bool) (content : Content) (name : Name) (around : Surroundings) (start end : Point)
+    (children rest : Forest) → is_spans content ≡ true → prints_link name ≡ true →
+    IsLinked nested content around →
+    (nested ≡ false → has_nested_link around.in_link (Node name start end children rest) ≡ false) →
+    content ≡ Phrasing
 unlinked-here nested content name around start end children rest is prints linked unnested =
     unlinked-spans content is (λ e.
     lie (sym ((parts around.in_link (prints_link name) (not (named Image name))
-    (has_nested_link (named Link name || around.in_link) children)
-    (unnested-parts name around.in_link start end children rest (unnested (linked e).0)).0).1 (linked e).1) ∙ prints))
+    (has_nested_link (named Link name || around.in_link) children) (unnested-parts name
+    around.in_link start end children rest (unnested (linked e).0)).0).1 (linked e).1) ∙ prints))

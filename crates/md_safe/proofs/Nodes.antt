@@ -1,10 +1,15 @@
--- A node of any content, before what is printed after it: the step of the induction in `Forests.antt`.
-use Rattle.std.proofs.Common.{◌≡◌, ℕ, Bool, true, false, not, ◌||◌, cond, List, [], ◌∷◌, ◌++◌, refl, sym, ap, ◌∙◌, subst, inl, inr, append_assoc, append-nil, codes}
+-- A node of any content, before what is printed after it: the step of the induction
+-- in `Forests.antt`.
+use Rattle.std.proofs.Common.{◌≡◌, ℕ, Bool, true, false, not, ◌||◌, cond, List, [], ◌∷◌, ◌++◌, refl}
+use Rattle.std.proofs.Common.{sym, ap, ◌∙◌, subst, inl, inr, append_assoc, append-nil, codes}
 use Rattle.std.specs.List.{list_any}
 use Rattle.std.proofs.lemmas.Bool.{or_cases}
 use Rattle.md_base.proofs.Lies.{lie}
 use Rattle.md_base.specs.declared.event.Name.{Name}
-use Rattle.md_base.specs.declared.event.Name.TheVariants.{Other, BlockQuotePrefix, SpaceOrTab, LineEnding, BlankLineEnding, CodeFencedFence, CodeFencedFenceInfo, CodeFencedFenceMeta, CodeFlowChunk, MathFlowFence, MathFlowFenceMeta, MathFlowChunk, GfmTaskListItemValueChecked}
+use Rattle.md_base.specs.declared.event.Name.TheVariants as name_variants
+use name_variants.{Other, BlockQuotePrefix, SpaceOrTab, LineEnding, BlankLineEnding}
+use name_variants.{CodeFencedFence, CodeFencedFenceInfo, CodeFencedFenceMeta, CodeFlowChunk}
+use name_variants.{MathFlowFence, MathFlowFenceMeta, MathFlowChunk, GfmTaskListItemValueChecked}
 use Rattle.md_text.proofs.EscapedLemmas.{escaped-append}
 use Rattle.md_base.specs.NameTests.{is_transparent}
 use Rattle.md_base.specs.NameTests.{is_fence as fence_name}
@@ -13,12 +18,19 @@ use Rattle.md_meaning.specs.Meaning.Around.{inside}
 use Rattle.md_meaning.specs.Meaning.At.{At}
 use Rattle.md_meaning.specs.Meaning.Layout.{Piece, Text, said, when}
 use Rattle.md_meaning.specs.Meaning.Means.{prints}
-use Rattle.md_shape.specs.Built.{Content, Blocks, Spans, Strings, FirstFence, FirstMathFence, Chunks, InfoAndMeta, MetaAlone, Done, Nothing, Sources, is_part, is_source, is_string, is_span, is_in_media, is_autolink, is_code_fence, is_math_fence, may_stand, content_of, content_past, content_after, IsBuilt}
+use Rattle.md_shape.specs.Built.{Content, Blocks, Spans, Strings, FirstFence, FirstMathFence}
+use Rattle.md_shape.specs.Built.{Chunks, InfoAndMeta, MetaAlone, Done, Nothing, Sources, is_part}
+use Rattle.md_shape.specs.Built.{is_source, is_string, is_span, is_in_media, is_autolink}
+use Rattle.md_shape.specs.Built.{is_code_fence, is_math_fence, may_stand, content_of, content_past}
+use Rattle.md_shape.specs.Built.{content_after, IsBuilt}
 use Rattle.md_safe.proofs.Texts.{Escaped}
 use Rattle.md_safe.proofs.Laid.{adds-append, adds-text, adds-nothing, adds-weaker, adds-any}
-use Rattle.md_safe.proofs.Elements.{IsRaw, IsInCode, IsDone, bare-in_code, info-in_code, raw-code, raw-math, code_tag, math_tag}
-use Rattle.md_safe.proofs.Contents.{is_blocks, Holds, Suits, Follows, second, holds-nothing, later-inside}
-use Rattle.md_safe.proofs.Spot.{IsWhole, Setting, IsFitAt, IsGoodTarget, Here, Prints, Inside, narrow-wide, wide-escaped}
+use Rattle.md_safe.proofs.Elements.{IsRaw, IsInCode, IsDone, bare-in_code, info-in_code, raw-code}
+use Rattle.md_safe.proofs.Elements.{raw-math, code_tag, math_tag}
+use Rattle.md_safe.proofs.Contents.{is_blocks, Holds, Suits, Follows, second, holds-nothing}
+use Rattle.md_safe.proofs.Contents.{later-inside}
+use Rattle.md_safe.proofs.Spot.{IsWhole, Setting, IsFitAt, IsGoodTarget, Here, Prints, Inside}
+use Rattle.md_safe.proofs.Spot.{narrow-wide, wide-escaped}
 use Rattle.md_safe.proofs.StringNodes.{string-node, line_ending-escaped}
 use Rattle.md_safe.proofs.SpanNodes.{span-node, media-node, autolink-node}
 use Rattle.md_safe.proofs.BlockNodes.{Reads, block-node, when-needed, chunk-escaped}
@@ -27,16 +39,20 @@ abbrev IsNil : List ℕ → Type 0
 IsNil x = x ≡ []
 
 -- spans
-span-any : (s : Setting) (t : At) (name : Name) → Suits t.around.is_escaping t.around.in_image Spans →
-    may_stand Spans name ≡ true → IsFitAt s t name → IsGoodTarget t.found.resource → (inner : List Piece) →
+span-any : (s : Setting) (t : At) (name : Name) →
+    Suits t.around.is_escaping t.around.in_image Spans →
+    may_stand Spans name ≡ true → IsFitAt s t name → IsGoodTarget t.found.resource →
+    (inner : List Piece) →
     Inside s t Spans name inner → Prints s Escaped (prints s.given t name inner)
 span-any s t name suits stands fit good inner a =
     let w = wide-escaped s.p t.around.in_image suits.1 in
-    elim (or_cases (is_string name) (is_span name || (is_in_media name || is_autolink name)) stands) [
-      | inl is ↦ string-node s t Spans name (narrow-wide s.p t.around.is_escaping t.around.in_image Escaped suits.0 w)
-          is fit inner a
+    elim (or_cases (is_string name)
+    (is_span name || (is_in_media name || is_autolink name)) stands) [
+      | inl is ↦ string-node s t Spans name
+          (narrow-wide s.p t.around.is_escaping t.around.in_image Escaped suits.0 w) is fit inner a
       | inr c ↦ elim (or_cases (is_span name) (is_in_media name || is_autolink name) c) [
-        | inl is ↦ span-node s t Spans name suits.0 w is (λ _ out. lie (sym out ∙ suits.1)) good inner a
+        | inl is ↦
+            span-node s t Spans name suits.0 w is (λ _ out. lie (sym out ∙ suits.1)) good inner a
         | inr c ↦ elim (or_cases (is_in_media name) (is_autolink name) c) [
           | inl is ↦ media-node s t Spans name w is inner a
           | inr is ↦ autolink-node s t Spans name w is inner
@@ -46,38 +62,43 @@ span-any s t name suits stands fit good inner a =
 
 -- the end of a first fence
 begun : (s : Setting) (has_fence : Bool) (holds within later : List ℕ → Type 0) →
-    ((x y : List ℕ) → within x → later y → holds (x ++ (62 ∷ y))) → has_fence ≡ false → (inner rest : List Piece) →
+    ((x y : List ℕ) → within x → later y → holds (x ++ (62 ∷ y))) → has_fence ≡ false →
+    (inner rest : List Piece) →
     Prints s within inner → Prints s later rest
     → Prints s holds ((inner ++ when (not has_fence) (said (codes ">"))) ++ rest)
 begun s true holds within later both e inner rest a b = lie (sym e)
 begun s false holds within later both e inner rest a b =
     subst (Prints s holds) (sym (append_assoc inner (said (codes ">")) rest))
-    (adds-append s.given.ending within (λ w. (y : List ℕ) × (w ≡ 62 ∷ y) × later y) holds inner (Text (codes ">")
-    ∷ rest)
+    (adds-append s.given.ending within (λ w. (y : List ℕ) × (w ≡ 62 ∷ y) × later y) holds inner
+    (Text (codes ">") ∷ rest)
     (λ x w f g. subst (λ w. holds (x ++ w)) (sym g.1) (both x g.0 f g.2)) a
     (adds-append s.given.ending (λ x. x ≡ codes ">") later (λ w. (y : List ℕ) × (w ≡ 62 ∷ y)
     × later y) (said (codes ">")) rest (λ x y f g. (y, ap (λ x. x ++ y) f, g))
     (adds-text s.given.ending (λ x. x ≡ codes ">") (codes ">") refl) b))
 
-code_fence-node : (s : Setting) (t : At) (name : Name) → list_any fence_name t.before.spine ≡ false →
-    is_code_fence name ≡ true → (inner rest : List Piece) → Inside s t FirstFence name inner → Prints s Escaped rest →
+code_fence-node : (s : Setting) (t : At) (name : Name) →
+    list_any fence_name t.before.spine ≡ false →
+    is_code_fence name ≡ true → (inner rest : List Piece) → Inside s t FirstFence name inner →
+    Prints s Escaped rest →
     Prints s (IsRaw s.p code_tag) (prints s.given t name inner ++ rest)
 code_fence-node s t CodeFencedFence e is inner rest a b =
-    begun s (list_any fence_name t.before.spine) (IsRaw s.p code_tag) (IsInCode s.p) Escaped (raw-code s.p) e inner rest
-    a b
+    begun s (list_any fence_name t.before.spine) (IsRaw s.p code_tag) (IsInCode s.p) Escaped
+    (raw-code s.p) e inner rest a b
 code_fence-node s t _ e is inner rest a b = lie is
 
-math_fence-node : (s : Setting) (t : At) (name : Name) → list_any fence_name t.before.spine ≡ false →
+math_fence-node : (s : Setting) (t : At) (name : Name) →
+    list_any fence_name t.before.spine ≡ false →
     is_math_fence name ≡ true → (inner rest : List Piece) → Inside s t FirstMathFence name inner →
     Prints s Escaped rest → Prints s (IsRaw s.p math_tag) (prints s.given t name inner ++ rest)
 math_fence-node s t MathFlowFence e is inner rest a b =
     begun s (list_any fence_name t.before.spine) (IsRaw s.p math_tag) IsNil Escaped
-    (λ x y f h. subst (λ x. IsRaw s.p math_tag (x ++ (62 ∷ y))) (sym f) (raw-math s.p s.given.options s.test y h)) e
-    inner rest a b
+    (λ x y f h. subst (λ x. IsRaw s.p math_tag (x ++ (62 ∷ y))) (sym f)
+    (raw-math s.p s.given.options s.test y h)) e inner rest a b
 math_fence-node s t _ e is inner rest a b = lie is
 
 -- a later fence prints nothing
-closed : (s : Setting) (has_fence : Bool) → has_fence ≡ true → (inner : List Piece) → Prints s IsNil inner →
+closed : (s : Setting) (has_fence : Bool) → has_fence ≡ true → (inner : List Piece) →
+    Prints s IsNil inner →
     Prints s Escaped (inner ++ when (not has_fence) (said (codes ">")))
 closed s true e inner a =
     subst (Prints s Escaped) (sym (append-nil inner))
@@ -85,33 +106,39 @@ closed s true e inner a =
 closed s false e inner a = lie e
 
 line-node : (s : Setting) (t : At) (name : Name) → list_any fence_name t.before.spine ≡ true →
-    may_stand Chunks name ≡ true → IsFitAt s t name → (inner : List Piece) → Inside s t Chunks name inner →
+    may_stand Chunks name ≡ true → IsFitAt s t name → (inner : List Piece) →
+    Inside s t Chunks name inner →
     Prints s Escaped (prints s.given t name inner)
 line-node s t LineEnding e is fit inner a = line_ending-escaped s t fit
 line-node s t BlankLineEnding e is fit inner a = when-needed s t.is_last
 line-node s t CodeFlowChunk e is fit inner a = chunk-escaped s t
 line-node s t MathFlowChunk e is fit inner a = chunk-escaped s t
-line-node s t CodeFencedFence e is fit inner a = closed s (list_any fence_name t.before.spine) e inner a
-line-node s t MathFlowFence e is fit inner a = closed s (list_any fence_name t.before.spine) e inner a
+line-node s t CodeFencedFence e is fit inner a =
+    closed s (list_any fence_name t.before.spine) e inner a
+line-node s t MathFlowFence e is fit inner a =
+    closed s (list_any fence_name t.before.spine) e inner a
 line-node s t _ e is fit inner a = lie is
 
 -- the info string
 info-node : (s : Setting) (escaping : Bool) → escaping ≡ true → (inner rest : List Piece) →
     Prints s (λ x. escaping ≡ true → Escaped x) inner → Prints s IsNil rest
-    → Prints s (IsInCode s.p) ((said (codes " class=\"language-") ++ (inner ++ said (codes "\""))) ++ rest)
+    → Prints s (IsInCode s.p)
+    ((said (codes " class=\"language-") ++ (inner ++ said (codes "\""))) ++ rest)
 info-node s escaping e inner rest a b =
-    adds-append s.given.ending (λ w. (v : List ℕ) × (w ≡ codes " class=\"language-" ++ (v ++ codes "\""))
-    × Escaped v) IsNil (IsInCode s.p) (said (codes " class=\"language-") ++ (inner ++ said (codes "\""))) rest
+    adds-append s.given.ending
+    (λ w. (v : List ℕ) × (w ≡ codes " class=\"language-" ++ (v ++ codes "\""))
+    × Escaped v) IsNil (IsInCode s.p)
+    (said (codes " class=\"language-") ++ (inner ++ said (codes "\""))) rest
     (λ x y f g. subst (IsInCode s.p) (sym (ap (λ y. x ++ y) g ∙ append-nil x ∙ f.1))
-    (info-in_code s.p s.given.options s.test f.0 f.2))
-    (adds-append s.given.ending (λ x. x ≡ codes " class=\"language-") (λ w. (v : List ℕ) × (w ≡ v ++ codes "\"")
-    × Escaped v) (λ w. (v : List ℕ) × (w ≡ codes " class=\"language-" ++ (v ++ codes "\"")) × Escaped v)
+    (info-in_code s.p s.given.options s.test f.0 f.2)) (adds-append s.given.ending
+    (λ x. x ≡ codes " class=\"language-") (λ w. (v : List ℕ) × (w ≡ v ++ codes "\"") × Escaped v)
+    (λ w. (v : List ℕ) × (w ≡ codes " class=\"language-" ++ (v ++ codes "\"")) × Escaped v)
     (said (codes " class=\"language-")) (inner ++ said (codes "\""))
     (λ x w f g. (g.0, ap (λ x. x ++ w) f ∙ ap (λ w. codes " class=\"language-" ++ w) g.1, g.2))
-    (adds-text s.given.ending (λ x. x ≡ codes " class=\"language-") (codes " class=\"language-") refl)
-    (adds-append s.given.ending (λ x. escaping ≡ true →
-    Escaped x) (λ x. x ≡ codes "\"") (λ w. (v : List ℕ) × (w ≡ v ++ codes "\"") × Escaped v) inner (said (codes "\""))
-    (λ v y f g. (v, ap (λ y. v ++ y) g, f e)) a
+    (adds-text s.given.ending (λ x. x ≡ codes " class=\"language-") (codes " class=\"language-")
+    refl) (adds-append s.given.ending (λ x. escaping ≡ true →
+    Escaped x) (λ x. x ≡ codes "\"") (λ w. (v : List ℕ) × (w ≡ v ++ codes "\"") × Escaped v) inner
+    (said (codes "\"")) (λ v y f g. (v, ap (λ y. v ++ y) g, f e)) a
     (adds-text s.given.ending (λ x. x ≡ codes "\"") (codes "\"") refl)))
     b
 
@@ -120,15 +147,18 @@ in_code-nil s rest b = adds-weaker s.given.ending IsNil (IsInCode s.p) rest
     (λ x e. subst (IsInCode s.p) (sym e) (bare-in_code s.p)) b
 
 info_or_meta-node : (s : Setting) (t : At) (name : Name) → t.around.is_escaping ≡ true →
-    may_stand InfoAndMeta name ≡ true → (inner rest : List Piece) → Inside s t InfoAndMeta name inner →
+    may_stand InfoAndMeta name ≡ true → (inner rest : List Piece) →
+    Inside s t InfoAndMeta name inner →
     Prints s (Here s t (content_past InfoAndMeta name)) rest
     → Prints s (IsInCode s.p) (prints s.given t name inner ++ rest)
-info_or_meta-node s t CodeFencedFenceInfo e is inner rest a b = info-node s t.around.is_escaping e inner rest a b
+info_or_meta-node s t CodeFencedFenceInfo e is inner rest a b =
+    info-node s t.around.is_escaping e inner rest a b
 info_or_meta-node s t CodeFencedFenceMeta e is inner rest a b = in_code-nil s rest b
 info_or_meta-node s t MathFlowFenceMeta e is inner rest a b = in_code-nil s rest b
 info_or_meta-node s t _ e is inner rest a b = lie is
 
-meta-node : (s : Setting) (t : At) (name : Name) → may_stand MetaAlone name ≡ true → (inner rest : List Piece) →
+meta-node : (s : Setting) (t : At) (name : Name) → may_stand MetaAlone name ≡ true →
+    (inner rest : List Piece) →
     Prints s IsNil rest → Prints s IsNil (prints s.given t name inner ++ rest)
 meta-node s t CodeFencedFenceMeta is inner rest b = b
 meta-node s t MathFlowFenceMeta is inner rest b = b
@@ -142,11 +172,13 @@ checked s in_image rest b =
     (when (not in_image) (said (codes "checked=\"\" "))) rest
     (λ x y f g. subst (IsDone in_image) (sym (ap (λ y. x ++ y) g ∙ append-nil x)) f) (by in_image) b
   where
-    by : (in_image : Bool) → Prints s (IsDone in_image) (when (not in_image) (said (codes "checked=\"\" ")))
+    by : (in_image : Bool) →
+        Prints s (IsDone in_image) (when (not in_image) (said (codes "checked=\"\" ")))
     by true = adds-nothing s.given.ending (IsDone true) (inl refl)
     by false = adds-text s.given.ending (IsDone false) (codes "checked=\"\" ") (inr (refl, refl))
 
-done-node : (s : Setting) (t : At) (name : Name) → may_stand Done name ≡ true → (inner rest : List Piece) →
+done-node : (s : Setting) (t : At) (name : Name) → may_stand Done name ≡ true →
+    (inner rest : List Piece) →
     Prints s IsNil rest → Prints s (IsDone t.around.in_image) (prints s.given t name inner ++ rest)
 done-node s t GfmTaskListItemValueChecked is inner rest b = checked s t.around.in_image rest b
 done-node s t _ is inner rest b = lie is
@@ -156,8 +188,8 @@ pub not_part : (part : Bool) → cond part false true ≡ true → part ≡ fals
 not_part true h = lie h
 not_part false h = refl
 
--- what is known of a node besides what its children print: where it stands, the text of a heading before it, and where
--- a resource in it leads
+-- what is known of a node besides what its children print: where it stands, the text of a heading
+-- before it, and where a resource in it leads
 pub record Knows (s : Setting) (t : At) (content : Content) (name : Name) : Type 0 where
   pub fit : IsFitAt s t name
   pub suits : Suits t.around.is_escaping t.around.in_image content
@@ -167,27 +199,30 @@ pub record Knows (s : Setting) (t : At) (content : Content) (name : Name) : Type
   pub resource : IsGoodTarget t.found.resource
 
 -- a node that isn't transparent, and what is printed after it
-pub solid-node : (s : Setting) (t : At) (content : Content) (name : Name) → is_transparent name ≡ false →
+pub solid-node : (s : Setting) (t : At) (content : Content) (name : Name) →
+    is_transparent name ≡ false →
     may_stand content name ≡ true → Knows s t content name → (inner rest : List Piece) →
     Inside s t content name inner → Prints s (Here s t (content_past content name)) rest →
     Prints s (Here s t content) (prints s.given t name inner ++ rest)
 solid-node s t Blocks name solid stands k inner rest a b =
-    adds-append s.given.ending s.p.holds s.p.holds s.p.holds (prints s.given t name inner) rest (k.whole refl).both
+    adds-append s.given.ending s.p.holds s.p.holds s.p.holds (prints s.given t name inner)
+    rest (k.whole refl).both
     (block-node s t name k.suits solid (not_part (is_part name || is_source name) stands) k.fit
     (λ _. (k.whole refl).ids) (λ _. k.heading refl) k.resource inner a) b
 solid-node s t Spans name solid stands k inner rest a b =
-    adds-append s.given.ending Escaped Escaped Escaped (prints s.given t name inner) rest escaped-append
-    (span-any s t name k.suits stands k.fit k.resource inner a) b
+    adds-append s.given.ending Escaped Escaped Escaped (prints s.given t name inner) rest
+    escaped-append (span-any s t name k.suits stands k.fit k.resource inner a) b
 solid-node s t Strings name solid stands k inner rest a b =
     adds-append s.given.ending (Here s t Strings) (Here s t Strings) (Here s t Strings)
     (prints s.given t name inner) rest (λ x y f g e. escaped-append x y (f e) (g e))
     (string-node s t Strings name (λ x h. h) stands k.fit inner a) b
-solid-node s t FirstFence name solid stands k inner rest a b = code_fence-node s t name k.follows stands inner rest a b
+solid-node s t FirstFence name solid stands k inner rest a b =
+    code_fence-node s t name k.follows stands inner rest a b
 solid-node s t FirstMathFence name solid stands k inner rest a b =
     math_fence-node s t name k.follows stands inner rest a b
 solid-node s t Chunks name solid stands k inner rest a b =
-    adds-append s.given.ending Escaped Escaped Escaped (prints s.given t name inner) rest escaped-append
-    (line-node s t name k.follows stands k.fit inner a) b
+    adds-append s.given.ending Escaped Escaped Escaped (prints s.given t name inner) rest
+    escaped-append (line-node s t name k.follows stands k.fit inner a) b
 solid-node s t InfoAndMeta name solid stands k inner rest a b =
     info_or_meta-node s t name k.suits stands inner rest a b
 solid-node s t MetaAlone name solid stands k inner rest a b = meta-node s t name stands inner rest b
@@ -199,12 +234,15 @@ solid-node s t Sources name solid stands k inner rest a b =
 -- what children print before any other pieces
 abbrev pub Before : Setting → At → Content → Name → List Piece → Type 0
 Before s t content name inner =
-    (rest : List Piece) → Prints s (Holds s.p (inside s.given.options (is_loose t.children) name t.around).is_escaping
-    (inside s.given.options (is_loose t.children) name t.around).in_image (content_after content t.children)) rest
+    (rest : List Piece) →
+    Prints s (Holds s.p (inside s.given.options (is_loose t.children) name t.around).is_escaping
+    (inside s.given.options (is_loose t.children) name t.around).in_image
+    (content_after content t.children)) rest
     → Prints s (Holds s.p (inside s.given.options (is_loose t.children) name t.around).is_escaping
     (inside s.given.options (is_loose t.children) name t.around).in_image content) (inner ++ rest)
 
-through-node : (s : Setting) (t : At) (content : Content) (name : Name) → is_transparent name ≡ true →
+through-node : (s : Setting) (t : At) (content : Content) (name : Name) →
+    is_transparent name ≡ true →
     (inner rest : List Piece) → Before s t content name inner →
     Prints s (Here s t (content_after content t.children)) rest →
     Prints s (Here s t content) (prints s.given t name inner ++ rest)
@@ -214,33 +252,42 @@ through-node s t content SpaceOrTab is inner rest a b = a rest b
 through-node s t content _ is inner rest a b = lie is
 
 -- what a node that isn't transparent holds
-pub inside-alone : (s : Setting) (t : At) (content : Content) (name : Name) → may_stand content name ≡ true →
-    IsFitAt s t name → IsBuilt s.given.bytes (content_of name content) t.children → (inner : List Piece) →
+pub inside-alone : (s : Setting) (t : At) (content : Content) (name : Name) →
+    may_stand content name ≡ true →
+    IsFitAt s t name → IsBuilt s.given.bytes (content_of name content) t.children →
+    (inner : List Piece) →
     Before s t (content_of name content) name inner → Inside s t content name inner
 inside-alone s t content name stands fit built inner a =
     let around = inside s.given.options (is_loose t.children) name t.around in
     let here = Holds s.p around.is_escaping around.in_image (content_of name content) in
-    let after = Holds s.p around.is_escaping around.in_image (content_after (content_of name content) t.children) in
+    let after = Holds s.p around.is_escaping around.in_image
+    (content_after (content_of name content) t.children) in
     subst (Prints s here) (append-nil inner)
-    (a [] (adds-nothing s.given.ending after
-    (holds-nothing s.p around.is_escaping around.in_image (content_after (content_of name content) t.children)
-    (later-inside s.given.bytes content name t.place.start t.place.end t.children stands fit built))))
+    (a [] (adds-nothing s.given.ending after (holds-nothing s.p around.is_escaping around.in_image
+    (content_after (content_of name content) t.children) (later-inside s.given.bytes content name
+    t.place.start t.place.end t.children stands fit built))))
 
 -- a node, and what is printed after it
 pub any-node : (s : Setting) (t : At) (content : Content) (name : Name) →
-    (is_transparent name || may_stand content name) ≡ true → Knows s t content name → (inner rest : List Piece)
-    → IsBuilt s.given.bytes (cond (is_transparent name) content (content_of name content)) t.children
+    (is_transparent name || may_stand content name) ≡ true → Knows s t content name →
+    (inner rest : List Piece)
+    →
+    IsBuilt s.given.bytes (cond (is_transparent name) content (content_of name content)) t.children
     → Before s t (cond (is_transparent name) content (content_of name content)) name inner
-    → Prints s (Here s t (cond (is_transparent name) (content_after content t.children) (content_past content name)))
+    → Prints s (Here s t
+    (cond (is_transparent name) (content_after content t.children) (content_past content name)))
     rest → Prints s (Here s t content) (prints s.given t name inner ++ rest)
 any-node s t content name stands k inner rest = by (is_transparent name) refl
   where
     by : (through : Bool) → is_transparent name ≡ through
         → IsBuilt s.given.bytes (cond through content (content_of name content)) t.children →
         Before s t (cond through content (content_of name content)) name inner
-        → Prints s (Here s t (cond through (content_after content t.children) (content_past content name))) rest →
+        → Prints s (Here s t
+        (cond through (content_after content t.children) (content_past content name))) rest →
         Prints s (Here s t content) (prints s.given t name inner ++ rest)
     by true e built a b = through-node s t content name e inner rest a b
     by false e built a b =
-        let may : may_stand content name ≡ true = second (is_transparent name) (may_stand content name) e stands in
-        solid-node s t content name e may k inner rest (inside-alone s t content name may k.fit built inner a) b
+        let may : may_stand content name ≡ true =
+        second (is_transparent name) (may_stand content name) e stands in
+        solid-node s t content name e may k inner rest
+        (inside-alone s t content name may k.fit built inner a) b

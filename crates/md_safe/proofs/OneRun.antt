@@ -1,5 +1,6 @@
 -- However many steps are allowed, the tokens are the same.
-use Rattle.std.proofs.Common.{◌≡◌, ℕ, List, ◌++◌, refl, sym, ap, ◌∙◌, Option, Some, None, option_map, zero, suc}
+use Rattle.std.proofs.Common.{◌≡◌, ℕ, List, ◌++◌, refl, sym, ap, ◌∙◌, Option, Some, None}
+use Rattle.std.proofs.Common.{option_map, zero, suc}
 use Rattle.md_safe.specs.Token.{Token}
 use Rattle.md_safe.specs.Tokenizer.{State, Step, Goes, Stops, Stuck, step, run, after_step, IsRun}
 
@@ -17,7 +18,8 @@ map_some out (Some y) x e = (y, refl, part (out ++ y) x e)
 same_after : (n m : ℕ) →
     ((state : State) (input : List ℕ) (x y : List Token) → run n state input ≡ Some x →
     run m state input ≡ Some y → x ≡ y) →
-    (s : Step) (x y : List Token) → after_step (run n) s ≡ Some x → after_step (run m) s ≡ Some y → x ≡ y
+    (s : Step) (x y : List Token) → after_step (run n) s ≡ Some x →
+    after_step (run m) s ≡ Some y → x ≡ y
 same_after n m go (Goes out state rest) x y e f =
     let p = map_some out (run n state rest) x e in
     let q = map_some out (run m state rest) y f in
@@ -25,11 +27,14 @@ same_after n m go (Goes out state rest) x y e f =
 same_after n m go (Stops out) x y e f = cc
 same_after n m go Stuck x y e f = cc
 
-same_run : (n m : ℕ) (state : State) (input : List ℕ) (x y : List Token) → run n state input ≡ Some x →
+same_run : (n m : ℕ) (state : State) (input : List ℕ) (x y : List Token) →
+    run n state input ≡ Some x →
     run m state input ≡ Some y → x ≡ y
 same_run zero m state input x y e f = cc
 same_run (suc n) zero state input x y e f = cc
-same_run (suc n) (suc m) state input x y e f = same_after n m (same_run n m) (step state input) x y e f
+same_run (suc n) (suc m) state input x y e f =
+    same_after n m (same_run n m) (step state input) x y e f
 
-pub one_run : (state : State) (input : List ℕ) (x y : List Token) → IsRun state input x → IsRun state input y → x ≡ y
+pub one_run : (state : State) (input : List ℕ) (x y : List Token) → IsRun state input x →
+    IsRun state input y → x ≡ y
 one_run state input x y h k = same_run h.steps k.steps state input x y h.emits k.emits

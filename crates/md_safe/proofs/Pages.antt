@@ -1,5 +1,7 @@
--- A page's document: its fixed parts by computing, its title character by character, and its body as it is built.
-use Rattle.std.proofs.Common.{◌≡◌, ℕ, ◌==◌, Bool, true, false, not, cond, List, [], ◌∷◌, ◌++◌, refl, ap, ◌∙◌, map, codes}
+-- A page's document: its fixed parts by computing, its title character by character, and its
+-- body as it is built.
+use Rattle.std.proofs.Common.{◌≡◌, ℕ, ◌==◌, Bool, true, false, not, cond, List, [], ◌∷◌, ◌++◌, refl}
+use Rattle.std.proofs.Common.{ap, ◌∙◌, map, codes}
 use Rattle.std.specs.Prelude.{Option, Some, None, is_some, option_and_then}
 use Rattle.std.specs.List.{list_all}
 use Rattle.std.proofs.lemmas.Bool.{and_parts}
@@ -9,7 +11,8 @@ use Rattle.md_safe.specs.Token.{Token, Doctype, Character, StartTag, EndTag, End
 use Rattle.md_safe.specs.Tokens.{tokens}
 use Rattle.md_safe.specs.PageTokens.{charset, page_tokens, plain_tag}
 use Rattle.md_safe.specs.Contents.{Flow, is_contained}
-use Rattle.md_safe.specs.Node.{Nodes, Open, Entry, Element, InHead, InText, InBody, Parser, Mode, with_character}
+use Rattle.md_safe.specs.Node.{Nodes, Open, Entry, Element, InHead, InText, InBody, Parser, Mode}
+use Rattle.md_safe.specs.Node.{with_character}
 use Rattle.md_safe.specs.Node.{Empty as NoNode}
 use Rattle.md_safe.specs.Construction.{step, run}
 use Rattle.md_safe.specs.Built.{at, open_at, put, with_characters, IsPlace, Builds, IsBuiltAsRead}
@@ -18,10 +21,13 @@ use Rattle.md_safe.proofs.TreeSteps.{after-one, is_character}
 use Rattle.md_safe.proofs.WholeTrees.{reading-built}
 
 -- tokens that lead from one parser to another are no doctype and no end of file
-constructed-runs : (doctype : Option (List ℕ)) (p q : Parser) (xs ys : List Token) → run p xs ≡ Some q →
-    constructed doctype p (xs ++ ys) ≡ option_and_then (λ next. constructed doctype next ys) (run p xs)
+constructed-runs : (doctype : Option (List ℕ)) (p q : Parser) (xs ys : List Token) →
+    run p xs ≡ Some q →
+    constructed doctype p (xs ++ ys)
+    ≡ option_and_then (λ next. constructed doctype next ys) (run p xs)
 constructed-runs doctype p q [] ys e = refl
-constructed-runs doctype p q (x ∷ xs) ys e = by x (λ next e. constructed-runs doctype next q xs ys e) e
+constructed-runs doctype p q (x ∷ xs) ys e =
+    by x (λ next e. constructed-runs doctype next q xs ys e) e
   where
     Later : Type 0
     Later = (next : Parser) → run next xs ≡ Some q → constructed doctype next (xs ++ ys)
@@ -29,7 +35,8 @@ constructed-runs doctype p q (x ∷ xs) ys e = by x (λ next e. constructed-runs
 
     go : (next : Option Parser) → Later → option_and_then (λ next. run next xs) next ≡ Some q →
         option_and_then (λ next. constructed doctype next (xs ++ ys)) next
-        ≡ option_and_then (λ next. constructed doctype next ys) (option_and_then (λ next. run next xs) next)
+        ≡ option_and_then (λ next. constructed doctype next ys)
+        (option_and_then (λ next. run next xs) next)
     go None later e = refl
     go (Some next) later e = later next e
 
@@ -41,20 +48,26 @@ constructed-runs doctype p q (x ∷ xs) ys e = by x (λ next e. constructed-runs
     by (StartTag name attributes flag) later e = go (step p (StartTag name attributes flag)) later e
     by (EndTag name) later e = go (step p (EndTag name)) later e
 
-constructed-after : (doctype : Option (List ℕ)) (p q : Parser) (xs ys : List Token) → run p xs ≡ Some q →
+constructed-after : (doctype : Option (List ℕ)) (p q : Parser) (xs ys : List Token) →
+    run p xs ≡ Some q →
     constructed doctype p (xs ++ ys) ≡ constructed doctype q ys
 constructed-after doctype p q xs ys e =
-    constructed-runs doctype p q xs ys e ∙ ap (λ r. option_and_then (λ next. constructed doctype next ys) r) e
+    constructed-runs doctype p q xs ys e
+    ∙ ap (λ r. option_and_then (λ next. constructed doctype next ys) r) e
 
 -- characters in "text"
-text-says : (mode : Mode) (bytes : List ℕ) (node : Open) (others : List Open) (active : List Entry) (created : ℕ) →
-    list_all is_character bytes ≡ true → run (at (InText mode) (node ∷ others) active created) (map Character bytes)
-    ≡ Some (at (InText mode) (record node { children = with_characters node.children bytes } ∷ others) active created)
+text-says : (mode : Mode) (bytes : List ℕ) (node : Open) (others : List Open)
+    (active : List Entry) (created : ℕ) →
+    list_all is_character bytes ≡ true →
+    run (at (InText mode) (node ∷ others) active created) (map Character bytes)
+    ≡ Some (at (InText mode)
+    (record node { children = with_characters node.children bytes } ∷ others) active created)
 text-says mode [] node others active created h = refl
 text-says mode (byte ∷ bytes) node others active created h =
     let parts = and_parts (is_character byte) (list_all is_character bytes) h in
     let next : Open = record node { children = with_character node.children byte } in
-    after-one (at (InText mode) (node ∷ others) active created) (at (InText mode) (next ∷ others) active created)
+    after-one (at (InText mode) (node ∷ others) active created)
+    (at (InText mode) (next ∷ others) active created)
     (Character byte) (map Character bytes) (by (byte == 0) parts.0)
     ∙ text-says mode bytes next others active created parts.1
   where
@@ -69,7 +82,8 @@ text-says mode (byte ∷ bytes) node others active created h =
 -- the body and what is around it, after a title of these characters
 abbrev root_at : List ℕ → Open
 root_at title =
-    open_at 0 (codes "html") (Element (codes "head") [] (Element (codes "meta") (charset ∷ []) NoNode
+    open_at 0 (codes "html")
+    (Element (codes "head") [] (Element (codes "meta") (charset ∷ []) NoNode
     (Element (codes "title") [] (with_characters NoNode title) NoNode)) NoNode)
 
 abbrev body_at : Nodes → Open
@@ -90,26 +104,32 @@ pub page-built : (title : List ℕ) (body : Forest) → list_all is_character ti
     document_of (page_tokens title body) ≡ Some (page_document title body)
 page-built title body h built =
     let html : Option (List ℕ) = Some (codes "html") in
-    let ending : List Token = EndTag (codes "body") ∷ EndTag (codes "html") ∷ Character 10 ∷ EndOfFile ∷ [] in
+    let ending : List Token =
+    EndTag (codes "body") ∷ EndTag (codes "html") ∷ Character 10 ∷ EndOfFile ∷ [] in
     let later : List Token =
-    EndTag (codes "title") ∷ EndTag (codes "head") ∷ plain_tag (codes "body") ∷ (tokens body ++ ending) in
+    EndTag (codes "title") ∷ EndTag (codes "head") ∷ plain_tag (codes "body")
+    ∷ (tokens body ++ ending) in
     let others : List Open =
     open_at 1 (codes "head") (Element (codes "meta") (charset ∷ []) NoNode NoNode)
     ∷ open_at 0 (codes "html") NoNode ∷ [] in
     constructed-after html (at (InText InHead) (open_at 3 (codes "title") NoNode ∷ others) [] 4)
     (at (InText InHead) (open_at 3 (codes "title") (with_characters NoNode title) ∷ others) [] 4)
-    (map Character title) later (text-says InHead title (open_at 3 (codes "title") NoNode) others [] 4 h)
+    (map Character title) later
+    (text-says InHead title (open_at 3 (codes "title") NoNode) others [] 4 h)
     ∙ constructed-after html (at InBody (body_at NoNode ∷ root_at title ∷ []) [] 5)
-    (at InBody (body_at (put NoNode body) ∷ root_at title ∷ []) [] built.0) (tokens body) ending built.1
+    (at InBody (body_at (put NoNode body) ∷ root_at title ∷ []) [] built.0)
+    (tokens body) ending built.1
 
 pub reading-page-built : (title : List ℕ) (body : Forest) → list_all is_character title ≡ true →
     is_forest body ≡ true → is_contained false Flow body ≡ true →
     document_of (page_tokens title body) ≡ Some (page_document title body)
 reading-page-built title body h grammar contained =
-    page-built title body h (reading-built body grammar contained InBody (body_at NoNode) (root_at title ∷ []) [] 5
-    (body-place title))
+    page-built title body h (reading-built body grammar contained InBody (body_at NoNode)
+    (root_at title ∷ []) [] 5 (body-place title))
 
-pub text-page-built : (title text : List ℕ) → list_all is_character title ≡ true → (built : IsBuiltAsRead text) →
+pub text-page-built : (title text : List ℕ) → list_all is_character title ≡ true →
+    (built : IsBuiltAsRead text) →
     document_of (page_tokens title built.forest) ≡ Some (page_document title built.forest)
 text-page-built title text h built =
-    page-built title built.forest h (built.builds InBody (body_at NoNode) (root_at title ∷ []) [] 5 (body-place title))
+    page-built title built.forest h
+    (built.builds InBody (body_at NoNode) (root_at title ∷ []) [] 5 (body-place title))

@@ -1,13 +1,17 @@
 -- The last paragraph of flow content takes the ways back before its end.
-use Rattle.std.proofs.Common.{◌≡◌, ℕ, Bool, ◌==◌, true, false, ◌&&◌, List, [], ◌∷◌, ◌++◌, refl, sym, ap, ◌∙◌, subst, append_assoc, append-nil, codes}
+use Rattle.std.proofs.Common.{◌≡◌, ℕ, Bool, ◌==◌, true, false, ◌&&◌, List, [], ◌∷◌, ◌++◌, refl, sym}
+use Rattle.std.proofs.Common.{ap, ◌∙◌, subst, append_assoc, append-nil, codes}
 use Rattle.std.proofs.lemmas.Bool.{and_parts, and_from}
 use Rattle.md_base.proofs.Lies.{lie}
 use Rattle.md_text.specs.Bytes.{is_one_of}
 use Rattle.md_text.specs.Laws.{is_line_ends}
-use Rattle.md_text.specs.Html.{Attribute, Forest, Empty, Text, Void, Element, is_forest, is_tag, elements, void_tags, written, written_attributes, opening_tag, closing_tag}
+use Rattle.md_text.specs.Html.{Attribute, Forest, Empty, Text, Void, Element, is_forest, is_tag}
+use Rattle.md_text.specs.Html.{elements, void_tags, written, written_attributes, opening_tag}
+use Rattle.md_text.specs.Html.{closing_tag}
 use Rattle.md_text.proofs.HtmlPut.{IsMade, made-before}
 use Rattle.md_safe.specs.Contents.{Content, Flow, Phrasing, held_in, voids_in, is_contained}
-use Rattle.md_safe.proofs.Stands.{Stands, stands-join, stands-nothing, stands-text, turns-tag, is_held}
+use Rattle.md_safe.proofs.Stands.{Stands, stands-join, stands-nothing, stands-text, turns-tag}
+use Rattle.md_safe.proofs.Stands.{is_held}
 
 -- a forest with an element among its roots, after the children of which a text is inserted
 record Cut (nested : Bool) (x : List ℕ) (f : Forest) (y : List ℕ) : Type 0 where
@@ -22,11 +26,14 @@ record Cut (nested : Bool) (x : List ℕ) (f : Forest) (y : List ℕ) : Type 0 w
   forest : is_forest children ≡ true
   rest_forest : is_forest rest ≡ true
   rest_contained : is_contained nested Flow rest ≡ true
-  whole : written f ≡ front ++ ((opening_tag name attributes ++ written children ++ closing_tag name) ++ written rest)
-  made : y ≡ front ++ ((opening_tag name attributes ++ (written children ++ x) ++ closing_tag name) ++ written rest)
+  whole : written f ≡ front
+      ++ ((opening_tag name attributes ++ written children ++ closing_tag name) ++ written rest)
+  made : y ≡ front ++ ((opening_tag name attributes ++ (written children ++ x) ++ closing_tag name)
+      ++ written rest)
 
 -- something before a forest that is cut
-cut-after : (nested : Bool) (x front : List ℕ) (f rest : Forest) (y : List ℕ) → Stands nested Flow front →
+cut-after : (nested : Bool) (x front : List ℕ) (f rest : Forest) (y : List ℕ) →
+    Stands nested Flow front →
     written f ≡ front ++ written rest →
     Cut nested x rest y → Cut nested x f (front ++ y)
 cut-after nested x front f rest y stands whole c = record {
@@ -56,11 +63,12 @@ void-whole name attributes rest = by name (written_attributes attributes) (writt
 element-whole : (name : List ℕ) (attributes : List Attribute) (children rest : Forest) →
     written (Element name attributes children rest)
     ≡ (opening_tag name attributes ++ written children ++ closing_tag name) ++ written rest
-element-whole name attributes children rest = by name (written_attributes attributes) (written children) (written rest)
+element-whole name attributes children rest =
+    by name (written_attributes attributes) (written children) (written rest)
   where
     by : (name attributes children rest : List ℕ) → 60 ∷ (name ++ (attributes ++ (62 ∷ (children
-        ++ (60 ∷ 47 ∷ (name ++ (62 ∷ rest)))))))
-        ≡ ((60 ∷ (name ++ (attributes ++ (62 ∷ [])))) ++ children ++ (60 ∷ 47 ∷ (name ++ (62 ∷ [])))) ++ rest
+        ++ (60 ∷ 47 ∷ (name ++ (62 ∷ rest))))))) ≡ ((60 ∷ (name ++ (attributes ++ (62 ∷ []))))
+        ++ children ++ (60 ∷ 47 ∷ (name ++ (62 ∷ [])))) ++ rest
     by name attributes children rest = simp append_assoc
 
 -- the text of a forest that is contained stands
@@ -73,18 +81,22 @@ stands-forest nested content f h c = record {
   contained = c;
 }
 
-cuts : (nested : Bool) (x : List ℕ) → IsMade x (λ f y. is_contained nested Flow f ≡ true → Cut nested x f y)
+cuts : (nested : Bool) (x : List ℕ) →
+    IsMade x (λ f y. is_contained nested Flow f ≡ true → Cut nested x f y)
 cuts nested x = record {
   texts = λ bytes rest y escaped later contained. cut-after nested x bytes (Text bytes rest) rest y
       (stands-text nested Flow bytes escaped refl) refl (later contained);
   voids = λ name attributes rest y tag later contained.
-      (let parts = and_parts (is_one_of (voids_in Flow) name) (is_contained nested Flow rest) contained in
+      (let parts =
+      and_parts (is_one_of (voids_in Flow) name) (is_contained nested Flow rest) contained in
       cut-after nested x (written (Void name attributes Empty)) (Void name attributes rest) rest y
       (stands-forest nested Flow (Void name attributes Empty) (and_from
       (is_tag void_tags name attributes) true tag refl)
-      (and_from (is_one_of (voids_in Flow) name) true parts.0 refl)) (void-whole name attributes rest) (later parts.1));
+      (and_from (is_one_of (voids_in Flow) name) true parts.0 refl))
+      (void-whole name attributes rest) (later parts.1));
   rests = λ name attributes children rest y tag forest later contained.
-      (let parts = and_parts (is_held nested Flow name children) (is_contained nested Flow rest) contained in
+      (let parts =
+      and_parts (is_held nested Flow name children) (is_contained nested Flow rest) contained in
       cut-after nested x (opening_tag name attributes ++ written children ++ closing_tag name)
       (Element name attributes children rest) rest y
       (subst (Stands nested Flow) (element-whole name attributes children Empty ∙ append-nil _)
@@ -94,7 +106,8 @@ cuts nested x = record {
       (and_from (is_held nested Flow name children) true parts.0 refl)))
       (element-whole name attributes children rest) (later parts.1));
   insides = λ name attributes children rest tag forest rests contained.
-      (let parts = and_parts (is_held nested Flow name children) (is_contained nested Flow rest) contained in
+      (let parts =
+      and_parts (is_held nested Flow name children) (is_contained nested Flow rest) contained in
       record {
         front = [];
         name = name;
@@ -122,7 +135,8 @@ rest_of b c x y e = cc
 not_both : {A : Type 0} (n : ℕ) → 60 ≡ n → 32 ≡ n → A
 not_both n e f = lie (ap (λ n. n == 60) (f ∙ sym e))
 
--- where an insertion that begins with a space leaves both ends as they were, both are cut at one place
+-- where an insertion that begins with a space leaves both ends as they were, both are
+-- cut at one place
 same-end : (a b c d x : List ℕ) → a ++ (60 ∷ c) ≡ b ++ (60 ∷ d) →
     a ++ (32 ∷ (x ++ (60 ∷ c))) ≡ b ++ (32 ∷ (x ++ (60 ∷ d))) → c ≡ d
 same-end [] [] c d x e f = rest_of 60 60 c d e
@@ -136,65 +150,74 @@ same-end (m ∷ a) (n ∷ b) c d x e f =
     same-end a b c d x (rest_of m n (a ++ (60 ∷ c)) (b ++ (60 ∷ d)) e)
     (rest_of m n (a ++ (32 ∷ (x ++ (60 ∷ c)))) (b ++ (32 ∷ (x ++ (60 ∷ d)))) f)
 
-not_held : (nested : Bool) (name : List ℕ) (children : Forest) → is_held nested Flow (112 ∷ 62 ∷ name) children ≡ false
+not_held : (nested : Bool) (name : List ℕ) (children : Forest) →
+    is_held nested Flow (112 ∷ 62 ∷ name) children ≡ false
 not_held nested name children = refl
 
 -- the element whose end that is, is a paragraph
 paragraph-name : (nested : Bool) (name : List ℕ) (children : Forest) (endings rest : List ℕ) →
-    112 ∷ 62 ∷ endings ≡ name ++ (62 ∷ rest) → is_held nested Flow name children ≡ true → name ≡ codes "p"
-paragraph-name nested [] children endings rest e h = lie (ap (λ n. n == 62) (first_of 112 62 (62 ∷ endings) rest e))
+    112 ∷ 62 ∷ endings ≡ name ++ (62 ∷ rest) → is_held nested Flow name children ≡ true →
+    name ≡ codes "p"
+paragraph-name nested [] children endings rest e h =
+    lie (ap (λ n. n == 62) (first_of 112 62 (62 ∷ endings) rest e))
 paragraph-name nested (b ∷ []) children endings rest e h =
     ap (λ b. b ∷ []) (sym (first_of 112 b (62 ∷ endings) (62 ∷ rest) e))
 paragraph-name nested (b ∷ c ∷ name) children endings rest e h =
     let first : 112 ≡ b = first_of 112 b (62 ∷ endings) (c ∷ (name ++ (62 ∷ rest))) e in
     let second : 62 ≡ c = first_of 62 c endings (name ++ (62 ∷ rest))
     (rest_of 112 b (62 ∷ endings) (c ∷ (name ++ (62 ∷ rest))) e) in
-    lie (sym (not_held nested name children) ∙ subst (λ c. is_held nested Flow (112 ∷ c ∷ name) children ≡ true)
-    (sym second)
+    lie (sym (not_held nested name children)
+    ∙ subst (λ c. is_held nested Flow (112 ∷ c ∷ name) children ≡ true) (sym second)
     (subst (λ b. is_held nested Flow (b ∷ c ∷ name) children ≡ true) (sym first) h))
 
-regrouped : (before inserted endings : List ℕ) → before ++ inserted ++ codes "</p>" ++ endings ≡ before
-    ++ (inserted ++ (codes "</p>" ++ endings))
+regrouped : (before inserted endings : List ℕ) → before ++ inserted ++ codes "</p>" ++ endings
+    ≡ before ++ (inserted ++ (codes "</p>" ++ endings))
 regrouped before inserted endings = simp append_assoc
 
-cut-regrouped : (front opened children close rest : List ℕ) → front ++ ((opened ++ children ++ close) ++ rest)
+cut-regrouped : (front opened children close rest : List ℕ) →
+    front ++ ((opened ++ children ++ close) ++ rest)
     ≡ (front ++ (opened ++ children)) ++ (close ++ rest)
 cut-regrouped front opened children close rest = simp append_assoc
 
 made-regrouped : (front opened children x close rest : List ℕ)
-    → front ++ ((opened ++ (children ++ x) ++ close) ++ rest) ≡ (front ++ (opened ++ children)) ++ (x ++ (close
-    ++ rest))
+    → front ++ ((opened ++ (children ++ x) ++ close) ++ rest)
+    ≡ (front ++ (opened ++ children)) ++ (x ++ (close ++ rest))
 made-regrouped front opened children x close rest = simp append_assoc
 
 pub paragraph-takes : (nested : Bool) (before endings x : List ℕ) → is_line_ends endings ≡ true →
     Stands nested Flow (before ++ codes "</p>" ++ endings) → Stands nested Phrasing (32 ∷ x) →
     Stands nested Flow (before ++ (32 ∷ x) ++ codes "</p>" ++ endings)
 paragraph-takes nested before endings x h s r =
-    let cut = made-before (λ f y. is_contained nested Flow f ≡ true → Cut nested (32 ∷ x) f y) before endings (32 ∷ x) h
-    (cuts nested (32 ∷ x)) s.forest s.reading s.contained in
+    let cut = made-before (λ f y. is_contained nested Flow f ≡ true → Cut nested (32 ∷ x) f y)
+    before endings (32 ∷ x) h (cuts nested (32 ∷ x)) s.forest s.reading s.contained in
     let open_tag : List ℕ = opening_tag cut.name cut.attributes in
     let close : List ℕ = 47 ∷ (cut.name ++ (62 ∷ [])) in
-    let left : before ++ (codes "</p>" ++ endings) ≡ (cut.front ++ (open_tag ++ written cut.children))
-    ++ (60 ∷ (close ++ written cut.rest)) =
+    let left : before ++ (codes "</p>" ++ endings)
+    ≡ (cut.front ++ (open_tag ++ written cut.children)) ++ (60 ∷ (close ++ written cut.rest)) =
     sym (append_assoc before (codes "</p>") endings) ∙ (sym s.reading.written_so ∙ (cut.whole
     ∙ cut-regrouped cut.front open_tag (written cut.children) (60 ∷ close) (written cut.rest))) in
-    let right : before ++ (32 ∷ (x ++ (codes "</p>" ++ endings))) ≡ (cut.front ++ (open_tag ++ written cut.children))
+    let right : before ++ (32 ∷ (x ++ (codes "</p>" ++ endings)))
+    ≡ (cut.front ++ (open_tag ++ written cut.children))
     ++ (32 ∷ (x ++ (60 ∷ (close ++ written cut.rest)))) =
-    sym (regrouped before (32 ∷ x) endings) ∙ (cut.made
-    ∙ made-regrouped cut.front open_tag (written cut.children) (32 ∷ x) (60 ∷ close) (written cut.rest)) in
+    sym (regrouped before (32 ∷ x) endings) ∙ (cut.made ∙ made-regrouped cut.front open_tag
+    (written cut.children) (32 ∷ x) (60 ∷ close) (written cut.rest)) in
     let ends : 47 ∷ 112 ∷ 62 ∷ endings ≡ close ++ written cut.rest =
     same-end before (cut.front ++ (open_tag ++ written cut.children)) (47 ∷ 112 ∷ 62 ∷ endings)
     (close ++ written cut.rest) x left right in
     let later : 112 ∷ 62 ∷ endings ≡ (cut.name ++ (62 ∷ [])) ++ written cut.rest =
     rest_of 47 47 (112 ∷ 62 ∷ endings) ((cut.name ++ (62 ∷ [])) ++ written cut.rest) ends in
-    let is : cut.name ≡ codes "p" = paragraph-name nested cut.name cut.children endings (written cut.rest)
+    let is : cut.name ≡ codes "p" =
+    paragraph-name nested cut.name cut.children endings (written cut.rest)
     (later ∙ append_assoc cut.name (62 ∷ []) (written cut.rest)) cut.held in
-    let inside : Stands nested Phrasing (written cut.children) = stands-forest nested Phrasing cut.children cut.forest
+    let inside : Stands nested Phrasing (written cut.children) =
+    stands-forest nested Phrasing cut.children cut.forest
     (subst (λ name. is_held nested Flow name cut.children ≡ true) is cut.held) in
     subst (Stands nested Flow) (sym cut.made)
-    (stands-join nested Flow cut.front _ cut.front_stands
-    (stands-join nested Flow (open_tag ++ (written cut.children ++ (32 ∷ x)) ++ closing_tag cut.name) (written cut.rest)
-    (subst (Stands nested Flow) (sym (append_assoc open_tag (written cut.children ++ (32 ∷ x)) (closing_tag cut.name)))
-    (turns-tag nested Phrasing Flow cut.name cut.attributes cut.tag (ap (λ name. held_in nested Flow name) is)
-    (written cut.children ++ (32 ∷ x)) (stands-join nested Phrasing (written cut.children) (32 ∷ x) inside r)))
+    (stands-join nested Flow cut.front _ cut.front_stands (stands-join nested Flow
+    (open_tag ++ (written cut.children ++ (32 ∷ x)) ++ closing_tag cut.name) (written cut.rest)
+    (subst (Stands nested Flow)
+    (sym (append_assoc open_tag (written cut.children ++ (32 ∷ x)) (closing_tag cut.name)))
+    (turns-tag nested Phrasing Flow cut.name cut.attributes cut.tag
+    (ap (λ name. held_in nested Flow name) is) (written cut.children ++ (32 ∷ x))
+    (stands-join nested Phrasing (written cut.children) (32 ∷ x) inside r)))
     (stands-forest nested Flow cut.rest cut.rest_forest cut.rest_contained)))

@@ -1,5 +1,8 @@
--- Phrasing content is built as it is read: texts, void tags, formatting elements and others, without a link in a link.
-use Rattle.std.proofs.Common.{◌≡◌, ◌⊎◌, inl, inr, ℕ, ◌≤◌, ◌==◌, suc, Bool, true, false, not, ◌&&◌, ◌||◌, cond, List, [], ◌∷◌, ◌++◌, refl, sym, ap, ◌∙◌, subst, map, codes, arith, eq-eqb}
+-- Phrasing content is built as it is read: texts, void tags, formatting elements and others,
+-- without a link in a link.
+use Rattle.std.proofs.Common.{◌≡◌, ◌⊎◌, inl, inr, ℕ, ◌≤◌, ◌==◌, suc, Bool, true, false, not, ◌&&◌}
+use Rattle.std.proofs.Common.{◌||◌, cond, List, [], ◌∷◌, ◌++◌, refl, sym, ap, ◌∙◌, subst, map}
+use Rattle.std.proofs.Common.{codes, arith, eq-eqb}
 use Rattle.std.specs.Prelude.{Some, None, find, option_map, take, is_some, bytes_eq}
 use Rattle.std.specs.Option.{option_map_or}
 use Rattle.std.specs.List.{list_any}
@@ -7,34 +10,42 @@ use Rattle.std.proofs.lemmas.Bool.{and_parts, or_cases, or_left}
 use Rattle.std.proofs.lemmas.Slice.Eq.{bytes_eq-Decides}
 use Rattle.md_base.proofs.Lies.{lie}
 use Rattle.md_text.specs.Bytes.{is_one_of}
-use Rattle.md_text.specs.Html.{Attribute, Forest, Empty, Text, Void, Element, is_forest, is_tag, begins_with_text, elements, void_tags}
+use Rattle.md_text.specs.Html.{Attribute, Forest, Empty, Text, Void, Element, is_forest, is_tag}
+use Rattle.md_text.specs.Html.{begins_with_text, elements, void_tags}
 use Rattle.md_text.specs.References.{is_escaped}
 use Rattle.md_base.specs.Identifier.{is_nonempty}
 use Rattle.md_safe.specs.Token.{Token, Character, StartTag, EndTag, TokenAttribute}
 use Rattle.md_safe.specs.Tokens.{seen, seen_attributes, tokens}
-use Rattle.md_safe.specs.Contents.{Content, Flow, Phrasing, Linked, Characters, span_elements, elements_in, held_in, voids_in, may_say, is_contained}
+use Rattle.md_safe.specs.Contents.{Content, Flow, Phrasing, Linked, Characters, span_elements}
+use Rattle.md_safe.specs.Contents.{elements_in, held_in, voids_in, may_say, is_contained}
 use Rattle.md_safe.specs.Node.{Nodes, Open, Entry, Formatting, Mode, Parser, with_element}
 use Rattle.md_safe.specs.Node.{Empty as NoNode}
 use Rattle.md_safe.specs.Elements.{special, any_scope, parts, cells, sections}
-use Rattle.md_safe.specs.Stack.{is_among, has_identity, has_in_scope, count_until, insert, popped, popped_by}
-use Rattle.md_safe.specs.Formatting.{is_open, is_active, push, last_active, without, end_other, adopt, end_formatting}
-use Rattle.md_safe.specs.InBody.{reconstructed, insert_formatting, insert_void, start_in_body, end_in_body}
+use Rattle.md_safe.specs.Stack.{is_among, has_identity, has_in_scope, count_until, insert, popped}
+use Rattle.md_safe.specs.Stack.{popped_by}
+use Rattle.md_safe.specs.Formatting.{is_open, is_active, push, last_active, without, end_other}
+use Rattle.md_safe.specs.Formatting.{adopt, end_formatting}
+use Rattle.md_safe.specs.InBody.{reconstructed, insert_formatting, insert_void, start_in_body}
+use Rattle.md_safe.specs.InBody.{end_in_body}
 use Rattle.md_safe.specs.Construction.{run, step}
 use Rattle.md_safe.specs.Built.{with_characters, put, at, is_body, AreCreated, AreOpen}
-use Rattle.md_safe.proofs.Lists.{Keeps, keeps-all, keeps-twice, room, keeps-room, keeps-open, keeps-created, later-created, not-active, open-under, keeps-none}
-use Rattle.md_safe.proofs.TreeSteps.{past, after, after-one, start-in-body, end-in-body, nothing-lost, characters-run, same-open, seen-characters}
+use Rattle.md_safe.proofs.Lists.{Keeps, keeps-all, keeps-twice, room, keeps-room, keeps-open}
+use Rattle.md_safe.proofs.Lists.{keeps-created, later-created, not-active, open-under, keeps-none}
+use Rattle.md_safe.proofs.TreeSteps.{past, after, after-one, start-in-body, end-in-body}
+use Rattle.md_safe.proofs.TreeSteps.{nothing-lost, characters-run, same-open, seen-characters}
 
 -- where phrasing content may be inserted
-pub record Here (mode : Mode) (node : Open) (others : List Open) (active : List Entry) (created : ℕ) (free : Bool) :
-    Type 0 where
+pub record Here (mode : Mode) (node : Open) (others : List Open) (active : List Entry) (created : ℕ)
+    (free : Bool) : Type 0 where
   pub body : is_body mode ≡ true
   pub opened : AreOpen (node ∷ others) active
   pub made : AreCreated created active
   pub no_link : free ≡ true → last_active (codes "a") active ≡ None
 
--- its tokens insert it there; elements are created, and some formatting elements are no longer active
-pub record Done (mode : Mode) (node : Open) (others : List Open) (active : List Entry) (created : ℕ) (forest : Forest) :
-    Type 0 where
+-- its tokens insert it there; elements are created, and some formatting elements are
+-- no longer active
+pub record Done (mode : Mode) (node : Open) (others : List Open) (active : List Entry) (created : ℕ)
+    (forest : Forest) : Type 0 where
   pub left : List Entry
   pub more : ℕ
   pub runs : run (at mode (node ∷ others) active created) (tokens forest)
@@ -43,8 +54,8 @@ pub record Done (mode : Mode) (node : Open) (others : List Open) (active : List 
   pub later : created ≤ more
 
 -- an element's start tag, what it holds and its end tag insert it
-pub record Passed (mode : Mode) (node : Open) (others : List Open) (active : List Entry) (created : ℕ) (name : List ℕ)
-    (attributes : List Attribute) (inner : Forest) : Type 0 where
+pub record Passed (mode : Mode) (node : Open) (others : List Open) (active : List Entry)
+    (created : ℕ) (name : List ℕ) (attributes : List Attribute) (inner : Forest) : Type 0 where
   pub left : List Entry
   pub more : ℕ
   pub runs : (ys : List Token) → run (at mode (node ∷ others) active created)
@@ -62,24 +73,29 @@ Each P [] = Unit {0}
 Each P (element ∷ others) = P element.0 element.1 × Each P others
 
 -- an element that may stand somewhere is one of those
-pub found : (P : List ℕ → Content → Type 0) (those : List (List ℕ × Content)) (name : List ℕ) (inner : Forest) →
+pub found : (P : List ℕ → Content → Type 0) (those : List (List ℕ × Content))
+    (name : List ℕ) (inner : Forest) →
     Each P those →
     option_map_or (λ held. is_contained false held inner)
-    (option_map (λ element. element.1) (find (λ element. bytes_eq element.0 name) those)) false ≡ true →
+    (option_map (λ element. element.1) (find (λ element. bytes_eq element.0 name) those)) false
+    ≡ true →
     (held : Content) × P name held × (is_contained false held inner ≡ true)
 found P [] name inner each h = lie h
 found P (element ∷ others) name inner each h =
     by (bytes_eq element.0 name) refl h (λ h. found P others name inner each.1 h)
   where
-    by : (is : Bool) → bytes_eq element.0 name ≡ is → option_map_or (λ held. is_contained false held inner)
-        (option_map (λ element. element.1)
+    by : (is : Bool) → bytes_eq element.0 name ≡ is →
+        option_map_or (λ held. is_contained false held inner) (option_map (λ element. element.1)
         (cond is (Some element) (find (λ element. bytes_eq element.0 name) others))) false ≡ true →
         (option_map_or (λ held. is_contained false held inner) (option_map (λ element. element.1)
         (find (λ element. bytes_eq element.0 name) others)) false ≡ true →
         (held : Content) × P name held × (is_contained false held inner ≡ true)) →
         (held : Content) × P name held × (is_contained false held inner ≡ true)
-    by true e h later =
-        (element.1, subst (λ name. P name element.1) ((bytes_eq-Decides element.0 name).0 e) each.0, h)
+    by true e h later = (
+      element.1,
+      subst (λ name. P name element.1) ((bytes_eq-Decides element.0 name).0 e) each.0,
+      h,
+    )
     by false e h later = later h
 
 -- ---- names
@@ -117,7 +133,8 @@ pub record IsOrdinary (name : List ℕ) : Type 0 where
   pub ends : (p : Parser) → end_in_body name p ≡ end_other name p
 
 outside : (name : List ℕ) → is_one_of parts name ≡ false → is_one_of cells name ≡ false →
-    is_one_of (codes "table" ∷ codes "tr" ∷ sections) name ≡ false → bytes_eq name name ≡ true → IsOuter name
+    is_one_of (codes "table" ∷ codes "tr" ∷ sections) name ≡ false →
+    bytes_eq name name ≡ true → IsOuter name
 outside name a b c e = record { outer = a; no_cell = b; no_table = c; self = e }
 
 pub em-formats : IsFormatting (codes "em")
@@ -167,7 +184,8 @@ sup-ordinary = record {
   ends = λ p. refl;
 }
 
-pub void-named : (content : Content) (name : List ℕ) → is_one_of (codes "br" ∷ codes "img" ∷ codes "input"
+pub void-named : (content : Content) (name : List ℕ) →
+    is_one_of (codes "br" ∷ codes "img" ∷ codes "input"
     ∷ []) name ≡ true
     → IsVoid name
 void-named content name h =
@@ -187,20 +205,22 @@ void-named content name h =
 
 -- ---- a void tag
 
-pub void-step : (mode : Mode) (node : Open) (others : List Open) (active : List Entry) (created : ℕ) (name : List ℕ)
-    (attributes : List TokenAttribute) → is_body mode ≡ true → AreOpen (node ∷ others) active → IsVoid name →
-    step (at mode (node ∷ others) active created) (StartTag name attributes true)
-    ≡ Some (at mode (record node { children = with_element node.children name attributes NoNode } ∷ others) active
+pub void-step : (mode : Mode) (node : Open) (others : List Open) (active : List Entry) (created : ℕ)
+    (name : List ℕ) (attributes : List TokenAttribute) → is_body mode ≡ true →
+    AreOpen (node ∷ others) active → IsVoid name →
+    step (at mode (node ∷ others) active created) (StartTag name attributes true) ≡ Some (at mode
+    (record node { children = with_element node.children name attributes NoNode } ∷ others) active
     (suc created))
 void-step mode node others active created name attributes body opened v =
     start-in-body mode body (node ∷ others) active created name attributes true v.outer
-    ∙ (v.starts attributes (at mode (node ∷ others) active created)
-    ∙ ap (λ b. cond b None (Some (insert_void name attributes (at mode (node ∷ others) active created))))
+    ∙ (v.starts attributes (at mode (node ∷ others) active created) ∙ ap (λ b. cond b None
+    (Some (insert_void name attributes (at mode (node ∷ others) active created))))
     (nothing-lost mode (node ∷ others) active created opened))
 
 -- ---- an ordinary element
 
-pub ordinary-passes : (mode : Mode) (node : Open) (others : List Open) (active : List Entry) (created : ℕ)
+pub ordinary-passes :
+    (mode : Mode) (node : Open) (others : List Open) (active : List Entry) (created : ℕ)
     (name : List ℕ) (attributes : List Attribute) (inner : Forest) → is_body mode ≡ true →
     AreOpen (node ∷ others) active → IsOrdinary name →
     Done mode (record {
@@ -221,8 +241,8 @@ ordinary-passes mode node others active created name attributes inner body opene
     let full : Open = record new { children = put NoNode inner } in
     let begun : step start (StartTag name (seen_attributes attributes) false)
     ≡ Some (at mode (new ∷ node ∷ others) active (suc created)) =
-    start-in-body mode body (node ∷ others) active created name (seen_attributes attributes) false k.names.outer
-    ∙ (k.starts (seen_attributes attributes) start
+    start-in-body mode body (node ∷ others) active created name (seen_attributes attributes) false
+    k.names.outer ∙ (k.starts (seen_attributes attributes) start
     ∙ ap (λ b. cond b None (Some (insert name (seen_attributes attributes) start)))
     (nothing-lost mode (node ∷ others) active created opened)) in
     let last : Parser = at mode (full ∷ node ∷ others) d.left d.more in
@@ -235,8 +255,9 @@ ordinary-passes mode node others active created name attributes inner body opene
       more = d.more;
       runs = λ ys.
           after-one start (at mode (new ∷ node ∷ others) active (suc created))
-          (StartTag name (seen_attributes attributes) false) (tokens inner ++ (EndTag name ∷ ys)) begun
-          ∙ (after (at mode (new ∷ node ∷ others) active (suc created)) last (tokens inner) (EndTag name ∷ ys) d.runs
+          (StartTag name (seen_attributes attributes) false) (tokens inner ++ (EndTag name ∷ ys))
+          begun ∙ (after (at mode (new ∷ node ∷ others) active (suc created)) last (tokens inner)
+          (EndTag name ∷ ys) d.runs
           ∙ after-one last (record last { stack = popped last.stack }) (EndTag name) ys ended);
       keeps = d.keeps;
       later = omega (d.later, arith);
@@ -257,7 +278,8 @@ element_of identity name attributes children = record {
 }
 
 -- the adoption agency pops the current node, where that is the formatting element
-adopt-current : (mode : Mode) (full node : Open) (others : List Open) (active kept : List Entry) (more : ℕ)
+adopt-current :
+    (mode : Mode) (full node : Open) (others : List Open) (active kept : List Entry) (more : ℕ)
     (name : List ℕ) → is_one_of special full.name ≡ false → without full.identity active ≡ kept →
     adopt name full.identity (at mode (full ∷ node ∷ others) active more)
     ≡ Some (at mode (popped (full ∷ node ∷ others)) kept more)
@@ -269,18 +291,19 @@ adopt-current mode full node others active kept more name plain left =
     past (not (is_open full.identity stack)) _ _
     (ap not (or_left (full.identity == full.identity) (is_open full.identity (node ∷ others)) same))
     ∙ (past (not (has_in_scope any_scope (has_identity full.identity) stack)) _ _
-    (ap not (or_left (full.identity == full.identity) _ same))
-    ∙ (past (list_any (is_among special) (take (count_until (has_identity full.identity) stack) stack)) _ _
+    (ap not (or_left (full.identity == full.identity) _ same)) ∙ (past (list_any (is_among special)
+    (take (count_until (has_identity full.identity) stack) stack)) _ _
     (ap (λ n. list_any (is_among special) (take n stack)) count ∙ ap (λ b. b || false) plain)
     ∙ (ap (λ n. Some (at mode (popped_by n stack) (without full.identity active) more)) count
     ∙ ap (λ left. Some (at mode (popped stack) left more)) left)))
 
 -- the end of one that is the last in the list
-adopted : (mode : Mode) (node : Open) (others : List Open) (kept : List Entry) (more identity : ℕ) (name : List ℕ)
-    (attributes : List TokenAttribute) (children : Nodes) → bytes_eq name name ≡ true → is_one_of special name ≡ false →
+adopted : (mode : Mode) (node : Open) (others : List Open) (kept : List Entry) (more identity : ℕ)
+    (name : List ℕ) (attributes : List TokenAttribute) (children : Nodes) →
+    bytes_eq name name ≡ true → is_one_of special name ≡ false →
     end_formatting name (at mode (element_of identity name attributes children ∷ node ∷ others)
-    (Formatting identity name attributes ∷ kept) more)
-    ≡ Some (at mode (popped (element_of identity name attributes children ∷ node ∷ others)) kept more)
+    (Formatting identity name attributes ∷ kept) more) ≡ Some (at mode
+    (popped (element_of identity name attributes children ∷ node ∷ others)) kept more)
 adopted mode node others kept more identity name attributes children self plain =
     let full : Open = element_of identity name attributes children in
     let entries : List Entry = Formatting identity name attributes ∷ kept in
@@ -293,20 +316,26 @@ adopted mode node others kept more identity name attributes children self plain 
       | Some identity ↦ adopt name identity p
     ]) self
     ∙ adopt-current mode full node others entries kept more name plain
-    (ap (λ b. cond b kept (Formatting identity name attributes ∷ without identity kept)) (self_same identity)))
+    (ap (λ b. cond b kept (Formatting identity name attributes ∷ without identity kept))
+    (self_same identity)))
   where
     never : (b : Bool) → (b && false) ≡ false
     never true = refl
     never false = refl
 
-formatting-ends : (mode : Mode) (node : Open) (others : List Open) (active left : List Entry) (more identity : ℕ)
-    (name : List ℕ) (attributes : List TokenAttribute) (children : Nodes) → is_one_of special name ≡ false →
+formatting-ends :
+    (mode : Mode) (node : Open) (others : List Open) (active left : List Entry) (more identity : ℕ)
+    (name : List ℕ) (attributes : List TokenAttribute) (children : Nodes) →
+    is_one_of special name ≡ false →
     bytes_eq name name ≡ true → AreCreated identity active →
     Keeps (Formatting identity name attributes ∷ active) left →
-    (kept : List Entry) × (end_formatting name (at mode (element_of identity name attributes children ∷ node ∷ others)
-    left more) ≡ Some (at mode (popped (element_of identity name attributes children ∷ node ∷ others)) kept more))
+    (kept : List Entry)
+    × (end_formatting name (at mode (element_of identity name attributes children ∷ node ∷ others)
+    left more) ≡ Some (at mode
+    (popped (element_of identity name attributes children ∷ node ∷ others)) kept more))
     × Keeps active kept
-formatting-ends mode node others active left more identity name attributes children plain self made (inl k) =
+formatting-ends mode node others active left more identity name attributes children
+    plain self made (inl k) =
     (left, lost, k)
   where
     full : Open
@@ -317,16 +346,20 @@ formatting-ends mode node others active left more identity name attributes child
 
     lost : end_formatting name p ≡ Some (at mode (popped (full ∷ node ∷ others)) left more)
     lost = rw (self, not-active identity left (keeps-created identity active left made k)) refl
-formatting-ends mode node others active left more identity name attributes children plain self made (inr k) = (
-  k.0,
-  subst (λ left. end_formatting name (at mode (element_of identity name attributes children ∷ node ∷ others) left more)
-      ≡ Some (at mode (popped (element_of identity name attributes children ∷ node ∷ others)) k.0 more)) (sym k.1)
-      (adopted mode node others k.0 more identity name attributes children self plain),
-  k.2,
-)
+formatting-ends mode node others active left more identity name attributes children plain
+    self made (inr k) = (
+      k.0,
+      subst (λ left. end_formatting name
+          (at mode (element_of identity name attributes children ∷ node ∷ others) left more)
+          ≡ Some (at mode (popped (element_of identity name attributes children ∷ node ∷ others))
+          k.0 more)) (sym k.1)
+          (adopted mode node others k.0 more identity name attributes children self plain),
+      k.2,
+    )
 
 -- a formatting element, with what it holds
-pub formatting-passes : (mode : Mode) (node : Open) (others : List Open) (active : List Entry) (created : ℕ)
+pub formatting-passes :
+    (mode : Mode) (node : Open) (others : List Open) (active : List Entry) (created : ℕ)
     (name : List ℕ) (attributes : List Attribute) (inner : Forest) → is_body mode ≡ true →
     AreOpen (node ∷ others) active → AreCreated created active → IsFormatting name →
     (bytes_eq name (codes "a") ≡ true → last_active (codes "a") active ≡ None) →
@@ -338,15 +371,17 @@ formatting-passes mode node others active created name attributes inner body ope
     let start : Parser = at mode (node ∷ others) active created in
     let new : Open = element_of created name those NoNode in
     let pushed : List Entry = push created name those active in
-    let begun : step start (StartTag name those false) ≡ Some (at mode (new ∷ node ∷ others) pushed (suc created)) =
+    let begun : step start (StartTag name those false)
+    ≡ Some (at mode (new ∷ node ∷ others) pushed (suc created)) =
     start-in-body mode body (node ∷ others) active created name those false k.names.outer
     ∙ (k.starts those start free
     ∙ ap (λ b. cond b None (Some (insert_formatting name those start)))
     (nothing-lost mode (node ∷ others) active created opened)) in
     let full : Open = element_of created name those (put NoNode inner) in
-    let ends = formatting-ends mode node others (room name those active) d.left d.more created name those
-    (put NoNode inner) k.plain k.names.self
-    (keeps-created created active (room name those active) made (keeps-room name those active)) d.keeps in
+    let ends =
+    formatting-ends mode node others (room name those active) d.left d.more created name those
+    (put NoNode inner) k.plain k.names.self (keeps-created created active (room name those active)
+    made (keeps-room name those active)) d.keeps in
     let last : Parser = at mode (full ∷ node ∷ others) d.left d.more in
     let next : Parser = at mode (popped (full ∷ node ∷ others)) ends.0 d.more in
     let ended : step last (EndTag name) ≡ Some next =
@@ -356,11 +391,12 @@ formatting-passes mode node others active created name attributes inner body ope
       left = ends.0;
       more = d.more;
       runs = λ ys.
-          after-one start (at mode (new ∷ node ∷ others) pushed (suc created)) (StartTag name those false)
-          (tokens inner ++ (EndTag name ∷ ys)) begun
-          ∙ (after (at mode (new ∷ node ∷ others) pushed (suc created)) last (tokens inner) (EndTag name ∷ ys) d.runs
-          ∙ after-one last next (EndTag name) ys ended);
-      keeps = keeps-twice active (room name those active) ends.0 (keeps-room name those active) ends.2;
+          after-one start (at mode (new ∷ node ∷ others) pushed (suc created))
+          (StartTag name those false) (tokens inner ++ (EndTag name ∷ ys)) begun
+          ∙ (after (at mode (new ∷ node ∷ others) pushed (suc created)) last (tokens inner)
+          (EndTag name ∷ ys) d.runs ∙ after-one last next (EndTag name) ys ended);
+      keeps =
+          keeps-twice active (room name those active) ends.0 (keeps-room name those active) ends.2;
       later = omega (d.later, arith);
     }
 
@@ -377,19 +413,40 @@ pub record Rule (content : Content) (name : List ℕ) (held : Content) : Type 0 
   pub frees : is_free held ≡ true → (is_free content ≡ true) × (bytes_eq name (codes "a") ≡ false)
   pub links : bytes_eq name (codes "a") ≡ true → is_free content ≡ true
 
-pub span-rules : (content : Content) → is_free content ≡ true → Each (Rule content) (span_elements false)
+pub span-rules : (content : Content) → is_free content ≡ true →
+    Each (Rule content) (span_elements false)
 span-rules content free = (
   record { kind = inl a-formats; inline = refl; frees = λ e. lie e; links = λ e. free },
   (
     record { kind = inl code-formats; inline = refl; frees = λ e. lie e; links = λ e. lie e },
     (
-      record { kind = inl em-formats; inline = refl; frees = λ e. (free, refl); links = λ e. lie e },
+      record {
+        kind = inl em-formats;
+        inline = refl;
+        frees = λ e. (free, refl);
+        links = λ e. lie e;
+      },
       (
-        record { kind = inl strong-formats; inline = refl; frees = λ e. (free, refl); links = λ e. lie e },
+        record {
+          kind = inl strong-formats;
+          inline = refl;
+          frees = λ e. (free, refl);
+          links = λ e. lie e;
+        },
         (
-          record { kind = inr del-ordinary; inline = refl; frees = λ e. (free, refl); links = λ e. lie e },
+          record {
+            kind = inr del-ordinary;
+            inline = refl;
+            frees = λ e. (free, refl);
+            links = λ e. lie e;
+          },
           (
-            record { kind = inr sup-ordinary; inline = refl; frees = λ e. (free, refl); links = λ e. lie e },
+            record {
+              kind = inr sup-ordinary;
+              inline = refl;
+              frees = λ e. (free, refl);
+              links = λ e. lie e;
+            },
             tt,
           ),
         ),
@@ -398,7 +455,8 @@ span-rules content free = (
   ),
 )
 
-rules : (content : Content) → is_inline content ≡ true → Each (Rule content) (elements_in false content)
+rules : (content : Content) → is_inline content ≡ true →
+    Each (Rule content) (elements_in false content)
 rules Phrasing is = span-rules Phrasing refl
 rules Linked is = (
   record { kind = inl code-formats; inline = refl; frees = λ e. lie e; links = λ e. lie e },
@@ -419,7 +477,8 @@ rules Linked is = (
 rules Characters is = tt
 rules _ is = lie is
 
-void-in : (content : Content) (name : List ℕ) → is_inline content ≡ true → is_one_of (voids_in content) name ≡ true →
+void-in : (content : Content) (name : List ℕ) → is_inline content ≡ true →
+    is_one_of (voids_in content) name ≡ true →
     IsVoid name
 void-in Phrasing name is h = void-named Phrasing name h
 void-in Linked name is h = void-named Linked name h
@@ -427,11 +486,12 @@ void-in Characters name is h = lie h
 void-in _ name is h = lie is
 
 -- where the children of a formatting element are inserted
-pub here-formatting : (mode : Mode) (node : Open) (others : List Open) (active : List Entry) (created : ℕ)
-    (name : List ℕ) (those : List TokenAttribute) (content held : Content) → Rule content name held →
+pub here-formatting : (mode : Mode) (node : Open) (others : List Open) (active : List Entry)
+    (created : ℕ) (name : List ℕ) (those : List TokenAttribute) (content held : Content) →
+    Rule content name held →
     Here mode node others active created (is_free content) →
-    Here mode (element_of created name those NoNode) (node ∷ others) (push created name those active) (suc created)
-    (is_free held)
+    Here mode (element_of created name those NoNode) (node ∷ others)
+    (push created name those active) (suc created) (is_free held)
 here-formatting mode node others active created name those content held rule here =
     let new : Open = element_of created name those NoNode in
     let kept : Keeps active (room name those active) = keeps-room name those active in
@@ -448,15 +508,18 @@ here-formatting mode node others active created name those content held rule her
             (keeps-created created active (room name those active) here.made kept),
       );
       no_link = λ free.
-          past (bytes_eq name (codes "a")) _ _ (rule.frees free).1
-          ∙ keeps-none (codes "a") active (room name those active) (here.no_link (rule.frees free).0) kept;
+          past (bytes_eq name (codes "a")) _ _ (rule.frees free).1 ∙ keeps-none (codes "a") active
+          (room name those active) (here.no_link (rule.frees free).0) kept;
     }
 
 -- and of an ordinary one
-pub here-ordinary : (mode : Mode) (node : Open) (others : List Open) (active : List Entry) (created : ℕ)
-    (name : List ℕ) (those : List TokenAttribute) (content held : Content) → Rule content name held →
+pub here-ordinary :
+    (mode : Mode) (node : Open) (others : List Open) (active : List Entry) (created : ℕ)
+    (name : List ℕ) (those : List TokenAttribute) (content held : Content) →
+    Rule content name held →
     Here mode node others active created (is_free content) →
-    Here mode (element_of created name those NoNode) (node ∷ others) active (suc created) (is_free held)
+    Here mode (element_of created name those NoNode) (node ∷ others) active
+    (suc created) (is_free held)
 here-ordinary mode node others active created name those content held rule here = record {
   body = here.body;
   opened = open-under (element_of created name those NoNode) (node ∷ others) active here.opened;
@@ -465,28 +528,32 @@ here-ordinary mode node others active created name those content held rule here 
 }
 
 -- after what was inserted
-pub here-after : (mode : Mode) (node : Open) (children : Nodes) (others : List Open) (active left : List Entry)
+pub here-after :
+    (mode : Mode) (node : Open) (children : Nodes) (others : List Open) (active left : List Entry)
     (created more : ℕ) (free : Bool) → Keeps active left → created ≤ more →
     Here mode node others active created free →
     Here mode (record node { children = children }) others left more free
 here-after mode node children others active left created more free kept later here = record {
   body = here.body;
-  opened = same-open node children others left (keeps-open (node ∷ others) active left here.opened kept);
+  opened =
+      same-open node children others left (keeps-open (node ∷ others) active left here.opened kept);
   made = later-created created more left later (keeps-created created active left here.made kept);
   no_link = λ is. keeps-none (codes "a") active left (here.no_link is) kept;
 }
 
 -- a text, and what comes after it
-pub text-done : (mode : Mode) (node : Open) (others : List Open) (active : List Entry) (created : ℕ) (free : Bool)
-    (bytes : List ℕ) (rest : Forest) → is_escaped bytes ≡ true → Here mode node others active created free →
-    Done mode (record node { children = with_characters node.children (seen bytes) }) others active created rest →
+pub text-done : (mode : Mode) (node : Open) (others : List Open) (active : List Entry) (created : ℕ)
+    (free : Bool) (bytes : List ℕ) (rest : Forest) → is_escaped bytes ≡ true →
+    Here mode node others active created free →
+    Done mode (record node { children = with_characters node.children (seen bytes) }) others
+    active created rest →
     Done mode node others active created (Text bytes rest)
 text-done mode node others active created free bytes rest escaped here later = record {
   left = later.left;
   more = later.more;
   runs = after (at mode (node ∷ others) active created)
-      (at mode (record node { children = with_characters node.children (seen bytes) } ∷ others) active created)
-      (map Character (seen bytes)) (tokens rest)
+      (at mode (record node { children = with_characters node.children (seen bytes) } ∷ others)
+      active created) (map Character (seen bytes)) (tokens rest)
       (characters-run mode here.body (seen bytes) node others active created
       (seen-characters bytes escaped) here.opened)
       ∙ later.runs;
@@ -495,8 +562,8 @@ text-done mode node others active created free bytes rest escaped here later = r
 }
 
 -- a void tag, and what comes after it
-pub void-done : (mode : Mode) (node : Open) (others : List Open) (active : List Entry) (created : ℕ) (free : Bool)
-    (name : List ℕ) (attributes : List Attribute) (rest : Forest) → IsVoid name →
+pub void-done : (mode : Mode) (node : Open) (others : List Open) (active : List Entry) (created : ℕ)
+    (free : Bool) (name : List ℕ) (attributes : List Attribute) (rest : Forest) → IsVoid name →
     Here mode node others active created free →
     Done mode (record node {
       children = with_element node.children name (seen_attributes attributes) NoNode;
@@ -507,15 +574,17 @@ void-done mode node others active created free name attributes rest void here la
   more = later.more;
   runs = after-one (at mode (node ∷ others) active created) (at mode (record node {
     children = with_element node.children name (seen_attributes attributes) NoNode;
-  } ∷ others) active (suc created)) (StartTag name (seen_attributes attributes) true) (tokens rest)
-      (void-step mode node others active created name (seen_attributes attributes) here.body here.opened void)
+  } ∷ others) active (suc created)) (StartTag name (seen_attributes attributes) true)
+      (tokens rest) (void-step mode node others active created name (seen_attributes attributes)
+      here.body here.opened void)
       ∙ later.runs;
   keeps = later.keeps;
   later = omega (later.later, arith);
 }
 
 -- an element, and what comes after it
-pub element-done : (mode : Mode) (node : Open) (others : List Open) (active : List Entry) (created : ℕ)
+pub element-done :
+    (mode : Mode) (node : Open) (others : List Open) (active : List Entry) (created : ℕ)
     (name : List ℕ) (attributes : List Attribute) (inner rest : Forest) →
     (passed : Passed mode node others active created name attributes inner) →
     Done mode (record node {
@@ -534,40 +603,49 @@ element-done mode node others active created name attributes inner rest passed l
 pub text-escaped : (bytes : List ℕ) (rest : Forest) → is_forest (Text bytes rest) ≡ true →
     (is_escaped bytes ≡ true) × (is_forest rest ≡ true)
 text-escaped bytes rest h =
-    let all = and_parts (is_nonempty bytes && is_escaped bytes && not (begins_with_text rest)) (is_forest rest) h in
-    let own = and_parts (is_nonempty bytes && is_escaped bytes) (not (begins_with_text rest)) all.0 in
+    let all = and_parts (is_nonempty bytes && is_escaped bytes && not (begins_with_text rest))
+    (is_forest rest) h in
+    let own =
+    and_parts (is_nonempty bytes && is_escaped bytes) (not (begins_with_text rest)) all.0 in
     ((and_parts (is_nonempty bytes) (is_escaped bytes) own.0).1, all.1)
 
 -- and those of an element
 pub element-parts : (name : List ℕ) (attributes : List Attribute) (inner rest : Forest) →
-    is_forest (Element name attributes inner rest) ≡ true → (is_forest inner ≡ true) × (is_forest rest ≡ true)
+    is_forest (Element name attributes inner rest) ≡ true →
+    (is_forest inner ≡ true) × (is_forest rest ≡ true)
 element-parts name attributes inner rest h =
     let all = and_parts (is_tag elements name attributes && is_forest inner) (is_forest rest) h in
     ((and_parts (is_tag elements name attributes) (is_forest inner) all.0).1, all.1)
 
 -- an element among spans, by what its children do
-pub span-passes : (mode : Mode) (node : Open) (others : List Open) (active : List Entry) (created : ℕ) (name : List ℕ)
-    (attributes : List Attribute) (inner : Forest) (content held : Content) → Rule content name held →
+pub span-passes : (mode : Mode) (node : Open) (others : List Open) (active : List Entry)
+    (created : ℕ) (name : List ℕ)
+    (attributes : List Attribute) (inner : Forest) (content held : Content) →
+    Rule content name held →
     Here mode node others active created (is_free content) →
-    ((node' : Open) (others' : List Open) (active' : List Entry) (created' : ℕ) →
-    Here mode node' others' active' created' (is_free held) → Done mode node' others' active' created' inner) →
+    ((node' : Open) (others' : List Open) (active' : List Entry) (created' : ℕ) → Here mode node'
+    others' active' created' (is_free held) → Done mode node' others' active' created' inner) →
     Passed mode node others active created name attributes inner
 span-passes mode node others active created name attributes inner content held rule here inside =
     let those : List TokenAttribute = seen_attributes attributes in
     elim rule.kind [
-      | inl k ↦ formatting-passes mode node others active created name attributes inner here.body here.opened
+      | inl k ↦ formatting-passes mode node others active created name attributes inner
+          here.body here.opened
           here.made k
-          (λ e. here.no_link (rule.links e))
-          (inside (element_of created name those NoNode) (node ∷ others) (push created name those active) (suc created)
+          (λ e. here.no_link (rule.links e)) (inside (element_of created name those NoNode)
+          (node ∷ others) (push created name those active) (suc created)
           (here-formatting mode node others active created name those content held rule here))
-      | inr k ↦ ordinary-passes mode node others active created name attributes inner here.body here.opened k
+      | inr k ↦ ordinary-passes mode node others active created name attributes inner
+          here.body here.opened k
           (inside (element_of created name those NoNode) (node ∷ others) active (suc created)
           (here-ordinary mode node others active created name those content held rule here))
     ]
 
-pub phrasing-done : (f : Forest) (content : Content) → is_inline content ≡ true → is_forest f ≡ true →
-    is_contained false content f ≡ true → (mode : Mode) (node : Open) (others : List Open) (active : List Entry)
-    (created : ℕ) → Here mode node others active created (is_free content) → Done mode node others active created f
+pub phrasing-done : (f : Forest) (content : Content) → is_inline content ≡ true →
+    is_forest f ≡ true →
+    is_contained false content f ≡ true →
+    (mode : Mode) (node : Open) (others : List Open) (active : List Entry) (created : ℕ) →
+    Here mode node others active created (is_free content) → Done mode node others active created f
 phrasing-done Empty content is h c mode node others active created here = record {
   left = active;
   more = created;
@@ -581,30 +659,33 @@ phrasing-done (Text bytes rest) content is h c mode node others active created h
     text-done mode node others active created (is_free content) bytes rest parts.0 here
     (phrasing-done rest content is parts.1 (and_parts (may_say content bytes)
     (is_contained false content rest) c).1 mode
-    (record node { children = next }) others active created
-    (here-after mode node next others active active created created (is_free content) (keeps-all active) (omega arith)
-    here))
+    (record node { children = next }) others active created (here-after mode node next others active
+    active created created (is_free content) (keeps-all active) (omega arith) here))
 phrasing-done (Void name attributes rest) content is h c mode node others active created here =
     let parts = and_parts (is_one_of (voids_in content) name) (is_contained false content rest) c in
     let next : Nodes = with_element node.children name (seen_attributes attributes) NoNode in
-    void-done mode node others active created (is_free content) name attributes rest (void-in content name is parts.0)
+    void-done mode node others active created (is_free content) name attributes rest
+    (void-in content name is parts.0)
     here
-    (phrasing-done rest content is (and_parts (is_tag void_tags name attributes) (is_forest rest) h).1 parts.1 mode
-    (record node { children = next }) others active (suc created)
-    (here-after mode node next others active active created (suc created) (is_free content) (keeps-all active)
-    (omega arith) here))
-phrasing-done (Element name attributes inner rest) content is h c mode node others active created here =
+    (phrasing-done rest content is
+    (and_parts (is_tag void_tags name attributes) (is_forest rest) h).1 parts.1 mode
+    (record node { children = next }) others active (suc created) (here-after mode node next others
+    active active created (suc created) (is_free content) (keeps-all active) (omega arith) here))
+phrasing-done (Element name attributes inner rest) content is h c mode node others
+    active created here =
     let forests = element-parts name attributes inner rest h in
-    let parts = and_parts (option_map_or (λ held. is_contained false held inner) (held_in false content name) false)
-    (is_contained false content rest) c in
-    let held = found (Rule content) (elements_in false content) name inner (rules content is) parts.0 in
+    let parts = and_parts (option_map_or (λ held. is_contained false held inner)
+    (held_in false content name) false) (is_contained false content rest) c in
+    let held =
+    found (Rule content) (elements_in false content) name inner (rules content is) parts.0 in
     let passed : Passed mode node others active created name attributes inner =
     span-passes mode node others active created name attributes inner content held.0 held.1 here
     (λ node' others' active' created' there.
-    phrasing-done inner held.0 held.1.inline forests.0 held.2 mode node' others' active' created' there) in
-    let next : Nodes = with_element node.children name (seen_attributes attributes) (put NoNode inner) in
+    phrasing-done inner held.0 held.1.inline forests.0 held.2 mode node' others'
+    active' created' there) in
+    let next : Nodes =
+    with_element node.children name (seen_attributes attributes) (put NoNode inner) in
     element-done mode node others active created name attributes inner rest passed
-    (phrasing-done rest content is forests.1 parts.1 mode (record node { children = next }) others passed.left
-    passed.more
-    (here-after mode node next others active passed.left created passed.more (is_free content) passed.keeps passed.later
-    here))
+    (phrasing-done rest content is forests.1 parts.1 mode (record node { children = next }) others
+    passed.left passed.more (here-after mode node next others active passed.left created passed.more
+    (is_free content) passed.keeps passed.later here))

@@ -1,10 +1,14 @@
--- Each document of the grammar is placed: what stands in a node is of the content that its children are.
-use Rattle.std.proofs.Common.{◌≡◌, inl, inr, true, ◌||◌, false, Bool, Option, Some, None, List, ◌++◌, refl, sym, ap, ◌∙◌, subst, if◌then◌else◌}
+-- Each document of the grammar is placed: what stands in a node is of the content that
+-- its children are.
+use Rattle.std.proofs.Common.{◌≡◌, inl, inr, true, ◌||◌, false, Bool, Option, Some, None, List}
+use Rattle.std.proofs.Common.{◌++◌, refl, sym, ap, ◌∙◌, subst, if◌then◌else◌}
 use Rattle.std.specs.List.{list_all}
 use Rattle.std.proofs.lemmas.Bool.{and_parts}
 use Rattle.std.proofs.lemmas.List.Folds.{list_all-append}
 use Rattle.md_base.specs.declared.event.Name.{Name}
-use Rattle.md_base.specs.declared.event.Name.TheVariants.{BlockQuotePrefix, SpaceOrTab, Other, MdxEsm, MdxFlowExpression, MdxTextExpression, MdxJsxFlowTag, MdxJsxTextTag}
+use Rattle.md_base.specs.declared.event.Name.TheVariants as name_variants
+use name_variants.{BlockQuotePrefix, SpaceOrTab, Other, MdxEsm, MdxFlowExpression}
+use name_variants.{MdxTextExpression, MdxJsxFlowTag, MdxJsxTextTag}
 use Rattle.md_base.specs.Tree.{Forest, Empty, Node}
 use Rattle.md_base.specs.NameTests.{is_transparent}
 use Rattle.md_base.proofs.Lies.{lie}
@@ -20,7 +24,8 @@ use Rattle.md_pattern.specs.Spine.{spine, shown, IsTail, Matches}
 use Rattle.md_pattern.specs.Shape.{AreShaped, IsStanding, role_for, IsShaped}
 use Rattle.md_shape.proofs.Letters.{letters, fits-all, grouped-all, tail-all}
 use Rattle.md_safe.specs.Contents.{Content, Flow, Phrasing, Items, Parts, Rows, Cells, Characters}
-use Rattle.md_safe.specs.Placed.{Sort, Block, Item, Part, Row, Cell, Ending, Chunk, Delimiters, Inline, sort_of, may_stand, place_of, place_inside, IsPlaced}
+use Rattle.md_safe.specs.Placed.{Sort, Block, Item, Part, Row, Cell, Ending, Chunk, Delimiters}
+use Rattle.md_safe.specs.Placed.{Inline, sort_of, may_stand, place_of, place_inside, IsPlaced}
 
 -- what a symbol is to the node around it
 abbrev sort_for : Symbol → Sort
@@ -63,7 +68,8 @@ abbrev Says : Standing → Name → Type 0
 Says Through name = is_transparent name ≡ true
 Says Space name = is_transparent name ≡ true
 Says (Solid seen usual reading) name =
-    (is_transparent name ≡ false) × (sort_of name ≡ sort_for seen) × (place_of name ≡ place_for usual)
+    (is_transparent name ≡ false) × (sort_of name ≡ sort_for seen)
+    × (place_of name ≡ place_for usual)
 Says Mdx name = Unit {0}
 
 says : (name : Name) → Says (standing_of name) name
@@ -91,7 +97,8 @@ reference-shows tail is = elim is [
   | inr (inr e) ↦ subst (λ t. list_all (may_show Phrasing) t ≡ true) (sym e) refl
 ]
 
-phrasing-shows : (first : Symbol) (tail : List Symbol) → may_show Phrasing first ≡ true → IsTail first tail →
+phrasing-shows : (first : Symbol) (tail : List Symbol) →
+    may_show Phrasing first ≡ true → IsTail first tail →
     list_all (may_show Phrasing) tail ≡ true
 phrasing-shows symbol.ReferenceMarker tail h is = reference-shows tail is
 phrasing-shows symbol.SetextText tail h is = lie h
@@ -103,9 +110,11 @@ alone-shows : (content : Content) → may_show content symbol.ReferenceMarker �
     may_show content first ≡ true → IsTail first tail → list_all (may_show content) tail ≡ true
 alone-shows content a b symbol.ReferenceMarker tail h is = lie (sym a ∙ h)
 alone-shows content a b symbol.SetextText tail h is = lie (sym b ∙ h)
-alone-shows content a b first tail h is = subst (λ t. list_all (may_show content) t ≡ true) (sym is) refl
+alone-shows content a b first tail h is =
+    subst (λ t. list_all (may_show content) t ≡ true) (sym is) refl
 
-tail-shows : (content : Content) (first : Symbol) (tail : List Symbol) → may_show content first ≡ true →
+tail-shows : (content : Content) (first : Symbol) (tail : List Symbol) →
+    may_show content first ≡ true →
     IsTail first tail → list_all (may_show content) tail ≡ true
 tail-shows Flow first tail h is = tail-all (may_show Flow) first tail refl is
 tail-shows Phrasing first tail h is = phrasing-shows first tail h is
@@ -124,17 +133,20 @@ all-show usual symbols match =
     (fits-all (may_show (place_for usual)) (pattern_of usual) match.0 match.2 (letters-show usual))
 
 -- the role that a name has in its place is of the place of its usual one
-item-place : (around : Role) (before : Option Symbol) → place_for (role_for around before role.Item) ≡ Flow
+item-place : (around : Role) (before : Option Symbol) →
+    place_for (role_for around before role.Item) ≡ Flow
 item-place role.OrderedList None = refl
 item-place role.OrderedList (Some s) = refl
 item-place _ before = refl
 
-prefix-place : (around : Role) (before : Option Symbol) → place_for (role_for around before role.Prefix) ≡ Phrasing
+prefix-place : (around : Role) (before : Option Symbol) →
+    place_for (role_for around before role.Prefix) ≡ Phrasing
 prefix-place role.FirstOrderedItem before = refl
 prefix-place role.OrderedItem before = refl
 prefix-place _ before = refl
 
-label-place : (around : Role) (before : Option Symbol) → place_for (role_for around before role.Label) ≡ Phrasing
+label-place : (around : Role) (before : Option Symbol) →
+    place_for (role_for around before role.Label) ≡ Phrasing
 label-place role.FootnoteCall before = refl
 label-place _ before = refl
 
@@ -151,22 +163,25 @@ role-place around before usual = refl
 
 -- ---- a node may stand there, its children in it, and others after it
 
-record Spot (standing : Standing) (name : Name) (children : Forest) (content : Content) (others : List Symbol) :
-    Type 0 where
+record Spot (standing : Standing) (name : Name) (children : Forest) (content : Content)
+    (others : List Symbol) : Type 0 where
   stands : (is_transparent name || may_stand content (sort_of name)) ≡ true
   inside : list_all (may_show (place_inside content name)) (spine children) ≡ true
   after : list_all (may_show content) others ≡ true
 
-spot : (standing : Standing) (name : Name) (children : Forest) (around : Role) (before : Option Symbol)
-    (content : Content) (others : List Symbol) → Says standing name → IsStanding standing around before children →
+spot : (standing : Standing) (name : Name) (children : Forest) (around : Role)
+    (before : Option Symbol) (content : Content) (others : List Symbol) → Says standing name →
+    IsStanding standing around before children →
     list_all (may_show content) (shown standing (spine children) ++ others) ≡ true →
     Spot standing name children content others
 spot Through name children around before content others says stands h =
-    let whole = and_parts (list_all (may_show content) (spine children)) (list_all (may_show content) others)
+    let whole =
+    and_parts (list_all (may_show content) (spine children)) (list_all (may_show content) others)
     (sym (list_all-append (may_show content) (spine children) others) ∙ h) in
     record {
       stands = ap (λ t. t || may_stand content (sort_of name)) says;
-      inside = ap (λ t. list_all (may_show (if t then content else place_of name)) (spine children)) says ∙ whole.0;
+      inside = ap (λ t. list_all (may_show (if t then content else place_of name)) (spine children))
+          says ∙ whole.0;
       after = whole.1;
     }
 spot Space name children around before content others says stands h = record {
@@ -179,18 +194,21 @@ spot (Solid seen usual reading) name children around before content others says 
     record {
       stands = ap (λ t. t || may_stand content (sort_of name)) says.0
           ∙ (ap (λ sort. may_stand content sort) says.1 ∙ parts.0);
-      inside = ap (λ t. list_all (may_show (if t then content else place_of name)) (spine children)) says.0
-          ∙ (ap (λ c. list_all (may_show c) (spine children)) (says.2 ∙ sym (role-place around before usual))
+      inside = ap (λ t. list_all (may_show (if t then content else place_of name)) (spine children))
+          says.0 ∙ (ap (λ c. list_all (may_show c) (spine children))
+          (says.2 ∙ sym (role-place around before usual))
           ∙ all-show (role_for around before usual) (spine children) stands);
       after = parts.1;
     }
 spot Mdx name children around before content others says stands h = absurd stands
 
 placed : (forest : Forest) (around : Role) (before : Option Symbol) (content : Content) →
-    AreShaped forest around before → list_all (may_show content) (spine forest) ≡ true → IsPlaced content forest
+    AreShaped forest around before → list_all (may_show content) (spine forest) ≡ true →
+    IsPlaced content forest
 placed Empty around before content shaped h = tt
 placed (Node name start end children rest) around before content shaped h =
-    let here = spot (standing_of name) name children around before content (spine rest) (says name) shaped.0.1 h in (
+    let here = spot (standing_of name) name children around before content (spine rest)
+    (says name) shaped.0.1 h in (
       here.stands,
       placed children _ _ (place_inside content name) shaped.1 here.inside,
       placed rest _ _ content shaped.2 here.after,

@@ -1,5 +1,8 @@
--- The prefix of an id by number is told by the id: what stands after it begins with `fn`, and has no other `fn`.
-use Rattle.std.proofs.Common.{◌≡◌, ℕ, suc, ◌≤◌, ◌==◌, Bool, true, false, ◌&&◌, ◌||◌, cond, eqb, List, [], ◌∷◌, ◌++◌, refl, sym, ap, ◌∙◌, subst, arith, codes, bytes_eq}
+-- The prefix of an id by number is told by the id: what stands after it begins with `fn`, and
+-- has no other `fn`.
+use Rattle.std.proofs.Common.{◌≡◌, ℕ, suc, ◌≤◌, ◌==◌, Bool, true, false, ◌&&◌, ◌||◌, cond, eqb}
+use Rattle.std.proofs.Common.{List, [], ◌∷◌, ◌++◌, refl, sym, ap, ◌∙◌, subst, arith, codes}
+use Rattle.std.proofs.Common.{bytes_eq}
 use Rattle.std.specs.List.{list_any, list_all}
 use Rattle.std.specs.Fmt.{decimal}
 use Rattle.std.proofs.lemmas.Bool.{eqb-true, and_parts, or_right}
@@ -21,7 +24,8 @@ has_fn (b ∷ x) = ((b == 102) && begins_n x) || has_fn x
 fn-inside : (p x : List ℕ) → has_fn (p ++ (102 ∷ 110 ∷ x)) ≡ true
 fn-inside [] x = refl
 fn-inside (b ∷ p) x =
-    or_right ((b == 102) && begins_n (p ++ (102 ∷ 110 ∷ x))) (has_fn (p ++ (102 ∷ 110 ∷ x))) (fn-inside p x)
+    or_right ((b == 102) && begins_n (p ++ (102 ∷ 110 ∷ x)))
+    (has_fn (p ++ (102 ∷ 110 ∷ x))) (fn-inside p x)
 
 -- two texts with one such beginning each begin alike
 pub same-prefix : (p q x y : List ℕ) → has_fn x ≡ false → has_fn y ≡ false →
@@ -50,7 +54,8 @@ fn-past : (x y : List ℕ) → list_all is_digit x ≡ true → has_fn (x ++ y) 
 fn-past [] y h = refl
 fn-past (b ∷ x) y h =
     let parts = and_parts (is_digit b) (list_all is_digit x) h in
-    ap (λ is. (is && begins_n (x ++ y)) || has_fn (x ++ y)) (digit-no_f b parts.0) ∙ fn-past x y parts.1
+    ap (λ is. (is && begins_n (x ++ y)) || has_fn (x ++ y)) (digit-no_f b parts.0)
+    ∙ fn-past x y parts.1
 
 fn-digits : (x : List ℕ) → list_all is_digit x ≡ true → has_fn x ≡ false
 fn-digits [] h = refl
@@ -64,14 +69,17 @@ note-once n = fn-digits (decimal n) (decimal-digits n)
 
 pub call-once : (n k : ℕ) → has_fn (codes "ref-" ++ (decimal n ++ (45 ∷ decimal k))) ≡ false
 call-once n k =
-    fn-past (decimal n) (45 ∷ decimal k) (decimal-digits n) ∙ fn-digits (decimal k) (decimal-digits k)
+    fn-past (decimal n) (45 ∷ decimal k) (decimal-digits n)
+    ∙ fn-digits (decimal k) (decimal-digits k)
 
 -- what is found among some texts stands there once or more
-pub any-occurs : (x : List ℕ) (ys : List (List ℕ)) → list_any (λ y. bytes_eq y x) ys ≡ true → 1 ≤ occurs x ys
+pub any-occurs : (x : List ℕ) (ys : List (List ℕ)) → list_any (λ y. bytes_eq y x) ys ≡ true →
+    1 ≤ occurs x ys
 any-occurs x [] h = lie h
 any-occurs x (y ∷ ys) h = by (bytes_eq y x) (any-occurs x ys) h
   where
     by : (is : Bool) → (list_any (λ y. bytes_eq y x) ys ≡ true → 1 ≤ occurs x ys) →
-        (is || list_any (λ y. bytes_eq y x) ys) ≡ true → 1 ≤ cond is (suc (occurs x ys)) (occurs x ys)
+        (is || list_any (λ y. bytes_eq y x) ys) ≡ true →
+        1 ≤ cond is (suc (occurs x ys)) (occurs x ys)
     by true later h = omega arith
     by false later h = later h

@@ -1,13 +1,15 @@
 -- The tables have no name by which something runs.
 use Rattle.std.specs.Str.{bytes_eq}
-use Rattle.std.proofs.Common.{◌≡◌, ℕ, Bool, true, not, ◌&&◌, List, [], ◌∷◌, refl, sym, subst, inl, inr}
+use Rattle.std.proofs.Common.{◌≡◌, ℕ, Bool, true, not, ◌&&◌, List, [], ◌∷◌, refl, sym, subst, inl}
+use Rattle.std.proofs.Common.{inr}
 use Rattle.std.specs.List.{list_all, list_any}
 use Rattle.std.specs.Cmp.Lexicographic.{bytes_decides}
 use Rattle.std.proofs.lemmas.Bool.{and_parts, and_from, or_cases}
 use Rattle.md_base.proofs.Lies.{lie}
 use Rattle.md_text.specs.Bytes.{is_one_of}
 use Rattle.md_text.specs.References.{is_escaped}
-use Rattle.md_text.specs.Html.{Attribute, is_tag, are_attributes, elements, void_tags, HasOneReadingWith}
+use Rattle.md_text.specs.Html.{Attribute, is_tag, are_attributes, elements, void_tags}
+use Rattle.md_text.specs.Html.{HasOneReadingWith}
 use Rattle.md_safe.specs.Token.{Token, TokenAttribute}
 use Rattle.md_safe.specs.Tokenizer.{IsTokenized}
 use Rattle.md_safe.specs.Tokens.{seen_attributes}
@@ -33,13 +35,16 @@ listed-still (t ∷ ts) name g e =
     ]
 
 attributes-still : (listed : List (List ℕ)) (x : List Attribute) → list_all is_still listed ≡ true →
-    are_attributes listed x ≡ true → list_all (λ (a : TokenAttribute). is_still a.name) (seen_attributes x) ≡ true
+    are_attributes listed x ≡ true →
+    list_all (λ (a : TokenAttribute). is_still a.name) (seen_attributes x) ≡ true
 attributes-still listed [] g e = refl
 attributes-still listed (a ∷ rest) g e =
     let alone = not (list_any (λ later. bytes_eq a.name later.name) rest) in
-    let p = and_parts (is_one_of listed a.name && is_escaped a.value && alone) (are_attributes listed rest) e in
+    let p = and_parts (is_one_of listed a.name && is_escaped a.value && alone)
+    (are_attributes listed rest) e in
     let q = and_parts (is_one_of listed a.name && is_escaped a.value) alone p.0 in
-    and_from (is_still a.name) (list_all (λ (a : TokenAttribute). is_still a.name) (seen_attributes rest))
+    and_from (is_still a.name)
+    (list_all (λ (a : TokenAttribute). is_still a.name) (seen_attributes rest))
     (listed-still listed a.name g (and_parts (is_one_of listed a.name) (is_escaped a.value) q.0).0)
     (attributes-still listed rest g p.1)
 
@@ -56,7 +61,8 @@ tag-still (rule ∷ rules) name x g e =
       | inl this ↦ (let r = and_parts (bytes_eq rule.0 name) (are_attributes rule.1 x) this in
           and_from (not (is_one_of running_elements name))
           (list_all (λ (a : TokenAttribute). is_still a.name) (seen_attributes x))
-          (subst (λ n. not (is_one_of running_elements n) ≡ true) ((bytes_decides rule.0 name).0 r.0) q.0)
+          (subst (λ n. not (is_one_of running_elements n) ≡ true)
+          ((bytes_decides rule.0 name).0 r.0) q.0)
           (attributes-still rule.1 x q.1 r.1))
       | inr later ↦ tag-still rules name x p.1 later
     ]

@@ -24,12 +24,14 @@ abbrev Permits : List (List ℕ) → Type 0
 Permits schemes = (value : List ℕ) → is_escaped value ≡ true → is_safe_value schemes value ≡ true →
     has_permitted_scheme schemes (seen value) ≡ true
 
-attribute-permitted : (named before after : Bool) → (before ≡ true → after ≡ true) → cond named before true ≡ true →
+attribute-permitted : (named before after : Bool) → (before ≡ true → after ≡ true) →
+    cond named before true ≡ true →
     cond named after true ≡ true
 attribute-permitted true before after f h = f h
 attribute-permitted false before after f h = refl
 
-attributes-permitted : (name : List ℕ) (schemes : List (List ℕ)) → Permits schemes → (x : List Attribute) →
+attributes-permitted : (name : List ℕ) (schemes : List (List ℕ)) → Permits schemes →
+    (x : List Attribute) →
     are_good x ≡ true → list_all (is_safe name schemes) x ≡ true →
     list_all (is_permitted name schemes) (seen_attributes x) ≡ true
 attributes-permitted name schemes f [] g h = refl
@@ -52,7 +54,8 @@ passes name schemes f = record {
   ends = λ tag attributes g. refl;
   starts = λ tag attributes g k.
       attributes-permitted name schemes f attributes (element-good tag attributes g).1 k;
-  voids = λ tag attributes g k. attributes-permitted name schemes f attributes (void-good tag attributes g).1 k;
+  voids = λ tag attributes g k.
+      attributes-permitted name schemes f attributes (void-good tag attributes g).1 k;
 }
 
 pub links-pass : PassesTags has_safe_links is_safe_link
@@ -61,10 +64,12 @@ links-pass = passes (codes "href") link_protocols permitted-link
 pub images-pass : PassesTags has_safe_images is_safe_image
 images-pass = passes (codes "src") image_protocols permitted-image
 
-pub safe-links : (text : List ℕ) (x : List Token) → HasOneReadingWith is_safe_link text → IsTokenized text x →
+pub safe-links : (text : List ℕ) (x : List Token) → HasOneReadingWith is_safe_link text →
+    IsTokenized text x →
     list_all has_safe_links x ≡ true
 safe-links text x one h = all-tokenized has_safe_links is_safe_link links-pass text x one h
 
-pub safe-images : (text : List ℕ) (x : List Token) → HasOneReadingWith is_safe_image text → IsTokenized text x →
+pub safe-images : (text : List ℕ) (x : List Token) → HasOneReadingWith is_safe_image text →
+    IsTokenized text x →
     list_all has_safe_images x ≡ true
 safe-images text x one h = all-tokenized has_safe_images is_safe_image images-pass text x one h

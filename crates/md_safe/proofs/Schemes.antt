@@ -1,11 +1,16 @@
--- A value without a protocol has no scheme, and one with a permitted protocol has that scheme: whatever is left out or
--- changed on the way to the scheme belongs to none.
+-- A value without a protocol has no scheme, and one with a permitted protocol has that scheme:
+-- whatever is left out or changed on the way to the scheme belongs to none.
 use Rattle.std.specs.Str.{bytes_eq}
-use Rattle.std.proofs.Common.{◌≡◌, ℕ, ◌==◌, Bool, true, false, not, ◌&&◌, ◌||◌, cond, List, [], ◌∷◌, ◌++◌, refl, sym, ap, ap₂, ◌∙◌, subst, inl, inr, Option, Some, None, option_map, append-nil, append_assoc, ne_eqb, eqb-true, leb, ltb, arith}
+use Rattle.std.proofs.Common.{◌≡◌, ℕ, ◌==◌, Bool, true, false, not, ◌&&◌, ◌||◌, cond, List, [], ◌∷◌}
+use Rattle.std.proofs.Common.{◌++◌, refl, sym, ap, ap₂, ◌∙◌, subst, inl, inr, Option, Some, None}
+use Rattle.std.proofs.Common.{option_map, append-nil, append_assoc, ne_eqb, eqb-true, leb, ltb}
+use Rattle.std.proofs.Common.{arith}
 use Rattle.std.specs.List.{list_all}
 use Rattle.std.specs.Option.{option_map_or}
 use Rattle.std.specs.Cmp.Lexicographic.{bytes_decides}
-use Rattle.std.proofs.lemmas.Bool.{and_parts, and_from, and_left, or_cases, or_from, or_left, cond_both, cases_Bool, not-true, eqb-false, leb-true, ltb-true, lt-leb}
+use Rattle.std.proofs.lemmas.Bool.{and_parts, and_from, and_left, or_cases, or_from, or_left}
+use Rattle.std.proofs.lemmas.Bool.{cond_both, cases_Bool, not-true, eqb-false, leb-true, ltb-true}
+use Rattle.std.proofs.lemmas.Bool.{lt-leb}
 use Rattle.md_base.proofs.Lies.{lie}
 use Rattle.md_base.specs.Identifier.{is_nonempty}
 use Rattle.md_text.specs.Bytes.{is_between, is_letter, lower, lowered, is_one_of}
@@ -15,7 +20,9 @@ use Rattle.md_text.specs.Safe.{is_safe_value}
 use Rattle.md_text.proofs.EncodeLaws.{read_back-other}
 use Rattle.md_safe.specs.Input.{with_line_feeds, begins_with_line_feed}
 use Rattle.md_safe.specs.Tokens.{seen}
-use Rattle.md_safe.specs.Scheme.{is_control_or_space, without_leading, without_trailing, is_tab_or_newline, without_newlines, is_scheme_byte, in_scheme, in_scheme_start, scheme_of, has_permitted_scheme}
+use Rattle.md_safe.specs.Scheme.{is_control_or_space, without_leading, without_trailing}
+use Rattle.md_safe.specs.Scheme.{is_tab_or_newline, without_newlines, is_scheme_byte, in_scheme}
+use Rattle.md_safe.specs.Scheme.{in_scheme_start, scheme_of, has_permitted_scheme}
 use Rattle.md_safe.proofs.EscapedCases.{IsPlain, by_escaped}
 use Rattle.md_safe.proofs.LineFeeds.{no_return, line_feeds-name}
 use Rattle.md_safe.proofs.Steps.{past, here}
@@ -34,11 +41,12 @@ one-read : (b : ℕ) (feed : Bool) (later : List ℕ) → IsPlain b →
     read_back (one b feed later) ≡ one b feed (read_back later)
 one-read b feed later p = elim (cases_Bool (b == 13)) [
   | inl is ↦ ap read_back (here _ is refl) ∙ by feed later ∙ sym (here _ is refl)
-  | inr not ↦ ap read_back (past _ not refl) ∙ read_back-other b later (eqb-false b 38 p.no_and) ∙ sym (past _ not refl)
+  | inr not ↦ ap read_back (past _ not refl) ∙ read_back-other b later (eqb-false b 38 p.no_and)
+      ∙ sym (past _ not refl)
 ]
   where
-    by : (feed : Bool) (later : List ℕ) → read_back (cond feed later (10 ∷ later)) ≡ cond feed (read_back later) (10
-        ∷ read_back later)
+    by : (feed : Bool) (later : List ℕ) → read_back (cond feed later (10 ∷ later))
+        ≡ cond feed (read_back later) (10 ∷ read_back later)
     by true later = refl
     by false later = refl
 
@@ -73,7 +81,8 @@ protocol_of-goes_on b rest e =
 protocol_of-colon : (b : ℕ) (rest : List ℕ) → (b == 58) ≡ true → protocol_of (b ∷ rest) ≡ Some []
 protocol_of-colon b rest e = here _ e refl
 
-protocol_of-end : (b : ℕ) (rest : List ℕ) → (b == 58) ≡ false → ends_protocol b ≡ true → protocol_of (b ∷ rest) ≡ None
+protocol_of-end : (b : ℕ) (rest : List ℕ) → (b == 58) ≡ false → ends_protocol b ≡ true →
+    protocol_of (b ∷ rest) ≡ None
 protocol_of-end b rest e f = past _ e (here _ f refl)
 
 some_none : (q : List ℕ) → Some q ≡ None → ⊥
@@ -86,7 +95,8 @@ map_none : (b : ℕ) (o : Option (List ℕ)) → option_map (λ before. b ∷ be
 map_none b None e = refl
 map_none b (Some q) e = cc
 
-map_some : (b : ℕ) (o : Option (List ℕ)) (q : List ℕ) → option_map (λ before. b ∷ before) o ≡ Some q →
+map_some : (b : ℕ) (o : Option (List ℕ)) (q : List ℕ) →
+    option_map (λ before. b ∷ before) o ≡ Some q →
     (p : List ℕ) × (o ≡ Some p) × (q ≡ b ∷ p)
 map_some b None q e = absurd (none_some q e)
 map_some b (Some p) q e = (p, refl, sym (some_part (b ∷ p) q e))
@@ -95,11 +105,13 @@ map_some b (Some p) q e = (p, refl, sym (some_part (b ∷ p) q e))
     some_part x y e = cc
 
 -- where there is none, what follows a byte that goes on has none
-none-drop : (b : ℕ) (rest : List ℕ) → goes_on b ≡ true → protocol_of (b ∷ rest) ≡ None → protocol_of rest ≡ None
+none-drop : (b : ℕ) (rest : List ℕ) → goes_on b ≡ true → protocol_of (b ∷ rest) ≡ None →
+    protocol_of rest ≡ None
 none-drop b rest g h = map_none b (protocol_of rest) (sym (protocol_of-goes_on b rest g) ∙ h)
 
 -- and another text may follow that has none
-none-keep : (b : ℕ) (x y : List ℕ) → (protocol_of x ≡ None → protocol_of y ≡ None) → protocol_of (b ∷ x) ≡ None →
+none-keep : (b : ℕ) (x y : List ℕ) → (protocol_of x ≡ None → protocol_of y ≡ None) →
+    protocol_of (b ∷ x) ≡ None →
     protocol_of (b ∷ y) ≡ None
 none-keep b x y f h = elim (cases_Bool (b == 58)) [
   | inl colon ↦ absurd (some_none [] (sym (protocol_of-colon b x colon) ∙ h))
@@ -113,12 +125,14 @@ none-keep b x y f h = elim (cases_Bool (b == 58)) [
 passes_not : (t : ℕ → Bool) (b n : ℕ) → t n ≡ false → t b ≡ true → (b == n) ≡ false
 passes_not t b n no_n yes_b = ne_eqb b n (λ e. lie (sym no_n ∙ ap t (sym e) ∙ yes_b))
 
-goes_on-by : (t : ℕ → Bool) → t 58 ≡ false → t 63 ≡ false → t 35 ≡ false → t 47 ≡ false → (b : ℕ) → t b ≡ true →
+goes_on-by : (t : ℕ → Bool) → t 58 ≡ false → t 63 ≡ false → t 35 ≡ false → t 47 ≡ false →
+    (b : ℕ) → t b ≡ true →
     goes_on b ≡ true
 goes_on-by t e58 e63 e35 e47 b h =
     ap₂ (λ s t. not s && not t) (passes_not t b 58 e58 h)
     (or_from ((b == 63) || (b == 35)) (b == 47)
-    (or_from (b == 63) (b == 35) (passes_not t b 63 e63 h) (passes_not t b 35 e35 h)) (passes_not t b 47 e47 h))
+    (or_from (b == 63) (b == 35) (passes_not t b 63 e63 h) (passes_not t b 35 e35 h))
+    (passes_not t b 47 e47 h))
 
 abbrev HasNone : List ℕ → Type 0
 HasNone x = protocol_of x ≡ None
@@ -139,19 +153,21 @@ leading-none : (x : List ℕ) → HasNone x → HasNone (without_leading x)
 leading-none [] h = refl
 leading-none (b ∷ rest) h =
     cond_both (is_control_or_space b) (without_leading rest) (b ∷ rest) HasNone
-    (λ e. leading-none rest (none-drop b rest (goes_on-by is_control_or_space refl refl refl refl b e) h)) (λ _. h)
+    (λ e. leading-none rest
+    (none-drop b rest (goes_on-by is_control_or_space refl refl refl refl b e) h)) (λ _. h)
 
 trailing-none : (x : List ℕ) → HasNone x → HasNone (without_trailing x)
 trailing-none [] h = refl
 trailing-none (b ∷ rest) h =
-    cond_both (list_all is_control_or_space (b ∷ rest)) [] (b ∷ without_trailing rest) HasNone (λ _. refl)
-    (λ _. none-keep b rest (without_trailing rest) (trailing-none rest) h)
+    cond_both (list_all is_control_or_space (b ∷ rest)) [] (b ∷ without_trailing rest) HasNone
+    (λ _. refl) (λ _. none-keep b rest (without_trailing rest) (trailing-none rest) h)
 
 newlines-none : (x : List ℕ) → HasNone x → HasNone (without_newlines x)
 newlines-none [] h = refl
 newlines-none (b ∷ rest) h =
     cond_both (is_tab_or_newline b) (without_newlines rest) (b ∷ without_newlines rest) HasNone
-    (λ e. newlines-none rest (none-drop b rest (goes_on-by is_tab_or_newline refl refl refl refl b e) h))
+    (λ e. newlines-none rest
+    (none-drop b rest (goes_on-by is_tab_or_newline refl refl refl refl b e) h))
     (λ _. none-keep b rest (without_newlines rest) (newlines-none rest) h)
 
 not_colon : (b : ℕ) (rest : List ℕ) → HasNone (b ∷ rest) → (b == 58) ≡ false
@@ -163,8 +179,8 @@ not_colon b rest h = elim (cases_Bool (b == 58)) [
 in_scheme-none : (buffer x : List ℕ) → HasNone x → in_scheme buffer x ≡ None
 in_scheme-none buffer [] h = refl
 in_scheme-none buffer (b ∷ rest) h =
-    cond_both (is_scheme_byte b) (in_scheme (buffer ++ (lower b ∷ [])) rest) (cond (b == 58) (Some buffer) None)
-    (λ v. v ≡ None)
+    cond_both (is_scheme_byte b) (in_scheme (buffer ++ (lower b ∷ [])) rest)
+    (cond (b == 58) (Some buffer) None) (λ v. v ≡ None)
     (λ e. in_scheme-none (buffer ++ (lower b ∷ [])) rest
     (none-drop b rest (goes_on-by is_scheme_byte refl refl refl refl b e) h))
     (λ _. past _ (not_colon b rest h) refl)
@@ -173,8 +189,8 @@ in_scheme_start-none : (x : List ℕ) → HasNone x → in_scheme_start x ≡ No
 in_scheme_start-none [] h = refl
 in_scheme_start-none (b ∷ rest) h =
     cond_both (is_letter b) (in_scheme (lower b ∷ []) rest) None (λ v. v ≡ None)
-    (λ e. in_scheme-none (lower b ∷ []) rest (none-drop b rest (goes_on-by is_letter refl refl refl refl b e) h))
-    (λ _. refl)
+    (λ e. in_scheme-none (lower b ∷ []) rest
+    (none-drop b rest (goes_on-by is_letter refl refl refl refl b e) h)) (λ _. refl)
 
 scheme_of-none : (x : List ℕ) → HasNone x → scheme_of (with_line_feeds x) ≡ None
 scheme_of-none x h =
@@ -250,25 +266,28 @@ letter-control b h = elim (or_cases (is_between 65 90 b) (is_between 97 122 b) h
 
 letter-newline : (b : ℕ) → is_letter b ≡ true → is_tab_or_newline b ≡ false
 letter-newline b h =
-    or_from ((b == 9) || (b == 10)) (b == 13) (or_from (b == 9) (b == 10) (passes_not is_letter b 9 refl h)
+    or_from ((b == 9) || (b == 10)) (b == 13)
+    (or_from (b == 9) (b == 10) (passes_not is_letter b 9 refl h)
     (passes_not is_letter b 10 refl h)) (passes_not is_letter b 13 refl h)
 
 letter-scheme : (b : ℕ) → is_letter b ≡ true → is_scheme_byte b ≡ true
 letter-scheme b h =
     or_left (is_letter b || is_between 48 57 b || (b == 43) || (b == 45)) (b == 46)
-    (or_left (is_letter b || is_between 48 57 b || (b == 43)) (b == 45)
-    (or_left (is_letter b || is_between 48 57 b) (b == 43) (or_left (is_letter b) (is_between 48 57 b) h)))
+    (or_left (is_letter b || is_between 48 57 b || (b == 43)) (b == 45) (or_left (is_letter b
+    || is_between 48 57 b) (b == 43) (or_left (is_letter b) (is_between 48 57 b) h)))
 
 leading-word : (q y : List ℕ) → is_word q ≡ true → without_leading (q ++ y) ≡ q ++ y
 leading-word [] y h = lie h
-leading-word (b ∷ q) y h = past _ (letter-control b (and_parts (is_letter b) (list_all is_letter q) h).0) refl
+leading-word (b ∷ q) y h =
+    past _ (letter-control b (and_parts (is_letter b) (list_all is_letter q) h).0) refl
 
 trailing-word : (q r : List ℕ) → list_all is_letter q ≡ true →
     without_trailing (q ++ (58 ∷ r)) ≡ q ++ (58 ∷ without_trailing r)
 trailing-word [] r h = refl
 trailing-word (b ∷ q) r h =
     let p = and_parts (is_letter b) (list_all is_letter q) h in
-    past _ (and_left (is_control_or_space b) (list_all is_control_or_space (q ++ (58 ∷ r))) (letter-control b p.0))
+    past _ (and_left (is_control_or_space b) (list_all is_control_or_space (q ++ (58 ∷ r)))
+    (letter-control b p.0))
     (ap (λ y. b ∷ y) (trailing-word q r p.1))
 
 newlines-word : (q r : List ℕ) → list_all is_letter q ≡ true →
@@ -287,18 +306,21 @@ in_scheme-word buffer (b ∷ q) r h =
     (in_scheme-word (buffer ++ (lower b ∷ [])) q r p.1
     ∙ ap (λ b. Some b) (append_assoc buffer (lower b ∷ []) (lowered q)))
 
-in_scheme_start-word : (q r : List ℕ) → is_word q ≡ true → in_scheme_start (q ++ (58 ∷ r)) ≡ Some (lowered q)
+in_scheme_start-word : (q r : List ℕ) → is_word q ≡ true →
+    in_scheme_start (q ++ (58 ∷ r)) ≡ Some (lowered q)
 in_scheme_start-word [] r h = lie h
 in_scheme_start-word (b ∷ q) r h =
     let p = and_parts (is_letter b) (list_all is_letter q) h in
     here _ p.0 (in_scheme-word (lower b ∷ []) q r p.1)
 
-scheme_of-word : (q r : List ℕ) → is_word q ≡ true → scheme_of (with_line_feeds (q ++ (58 ∷ r))) ≡ Some (lowered q)
+scheme_of-word : (q r : List ℕ) → is_word q ≡ true →
+    scheme_of (with_line_feeds (q ++ (58 ∷ r))) ≡ Some (lowered q)
 scheme_of-word q r h =
     let letters = (and_parts (is_nonempty q) (list_all is_letter q) h).1 in
     let lines = with_line_feeds r in
     ap scheme_of (line_feeds-name q (58 ∷ r) (letters-no_return q letters))
-    ∙ ap (λ y. in_scheme_start (without_newlines (without_trailing y))) (leading-word q (58 ∷ lines) h)
+    ∙ ap (λ y. in_scheme_start (without_newlines (without_trailing y)))
+    (leading-word q (58 ∷ lines) h)
     ∙ ap (λ y. in_scheme_start (without_newlines y)) (trailing-word q lines letters)
     ∙ ap in_scheme_start (newlines-word q (without_trailing lines) letters)
     ∙ in_scheme_start-word q (without_newlines (without_trailing lines)) h
@@ -309,26 +331,31 @@ lowered-word (b ∷ q) h = lowered-letters (b ∷ q) h
 
 -- ---- both
 
-permitted_by : (schemes : List (List ℕ)) (x : List ℕ) (o : Option (List ℕ)) → list_all is_word schemes ≡ true →
+permitted_by : (schemes : List (List ℕ)) (x : List ℕ) (o : Option (List ℕ)) →
+    list_all is_word schemes ≡ true →
     protocol_of x ≡ o → option_map_or (λ q. is_one_of schemes (lowered q)) o true ≡ true →
     has_permitted_scheme schemes (with_line_feeds x) ≡ true
-permitted_by schemes x None g e h = ap (λ o. option_map_or (is_one_of schemes) o true) (scheme_of-none x e)
+permitted_by schemes x None g e h =
+    ap (λ o. option_map_or (is_one_of schemes) o true) (scheme_of-none x e)
 permitted_by schemes x (Some q) g e h =
     let parts = protocol-split x q e in
     ap (λ x. option_map_or (is_one_of schemes) (scheme_of (with_line_feeds x)) true) parts.1
     ∙ ap (λ o. option_map_or (is_one_of schemes) o true)
     (scheme_of-word q parts.0 (lowered-word q (listed-word schemes (lowered q) g h))) ∙ h
 
-permitted : (schemes : List (List ℕ)) → list_all is_word schemes ≡ true → (value : List ℕ) → is_escaped value ≡ true →
+permitted : (schemes : List (List ℕ)) → list_all is_word schemes ≡ true → (value : List ℕ) →
+    is_escaped value ≡ true →
     is_safe_value schemes value ≡ true → has_permitted_scheme schemes (seen value) ≡ true
 permitted schemes g value e h =
     ap (has_permitted_scheme schemes) (seen-is value e)
     ∙ permitted_by schemes (read_back value) (protocol_of (read_back value)) g refl h
 
-pub permitted-link : (value : List ℕ) → is_escaped value ≡ true → is_safe_value link_protocols value ≡ true →
+pub permitted-link : (value : List ℕ) → is_escaped value ≡ true →
+    is_safe_value link_protocols value ≡ true →
     has_permitted_scheme link_protocols (seen value) ≡ true
 permitted-link = permitted link_protocols refl
 
-pub permitted-image : (value : List ℕ) → is_escaped value ≡ true → is_safe_value image_protocols value ≡ true →
+pub permitted-image : (value : List ℕ) → is_escaped value ≡ true →
+    is_safe_value image_protocols value ≡ true →
     has_permitted_scheme image_protocols (seen value) ≡ true
 permitted-image = permitted image_protocols refl

@@ -1,5 +1,7 @@
 -- The section of footnotes has a reading: its heading, its items and their ways back.
-use Rattle.std.proofs.Common.{◌≡◌, ℕ, suc, ◌≤◌, ◌-◌, ◌==◌, Bool, true, false, not, ◌&&◌, ◌||◌, cond, List, [], ◌∷◌, ◌++◌, length, take, drop, refl, sym, ap, ◌∙◌, subst, arith, append_assoc, append-nil, codes, eqb-true, length-drop}
+use Rattle.std.proofs.Common.{◌≡◌, ℕ, suc, ◌≤◌, ◌-◌, ◌==◌, Bool, true, false, not, ◌&&◌, ◌||◌, cond}
+use Rattle.std.proofs.Common.{List, [], ◌∷◌, ◌++◌, length, take, drop, refl, sym, ap, ◌∙◌, subst}
+use Rattle.std.proofs.Common.{arith, append_assoc, append-nil, codes, eqb-true, length-drop}
 use Rattle.std.specs.Prelude.{Some, None, option_map, find, bytes_eq, string_bytes}
 use Rattle.std.specs.Option.{option_map_or}
 use Rattle.std.specs.List.{flat_map}
@@ -13,11 +15,15 @@ use Rattle.md_text.proofs.HtmlJoin.{text, join}
 use Rattle.md_text.specs.declared.options.CompileOptions.{CompileOptions}
 use Rattle.md_meaning.specs.Meaning.At.{Footnote}
 use Rattle.md_meaning.specs.Meaning.Layout.{Piece, Text, Needed, Forced}
-use Rattle.md_meaning.specs.Meaning.Footnotes.{option_or, id_of, backreferences, unended_length, body, item, section_start, section, distinct, place_among, count_of}
+use Rattle.md_meaning.specs.Meaning.Footnotes.{option_or, id_of, backreferences, unended_length}
+use Rattle.md_meaning.specs.Meaning.Footnotes.{body, item, section_start, section, distinct}
+use Rattle.md_meaning.specs.Meaning.Footnotes.{place_among, count_of}
 use Rattle.md_safe.proofs.Texts.{Escaped}
 use Rattle.md_safe.proofs.Claim.{Claim, plain_of}
 use Rattle.md_safe.proofs.Laid.{adds-append, adds-text, adds-nothing, adds-needed, adds-forced}
-use Rattle.md_safe.proofs.Tags.{attribute, Turns, Bracket, adds-turned, IsFramed, bracket-tag, element-read, adds-pair, adds-flat, adds-framed, adds-before, adds-after, adds-escaped, framed-needed, framed-forced, flat}
+use Rattle.md_safe.proofs.Tags.{attribute, Turns, Bracket, adds-turned, IsFramed, bracket-tag}
+use Rattle.md_safe.proofs.Tags.{element-read, adds-pair, adds-flat, adds-framed, adds-before}
+use Rattle.md_safe.proofs.Tags.{adds-after, adds-escaped, framed-needed, framed-forced, flat}
 use Rattle.md_safe.proofs.Media.{label-escaped, id-escaped, backreferences-read}
 use Rattle.md_safe.proofs.Elements.{bracket-plain, adds-framed_flat}
 use Rattle.md_safe.proofs.Spot.{PassesIds, IsWhole, Setting, Prints}
@@ -25,7 +31,8 @@ use Rattle.md_safe.proofs.BlockNodes.{Reads, holds-none}
 use Rattle.md_safe.proofs.Forests.{AreRead}
 
 -- an element before what stands in a bracket
-pub turn-after : (p q : Claim) (o c h : List ℕ) → Bracket q o c → ((x : List ℕ) → p.holds x → q.holds (h ++ x)) →
+pub turn-after : (p q : Claim) (o c h : List ℕ) → Bracket q o c →
+    ((x : List ℕ) → p.holds x → q.holds (h ++ x)) →
     Turns p q (o ++ h) c
 turn-after p q o c h bracket grows x rx =
     subst q.holds (by o h x c) (bracket (h ++ x) (grows x rx))
@@ -33,18 +40,22 @@ turn-after p q o c h bracket grows x rx =
     by : (o h x c : List ℕ) → o ++ ((h ++ x) ++ c) ≡ (o ++ h) ++ (x ++ c)
     by o h x c = simp append_assoc
 
-bracket-after : (p : Claim) (o c h : List ℕ) → Bracket p o c → HasReadingWith p.test h → Bracket p (o ++ h) c
+bracket-after : (p : Claim) (o c h : List ℕ) → Bracket p o c → HasReadingWith p.test h →
+    Bracket p (o ++ h) c
 bracket-after p o c h bracket r = turn-after p p o c h bracket (λ x rx. p.before h x r rx)
 
 -- what the options write of the section's heading
 abbrev pub tag_of : CompileOptions → List ℕ
-tag_of options = option_or (option_map string_bytes options.gfm_footnote_label_tag_name) (codes "h2")
+tag_of options =
+    option_or (option_map string_bytes options.gfm_footnote_label_tag_name) (codes "h2")
 
 abbrev pub attributes_of : CompileOptions → List ℕ
-attributes_of options = option_map_or string_bytes options.gfm_footnote_label_attributes (codes "class=\"sr-only\"")
+attributes_of options =
+    option_map_or string_bytes options.gfm_footnote_label_attributes (codes "class=\"sr-only\"")
 
 abbrev pub heading_label_of : CompileOptions → List ℕ
-heading_label_of options = option_or (option_map string_bytes options.gfm_footnote_label) (codes "Footnotes")
+heading_label_of options =
+    option_or (option_map string_bytes options.gfm_footnote_label) (codes "Footnotes")
 
 -- the section's tag and its heading
 abbrev pub heading_text : List ℕ → List ℕ → List ℕ → List ℕ
@@ -56,11 +67,16 @@ heading_text tag attributes label =
 heading-bracket : (s : Setting) (label : List ℕ) → PassesIds s.p.test → Escaped label →
     Bracket s.p (heading_text (codes "h2") (codes "class=\"sr-only\"") label) (codes "</section>")
 heading-bracket s label ids h =
-    bracket-after s.p (codes "<section data-footnotes=\"\" class=\"footnotes\">") (codes "</section>")
+    bracket-after s.p (codes "<section data-footnotes=\"\" class=\"footnotes\">")
+    (codes "</section>")
     (codes "<h2 id=\"footnote-label\" class=\"sr-only\">" ++ (label ++ codes "</h2>"))
     (bracket-tag s.p (codes "section") (attribute (codes "data-footnotes") []
     ∷ attribute (codes "class") (codes "footnotes") ∷ []) refl
-    (rw (s.test.other (codes "data-footnotes") [] refl, s.test.other (codes "class") (codes "footnotes") refl) refl))
+    (rw (
+      s.test.other (codes "data-footnotes") [] refl,
+      s.test.other (codes "class") (codes "footnotes") refl,
+    )
+    refl))
     (element-read (plain_of s.p) (codes "h2") (attribute (codes "id") (codes "footnote-label")
     ∷ attribute (codes "class") (codes "sr-only") ∷ []) label refl
     (rw (
@@ -71,20 +87,22 @@ heading-bracket s label ids h =
 
 -- the same as the options write it
 section-turn : (s : Setting) (q : Claim) →
-    Turns s.p q (heading_text (codes "h2") (codes "class=\"sr-only\"") (heading_label_of s.given.options))
+    Turns s.p q
+    (heading_text (codes "h2") (codes "class=\"sr-only\"") (heading_label_of s.given.options))
     (codes "</section>") → s.given.options.gfm_footnote_label_tag_name ≡ None →
     s.given.options.gfm_footnote_label_attributes ≡ None
     → Turns s.p q (heading_text (tag_of s.given.options) (attributes_of s.given.options)
     (heading_label_of s.given.options)) (codes "</section>")
 section-turn s q turn no_tag no_attributes =
-    let tag : tag_of s.given.options ≡ codes "h2" = ap (λ o. option_or (option_map string_bytes o) (codes "h2"))
+    let tag : tag_of s.given.options ≡ codes "h2" =
+    ap (λ o. option_or (option_map string_bytes o) (codes "h2"))
     no_tag in
     let attributes : attributes_of s.given.options ≡ codes "class=\"sr-only\"" =
     ap (λ o. option_map_or string_bytes o (codes "class=\"sr-only\"")) no_attributes in
-    subst (λ tag. Turns s.p q (heading_text tag (attributes_of s.given.options) (heading_label_of s.given.options))
-    (codes "</section>")) (sym tag)
-    (subst (λ attributes. Turns s.p q (heading_text (codes "h2") attributes (heading_label_of s.given.options))
-    (codes "</section>")) (sym attributes) turn)
+    subst (λ tag. Turns s.p q (heading_text tag (attributes_of s.given.options)
+    (heading_label_of s.given.options)) (codes "</section>")) (sym tag)
+    (subst (λ attributes. Turns s.p q (heading_text (codes "h2") attributes
+    (heading_label_of s.given.options)) (codes "</section>")) (sym attributes) turn)
 
 -- at the end of a text there are only CR and LF
 pub rest-ends : (text : List ℕ) → is_line_ends (drop (unended_length text) text) ≡ true
@@ -92,11 +110,13 @@ rest-ends [] = refl
 rest-ends (byte ∷ bytes) =
     let ending : Bool = (byte == 13) || (byte == 10) in
     let none : Bool = unended_length bytes == 0 in
-    cond_both (ending && none) 0 (suc (unended_length bytes)) (λ n. is_line_ends (drop n (byte ∷ bytes)) ≡ true)
+    cond_both (ending && none) 0 (suc (unended_length bytes))
+    (λ n. is_line_ends (drop n (byte ∷ bytes)) ≡ true)
     (λ h.
     let parts = and_parts ending none h in
     and_from ending (is_line_ends bytes) parts.0
-    (subst (λ n. is_line_ends (drop n bytes) ≡ true) (eqb-true (unended_length bytes) 0 parts.1) (rest-ends bytes)))
+    (subst (λ n. is_line_ends (drop n bytes) ≡ true) (eqb-true (unended_length bytes) 0 parts.1)
+    (rest-ends bytes)))
     (λ _. rest-ends bytes)
 
 -- where a paragraph ends a text, the ways back stand before its end
@@ -107,11 +127,13 @@ in_paragraph p x back r rb h =
     let m : ℕ = unended_length x in
     let n : ℕ = m - 4 in
     let endings : List ℕ = drop m x in
-    let tag : drop n (take m x) ≡ codes "</p>" = (bytes_eq-Decides (drop n (take m x)) (codes "</p>")).0 h in
+    let tag : drop n (take m x) ≡ codes "</p>" =
+    (bytes_eq-Decides (drop n (take m x)) (codes "</p>")).0 h in
     let fits : n ≤ length (take m x) = omega (arith, length-drop n (take m x), ap length tag) in
     let last : drop n x ≡ codes "</p>" ++ endings = ap (λ y. drop n y) (sym (take-append-drop m x))
     ∙ drop-append-le n (take m x) endings fits ∙ ap (λ y. y ++ endings) tag in
-    let cut : x ≡ take n x ++ codes "</p>" ++ endings = sym (take-append-drop n x) ∙ ap (λ y. take n x ++ y) last
+    let cut : x ≡ take n x ++ codes "</p>" ++ endings =
+    sym (take-append-drop n x) ∙ ap (λ y. take n x ++ y) last
     ∙ sym (append_assoc (take n x) (codes "</p>") endings) in
     let put : p.holds (take n x ++ (32 ∷ back) ++ codes "</p>" ++ endings) =
     p.takes (take n x) endings (32 ∷ back) (rest-ends x) (subst p.holds cut r)
@@ -126,8 +148,10 @@ body-prints : (s : Setting) (x back : List ℕ) → Reads s x → HasReadingWith
     Prints s (Reads s) (body x back)
 body-prints s x back r rb =
     let n : ℕ = unended_length x - 4 in
-    let split : List Piece = Text (take n x) ∷ Text (codes " ") ∷ Text back ∷ Text (drop n x) ∷ [] in
-    cond_both (bytes_eq (drop n (take (unended_length x) x)) (codes "</p>")) split (Text x ∷ Needed ∷ Text back ∷ [])
+    let split : List Piece =
+    Text (take n x) ∷ Text (codes " ") ∷ Text back ∷ Text (drop n x) ∷ [] in
+    cond_both (bytes_eq (drop n (take (unended_length x) x)) (codes "</p>")) split
+    (Text x ∷ Needed ∷ Text back ∷ [])
     (Prints s (Reads s))
     (λ is.
     adds-flat s.given.ending (Reads s) split refl
@@ -141,21 +165,24 @@ body-prints s x back r rb =
     (adds-text s.given.ending (HasReadingWith s.p.test) back rb)))
 
 -- an item
-pub li_id : (v : List ℕ) → Escaped v → is_tag elements (codes "li") (attribute (codes "id") v ∷ []) ≡ true
+pub li_id : (v : List ℕ) → Escaped v →
+    is_tag elements (codes "li") (attribute (codes "id") v ∷ []) ≡ true
 li_id v h = rw h refl
 
 item-bracket : (s : Setting) (v : List ℕ) → s.p.test (attribute (codes "id") v) ≡ true → Escaped v →
     Bracket s.p (codes "<li id=\"" ++ (v ++ (codes "\">" ++ []))) (codes "</li>")
 item-bracket s v passes h =
-    subst (λ o. Bracket s.p o (codes "</li>")) (ap (λ x. codes "<li id=\"" ++ x) (append_assoc v (34 ∷ []) (62 ∷ [])))
+    subst (λ o. Bracket s.p o (codes "</li>"))
+    (ap (λ x. codes "<li id=\"" ++ x) (append_assoc v (34 ∷ []) (62 ∷ [])))
     (bracket-tag s.p (codes "li") (attribute (codes "id") v ∷ []) (li_id v h) (cc passes))
 
-item-opening : (s : Setting) (v : List ℕ) → Prints s (IsFramed (codes "<li id=\"" ++ (v ++ (codes "\">" ++ []))))
+item-opening : (s : Setting) (v : List ℕ) →
+    Prints s (IsFramed (codes "<li id=\"" ++ (v ++ (codes "\">" ++ []))))
     (Forced ∷ Text (codes "<li id=\"") ∷ Text v ∷ Text (codes "\">") ∷ Forced ∷ [])
 item-opening s v =
     let o : List ℕ = codes "<li id=\"" ++ (v ++ (codes "\">" ++ [])) in
-    adds-append s.given.ending (IsFramed o) Escaped (IsFramed o) (Forced ∷ Text (codes "<li id=\"") ∷ Text v
-    ∷ Text (codes "\">") ∷ []) (Forced ∷ [])
+    adds-append s.given.ending (IsFramed o) Escaped (IsFramed o)
+    (Forced ∷ Text (codes "<li id=\"") ∷ Text v ∷ Text (codes "\">") ∷ []) (Forced ∷ [])
     (λ x y f g.
     record {
       before = f.before;
@@ -165,7 +192,8 @@ item-opening s v =
       escaped_before = f.escaped_before;
       escaped_after = escaped-append f.after y f.escaped_after g;
     })
-    (adds-framed_flat s.given.ending (Forced ∷ []) (Text (codes "<li id=\"") ∷ Text v ∷ Text (codes "\">")
+    (adds-framed_flat s.given.ending (Forced ∷ [])
+    (Text (codes "<li id=\"") ∷ Text v ∷ Text (codes "\">")
     ∷ []) refl (adds-forced s.given.ending s.ending))
     (adds-forced s.given.ending s.ending)
 
@@ -186,30 +214,35 @@ item-prints s q footnotes identifier turn r =
     let v : List ℕ = id_of s.given.options (codes "fn-") identifier number in
     let x : List ℕ = text_among footnotes identifier in
     let back : List ℕ = backreferences s.given.options identifier number count in
-    adds-turned s.p q s.given.ending (codes "<li id=\"" ++ (v ++ (codes "\">" ++ []))) (codes "</li>")
-    (Forced ∷ Text (codes "<li id=\"") ∷ Text v ∷ Text (codes "\">") ∷ Forced ∷ []) (body x back) (Needed
-    ∷ Text (codes "</li>") ∷ [])
+    adds-turned s.p q s.given.ending (codes "<li id=\"" ++ (v ++ (codes "\">" ++ [])))
+    (codes "</li>")
+    (Forced ∷ Text (codes "<li id=\"") ∷ Text v ∷ Text (codes "\">") ∷ Forced ∷ []) (body x back)
+    (Needed ∷ Text (codes "</li>") ∷ [])
     turn (item-opening s v)
-    (body-prints s x back r (backreferences-read s.p.test s.given.options s.test identifier number count))
+    (body-prints s x back r
+    (backreferences-read s.p.test s.given.options s.test identifier number count))
     (framed-needed s.given.ending (codes "</li>") s.ending)
 
-footnote-read : (s : Setting) (footnotes : List Footnote) (identifier : List ℕ) → AreRead s footnotes →
+footnote-read : (s : Setting) (footnotes : List Footnote) (identifier : List ℕ) →
+    AreRead s footnotes →
     Reads s (text_among footnotes identifier)
 footnote-read s [] identifier h = holds-none s
 footnote-read s (footnote ∷ others) identifier h = by (bytes_eq footnote.identifier identifier)
     (footnote-read s others identifier h.1)
   where
     by : (is : Bool) → Reads s (text_among others identifier) →
-        Reads s (option_map_or (λ footnote. footnote.text)
-        (cond is (Some footnote) (find (λ footnote. bytes_eq footnote.identifier identifier) others)) [])
+        Reads s (option_map_or (λ footnote. footnote.text) (cond is (Some footnote)
+        (find (λ footnote. bytes_eq footnote.identifier identifier) others)) [])
     by true later = h.0
     by false later = later
 
-items-print : (s : Setting) → IsWhole s.p → (footnotes : List Footnote) (identifiers : List (List ℕ)) →
+items-print : (s : Setting) → IsWhole s.p →
+    (footnotes : List Footnote) (identifiers : List (List ℕ)) →
     AreRead s footnotes → Prints s (Reads s) (flat_map (item s.given footnotes) identifiers)
 items-print s whole footnotes [] h = adds-nothing s.given.ending (Reads s) (holds-none s)
 items-print s whole footnotes (identifier ∷ identifiers) h =
-    let v : List ℕ = id_of s.given.options (codes "fn-") identifier (place_among (distinct s.given.calls) identifier) in
+    let v : List ℕ = id_of s.given.options (codes "fn-") identifier
+    (place_among (distinct s.given.calls) identifier) in
     adds-append s.given.ending (Reads s) (Reads s) (Reads s) (item s.given footnotes identifier)
     (flat_map (item s.given footnotes) identifiers) whole.both
     (item-prints s s.p footnotes identifier
@@ -232,32 +265,38 @@ section_end = Forced ∷ Text (codes "</ol>") ∷ Forced ∷ Text (codes "</sect
 
 -- items between the tags of the list and of the section
 pub section-around : (s : Setting) (q : Claim) →
-    Turns s.p q (heading_text (codes "h2") (codes "class=\"sr-only\"") (heading_label_of s.given.options))
+    Turns s.p q
+    (heading_text (codes "h2") (codes "class=\"sr-only\"") (heading_label_of s.given.options))
     (codes "</section>") → s.given.options.gfm_footnote_label_tag_name ≡ None →
-    s.given.options.gfm_footnote_label_attributes ≡ None → (items : List Piece) → Prints s (Reads s) items
+    s.given.options.gfm_footnote_label_attributes ≡ None → (items : List Piece) →
+    Prints s (Reads s) items
     → Prints s q.holds (section_start s.given.options ++ (items ++ section_end))
 section-around s q turn no_tag no_attributes items a =
     let ol : List Piece = Forced ∷ Text (codes "<ol>") ∷ [] in
     let end : List Piece = Forced ∷ Text (codes "</ol>") ∷ [] in
     let last : List Piece = Forced ∷ Text (codes "</section>") ∷ Forced ∷ [] in
-    subst (λ x. Prints s q.holds ((Needed ∷ head_texts s.given.options) ++ (ol ++ x))) (append_assoc items end last)
-    (adds-turned s.p q s.given.ending (flat (head_texts s.given.options)) (codes "</section>") (Needed
-    ∷ head_texts s.given.options) (ol ++ (items ++ end)) last
+    subst (λ x. Prints s q.holds ((Needed ∷ head_texts s.given.options) ++ (ol ++ x)))
+    (append_assoc items end last)
+    (adds-turned s.p q s.given.ending (flat (head_texts s.given.options)) (codes "</section>")
+    (Needed ∷ head_texts s.given.options) (ol ++ (items ++ end)) last
     (section-turn s q turn no_tag no_attributes)
     (adds-framed_flat s.given.ending (Needed ∷ []) (head_texts s.given.options) refl
     (adds-needed s.given.ending s.ending))
-    (adds-pair s.p s.given.ending (codes "<ol>") (codes "</ol>") ol items end (bracket-plain s.p (codes "ol") refl)
-    (framed-forced s.given.ending (codes "<ol>") s.ending) a
+    (adds-pair s.p s.given.ending (codes "<ol>") (codes "</ol>") ol items end
+    (bracket-plain s.p (codes "ol") refl) (framed-forced s.given.ending (codes "<ol>") s.ending) a
     (framed-forced s.given.ending (codes "</ol>") s.ending))
     (adds-framed s.given.ending (codes "</section>") (Forced ∷ []) (Forced
     ∷ []) (adds-forced s.given.ending s.ending) (adds-forced s.given.ending s.ending)))
 
-pub section-prints : (s : Setting) → IsWhole s.p → s.given.options.gfm_footnote_label_tag_name ≡ None →
-    s.given.options.gfm_footnote_label_attributes ≡ None → (footnotes : List Footnote) → AreRead s footnotes
+pub section-prints : (s : Setting) → IsWhole s.p →
+    s.given.options.gfm_footnote_label_tag_name ≡ None →
+    s.given.options.gfm_footnote_label_attributes ≡ None →
+    (footnotes : List Footnote) → AreRead s footnotes
     → Prints s (Reads s) (section s.given footnotes)
 section-prints s whole no_tag no_attributes footnotes h =
     let items : List Piece = flat_map (item s.given footnotes) (distinct s.given.calls) in
-    cond_both (not (length s.given.calls == 0)) (section_start s.given.options ++ (items ++ section_end)) []
+    cond_both (not (length s.given.calls == 0))
+    (section_start s.given.options ++ (items ++ section_end)) []
     (Prints s (Reads s))
     (λ _.
     section-around s s.p

@@ -1,6 +1,7 @@
--- A node where it stands: what is known of the document and what the node means. The lemmas on nodes speak of this
--- record.
-use Rattle.std.proofs.Common.{◌≡◌, ℕ, Bool, true, false, cond, List, [], ◌∷◌, ◌++◌, sym, subst, codes}
+-- A node where it stands: what is known of the document and what the node means. The lemmas on
+-- nodes speak of this record.
+use Rattle.std.proofs.Common.{◌≡◌, ℕ, Bool, true, false, cond, List, [], ◌∷◌, ◌++◌, sym, subst}
+use Rattle.std.proofs.Common.{codes}
 use Rattle.std.specs.Prelude.{Option, Some, None, find, bytes_eq, unwrap_or}
 use Rattle.std.specs.Option.{option_map_or}
 use Rattle.md_base.specs.declared.event.Name.{Name}
@@ -10,7 +11,8 @@ use Rattle.md_text.proofs.EncodeLaws.{is_escaped-encoded}
 use Rattle.md_text.proofs.HtmlJoin.{text}
 use Rattle.md_pattern.specs.Looseness.{is_loose}
 use Rattle.md_meaning.specs.Meaning.Around.{inside}
-use Rattle.md_meaning.specs.Meaning.At.{Target, Defined, Given, At, nothing_found, target_in, identifier_of}
+use Rattle.md_meaning.specs.Meaning.At.{Target, Defined, Given, At, nothing_found, target_in}
+use Rattle.md_meaning.specs.Meaning.At.{identifier_of}
 use Rattle.md_meaning.specs.Meaning.Layout.{Piece}
 use Rattle.md_meaning.specs.Meaning.Media.{target_defined, leads_to}
 use Rattle.md_shape.specs.Built.{Content, IsFit, content_of}
@@ -43,7 +45,8 @@ pub record Setting : Type 1 where
 abbrev pub PassesIds : (Attribute → Bool) → Type 0
 PassesIds test = (value : List ℕ) → test (attribute (codes "id") value) ≡ true
 
--- what is asked of a claim beyond a test on tags: the claims of two texts are one's, and each `id` passes
+-- what is asked of a claim beyond a test on tags: the claims of two texts are one's, and
+-- each `id` passes
 pub record IsWhole (p : Claim) : Type 0 where
   pub both : (x y : List ℕ) → p.holds x → p.holds y → p.holds (x ++ y)
   pub ids : PassesIds p.test
@@ -64,7 +67,8 @@ Prints s holds pieces = Adds s.given.ending holds pieces
 abbrev pub Inside : Setting → At → Content → Name → List Piece → Type 0
 Inside s t content name inner =
     Prints s (Holds s.p (inside s.given.options (is_loose t.children) name t.around).is_escaping
-    (inside s.given.options (is_loose t.children) name t.around).in_image (content_of name content)) inner
+    (inside s.given.options (is_loose t.children) name t.around).in_image (content_of name content))
+    inner
 
 -- holds of a text that is escaped where that is asked for
 abbrev pub IsNarrow : Bool → (List ℕ → Type 0) → Type 0
@@ -90,24 +94,28 @@ wide-escaped p in_image is = record {
   read = λ x h. p.plain x (text p.test x h);
 }
 
-pub narrow-wide : (p : Claim) (escaping in_image : Bool) (holds : List ℕ → Type 0) → escaping ≡ true →
+pub narrow-wide : (p : Claim) (escaping in_image : Bool) (holds : List ℕ → Type 0) →
+    escaping ≡ true →
     IsWide p in_image holds → IsNarrow escaping holds
 narrow-wide p escaping in_image holds e w x h = w.own x (h e)
 
 -- an encoded text is escaped where that is asked for
-pub encoded-escaped : (escaping : Bool) (x : List ℕ) → escaping ≡ true → Escaped (encoded escaping x)
+pub encoded-escaped : (escaping : Bool) (x : List ℕ) → escaping ≡ true →
+    Escaped (encoded escaping x)
 encoded-escaped escaping x e = subst (λ b. Escaped (encoded b x)) (sym e) (is_escaped-encoded x)
 
 -- the title of a definition is escaped
 defined-title : (definitions : List Defined) (identifier : List ℕ) → AreTitles definitions →
     IsEscapedTitle (option_map_or (λ defined. defined.target)
-    (find (λ defined. bytes_eq defined.identifier identifier) definitions) (target_in nothing_found)).title
+    (find (λ defined. bytes_eq defined.identifier identifier) definitions)
+    (target_in nothing_found)).title
 defined-title [] identifier h = tt
 defined-title (defined ∷ others) identifier h = by (bytes_eq defined.identifier identifier)
     (defined-title others identifier h.1)
   where
     by : (is : Bool) → IsEscapedTitle (option_map_or (λ defined. defined.target)
-        (find (λ defined. bytes_eq defined.identifier identifier) others) (target_in nothing_found)).title
+        (find (λ defined. bytes_eq defined.identifier identifier) others)
+        (target_in nothing_found)).title
         → IsEscapedTitle (option_map_or (λ defined. defined.target)
         (cond is (Some defined) (find (λ defined. bytes_eq defined.identifier identifier) others))
         (target_in nothing_found)).title
@@ -119,6 +127,7 @@ pub target-title : (s : Setting) (t : At) → IsGoodTarget t.found.resource →
 target-title s t good = by t.found.resource good
   where
     by : (resource : Option Target) → IsGoodTarget resource →
-        IsEscapedTitle (unwrap_or resource (target_defined s.given (identifier_of s.given.bytes t.children))).title
+        IsEscapedTitle (unwrap_or resource
+        (target_defined s.given (identifier_of s.given.bytes t.children))).title
     by None h = defined-title s.given.definitions (identifier_of s.given.bytes t.children) s.titles
     by (Some target) h = h

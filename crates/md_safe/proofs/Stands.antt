@@ -1,20 +1,27 @@
--- Texts that stand as some content: nothing, a text, tags around what stands in them, and two such texts joined.
+-- Texts that stand as some content: nothing, a text, tags around what stands in them, and two
+-- such texts joined.
 use Rattle.std.specs.Str.{bytes_eq}
 use Rattle.std.specs.List.{list_all}
 use Rattle.std.specs.Option.{option_map_or}
-use Rattle.std.proofs.Common.{◌≡◌, ℕ, ◌==◌, Bool, true, false, ◌||◌, cond, List, [], ◌∷◌, ◌++◌, refl, sym, ap, ap₂, ◌∙◌, subst, inl, inr, append-nil, append_assoc, eqb-true}
+use Rattle.std.proofs.Common.{◌≡◌, ℕ, ◌==◌, Bool, true, false, ◌||◌, cond, List, [], ◌∷◌, ◌++◌}
+use Rattle.std.proofs.Common.{refl, sym, ap, ap₂, ◌∙◌, subst, inl, inr, append-nil, append_assoc}
+use Rattle.std.proofs.Common.{eqb-true}
 use Rattle.std.specs.Prelude.{Option, Some, None, find, option_map}
 use Rattle.std.proofs.lemmas.Bool.{and_parts, and_from, or_cases, or_right}
 use Rattle.std.proofs.lemmas.List.Folds.{list_all-append}
 use Rattle.md_base.proofs.Lies.{lie}
 use Rattle.md_text.specs.Laws.{is_line_ends}
 use Rattle.md_text.specs.Bytes.{is_one_of}
-use Rattle.md_text.specs.Html.{Attribute, Forest, Empty, Text, Void, Element, is_forest, is_tag, elements, void_tags, written_attributes, opening_tag, closing_tag, IsReading, any_attribute}
+use Rattle.md_text.specs.Html.{Attribute, Forest, Empty, Text, Void, Element, is_forest, is_tag}
+use Rattle.md_text.specs.Html.{elements, void_tags, written_attributes, opening_tag, closing_tag}
+use Rattle.md_text.specs.Html.{IsReading, any_attribute}
 use Rattle.md_text.proofs.HtmlJoin.{text_before, joined, after_forest, opening-before}
 use Rattle.md_text.proofs.HtmlReading.{only_reading, all-any}
 use Rattle.md_text.proofs.HtmlWriting.{attributes_before, written_attributes-before}
 use Rattle.md_safe.proofs.Texts.{Escaped, line_ends-escaped}
-use Rattle.md_safe.specs.Contents.{Content, Flow, Phrasing, Linked, Items, Parts, Rows, Cells, Preformatted, Characters, span_elements, block_elements, held_in, voids_in, is_space, may_say, is_contained, IsContainedAs}
+use Rattle.md_safe.specs.Contents.{Content, Flow, Phrasing, Linked, Items, Parts, Rows, Cells}
+use Rattle.md_safe.specs.Contents.{Preformatted, Characters, span_elements, block_elements, held_in}
+use Rattle.md_safe.specs.Contents.{voids_in, is_space, may_say, is_contained, IsContainedAs}
 
 -- a text has a reading in which everything stands where it may
 pub record Stands (nested : Bool) (content : Content) (x : List ℕ) : Type 0 where
@@ -40,14 +47,16 @@ contained-once nested x h =
 -- ---- texts in one
 
 -- two texts that may stand somewhere may stand there as one
-say-append : (content : Content) (x y : List ℕ) → may_say content x ≡ true → may_say content y ≡ true →
+say-append : (content : Content) (x y : List ℕ) → may_say content x ≡ true →
+    may_say content y ≡ true →
     may_say content (x ++ y) ≡ true
 say-append Flow x y a b = refl
 say-append Phrasing x y a b = refl
 say-append Linked x y a b = refl
 say-append Characters x y a b = refl
 say-append Preformatted x y a b = a
-say-append _ x y a b = list_all-append is_space x y ∙ and_from (list_all is_space x) (list_all is_space y) a b
+say-append _ x y a b =
+    list_all-append is_space x y ∙ and_from (list_all is_space x) (list_all is_space y) a b
 
 contained-text_before : (nested : Bool) (content : Content) (bytes : List ℕ) (g : Forest) →
     may_say content bytes ≡ true →
@@ -61,28 +70,34 @@ contained-text_before nested content bytes (Text more rest) s h =
 contained-text_before nested content bytes (Void name attributes rest) s h =
     and_from (may_say content bytes) (is_contained nested content (Void name attributes rest)) s h
 contained-text_before nested content bytes (Element name attributes children rest) s h =
-    and_from (may_say content bytes) (is_contained nested content (Element name attributes children rest)) s h
+    and_from (may_say content bytes)
+    (is_contained nested content (Element name attributes children rest)) s h
 
 -- what an element holds stands where it may
 abbrev pub is_held : (nested : Bool) → Content → List ℕ → Forest → Bool
 is_held nested content name inner = option_map_or (λ held. is_contained nested held inner)
     (held_in nested content name) false
 
-contained-joined : (nested : Bool) (content : Content) (f g : Forest) → is_contained nested content f ≡ true →
+contained-joined : (nested : Bool) (content : Content) (f g : Forest) →
+    is_contained nested content f ≡ true →
     is_contained nested content g ≡ true →
     is_contained nested content (joined f g) ≡ true
 contained-joined nested content Empty g a b = b
 contained-joined nested content (Text bytes rest) g a b =
     let parts = and_parts (may_say content bytes) (is_contained nested content rest) a in
-    contained-text_before nested content bytes (joined rest g) parts.0 (contained-joined nested content rest g parts.1
-    b)
+    contained-text_before nested content bytes (joined rest g) parts.0
+    (contained-joined nested content rest g parts.1 b)
 contained-joined nested content (Void name attributes rest) g a b =
-    let parts = and_parts (is_one_of (voids_in content) name) (is_contained nested content rest) a in
-    and_from (is_one_of (voids_in content) name) (is_contained nested content (joined rest g)) parts.0
+    let parts =
+    and_parts (is_one_of (voids_in content) name) (is_contained nested content rest) a in
+    and_from (is_one_of (voids_in content) name)
+    (is_contained nested content (joined rest g)) parts.0
     (contained-joined nested content rest g parts.1 b)
 contained-joined nested content (Element name attributes children rest) g a b =
-    let parts = and_parts (is_held nested content name children) (is_contained nested content rest) a in
-    and_from (is_held nested content name children) (is_contained nested content (joined rest g)) parts.0
+    let parts =
+    and_parts (is_held nested content name children) (is_contained nested content rest) a in
+    and_from (is_held nested content name children)
+    (is_contained nested content (joined rest g)) parts.0
     (contained-joined nested content rest g parts.1 b)
 
 pub stands-join : (nested : Bool) (content : Content) (x y : List ℕ) → Stands nested content x →
@@ -106,7 +121,8 @@ stands-nothing nested content = record {
   contained = refl;
 }
 
-pub stands-text : (nested : Bool) (content : Content) (x : List ℕ) → Escaped x → may_say content x ≡ true →
+pub stands-text : (nested : Bool) (content : Content) (x : List ℕ) → Escaped x →
+    may_say content x ≡ true →
     Stands nested content x
 stands-text nested content [] h s = stands-nothing nested content
 stands-text nested content (b ∷ bytes) h s = record {
@@ -118,14 +134,18 @@ stands-text nested content (b ∷ bytes) h s = record {
   contained = and_from (may_say content (b ∷ bytes)) true s refl;
 }
 
-pub stands-void : (nested : Bool) (content : Content) (name : List ℕ) (attributes : List Attribute) →
+pub stands-void :
+    (nested : Bool) (content : Content) (name : List ℕ) (attributes : List Attribute) →
     is_tag void_tags name attributes ≡ true → is_one_of (voids_in content) name ≡ true
     → Stands nested content (60 ∷ (name ++ attributes_before attributes (32 ∷ 47 ∷ 62 ∷ [])))
 stands-void nested content name attributes h v =
-    subst (λ x. Stands nested content (60 ∷ (name ++ x))) (written_attributes-before attributes (32 ∷ 47 ∷ 62 ∷ []))
-    (record {
+    subst (λ x. Stands nested content (60 ∷ (name ++ x)))
+    (written_attributes-before attributes (32 ∷ 47 ∷ 62 ∷ [])) (record {
       forest = Void name attributes Empty;
-      reading = record { in_grammar = and_from (is_tag void_tags name attributes) true h refl; written_so = refl };
+      reading = record {
+        in_grammar = and_from (is_tag void_tags name attributes) true h refl;
+        written_so = refl;
+      };
       contained = and_from (is_one_of (voids_in content) name) true v refl;
     })
 
@@ -133,30 +153,36 @@ stands-void nested content name attributes h v =
 abbrev pub Opens : (nested : Bool) → Content → Content → List ℕ → Type 0
 Opens nested content held name = held_in nested content name ≡ Some held
 
-pub stands-element : (nested : Bool) (content held : Content) (name : List ℕ) (attributes : List Attribute)
+pub stands-element :
+    (nested : Bool) (content held : Content) (name : List ℕ) (attributes : List Attribute)
     (inside : List ℕ) →
-    is_tag elements name attributes ≡ true → Opens nested content held name → Stands nested held inside
+    is_tag elements name attributes ≡ true → Opens nested content held name →
+    Stands nested held inside
     → Stands nested content (60 ∷ (name ++ (written_attributes attributes
     ++ (62 ∷ (inside ++ (60 ∷ 47 ∷ (name ++ (62 ∷ []))))))))
 stands-element nested content held name attributes inside h opens within = record {
   forest = Element name attributes within.forest Empty;
   reading = record {
-    in_grammar = and_from _ true (and_from (is_tag elements name attributes) (is_forest within.forest) h
+    in_grammar =
+        and_from _ true (and_from (is_tag elements name attributes) (is_forest within.forest) h
         within.reading.in_grammar) refl;
     written_so = ap (λ x. 60 ∷ (name ++ (written_attributes attributes
         ++ (62 ∷ (x ++ (60 ∷ 47 ∷ (name ++ (62 ∷ [])))))))) within.reading.written_so;
   };
   contained = and_from (is_held nested content name within.forest) true
-      (ap (λ held. option_map_or (λ held. is_contained nested held within.forest) held false) opens ∙
+      (ap (λ held. option_map_or (λ held. is_contained nested held within.forest) held false) opens
+      ∙
       within.contained) refl;
 }
 
 -- attribute by attribute
-pub stands-tag : (nested : Bool) (content held : Content) (name : List ℕ) (attributes : List Attribute)
+pub stands-tag :
+    (nested : Bool) (content held : Content) (name : List ℕ) (attributes : List Attribute)
     (inside : List ℕ) →
-    is_tag elements name attributes ≡ true → Opens nested content held name → Stands nested held inside
-    → Stands nested content (60 ∷ (name ++ attributes_before attributes (62 ∷ (inside ++ (60 ∷ 47 ∷ (name ++ (62
-    ∷ [])))))))
+    is_tag elements name attributes ≡ true → Opens nested content held name →
+    Stands nested held inside
+    → Stands nested content
+    (60 ∷ (name ++ attributes_before attributes (62 ∷ (inside ++ (60 ∷ 47 ∷ (name ++ (62 ∷ [])))))))
 stands-tag nested content held name attributes inside h opens within =
     subst (λ x. Stands nested content (60 ∷ (name ++ x)))
     (written_attributes-before attributes (62 ∷ (inside ++ (60 ∷ 47 ∷ (name ++ (62 ∷ []))))))
@@ -170,38 +196,44 @@ find-first test [] ys x e = cc
 find-first test (first ∷ xs) ys x e = by (test first) e (find-first test xs ys x)
   where
     by : (passes : Bool) → cond passes (Some first) (find test xs) ≡ Some x →
-        (find test xs ≡ Some x → find test (xs ++ ys) ≡ Some x) → cond passes (Some first) (find test (xs
+        (find test xs ≡ Some x → find test (xs ++ ys) ≡ Some x) →
+        cond passes (Some first) (find test (xs
         ++ ys)) ≡ Some x
     by true e later = e
     by false e later = later e
 
-held-wider : (nested : Bool) (name : List ℕ) (inner : Forest) → is_held nested Phrasing name inner ≡ true →
+held-wider : (nested : Bool) (name : List ℕ) (inner : Forest) →
+    is_held nested Phrasing name inner ≡ true →
     is_held nested Flow name inner ≡ true
 held-wider nested name inner h =
     by (find (λ element. bytes_eq element.0 name) (span_elements nested)) refl h
   where
     by : (found : Option (List ℕ × Content)) → find (λ element. bytes_eq element.0 name)
         (span_elements nested) ≡ found →
-        option_map_or (λ held. is_contained nested held inner) (option_map (λ element. element.1) found) false ≡ true →
+        option_map_or (λ held. is_contained nested held inner)
+        (option_map (λ element. element.1) found) false ≡ true →
         is_held nested Flow name inner ≡ true
     by None e h = lie h
     by (Some element) e h =
         ap (λ found. option_map_or (λ held. is_contained nested held inner) (option_map
-        (λ element. element.1) found) false)
-        (find-first (λ element. bytes_eq element.0 name) (span_elements nested) block_elements element e) ∙ h
+        (λ element. element.1) found) false) (find-first (λ element. bytes_eq element.0 name)
+        (span_elements nested) block_elements element e) ∙ h
 
 contained-wider : (nested : Bool) (f : Forest) → is_contained nested Phrasing f ≡ true →
     is_contained nested Flow f ≡ true
 contained-wider nested Empty h = refl
 contained-wider nested (Text bytes rest) h = contained-wider nested rest h
 contained-wider nested (Void name attributes rest) h =
-    let parts = and_parts (is_one_of (voids_in Phrasing) name) (is_contained nested Phrasing rest) h in
+    let parts =
+    and_parts (is_one_of (voids_in Phrasing) name) (is_contained nested Phrasing rest) h in
     and_from (is_one_of (voids_in Flow) name) (is_contained nested Flow rest)
     (or_right (bytes_eq name (104 ∷ 114 ∷ [])) (is_one_of (voids_in Phrasing) name) parts.0)
     (contained-wider nested rest parts.1)
 contained-wider nested (Element name attributes inner rest) h =
-    let parts = and_parts (is_held nested Phrasing name inner) (is_contained nested Phrasing rest) h in
-    and_from (is_held nested Flow name inner) (is_contained nested Flow rest) (held-wider nested name inner parts.0)
+    let parts =
+    and_parts (is_held nested Phrasing name inner) (is_contained nested Phrasing rest) h in
+    and_from (is_held nested Flow name inner) (is_contained nested Flow rest)
+    (held-wider nested name inner parts.0)
     (contained-wider nested rest parts.1)
 
 pub stands-wider : (nested : Bool) (x : List ℕ) → Stands nested Phrasing x → Stands nested Flow x
@@ -222,7 +254,8 @@ abbrev pub is_spaced : Content → Bool
 is_spaced Preformatted = false
 is_spaced _ = true
 
-pub stands-white : (nested : Bool) (content : Content) (x : List ℕ) → is_spaced content ≡ true → IsWhite x →
+pub stands-white : (nested : Bool) (content : Content) (x : List ℕ) →
+    is_spaced content ≡ true → IsWhite x →
     Stands nested content x
 stands-white nested Flow x is h = stands-text nested Flow x h.0 refl
 stands-white nested Phrasing x is h = stands-text nested Phrasing x h.0 refl
@@ -251,21 +284,25 @@ line_ends-white x h = (line_ends-escaped x h, line_ends-space x h)
 -- ---- what is turned into what by two texts around it
 
 abbrev pub Turns : (nested : Bool) → Content → Content → List ℕ → List ℕ → Type 0
-Turns nested held content o c = (x : List ℕ) → Stands nested held x → Stands nested content (o ++ (x ++ c))
+Turns nested held content o c =
+    (x : List ℕ) → Stands nested held x → Stands nested content (o ++ (x ++ c))
 
-pub turns-tag : (nested : Bool) (held content : Content) (name : List ℕ) (attributes : List Attribute) →
+pub turns-tag :
+    (nested : Bool) (held content : Content) (name : List ℕ) (attributes : List Attribute) →
     is_tag elements name attributes ≡ true → Opens nested content held name →
     Turns nested held content (opening_tag name attributes) (closing_tag name)
 turns-tag nested held content name attributes h opens x r =
     subst (Stands nested content) (sym (opening-before name attributes (x ++ closing_tag name)))
     (stands-element nested content held name attributes x h opens r)
 
-pub turns-plain : (nested : Bool) (held content : Content) (name : List ℕ) → is_tag elements name [] ≡ true →
+pub turns-plain : (nested : Bool) (held content : Content) (name : List ℕ) →
+    is_tag elements name [] ≡ true →
     Opens nested content held name →
     Turns nested held content (opening_tag name []) (closing_tag name)
 turns-plain nested held content name h opens = turns-tag nested held content name [] h opens
 
-pub turns-two : (nested : Bool) (inner held content : Content) (o c o' c' : List ℕ) → Turns nested held content o c →
+pub turns-two : (nested : Bool) (inner held content : Content) (o c o' c' : List ℕ) →
+    Turns nested held content o c →
     Turns nested inner held o' c'
     → Turns nested inner content (o ++ o') (c' ++ c)
 turns-two nested inner held content o c o' c' a b x r =

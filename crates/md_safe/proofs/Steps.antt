@@ -1,11 +1,14 @@
--- One step after another: a run from a state on, by one from the state that its first step leads to.
-use Rattle.std.proofs.Common.{◌≡◌, ℕ, ◌==◌, Bool, true, false, cond, List, [], ◌∷◌, ◌++◌, map, refl, sym, ap, ◌∙◌, subst, Some, option_map, suc, append-nil, append_assoc}
+-- One step after another: a run from a state on, by one from the state that its
+-- first step leads to.
+use Rattle.std.proofs.Common.{◌≡◌, ℕ, ◌==◌, Bool, true, false, cond, List, [], ◌∷◌, ◌++◌, map, refl}
+use Rattle.std.proofs.Common.{sym, ap, ◌∙◌, subst, Some, option_map, suc, append-nil, append_assoc}
 use Rattle.std.proofs.lemmas.Bool.{eqb-false}
 use Rattle.md_text.specs.References.{is_escaped, read_back}
 use Rattle.md_text.proofs.EncodeLaws.{read_back-other}
 use Rattle.md_safe.specs.Token.{Token, Character, TokenAttribute}
 use Rattle.md_safe.specs.Tag.{Tag, with_value}
-use Rattle.md_safe.specs.Tokenizer.{State, Data, AttributeValueDoubleQuoted, Goes, step, run, after_step, IsRun, Rcdata, in_value}
+use Rattle.md_safe.specs.Tokenizer.{State, Data, AttributeValueDoubleQuoted, Goes, step, run}
+use Rattle.md_safe.specs.Tokenizer.{after_step, IsRun, Rcdata, in_value}
 use Rattle.md_safe.proofs.EscapedCases.{IsPlain, by_escaped}
 
 -- the branches of a test
@@ -16,7 +19,8 @@ pub here : {A : Type 0} {c : Bool} {x z : A} (y : A) → c ≡ true → x ≡ z 
 here {x = x} y e f = ap (λ c. cond c x y) e ∙ f
 
 -- a step that emits nothing
-pub quiet : {state next : State} {input rest : List ℕ} {t : List Token} → step state input ≡ Goes [] next rest →
+pub quiet : {state next : State} {input rest : List ℕ} {t : List Token} →
+    step state input ≡ Goes [] next rest →
     IsRun next rest t → IsRun state input t
 quiet e h = record {
   steps = suc h.steps;
@@ -32,7 +36,8 @@ loud x e h = record {
 }
 
 -- the same run, of what is equal
-pub along : (state : State) (x y : List ℕ) (s t : List Token) → x ≡ y → s ≡ t → IsRun state x s → IsRun state y t
+pub along : (state : State) (x y : List ℕ) (s t : List Token) → x ≡ y → s ≡ t →
+    IsRun state x s → IsRun state y t
 along state x y s t e f h = record {
   steps = h.steps;
   emits = ap (run h.steps state) (sym e) ∙ h.emits ∙ ap (λ t. Some t) f;
@@ -53,7 +58,8 @@ plain_step b rest e38 e60 = simp (e38, e60)
 
 plain-runs : (b : ℕ) (rest : List ℕ) → IsPlain b → TextRuns rest → TextRuns (b ∷ rest)
 plain-runs b rest p later r t h =
-    along Data (b ∷ (rest ++ r)) (b ∷ (rest ++ r)) (Character b ∷ (map Character (read_back rest) ++ t))
+    along Data (b ∷ (rest ++ r)) (b ∷ (rest ++ r))
+    (Character b ∷ (map Character (read_back rest) ++ t))
     (map Character (read_back (b ∷ rest)) ++ t) refl
     (ap (λ x. map Character x ++ t) (sym (read_back-other b rest (plain-ne b p))))
     (loud (Character b) (plain_step b (rest ++ r) p.no_and p.no_less) (later r t h))
@@ -73,16 +79,19 @@ abbrev RcdataRuns : List ℕ → Type 0
 RcdataRuns x = (r : List ℕ) (t : List Token) → IsRun Rcdata r t →
     IsRun Rcdata (x ++ r) (map Character (read_back x) ++ t)
 
-rcdata_step : (b : ℕ) (rest : List ℕ) → IsPlain b → step Rcdata (b ∷ rest) ≡ Goes (Character b ∷ []) Rcdata rest
+rcdata_step : (b : ℕ) (rest : List ℕ) → IsPlain b →
+    step Rcdata (b ∷ rest) ≡ Goes (Character b ∷ []) Rcdata rest
 rcdata_step b rest p =
-    past _ p.no_and (past _ p.no_less (ap (λ bytes. Goes (map Character bytes) Rcdata rest) (in_value-plain b p)))
+    past _ p.no_and
+    (past _ p.no_less (ap (λ bytes. Goes (map Character bytes) Rcdata rest) (in_value-plain b p)))
   where
     in_value-plain : (b : ℕ) → IsPlain b → in_value b ≡ b ∷ []
     in_value-plain b p = past _ p.no_nul refl
 
 rcdata-plain : (b : ℕ) (rest : List ℕ) → IsPlain b → RcdataRuns rest → RcdataRuns (b ∷ rest)
 rcdata-plain b rest p later r t h =
-    along Rcdata (b ∷ (rest ++ r)) (b ∷ (rest ++ r)) (Character b ∷ (map Character (read_back rest) ++ t))
+    along Rcdata (b ∷ (rest ++ r)) (b ∷ (rest ++ r))
+    (Character b ∷ (map Character (read_back rest) ++ t))
     (map Character (read_back (b ∷ rest)) ++ t) refl
     (ap (λ x. map Character x ++ t) (sym (read_back-other b rest (plain-ne b p))))
     (loud (Character b) (rcdata_step b (rest ++ r) p) (later r t h))
@@ -107,38 +116,43 @@ attribute name value = record { name = name; value = value }
 
 -- where a value is read, up to here
 abbrev pub AtValue : List ℕ → List TokenAttribute → List ℕ → List ℕ → State
-AtValue tag earlier name value = AttributeValueDoubleQuoted (tag_with false tag (attribute name value ∷ earlier))
+AtValue tag earlier name value =
+    AttributeValueDoubleQuoted (tag_with false tag (attribute name value ∷ earlier))
 
 abbrev ValueRuns : List ℕ → Type 0
-ValueRuns x = (tag : List ℕ) (earlier : List TokenAttribute) (name value : List ℕ) (r : List ℕ) (t : List Token) →
-    IsRun (AtValue tag earlier name (value ++ read_back x)) r t → IsRun (AtValue tag earlier name value) (x ++ r) t
+ValueRuns x = (tag : List ℕ) (earlier : List TokenAttribute) (name value : List ℕ) (r : List ℕ)
+    (t : List Token) → IsRun (AtValue tag earlier name (value ++ read_back x)) r t →
+    IsRun (AtValue tag earlier name value) (x ++ r) t
 
-value_step : (tag : Tag) (b : ℕ) (rest : List ℕ) → (b == 34) ≡ false → (b == 38) ≡ false → (b == 0) ≡ false →
+value_step : (tag : Tag) (b : ℕ) (rest : List ℕ) → (b == 34) ≡ false →
+    (b == 38) ≡ false → (b == 0) ≡ false →
     step (AttributeValueDoubleQuoted tag) (b ∷ rest)
     ≡ Goes [] (AttributeValueDoubleQuoted (with_value tag (b ∷ []))) rest
 value_step tag b rest e34 e38 e0 =
     past _ e34 (past _ e38 (ap (λ c.
-    Goes [] (AttributeValueDoubleQuoted (with_value tag (cond c (239 ∷ 191 ∷ 189 ∷ []) (b ∷ [])))) rest) e0))
+    Goes [] (AttributeValueDoubleQuoted (with_value tag (cond c (239 ∷ 191 ∷ 189 ∷ []) (b ∷ []))))
+    rest) e0))
 
 -- the value with one more byte
-more_value : (tag : List ℕ) (earlier : List TokenAttribute) (name value : List ℕ) (b : ℕ) (x r : List ℕ)
-    (t : List Token) → IsRun (AtValue tag earlier name (value ++ (b ∷ x))) r t →
+more_value : (tag : List ℕ) (earlier : List TokenAttribute) (name value : List ℕ) (b : ℕ)
+    (x r : List ℕ) (t : List Token) → IsRun (AtValue tag earlier name (value ++ (b ∷ x))) r t →
     IsRun (AtValue tag earlier name ((value ++ (b ∷ [])) ++ x)) r t
 more_value tag earlier name value b x r t h =
     subst (λ v. IsRun (AtValue tag earlier name v) r t) (sym (append_assoc value (b ∷ []) x)) h
 
 value-plain : (b : ℕ) (rest : List ℕ) → IsPlain b → ValueRuns rest → ValueRuns (b ∷ rest)
 value-plain b rest p later tag earlier name value r t h =
-    quiet (value_step (tag_with false tag (attribute name value ∷ earlier)) b (rest ++ r) p.no_quote p.no_and p.no_nul)
-    (later tag earlier name (value ++ (b ∷ [])) r t
+    quiet (value_step (tag_with false tag (attribute name value ∷ earlier)) b (rest ++ r) p.no_quote
+    p.no_and p.no_nul) (later tag earlier name (value ++ (b ∷ [])) r t
     (more_value tag earlier name value b (read_back rest) r t
-    (subst (λ v. IsRun (AtValue tag earlier name (value ++ v)) r t) (read_back-other b rest (plain-ne b p)) h)))
+    (subst (λ v. IsRun (AtValue tag earlier name (value ++ v)) r t)
+    (read_back-other b rest (plain-ne b p)) h)))
 
 pub value-runs : (x : List ℕ) → is_escaped x ≡ true → ValueRuns x
 value-runs x e =
     by_escaped ValueRuns
-    (λ tag earlier name value r t h. subst (λ v. IsRun (AtValue tag earlier name v) r t) (append-nil value) h)
-    value-plain
+    (λ tag earlier name value r t h. subst (λ v. IsRun (AtValue tag earlier name v) r t)
+    (append-nil value) h) value-plain
     (λ rest later tag earlier name value r t h.
     quiet refl (quiet refl (quiet refl (later tag earlier name (value ++ (38 ∷ [])) r t
     (more_value tag earlier name value 38 (read_back rest) r t h)))))

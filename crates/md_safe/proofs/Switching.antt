@@ -1,12 +1,18 @@
 -- A start tag leads to the mode "text" where it is `title`, and nowhere else.
-use Rattle.std.proofs.Common.{◌≡◌, ℕ, Bool, true, false, ◌||◌, cond, List, [], ◌∷◌, refl, sym, ap, subst, codes}
+use Rattle.std.proofs.Common.{◌≡◌, ℕ, Bool, true, false, ◌||◌, cond, List, [], ◌∷◌, refl, sym, ap}
+use Rattle.std.proofs.Common.{subst, codes}
 use Rattle.std.specs.Prelude.{Option, Some, None, is_some, option_and_then, bytes_eq}
 use Rattle.std.proofs.lemmas.Slice.Eq.{bytes_eq-Decides}
 use Rattle.md_text.specs.Bytes.{is_one_of}
 use Rattle.md_safe.specs.Token.{StartTag, TokenAttribute}
-use Rattle.md_safe.specs.Node.{Mode, Initial, BeforeHtml, BeforeHead, InHead, InText, AfterHead, InBody, InTable, InTableBody, InRow, InCell, InTableText, AfterBody, AfterAfterBody, is_text, Parser}
-use Rattle.md_safe.specs.AroundBody.{start_before_html, start_before_head, start_in_head, start_after_head, enter, with_root, with_head, without_head, with_body}
-use Rattle.md_safe.specs.Elements.{button_scope, headings, blocks, formatting, ordinary, parts, sections, cells}
+use Rattle.md_safe.specs.Node.{Mode, Initial, BeforeHtml, BeforeHead, InHead, InText, AfterHead}
+use Rattle.md_safe.specs.Node.{InBody, InTable, InTableBody, InRow, InCell, InTableText, AfterBody}
+use Rattle.md_safe.specs.Node.{AfterAfterBody, is_text, Parser}
+use Rattle.md_safe.specs.AroundBody.{start_before_html, start_before_head, start_in_head}
+use Rattle.md_safe.specs.AroundBody.{start_after_head, enter, with_root, with_head, without_head}
+use Rattle.md_safe.specs.AroundBody.{with_body}
+use Rattle.md_safe.specs.Elements.{button_scope, headings, blocks, formatting, ordinary, parts}
+use Rattle.md_safe.specs.Elements.{sections, cells}
 use Rattle.md_safe.specs.Stack.{is_named, has_in_scope, insert}
 use Rattle.md_safe.specs.Formatting.{needs_reconstruction, last_active}
 use Rattle.md_safe.specs.InBody.{reconstructed, insert_formatting, insert_void, start_in_body}
@@ -27,7 +33,8 @@ to text parser is = record { holds = λ next e. subst (λ o. Leaves o) e is }
     Leaves None = Unit {0}
     Leaves (Some parser) = is_text parser.mode ≡ text
 
-either : (text : Bool) (b : Bool) (x y : Option Parser) → Leads text x → Leads text y → Leads text (cond b x y)
+either : (text : Bool) (b : Bool) (x y : Option Parser) → Leads text x → Leads text y →
+    Leads text (cond b x y)
 either text true x y p q = p
 either text false x y p q = q
 
@@ -36,10 +43,12 @@ either text false x y p q = q
 rebuilt : (parser : Parser) (change : Parser → Parser) → is_text (change parser).mode ≡ false →
     Leads false (reconstructed parser change)
 rebuilt parser change e =
-    either false (needs_reconstruction parser) None (Some (change parser)) (nowhere false) (to false (change parser) e)
+    either false (needs_reconstruction parser) None (Some (change parser)) (nowhere false)
+    (to false (change parser) e)
 
 -- a tag in a body
-in-body : (name : List ℕ) (attributes : List TokenAttribute) (parser : Parser) → is_text parser.mode ≡ false →
+in-body : (name : List ℕ) (attributes : List TokenAttribute) (parser : Parser) →
+    is_text parser.mode ≡ false →
     Leads false (start_in_body name attributes parser)
 in-body name attributes parser e =
     either false (is_one_of blocks name || bytes_eq name (codes "p")) _ _ (to false _ e)
@@ -48,10 +57,10 @@ in-body name attributes parser e =
     (either false (bytes_eq name (codes "li")) _ _ (to false _ e)
     (either false (bytes_eq name (codes "a")) _ _
     (either false (is_some (last_active name parser.active)) _ _ (nowhere false)
-    (rebuilt parser (insert_formatting name attributes) e))
-    (either false (is_one_of formatting name) _ _ (rebuilt parser (insert_formatting name attributes) e)
-    (either false (bytes_eq name (codes "table")) _ _
-    (either false (has_in_scope button_scope (is_named (codes "p")) parser.stack) _ _ (nowhere false) (to false _ refl))
+    (rebuilt parser (insert_formatting name attributes) e)) (either false
+    (is_one_of formatting name) _ _ (rebuilt parser (insert_formatting name attributes) e)
+    (either false (bytes_eq name (codes "table")) _ _ (either false (has_in_scope button_scope
+    (is_named (codes "p")) parser.stack) _ _ (nowhere false) (to false _ refl))
     (either false (is_one_of (codes "br" ∷ codes "img" ∷ codes "input" ∷ []) name) _ _
     (rebuilt parser (insert_void name attributes) e)
     (either false (bytes_eq name (codes "hr")) _ _ (to false _ e)
@@ -62,9 +71,11 @@ in-body name attributes parser e =
 after-head : (name : List ℕ) (attributes : List TokenAttribute) (parser : Parser) →
     Leads false (start_after_head name attributes parser)
 after-head name attributes parser =
-    either false (bytes_eq name (codes "body")) _ _ (to false _ refl) (in-body name attributes (with_body parser) refl)
+    either false (bytes_eq name (codes "body")) _ _ (to false _ refl)
+    (in-body name attributes (with_body parser) refl)
 
-in-head : (name : List ℕ) (attributes : List TokenAttribute) (parser : Parser) → bytes_eq name (codes "title") ≡ false →
+in-head : (name : List ℕ) (attributes : List TokenAttribute) (parser : Parser) →
+    bytes_eq name (codes "title") ≡ false →
     is_text parser.mode ≡ false → Leads false (start_in_head name attributes parser)
 in-head name attributes parser none e =
     either false (bytes_eq name (codes "meta")) _ _ (to false _ e)
@@ -84,7 +95,8 @@ before-html name attributes parser none =
     either false (bytes_eq name (codes "html")) _ _ (to false _ refl)
     (before-head name attributes (with_root parser) none)
 
-starts : (mode : Mode) (name : List ℕ) (attributes : List TokenAttribute) (parser : Parser) → parser.mode ≡ mode →
+starts : (mode : Mode) (name : List ℕ) (attributes : List TokenAttribute) (parser : Parser) →
+    parser.mode ≡ mode →
     bytes_eq name (codes "title") ≡ false → Leads false (start mode name attributes parser)
 starts Initial name attributes parser e none = before-html name attributes parser none
 starts BeforeHtml name attributes parser e none = before-html name attributes parser none
@@ -100,10 +112,13 @@ starts InTableBody name attributes parser e none =
 starts InRow name attributes parser e none =
     either false (is_one_of cells name) _ _ (to false _ refl) (nowhere false)
 starts InCell name attributes parser e none =
-    either false (is_one_of parts name) _ _ (nowhere false) (in-body name attributes parser (ap is_text e))
+    either false (is_one_of parts name) _ _ (nowhere false)
+    (in-body name attributes parser (ap is_text e))
 starts (InTableText mode) name attributes parser e none = nowhere false
-starts AfterBody name attributes parser e none = in-body name attributes (record parser { mode = InBody }) refl
-starts AfterAfterBody name attributes parser e none = in-body name attributes (record parser { mode = InBody }) refl
+starts AfterBody name attributes parser e none =
+    in-body name attributes (record parser { mode = InBody }) refl
+starts AfterAfterBody name attributes parser e none =
+    in-body name attributes (record parser { mode = InBody }) refl
 
 -- ---- `title`
 
@@ -117,13 +132,15 @@ titles _ attributes parser = nowhere true
 
 -- ---- after the characters of a table that were pending
 
-after-text : (text : Bool) (tag : Parser → Option Parser) → ((parser : Parser) → Leads text (tag parser)) →
+after-text : (text : Bool) (tag : Parser → Option Parser) →
+    ((parser : Parser) → Leads text (tag parser)) →
     (reached : Option Parser) → Leads text (option_and_then tag reached)
 after-text text tag all None = nowhere text
 after-text text tag all (Some parser) = all parser
 
 steps : (text : Bool) (name : List ℕ) (attributes : List TokenAttribute) (flag : Bool) →
-    ((parser : Parser) → Leads text (start parser.mode name attributes parser)) → (parser : Parser) →
+    ((parser : Parser) → Leads text (start parser.mode name attributes parser)) →
+    (parser : Parser) →
     Leads text (step parser (StartTag name attributes flag))
 steps text name attributes flag all parser = by parser.mode
   where
@@ -131,21 +148,27 @@ steps text name attributes flag all parser = by parser.mode
     tag parser = start parser.mode name attributes parser
 
     by : (mode : Mode) → Leads text (elim mode [
-      | InTableText original ↦ option_and_then tag (end_table_text original (record parser { skips_line_feed = false }))
+      | InTableText original ↦
+          option_and_then tag (end_table_text original (record parser { skips_line_feed = false }))
       | _ ↦ tag (record parser { skips_line_feed = false })
     ])
     by (InTableText original) =
-        after-text text tag all (end_table_text original (record parser { skips_line_feed = false }))
+        after-text text tag all
+        (end_table_text original (record parser { skips_line_feed = false }))
     by _ = all (record parser { skips_line_feed = false })
 
-pub switched : (parser next : Parser) (name : List ℕ) (attributes : List TokenAttribute) (flag : Bool) →
-    step parser (StartTag name attributes flag) ≡ Some next → is_text next.mode ≡ bytes_eq name (codes "title")
+pub switched :
+    (parser next : Parser) (name : List ℕ) (attributes : List TokenAttribute) (flag : Bool) →
+    step parser (StartTag name attributes flag) ≡ Some next →
+    is_text next.mode ≡ bytes_eq name (codes "title")
 switched parser next name attributes flag e = (by (bytes_eq name (codes "title")) refl).holds next e
   where
-    by : (is : Bool) → bytes_eq name (codes "title") ≡ is → Leads is (step parser (StartTag name attributes flag))
+    by : (is : Bool) → bytes_eq name (codes "title") ≡ is →
+        Leads is (step parser (StartTag name attributes flag))
     by true same =
         subst (λ name. Leads true (step parser (StartTag name attributes flag)))
-        (sym ((bytes_eq-Decides name (codes "title")).0 same))
-        (steps true (codes "title") attributes flag (λ parser. titles parser.mode attributes parser) parser)
+        (sym ((bytes_eq-Decides name (codes "title")).0 same)) (steps true (codes "title")
+        attributes flag (λ parser. titles parser.mode attributes parser) parser)
     by false none =
-        steps false name attributes flag (λ parser. starts parser.mode name attributes parser refl none) parser
+        steps false name attributes flag
+        (λ parser. starts parser.mode name attributes parser refl none) parser

@@ -1,8 +1,11 @@
--- Tags of the HTML grammar, written in one or between other pieces: a text between them keeps the claim.
+-- Tags of the HTML grammar, written in one or between other pieces: a text between them
+-- keeps the claim.
 use Rattle.std.specs.Str.{bytes_eq}
 use Rattle.std.specs.List.{list_all}
-use Rattle.std.proofs.Common.{◌≡◌, ℕ, Bool, true, false, not, ◌&&◌, List, [], ◌∷◌, ◌++◌, refl, sym, ap, ◌∙◌, subst, append_assoc, codes}
-use Rattle.md_text.specs.Html.{Attribute, HasReadingWith, opening_tag, closing_tag, is_tag, elements, void_tags}
+use Rattle.std.proofs.Common.{◌≡◌, ℕ, Bool, true, false, not, ◌&&◌, List, [], ◌∷◌, ◌++◌, refl, sym}
+use Rattle.std.proofs.Common.{ap, ◌∙◌, subst, append_assoc, codes}
+use Rattle.md_text.specs.Html.{Attribute, HasReadingWith, opening_tag, closing_tag, is_tag}
+use Rattle.md_text.specs.Html.{elements, void_tags}
 use Rattle.md_text.proofs.HtmlJoin.{text, void, opening-before}
 use Rattle.md_text.proofs.HtmlWriting.{attributes_before, written_attributes-before}
 use Rattle.md_text.specs.declared.options.CompileOptions.{CompileOptions}
@@ -10,7 +13,8 @@ use Rattle.md_meaning.specs.Meaning.Layout.{Piece, Text, Needed, Forced}
 use Rattle.md_meaning.specs.Meaning.Media.{href, src}
 use Rattle.md_safe.proofs.Texts.{Escaped}
 use Rattle.md_safe.proofs.Claim.{Claim}
-use Rattle.md_safe.proofs.Laid.{Adds, adds-append, adds-text, adds-weaker, adds-needed, adds-forced, adds-nothing}
+use Rattle.md_safe.proofs.Laid.{Adds, adds-append, adds-text, adds-weaker, adds-needed, adds-forced}
+use Rattle.md_safe.proofs.Laid.{adds-nothing}
 
 -- an attribute
 abbrev pub attribute : List ℕ → List ℕ → Attribute
@@ -55,7 +59,8 @@ bracket-two p o c o' c' a b x r =
 -- an element, attribute by attribute
 pub element-read : (p : Claim) (name : List ℕ) (attributes : List Attribute) (inside : List ℕ) →
     is_tag elements name attributes ≡ true → list_all p.test attributes ≡ true → p.holds inside
-    → p.holds (60 ∷ (name ++ attributes_before attributes (62 ∷ (inside ++ (60 ∷ 47 ∷ (name ++ (62 ∷ [])))))))
+    → p.holds (60
+    ∷ (name ++ attributes_before attributes (62 ∷ (inside ++ (60 ∷ 47 ∷ (name ++ (62 ∷ [])))))))
 element-read p name attributes inside h a r =
     subst (λ x. p.holds (60 ∷ (name ++ x))) (written_attributes-before attributes (62
     ∷ (inside ++ (60 ∷ 47 ∷ (name ++ (62 ∷ [])))))) (p.within name attributes inside h a r)
@@ -66,8 +71,8 @@ pub void-read : (p : Claim) (name : List ℕ) (attributes : List Attribute) →
     → p.holds (60 ∷ (name ++ attributes_before attributes (32 ∷ 47 ∷ 62 ∷ [])))
 void-read p name attributes h a =
     p.plain (60 ∷ (name ++ attributes_before attributes (32 ∷ 47 ∷ 62 ∷ [])))
-    (subst (λ x. HasReadingWith p.test (60 ∷ (name ++ x))) (written_attributes-before attributes (32 ∷ 47 ∷ 62 ∷ []))
-    (void p.test name attributes h a))
+    (subst (λ x. HasReadingWith p.test (60 ∷ (name ++ x)))
+    (written_attributes-before attributes (32 ∷ 47 ∷ 62 ∷ [])) (void p.test name attributes h a))
 
 -- a text between two escaped ones
 pub record IsFramed (c x : List ℕ) : Type 0 where
@@ -88,9 +93,9 @@ enclosed p q o c x y z bracket a r b =
     p.after (a.after ++ y) b.before (p.before a.after y (text p.test a.after a.escaped_after) r)
     (text p.test b.before b.escaped_before) in
     let all : q.holds (a.before ++ ((o ++ (((a.after ++ y) ++ b.before) ++ c)) ++ b.after)) =
-    q.before a.before ((o ++ (((a.after ++ y) ++ b.before) ++ c)) ++ b.after) (text q.test a.before a.escaped_before)
-    (q.after (o ++ (((a.after ++ y) ++ b.before) ++ c)) b.after (bracket ((a.after ++ y) ++ b.before) inside)
-    (text q.test b.after b.escaped_after)) in
+    q.before a.before ((o ++ (((a.after ++ y) ++ b.before) ++ c)) ++ b.after)
+    (text q.test a.before a.escaped_before) (q.after (o ++ (((a.after ++ y) ++ b.before) ++ c))
+    b.after (bracket ((a.after ++ y) ++ b.before) inside) (text q.test b.after b.escaped_after)) in
     let parts : q.holds ((a.before ++ (o ++ a.after)) ++ (y ++ (b.before ++ (c ++ b.after)))) =
     subst q.holds (regrouped a.before o a.after y b.before c b.after) all in
     subst (λ x. q.holds (x ++ (y ++ z))) (sym a.whole)
@@ -102,8 +107,8 @@ pub adds-turned : (p q : Claim) (ending o c : List ℕ) (xs ys zs : List Piece) 
     → Adds ending q.holds (xs ++ (ys ++ zs))
 adds-turned p q ending o c xs ys zs bracket a r b =
     adds-append ending (IsFramed o) (λ w. (y : List ℕ) × (z : List ℕ) × (w ≡ y ++ z) × p.holds y
-    × IsFramed c z) q.holds xs (ys ++ zs)
-    (λ x w f g. subst (λ w. q.holds (x ++ w)) (sym g.2) (enclosed p q o c x g.0 g.1 bracket f g.3 g.4))
+    × IsFramed c z) q.holds xs (ys ++ zs) (λ x w f g. subst (λ w. q.holds (x ++ w)) (sym g.2)
+    (enclosed p q o c x g.0 g.1 bracket f g.3 g.4))
     a
     (adds-append ending p.holds (IsFramed c) (λ w. (y : List ℕ) × (z : List ℕ) × (w ≡ y ++ z)
     × p.holds y × IsFramed c z) ys zs
@@ -120,7 +125,8 @@ adds-pair p ending o c xs ys zs bracket a r b = adds-turned p p ending o c xs ys
 pub adds-framed : (ending c : List ℕ) (xs zs : List Piece) → Adds ending Escaped xs →
     Adds ending Escaped zs → Adds ending (IsFramed c) (xs ++ (Text c ∷ zs))
 adds-framed ending c xs zs a b =
-    adds-append ending Escaped (λ w. (z : List ℕ) × (w ≡ c ++ z) × Escaped z) (IsFramed c) xs (Text c ∷ zs)
+    adds-append ending Escaped (λ w. (z : List ℕ) × (w ≡ c ++ z) × Escaped z)
+    (IsFramed c) xs (Text c ∷ zs)
     (λ x w f g. record {
       before = x;
       after = g.0;
@@ -129,8 +135,8 @@ adds-framed ending c xs zs a b =
       escaped_after = g.2;
     })
     a
-    (adds-append ending (λ x. x ≡ c) Escaped (λ w. (z : List ℕ) × (w ≡ c ++ z) × Escaped z) (Text c ∷ []) zs
-    (λ x z f g. (z, ap (λ x. x ++ z) f, g))
+    (adds-append ending (λ x. x ≡ c) Escaped (λ w. (z : List ℕ) × (w ≡ c ++ z) × Escaped z)
+    (Text c ∷ []) zs (λ x z f g. (z, ap (λ x. x ++ z) f, g))
     (adds-text ending (λ x. x ≡ c) c refl) b)
 
 pub adds-nil : (ending : List ℕ) → Adds ending Escaped []
@@ -142,20 +148,25 @@ framed-text ending c = adds-framed ending c [] [] (adds-nil ending) (adds-nil en
 
 pub framed-needed : (ending c : List ℕ) → Escaped ending →
     Adds ending (IsFramed c) (Needed ∷ Text c ∷ [])
-framed-needed ending c h = adds-framed ending c (Needed ∷ []) [] (adds-needed ending h) (adds-nil ending)
+framed-needed ending c h =
+    adds-framed ending c (Needed ∷ []) [] (adds-needed ending h) (adds-nil ending)
 
 pub framed-forced : (ending c : List ℕ) → Escaped ending →
     Adds ending (IsFramed c) (Forced ∷ Text c ∷ [])
-framed-forced ending c h = adds-framed ending c (Forced ∷ []) [] (adds-forced ending h) (adds-nil ending)
+framed-forced ending c h =
+    adds-framed ending c (Forced ∷ []) [] (adds-forced ending h) (adds-nil ending)
 
 -- what is claimed before or after what has a reading
-pub adds-before : (p : Claim) (ending : List ℕ) (xs ys : List Piece) → Adds ending (HasReadingWith p.test) xs →
+pub adds-before : (p : Claim) (ending : List ℕ) (xs ys : List Piece) →
+    Adds ending (HasReadingWith p.test) xs →
     Adds ending p.holds ys → Adds ending p.holds (xs ++ ys)
-adds-before p ending xs ys a b = adds-append ending (HasReadingWith p.test) p.holds p.holds xs ys p.before a b
+adds-before p ending xs ys a b =
+    adds-append ending (HasReadingWith p.test) p.holds p.holds xs ys p.before a b
 
 pub adds-after : (p : Claim) (ending : List ℕ) (xs ys : List Piece) → Adds ending p.holds xs →
     Adds ending (HasReadingWith p.test) ys → Adds ending p.holds (xs ++ ys)
-adds-after p ending xs ys a b = adds-append ending p.holds (HasReadingWith p.test) p.holds xs ys p.after a b
+adds-after p ending xs ys a b =
+    adds-append ending p.holds (HasReadingWith p.test) p.holds xs ys p.after a b
 
 -- an escaped text has a reading
 pub adds-escaped : (p : Claim) (ending : List ℕ) (xs : List Piece) → Adds ending Escaped xs →
@@ -179,6 +190,7 @@ adds-flat ending f [] texts h = adds-nothing ending f h
 adds-flat ending f (Text x ∷ pieces) texts h =
     adds-append ending (λ y. y ≡ x) (λ y. y ≡ flat pieces) f (Text x
     ∷ []) pieces (λ y z e g. subst f (sym (ap (λ y. y ++ z) e ∙ ap (λ z. x ++ z) g)) h)
-    (adds-text ending (λ y. y ≡ x) x refl) (adds-flat ending (λ y. y ≡ flat pieces) pieces texts refl)
+    (adds-text ending (λ y. y ≡ x) x refl)
+    (adds-flat ending (λ y. y ≡ flat pieces) pieces texts refl)
 adds-flat ending f (Needed ∷ pieces) texts h = absurd (cc texts)
 adds-flat ending f (Forced ∷ pieces) texts h = absurd (cc texts)

@@ -1,5 +1,7 @@
--- One step after another: a way to the data state from a state on, by one from the state that its first step leads to.
-use Rattle.std.proofs.Common.{◌≡◌, ℕ, ◌==◌, false, cond, List, [], ◌∷◌, ◌++◌, map, refl, sym, ap, ◌∙◌, subst, suc, append-nil, append_assoc, true}
+-- One step after another: a way to the data state from a state on, by one from the state that its
+-- first step leads to.
+use Rattle.std.proofs.Common.{◌≡◌, ℕ, ◌==◌, false, cond, List, [], ◌∷◌, ◌++◌, map, refl, sym, ap}
+use Rattle.std.proofs.Common.{◌∙◌, subst, suc, append-nil, append_assoc, true}
 use Rattle.std.proofs.lemmas.Bool.{eqb-false}
 use Rattle.md_text.specs.References.{is_escaped, read_back}
 use Rattle.md_text.proofs.EncodeLaws.{read_back-other}
@@ -52,9 +54,11 @@ plain_step : (b : ℕ) (rest : List ℕ) → (b == 38) ≡ false → (b == 60) �
     step Data (b ∷ rest) ≡ Goes (Character b ∷ []) Data rest
 plain_step b rest e38 e60 = simp (e38, e60)
 
-plain-leads : (left : List ℕ) (b : ℕ) (rest : List ℕ) → IsPlain b → TextLeads left rest → TextLeads left (b ∷ rest)
+plain-leads : (left : List ℕ) (b : ℕ) (rest : List ℕ) → IsPlain b → TextLeads left rest →
+    TextLeads left (b ∷ rest)
 plain-leads left b rest p later r t h =
-    along Data (b ∷ (rest ++ r)) (b ∷ (rest ++ r)) (Character b ∷ (map Character (read_back rest) ++ t))
+    along Data (b ∷ (rest ++ r)) (b ∷ (rest ++ r))
+    (Character b ∷ (map Character (read_back rest) ++ t))
     (map Character (read_back (b ∷ rest)) ++ t) refl
     (ap (λ x. map Character x ++ t) (sym (read_back-other b rest (plain-ne b p))))
     (loud (Character b) (plain_step b (rest ++ r) p.no_and p.no_less) (later r t h))
@@ -71,35 +75,41 @@ text-leads left x e =
 -- ---- a value
 
 abbrev ValueLeads : List ℕ → List ℕ → Type 0
-ValueLeads left x = (tag : List ℕ) (earlier : List TokenAttribute) (name value : List ℕ) (r : List ℕ) (t : List Token) →
-    To left (AtValue tag earlier name (value ++ read_back x)) r t → To left (AtValue tag earlier name value) (x ++ r) t
+ValueLeads left x = (tag : List ℕ) (earlier : List TokenAttribute) (name value : List ℕ)
+    (r : List ℕ) (t : List Token) → To left (AtValue tag earlier name (value ++ read_back x)) r t →
+    To left (AtValue tag earlier name value) (x ++ r) t
 
-value_step : (tag : Tag) (b : ℕ) (rest : List ℕ) → (b == 34) ≡ false → (b == 38) ≡ false → (b == 0) ≡ false →
+value_step : (tag : Tag) (b : ℕ) (rest : List ℕ) → (b == 34) ≡ false →
+    (b == 38) ≡ false → (b == 0) ≡ false →
     step (AttributeValueDoubleQuoted tag) (b ∷ rest)
     ≡ Goes [] (AttributeValueDoubleQuoted (with_value tag (b ∷ []))) rest
 value_step tag b rest e34 e38 e0 =
     past _ e34 (past _ e38 (ap (λ c.
-    Goes [] (AttributeValueDoubleQuoted (with_value tag (cond c (239 ∷ 191 ∷ 189 ∷ []) (b ∷ [])))) rest) e0))
+    Goes [] (AttributeValueDoubleQuoted (with_value tag (cond c (239 ∷ 191 ∷ 189 ∷ []) (b ∷ []))))
+    rest) e0))
 
 -- the value with one more byte
-more_value : (left : List ℕ) (tag : List ℕ) (earlier : List TokenAttribute) (name value : List ℕ) (b : ℕ) (x r : List ℕ)
+more_value : (left : List ℕ) (tag : List ℕ) (earlier : List TokenAttribute) (name value : List ℕ)
+    (b : ℕ) (x r : List ℕ)
     (t : List Token) → To left (AtValue tag earlier name (value ++ (b ∷ x))) r t →
     To left (AtValue tag earlier name ((value ++ (b ∷ [])) ++ x)) r t
 more_value left tag earlier name value b x r t h =
     subst (λ v. To left (AtValue tag earlier name v) r t) (sym (append_assoc value (b ∷ []) x)) h
 
-value-plain : (left : List ℕ) (b : ℕ) (rest : List ℕ) → IsPlain b → ValueLeads left rest → ValueLeads left (b ∷ rest)
+value-plain : (left : List ℕ) (b : ℕ) (rest : List ℕ) → IsPlain b → ValueLeads left rest →
+    ValueLeads left (b ∷ rest)
 value-plain left b rest p later tag earlier name value r t h =
-    quiet (value_step (tag_with false tag (attribute name value ∷ earlier)) b (rest ++ r) p.no_quote p.no_and p.no_nul)
-    (later tag earlier name (value ++ (b ∷ [])) r t
+    quiet (value_step (tag_with false tag (attribute name value ∷ earlier)) b (rest ++ r) p.no_quote
+    p.no_and p.no_nul) (later tag earlier name (value ++ (b ∷ [])) r t
     (more_value left tag earlier name value b (read_back rest) r t
-    (subst (λ v. To left (AtValue tag earlier name (value ++ v)) r t) (read_back-other b rest (plain-ne b p)) h)))
+    (subst (λ v. To left (AtValue tag earlier name (value ++ v)) r t)
+    (read_back-other b rest (plain-ne b p)) h)))
 
 pub value-leads : (left x : List ℕ) → is_escaped x ≡ true → ValueLeads left x
 value-leads left x e =
     by_escaped (ValueLeads left)
-    (λ tag earlier name value r t h. subst (λ v. To left (AtValue tag earlier name v) r t) (append-nil value) h)
-    (value-plain left)
+    (λ tag earlier name value r t h. subst (λ v. To left (AtValue tag earlier name v) r t)
+    (append-nil value) h) (value-plain left)
     (λ rest later tag earlier name value r t h.
     quiet refl (quiet refl (quiet refl (later tag earlier name (value ++ (38 ∷ [])) r t
     (more_value left tag earlier name value 38 (read_back rest) r t h)))))

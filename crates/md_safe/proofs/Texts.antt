@@ -1,5 +1,8 @@
--- Texts that are escaped: line endings, digits, numbers and the text of code. They may stand anywhere.
-use Rattle.std.proofs.Common.{◌≡◌, ℕ, ◌-◌, ◌<◌, ◌≤◌, ◌/◌, ◌%◌, ◌==◌, zero, suc, Bool, true, false, not, ◌&&◌, ◌||◌, cond, List, [], ◌∷◌, ◌++◌, length, take, drop, refl, sym, ap, subst, inl, inr, arith, append_assoc, append-nil, eqb-true}
+-- Texts that are escaped: line endings, digits, numbers and the text of code. They
+-- may stand anywhere.
+use Rattle.std.proofs.Common.{◌≡◌, ℕ, ◌-◌, ◌<◌, ◌≤◌, ◌/◌, ◌%◌, ◌==◌, zero, suc, Bool, true, false}
+use Rattle.std.proofs.Common.{not, ◌&&◌, ◌||◌, cond, List, [], ◌∷◌, ◌++◌, length, take, drop, refl}
+use Rattle.std.proofs.Common.{sym, ap, subst, inl, inr, arith, append_assoc, append-nil, eqb-true}
 use Rattle.std.specs.Prelude.{nat_le, nat_lt}
 use Rattle.std.specs.Fmt.{decimal, digits, digits_onto, digit_glyph}
 use Rattle.std.specs.List.{list_all}
@@ -47,7 +50,8 @@ digit-plain b h =
     let low : 48 ≤ b = leb-true 48 b parts.0 in
     let high : b ≤ 57 = leb-true b 57 parts.1 in
     let below : b < 58 = omega arith in
-    by (is_digit b) (is_plain b) h (agree_below_at (λ b. is_digit b && not (is_plain b)) (λ b. false) 58 b refl below)
+    by (is_digit b) (is_plain b) h
+    (agree_below_at (λ b. is_digit b && not (is_plain b)) (λ b. false) 58 b refl below)
   where
     by : (x y : Bool) → x ≡ true → (x && not y) ≡ false → y ≡ true
     by true true e f = refl
@@ -89,10 +93,12 @@ decimal-escaped n = onto-escaped 64 n [] refl
 pipes : (text front : List ℕ) → Escaped (front ++ text) → Escaped (front ++ without_escapes text)
 pipes [] front h = h
 pipes (b ∷ text) front h =
-    cond_both (b == 92 && is_at 124 text 0) [] (b ∷ []) (λ own. Escaped (front ++ (own ++ without_escapes text)))
+    cond_both (b == 92 && is_at 124 text 0) [] (b ∷ [])
+    (λ own. Escaped (front ++ (own ++ without_escapes text)))
     (λ escapes.
     let is : b ≡ 92 = eqb-true b 92 (and_parts (b == 92) (is_at 124 text 0) escapes).0 in
-    pipes text front (escaped-without 92 front text refl (subst (λ b. Escaped (front ++ (b ∷ text))) is h)))
+    pipes text front
+    (escaped-without 92 front text refl (subst (λ b. Escaped (front ++ (b ∷ text))) is h)))
     (λ _.
     subst Escaped (append_assoc front (b ∷ []) (without_escapes text))
     (pipes text (front ++ (b ∷ [])) (subst Escaped (sym (append_assoc front (b ∷ []) text)) h)))
@@ -116,7 +122,8 @@ cut_last : (c : ℕ) (text : List ℕ) → is_at 32 (c ∷ text) (length text) �
     Escaped (take (length text) (c ∷ text))
 cut_last c text last h =
     let r = trim_last c text last in
-    let front : Escaped (r.front ++ []) = escaped-without 32 r.front [] refl (subst Escaped r.whole h) in
+    let front : Escaped (r.front ++ []) =
+    escaped-without 32 r.front [] refl (subst Escaped r.whole h) in
     subst Escaped (sym r.cut) (subst Escaped (append-nil r.front) front)
 
 later : (b c n : ℕ) (text : List ℕ) → n ≡ suc (length text) → is_at 32 (b ∷ c ∷ text) n ≡ true →
@@ -132,14 +139,18 @@ trim_both : (text : List ℕ) → Escaped text → is_padded text ≡ true →
 trim_both [] h padded = refl
 trim_both (b ∷ []) h padded = refl
 trim_both (b ∷ c ∷ text) h padded =
-    let all = and_parts (is_at 32 (b ∷ c ∷ text) 0 && is_at 32 (b ∷ c ∷ text) (length (b ∷ c ∷ text) - 1))
+    let all =
+    and_parts (is_at 32 (b ∷ c ∷ text) 0 && is_at 32 (b ∷ c ∷ text) (length (b ∷ c ∷ text) - 1))
     (not (list_all (λ byte. byte == 32) (b ∷ c ∷ text))) padded in
-    let ends = and_parts (is_at 32 (b ∷ c ∷ text) 0) (is_at 32 (b ∷ c ∷ text) (length (b ∷ c ∷ text) - 1)) all.0 in
+    let ends = and_parts (is_at 32 (b ∷ c ∷ text) 0)
+    (is_at 32 (b ∷ c ∷ text) (length (b ∷ c ∷ text) - 1)) all.0 in
     let size : length (b ∷ c ∷ text) - 1 ≡ suc (length text) = omega arith in
     let cut : length (b ∷ c ∷ text) - 2 ≡ length text = omega arith in
     let last : is_at 32 (c ∷ text) (length text) ≡ true = later b c _ text size ends.1 in
-    subst (λ n. Escaped (take n (c ∷ text))) (sym cut) (cut_last c text last (escaped-tail b (c ∷ text) h))
+    subst (λ n. Escaped (take n (c ∷ text))) (sym cut)
+    (cut_last c text last (escaped-tail b (c ∷ text) h))
 
 pub trimmed-escaped : (text : List ℕ) → Escaped text → Escaped (trimmed text)
-trimmed-escaped text h = cond_both (is_padded text) (take (length text - 2) (drop 1 text)) text Escaped
+trimmed-escaped text h =
+    cond_both (is_padded text) (take (length text - 2) (drop 1 text)) text Escaped
     (trim_both text h) (λ _. h)

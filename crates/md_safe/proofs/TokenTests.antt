@@ -1,12 +1,15 @@
 -- Tests that pass each token of a forest.
-use Rattle.std.proofs.Common.{◌≡◌, ℕ, Bool, true, false, not, ◌&&◌, List, [], ◌∷◌, ◌++◌, map, refl, subst, inl, inr}
+use Rattle.std.proofs.Common.{◌≡◌, ℕ, Bool, true, false, not, ◌&&◌, List, [], ◌∷◌, ◌++◌, map, refl}
+use Rattle.std.proofs.Common.{subst, inl, inr}
 use Rattle.std.specs.Str.{bytes_eq}
 use Rattle.std.specs.List.{list_all, list_any}
 use Rattle.std.proofs.lemmas.Bool.{and_parts, and_from, or_cases, or_left, or_right}
 use Rattle.md_base.specs.Identifier.{is_nonempty}
 use Rattle.md_text.specs.Bytes.{is_one_of}
 use Rattle.md_text.specs.References.{is_escaped}
-use Rattle.md_text.specs.Html.{Attribute, Forest, Empty, Text, Void, Element, is_forest, is_tag, are_attributes, begins_with_text, elements, void_tags, all_attributes, any_attribute, HasOneReadingWith}
+use Rattle.md_text.specs.Html.{Attribute, Forest, Empty, Text, Void, Element, is_forest, is_tag}
+use Rattle.md_text.specs.Html.{are_attributes, begins_with_text, elements, void_tags}
+use Rattle.md_text.specs.Html.{all_attributes, any_attribute, HasOneReadingWith}
 use Rattle.md_safe.specs.Input.{with_line_feeds}
 use Rattle.md_safe.specs.Token.{Token, Character, StartTag, EndTag, EndOfFile, TokenAttribute}
 use Rattle.md_safe.specs.Tokenizer.{Data, IsTokenized, leaves_state}
@@ -22,29 +25,34 @@ all-append p (t ∷ x) y h k =
     let q = and_parts (p t) (list_all p x) h in
     and_from (p t) (list_all p (x ++ y)) q.0 (all-append p x y q.1 k)
 
--- a test that passes what isn't a tag, each end tag of an element of the tables, and each start tag of the tables whose
--- attributes pass a test of theirs
+-- a test that passes what isn't a tag, each end tag of an element of the tables, and each start tag
+-- of the tables whose attributes pass a test of theirs
 pub record PassesTags (p : Token → Bool) (q : Attribute → Bool) : Type 0 where
   pub characters : (b : ℕ) → p (Character b) ≡ true
   pub end_of_file : p EndOfFile ≡ true
-  pub ends : (name : List ℕ) (attributes : List Attribute) → is_tag elements name attributes ≡ true →
+  pub ends : (name : List ℕ) (attributes : List Attribute) →
+      is_tag elements name attributes ≡ true →
       p (EndTag name) ≡ true
-  pub starts : (name : List ℕ) (attributes : List Attribute) → is_tag elements name attributes ≡ true →
+  pub starts : (name : List ℕ) (attributes : List Attribute) →
+      is_tag elements name attributes ≡ true →
       list_all q attributes ≡ true → p (StartTag name (seen_attributes attributes) false) ≡ true
-  pub voids : (name : List ℕ) (attributes : List Attribute) → is_tag void_tags name attributes ≡ true →
+  pub voids : (name : List ℕ) (attributes : List Attribute) →
+      is_tag void_tags name attributes ≡ true →
       list_all q attributes ≡ true → p (StartTag name (seen_attributes attributes) true) ≡ true
 
 pub all-characters : (p : Token → Bool) (q : Attribute → Bool) → PassesTags p q → (x : List ℕ) →
     list_all p (map Character x) ≡ true
 all-characters p q o [] = refl
 all-characters p q o (b ∷ x) =
-    and_from (p (Character b)) (list_all p (map Character x)) (o.characters b) (all-characters p q o x)
+    and_from (p (Character b)) (list_all p (map Character x)) (o.characters b)
+    (all-characters p q o x)
 
 pub all-tokens : (p : Token → Bool) (q : Attribute → Bool) → PassesTags p q → (f : Forest) →
     is_forest f ≡ true → all_attributes q f ≡ true → list_all p (tokens f) ≡ true
 all-tokens p q o Empty h k = refl
 all-tokens p q o (Text bytes rest) h k =
-    let r = and_parts (is_nonempty bytes && is_escaped bytes && not (begins_with_text rest)) (is_forest rest) h in
+    let r = and_parts (is_nonempty bytes && is_escaped bytes && not (begins_with_text rest))
+    (is_forest rest) h in
     all-append p (map Character (seen bytes)) (tokens rest) (all-characters p q o (seen bytes))
     (all-tokens p q o rest r.1 k)
 all-tokens p q o (Void name attributes rest) h k =
@@ -55,7 +63,8 @@ all-tokens p q o (Void name attributes rest) h k =
 all-tokens p q o (Element name attributes children rest) h k =
     let r = and_parts (is_tag elements name attributes && is_forest children) (is_forest rest) h in
     let u = and_parts (is_tag elements name attributes) (is_forest children) r.0 in
-    let s = and_parts (list_all q attributes && all_attributes q children) (all_attributes q rest) k in
+    let s =
+    and_parts (list_all q attributes && all_attributes q children) (all_attributes q rest) k in
     let v = and_parts (list_all q attributes) (all_attributes q children) s.0 in
     and_from (p (StartTag name (seen_attributes attributes) false))
     (list_all p (tokens children ++ (EndTag name ∷ tokens rest))) (o.starts name attributes u.0 v.0)
@@ -68,8 +77,9 @@ pub all-tokenized : (p : Token → Bool) (q : Attribute → Bool) → PassesTags
     (x : List Token) → HasOneReadingWith q text → IsTokenized text x → list_all p x ≡ true
 all-tokenized p q o text x one h =
     subst (λ x. list_all p x ≡ true)
-    (one_run Data (with_line_feeds text) (tokens one.forest ++ (EndOfFile ∷ [])) x (reading-runs q text one) h)
-    (all-append p (tokens one.forest) (EndOfFile ∷ []) (all-tokens p q o one.forest one.reading.in_grammar one.passes)
+    (one_run Data (with_line_feeds text) (tokens one.forest ++ (EndOfFile ∷ [])) x
+    (reading-runs q text one) h) (all-append p (tokens one.forest) (EndOfFile ∷ [])
+    (all-tokens p q o one.forest one.reading.in_grammar one.passes)
     (and_from (p EndOfFile) true o.end_of_file refl))
 
 -- ---- two of them
@@ -78,7 +88,8 @@ any-list : (x : List Attribute) → list_all any_attribute x ≡ true
 any-list [] = refl
 any-list (a ∷ x) = any-list x
 
-pub left_alone : (q : Attribute → Bool) (text : List ℕ) (x : List Token) → HasOneReadingWith q text →
+pub left_alone : (q : Attribute → Bool) (text : List ℕ) (x : List Token) →
+    HasOneReadingWith q text →
     IsTokenized text x → list_all leaves_state x ≡ true
 left_alone q text x one h =
     all-tokenized leaves_state q record {
@@ -94,7 +105,8 @@ names-listed : (listed : List (List ℕ)) (x : List Attribute) → are_attribute
 names-listed listed [] h = refl
 names-listed listed (a ∷ x) h =
     let alone = not (list_any (λ later. bytes_eq a.name later.name) x) in
-    let p = and_parts (is_one_of listed a.name && is_escaped a.value && alone) (are_attributes listed x) h in
+    let p = and_parts (is_one_of listed a.name && is_escaped a.value && alone)
+    (are_attributes listed x) h in
     let q = and_parts (is_one_of listed a.name && is_escaped a.value) alone p.0 in
     and_from (is_one_of listed a.name) (list_all (λ a. is_one_of listed a.name) (seen_attributes x))
     (and_parts (is_one_of listed a.name) (is_escaped a.value) q.0).0 (names-listed listed x p.1)
@@ -106,10 +118,14 @@ tag-listed : (rules : List (List ℕ × List (List ℕ))) (name : List ℕ) (att
 tag-listed [] name attributes x h f = h
 tag-listed (rule ∷ rules) name attributes x h f =
     let now = bytes_eq rule.0 name && list_all (λ a. is_one_of rule.1 a.name) x in
-    elim (or_cases (bytes_eq rule.0 name && are_attributes rule.1 attributes) (is_tag rules name attributes) h) [
-      | inl this ↦ (let r = and_parts (bytes_eq rule.0 name) (are_attributes rule.1 attributes) this in
-          or_left now (is_tag_of rules name x) (and_from (bytes_eq rule.0 name) _ r.0 (f rule.1 r.1)))
-      | inr later ↦ or_right now (is_tag_of rules name x) (tag-listed rules name attributes x later f)
+    elim (or_cases (bytes_eq rule.0 name && are_attributes rule.1 attributes)
+    (is_tag rules name attributes) h) [
+      | inl this ↦
+          (let r = and_parts (bytes_eq rule.0 name) (are_attributes rule.1 attributes) this in
+          or_left now (is_tag_of rules name x)
+          (and_from (bytes_eq rule.0 name) _ r.0 (f rule.1 r.1)))
+      | inr later ↦
+          or_right now (is_tag_of rules name x) (tag-listed rules name attributes x later f)
     ]
 
 -- a test of the tables passes each token of a forest
@@ -119,26 +135,30 @@ listed-passes q = record {
   end_of_file = refl;
   ends = λ name attributes g. tag-listed elements name attributes [] g (λ listed k. refl);
   starts = λ name attributes g k.
-      tag-listed elements name attributes (seen_attributes attributes) g (λ listed. names-listed listed attributes);
+      tag-listed elements name attributes (seen_attributes attributes) g
+      (λ listed. names-listed listed attributes);
   voids = λ name attributes g k.
-      tag-listed void_tags name attributes (seen_attributes attributes) g (λ listed. names-listed listed attributes);
+      tag-listed void_tags name attributes (seen_attributes attributes) g
+      (λ listed. names-listed listed attributes);
 }
 
 any-attributes : (f : Forest) → all_attributes any_attribute f ≡ true
 any-attributes Empty = refl
 any-attributes (Text bytes rest) = any-attributes rest
 any-attributes (Void name attributes rest) =
-    and_from (list_all any_attribute attributes) (all_attributes any_attribute rest) (any-list attributes)
-    (any-attributes rest)
+    and_from (list_all any_attribute attributes) (all_attributes any_attribute rest)
+    (any-list attributes) (any-attributes rest)
 any-attributes (Element name attributes children rest) =
     and_from (list_all any_attribute attributes && all_attributes any_attribute children)
     (all_attributes any_attribute rest)
-    (and_from (list_all any_attribute attributes) (all_attributes any_attribute children) (any-list attributes)
-    (any-attributes children)) (any-attributes rest)
+    (and_from (list_all any_attribute attributes) (all_attributes any_attribute children)
+    (any-list attributes) (any-attributes children)) (any-attributes rest)
 
 pub forest-listed : (f : Forest) → is_forest f ≡ true → list_all is_listed (tokens f) ≡ true
-forest-listed f h = all-tokens is_listed any_attribute (listed-passes any_attribute) f h (any-attributes f)
+forest-listed f h =
+    all-tokens is_listed any_attribute (listed-passes any_attribute) f h (any-attributes f)
 
-pub all_listed : (q : Attribute → Bool) (text : List ℕ) (x : List Token) → HasOneReadingWith q text →
+pub all_listed : (q : Attribute → Bool) (text : List ℕ) (x : List Token) →
+    HasOneReadingWith q text →
     IsTokenized text x → list_all is_listed x ≡ true
 all_listed q text x one h = all-tokenized is_listed q (listed-passes q) text x one h

@@ -15,10 +15,12 @@ use Rattle.md_safe.proofs.TokenTests.{forest-listed}
 use Rattle.md_safe.proofs.SafeTokens.{safe-links, safe-images}
 
 -- whatever a text is tokenized as is this
-only-these : (text : List ℕ) (x other : List Token) → IsTokenized text x → IsTokenized text other → other ≡ x
+only-these : (text : List ℕ) (x other : List Token) → IsTokenized text x →
+    IsTokenized text other → other ≡ x
 only-these text x other h k = one_run Data (with_line_feeds text) other x k h
 
-pub read-tokenized : (q : Attribute → Bool) (text : List ℕ) → HasOneReadingWith q text → IsTokenizedAsRead text
+pub read-tokenized : (q : Attribute → Bool) (text : List ℕ) → HasOneReadingWith q text →
+    IsTokenizedAsRead text
 read-tokenized q text one =
     let h = reading-runs q text one in
     record {
@@ -30,7 +32,8 @@ read-tokenized q text one =
     }
 
 -- where each token passes a test, whatever these are
-tokens-with : (p : Token → Bool) (q : Attribute → Bool) (text : List ℕ) (one : HasOneReadingWith q text) →
+tokens-with :
+    (p : Token → Bool) (q : Attribute → Bool) (text : List ℕ) (one : HasOneReadingWith q text) →
     ((x : List Token) → IsTokenized text x → list_all p x ≡ true) → HasTokensWith p text
 tokens-with p q text one f =
     let h = reading-runs q text one in
@@ -41,13 +44,17 @@ tokens-with p q text one f =
       passes = f (tokens one.forest ++ (EndOfFile ∷ [])) h;
     }
 
-pub link-tokens : (text : List ℕ) → HasOneReadingWith is_safe_link text → HasTokensWith has_safe_links text
+pub link-tokens : (text : List ℕ) → HasOneReadingWith is_safe_link text →
+    HasTokensWith has_safe_links text
 link-tokens text one = tokens-with has_safe_links is_safe_link text one (λ x. safe-links text x one)
 
-pub image-tokens : (text : List ℕ) → HasOneReadingWith is_safe_image text → HasTokensWith has_safe_images text
-image-tokens text one = tokens-with has_safe_images is_safe_image text one (λ x. safe-images text x one)
+pub image-tokens : (text : List ℕ) → HasOneReadingWith is_safe_image text →
+    HasTokensWith has_safe_images text
+image-tokens text one =
+    tokens-with has_safe_images is_safe_image text one (λ x. safe-images text x one)
 
-pub safely-tokenized : (text : List ℕ) → HasOneReadingWith is_safe_link text → HasOneReadingWith is_safe_image text →
+pub safely-tokenized : (text : List ℕ) → HasOneReadingWith is_safe_link text →
+    HasOneReadingWith is_safe_image text →
     IsSafelyTokenized text
 safely-tokenized text links images = record {
   as_read = read-tokenized is_safe_link text links;

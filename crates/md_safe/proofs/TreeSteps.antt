@@ -1,5 +1,6 @@
 -- What a parser in a body or a cell does at a token of the grammar.
-use Rattle.std.proofs.Common.{◌≡◌, ℕ, ◌==◌, Bool, true, false, not, cond, List, [], ◌∷◌, ◌++◌, refl, ap, ◌∙◌, map, codes}
+use Rattle.std.proofs.Common.{◌≡◌, ℕ, ◌==◌, Bool, true, false, not, cond, List, [], ◌∷◌, ◌++◌, refl}
+use Rattle.std.proofs.Common.{ap, ◌∙◌, map, codes}
 use Rattle.std.specs.Prelude.{Option, Some, None, option_and_then}
 use Rattle.std.specs.List.{list_all}
 use Rattle.std.proofs.lemmas.Bool.{and_parts}
@@ -11,18 +12,21 @@ use Rattle.md_safe.specs.Token.{Token, Character, StartTag, EndTag, TokenAttribu
 use Rattle.md_safe.specs.Tokens.{seen}
 use Rattle.md_safe.proofs.EscapedCases.{IsPlain, by_escaped}
 use Rattle.md_safe.proofs.LineFeeds.{line_feeds-escaped}
-use Rattle.md_safe.specs.Node.{Nodes, Open, Entry, Marker, Formatting, Mode, InBody, InCell, Parser, with_character}
+use Rattle.md_safe.specs.Node.{Nodes, Open, Entry, Marker, Formatting, Mode, InBody, InCell, Parser}
+use Rattle.md_safe.specs.Node.{with_character}
 use Rattle.md_safe.specs.Elements.{parts, cells, sections}
 use Rattle.md_safe.specs.Formatting.{needs_reconstruction}
 use Rattle.md_safe.specs.InBody.{start_in_body, end_in_body}
 use Rattle.md_safe.specs.Construction.{character, step, run}
 use Rattle.md_safe.specs.Built.{at, is_body, AreOpen, with_characters}
 
-pub run-append : (p : Parser) (xs ys : List Token) → run p (xs ++ ys) ≡ option_and_then (λ q. run q ys) (run p xs)
+pub run-append : (p : Parser) (xs ys : List Token) →
+    run p (xs ++ ys) ≡ option_and_then (λ q. run q ys) (run p xs)
 run-append p [] ys = refl
 run-append p (x ∷ xs) ys = by (step p x) (λ q. run-append q xs ys)
   where
-    by : (next : Option Parser) → ((q : Parser) → run q (xs ++ ys) ≡ option_and_then (λ q. run q ys) (run q xs)) →
+    by : (next : Option Parser) →
+        ((q : Parser) → run q (xs ++ ys) ≡ option_and_then (λ q. run q ys) (run q xs)) →
         option_and_then (λ q. run q (xs ++ ys)) next
         ≡ option_and_then (λ q. run q ys) (option_and_then (λ q. run q xs) next)
     by None later = refl
@@ -32,13 +36,16 @@ run-append p (x ∷ xs) ys = by (step p x) (λ q. run-append q xs ys)
 pub after : (p q : Parser) (xs ys : List Token) → run p xs ≡ Some q → run p (xs ++ ys) ≡ run q ys
 after p q xs ys e = run-append p xs ys ∙ ap (λ r. option_and_then (λ q. run q ys) r) e
 
-pub after-one : (p q : Parser) (x : Token) (ys : List Token) → step p x ≡ Some q → run p (x ∷ ys) ≡ run q ys
+pub after-one : (p q : Parser) (x : Token) (ys : List Token) → step p x ≡ Some q →
+    run p (x ∷ ys) ≡ run q ys
 after-one p q x ys e = ap (λ r. option_and_then (λ q. run q ys) r) e
 
 -- ---- tags
 
-pub start-in-body : (mode : Mode) → is_body mode ≡ true → (stack : List Open) (active : List Entry) (created : ℕ)
-    (name : List ℕ) (attributes : List TokenAttribute) (flag : Bool) → is_one_of parts name ≡ false →
+pub start-in-body : (mode : Mode) → is_body mode ≡ true →
+    (stack : List Open) (active : List Entry) (created : ℕ)
+    (name : List ℕ) (attributes : List TokenAttribute) (flag : Bool) →
+    is_one_of parts name ≡ false →
     step (at mode stack active created) (StartTag name attributes flag)
     ≡ start_in_body name attributes (at mode stack active created)
 start-in-body InBody is stack active created name attributes flag none = refl
@@ -50,9 +57,11 @@ start-in-body _ is stack active created name attributes flag none = lie is
 pub past : {A : Type 0} (b : Bool) (x y : A) → b ≡ false → cond b x y ≡ y
 past b x y e = ap (λ b. cond b x y) e
 
-pub end-in-body : (mode : Mode) → is_body mode ≡ true → (stack : List Open) (active : List Entry) (created : ℕ)
-    (name : List ℕ) → is_one_of cells name ≡ false → is_one_of (codes "table" ∷ codes "tr" ∷ sections) name ≡ false →
-    step (at mode stack active created) (EndTag name) ≡ end_in_body name (at mode stack active created)
+pub end-in-body : (mode : Mode) →
+    is_body mode ≡ true → (stack : List Open) (active : List Entry) (created : ℕ) (name : List ℕ) →
+    is_one_of cells name ≡ false → is_one_of (codes "table" ∷ codes "tr" ∷ sections) name ≡ false →
+    step (at mode stack active created) (EndTag name)
+    ≡ end_in_body name (at mode stack active created)
 end-in-body InBody is stack active created name uncelled none = refl
 end-in-body InCell is stack active created name uncelled none =
     past (is_one_of cells name) _ _ uncelled
@@ -62,7 +71,8 @@ end-in-body _ is stack active created name uncelled none = lie is
 -- ---- characters
 
 -- nothing is to be reconstructed where all is open
-pub nothing-lost : (mode : Mode) (stack : List Open) (active : List Entry) (created : ℕ) → AreOpen stack active →
+pub nothing-lost : (mode : Mode) (stack : List Open) (active : List Entry) (created : ℕ) →
+    AreOpen stack active →
     needs_reconstruction (at mode stack active created) ≡ false
 nothing-lost mode stack [] created o = refl
 nothing-lost mode stack (Marker ∷ active) created o = refl
@@ -71,10 +81,11 @@ nothing-lost mode stack (Formatting identity name attributes ∷ active) created
 abbrev pub is_character : ℕ → Bool
 is_character byte = not (byte == 0)
 
-character-runs : (mode : Mode) → is_body mode ≡ true → (node : Open) (others : List Open) (active : List Entry)
+character-runs : (mode : Mode) → is_body mode ≡ true →
+    (node : Open) (others : List Open) (active : List Entry)
     (created byte : ℕ) → is_character byte ≡ true → AreOpen (node ∷ others) active →
-    step (at mode (node ∷ others) active created) (Character byte)
-    ≡ Some (at mode (record node { children = with_character node.children byte } ∷ others) active created)
+    step (at mode (node ∷ others) active created) (Character byte) ≡ Some (at mode
+    (record node { children = with_character node.children byte } ∷ others) active created)
 character-runs mode is node others active created byte h o = by (byte == 0) h ∙ in-body mode is o
   where
     by : (nul : Bool) → not nul ≡ true →
@@ -103,15 +114,17 @@ same-open node children others (Marker ∷ active) o = tt
 same-open node children others (Formatting identity name attributes ∷ active) o =
     (o.0, same-open node children others active o.1)
 
-pub characters-run : (mode : Mode) → is_body mode ≡ true → (bytes : List ℕ) (node : Open) (others : List Open)
-    (active : List Entry) (created : ℕ) → list_all is_character bytes ≡ true → AreOpen (node ∷ others) active →
-    run (at mode (node ∷ others) active created) (map Character bytes)
-    ≡ Some (at mode (record node { children = with_characters node.children bytes } ∷ others) active created)
+pub characters-run : (mode : Mode) → is_body mode ≡ true →
+    (bytes : List ℕ) (node : Open) (others : List Open) (active : List Entry) (created : ℕ) →
+    list_all is_character bytes ≡ true → AreOpen (node ∷ others) active →
+    run (at mode (node ∷ others) active created) (map Character bytes) ≡ Some (at mode
+    (record node { children = with_characters node.children bytes } ∷ others) active created)
 characters-run mode is [] node others active created h o = refl
 characters-run mode is (byte ∷ bytes) node others active created h o =
     let parts = and_parts (is_character byte) (list_all is_character bytes) h in
     let next : Open = record node { children = with_character node.children byte } in
-    after-one (at mode (node ∷ others) active created) (at mode (next ∷ others) active created) (Character byte)
+    after-one (at mode (node ∷ others) active created) (at mode (next ∷ others) active created)
+    (Character byte)
     (map Character bytes) (character-runs mode is node others active created byte parts.0 o)
     ∙ characters-run mode is bytes next others active created parts.1 (same-open node
     (with_character node.children byte) others active o)

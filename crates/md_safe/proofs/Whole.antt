@@ -1,7 +1,9 @@
--- The meaning of a document has a reading in which each attribute passes a test, and has no id twice: the theorems from
--- the two inductions.
+-- The meaning of a document has a reading in which each attribute passes a test, and has no id
+-- twice: the theorems from the two inductions.
 use Rattle.std.specs.Str.{bytes_eq}
-use Rattle.std.proofs.Common.{◌≡◌, ◌⊎◌, inl, inr, ℕ, suc, ◌&&◌, ◌||◌, Bool, true, false, not, cond, List, [], ◌∷◌, ◌++◌, length, ◌<◌, ◌^◌, ◌+◌, ◌≤◌, arith, refl, sym, ap, ◌∙◌, subst, codes}
+use Rattle.std.proofs.Common.{◌≡◌, ◌⊎◌, inl, inr, ℕ, suc, ◌&&◌, ◌||◌, Bool, true, false, not, cond}
+use Rattle.std.proofs.Common.{List, [], ◌∷◌, ◌++◌, length, ◌<◌, ◌^◌, ◌+◌, ◌≤◌, arith, refl, sym, ap}
+use Rattle.std.proofs.Common.{◌∙◌, subst, codes}
 use Rattle.std.specs.Fmt.{decimal}
 use Rattle.std.specs.List.{list_any}
 use Rattle.md_base.proofs.Lies.{lie}
@@ -9,14 +11,17 @@ use Rattle.std.specs.Prelude.{Option, Some, None}
 use Rattle.std.specs.Option.{option_map_or}
 use Rattle.std.proofs.lemmas.Bool.{and_parts, and_from, or_left, or_right, not-true}
 use Rattle.md_base.specs.declared.event.Name.{Name}
-use Rattle.md_base.specs.declared.event.Name.TheVariants.{LineEnding, BlankLineEnding, GfmFootnoteCall}
+use Rattle.md_base.specs.declared.event.Name.TheVariants.{LineEnding, BlankLineEnding}
+use Rattle.md_base.specs.declared.event.Name.TheVariants.{GfmFootnoteCall}
 use Rattle.md_base.specs.declared.event.Point.{Point}
 use Rattle.md_base.specs.declared.event.Position.{Position}
 use Rattle.md_text.specs.declared.line_ending.LineEnding.{LineEnding as Ending}
-use Rattle.md_text.specs.declared.line_ending.LineEnding.TheVariants.{CarriageReturnLineFeed, CarriageReturn, LineFeed}
+use Rattle.md_text.specs.declared.line_ending.LineEnding.TheVariants.{CarriageReturnLineFeed}
+use Rattle.md_text.specs.declared.line_ending.LineEnding.TheVariants.{CarriageReturn, LineFeed}
 use Rattle.md_text.specs.Laws.{is_line_ends}
 use Rattle.md_text.specs.LineEnding.{ending_text}
-use Rattle.md_text.specs.Html.{Forest as Html, IsReading, Attribute, any_attribute, HasReadingWith, HasOneReadingWith}
+use Rattle.md_text.specs.Html.{Forest as Html, IsReading, Attribute, any_attribute, HasReadingWith}
+use Rattle.md_text.specs.Html.{HasOneReadingWith}
 use Rattle.md_text.specs.Safe.{is_safe_link, is_safe_image, is_safe_value}
 use Rattle.md_text.specs.Url.{sanitized, sanitized_with, link_protocols, image_protocols}
 use Rattle.md_text.proofs.HtmlJoin.{join}
@@ -43,7 +48,8 @@ use Rattle.md_meaning.specs.Meaning.Footnotes.{section}
 use Rattle.md_meaning.specs.Meaning.Layout.{layout, when}
 use Rattle.md_meaning.specs.Meaning.Nodes.{Outcome, node, before_next, outcome}
 use Rattle.md_meaning.specs.declared.context.Surroundings.{Surroundings}
-use Rattle.md_shape.specs.Built.{Content, Blocks, content_inside, content_after_node, content_past, content_after, IsBuilt, IsFit}
+use Rattle.md_shape.specs.Built.{Content, Blocks, content_inside, content_after_node, content_past}
+use Rattle.md_shape.specs.Built.{content_after, IsBuilt, IsFit}
 use Rattle.md_safe.specs.Options.{KeepsGrammar, KeepsLinks, KeepsImages, KeepsIds}
 use Rattle.md_safe.proofs.Texts.{Escaped, line_ends-escaped}
 use Rattle.md_safe.proofs.Claim.{reading}
@@ -64,7 +70,8 @@ use Rattle.md_safe.proofs.Prefixes.{same-prefix, note-once, call-once, any-occur
 abbrev pub IsEnding : List ℕ → Option Position → Type 0
 IsEnding bytes place = option_map_or (λ found. is_line_ends (text_in bytes found)) place true ≡ true
 
-first_of_two : (bytes : List ℕ) (first second : Option Position) → IsEnding bytes first → IsEnding bytes second →
+first_of_two : (bytes : List ℕ) (first second : Option Position) → IsEnding bytes first →
+    IsEnding bytes second →
     IsEnding bytes (or_else first second)
 first_of_two bytes None second f g = g
 first_of_two bytes (Some place) second f g = f
@@ -77,7 +84,8 @@ own-ending bytes BlankLineEnding start end children fit = fit
 own-ending bytes _ start end children fit = refl
 
 -- the first line ending of a document is one
-pub first-is_ending : (bytes : List ℕ) (content : Content) (forest : Forest) → IsBuilt bytes content forest →
+pub first-is_ending : (bytes : List ℕ) (content : Content) (forest : Forest) →
+    IsBuilt bytes content forest →
     IsEnding bytes (first_ending forest)
 first-is_ending bytes content Empty built = refl
 first-is_ending bytes content (Node name start end children rest) built =
@@ -92,7 +100,8 @@ default-escaped CarriageReturnLineFeed = refl
 default-escaped CarriageReturn = refl
 default-escaped LineFeed = refl
 
-ending-escaped : (options : CompileOptions) (bytes : List ℕ) (place : Option Position) → IsEnding bytes place →
+ending-escaped : (options : CompileOptions) (bytes : List ℕ) (place : Option Position) →
+    IsEnding bytes place →
     Escaped (ending_at options bytes place)
 ending-escaped options bytes None h = default-escaped _
 ending-escaped options bytes (Some place) h = line_ends-escaped (text_in bytes place) h
@@ -112,7 +121,8 @@ outermost-ready s whole = record {
 }
 
 -- a document and its section
-document-prints : (s : Setting) → IsWhole s.p → (document : Forest) → IsBuilt s.given.bytes Blocks document →
+document-prints : (s : Setting) → IsWhole s.p → (document : Forest) →
+    IsBuilt s.given.bytes Blocks document →
     KeepsGrammar s.given.options
     → s.p.holds (layout s.given.ending ((outcome s.given outermost nothing_before document).pieces
     ++ section s.given (outcome s.given outermost nothing_before document).footnotes))
@@ -142,7 +152,8 @@ pub reads-whole : (p : Attribute → Bool) → PassesIds p → IsWhole (reading 
 reads-whole p ids = record { both = join p; ids = ids }
 
 -- the line ending that is used is escaped, and so are the titles of definitions
-pub prepared : (bytes : List ℕ) (names : List (List ℕ × List ℕ)) (options : CompileOptions) (document : Forest) →
+pub prepared : (bytes : List ℕ) (names : List (List ℕ × List ℕ)) (options : CompileOptions)
+    (document : Forest) →
     IsBuilt bytes Blocks document → KeepsGrammar options →
     Escaped (ending_at options bytes (first_ending document))
     × AreTitles (outcome (record {
@@ -164,9 +175,16 @@ prepared bytes names options document built keeps =
     let ending : List ℕ = ending_at options bytes (first_ending document) in
     let escaped : Escaped ending = ending-escaped options bytes (first_ending document)
     (first-is_ending bytes Blocks document built) in
-    let alone : Given =
-    record { bytes = bytes; names = names; options = options; ending = ending; calls = []; definitions = [] } in
-    let called : Given = record alone { calls = (outcome alone outermost nothing_before document).calls } in
+    let alone : Given = record {
+      bytes = bytes;
+      names = names;
+      options = options;
+      ending = ending;
+      calls = [];
+      definitions = [];
+    } in
+    let called : Given =
+    record alone { calls = (outcome alone outermost nothing_before document).calls } in
     let before : Setting = record {
       p = reading any_attribute;
       given = called;
@@ -174,24 +192,35 @@ prepared bytes names options document built keeps =
       ending = escaped;
       titles = tt;
     } in
-    let known : Means before outermost Blocks document (outcome called outermost nothing_before document) =
+    let known :
+    Means before outermost Blocks document (outcome called outermost nothing_before document) =
     means before document outermost nothing_before Blocks built
     (outermost-ready before (reads-whole any_attribute (λ value. refl))) in
     (escaped, known.titles)
 
 -- the meaning has a reading in which each attribute passes the test
-meaning-reads : (p : Attribute → Bool) (bytes : List ℕ) (names : List (List ℕ × List ℕ)) (options : CompileOptions)
-    (document : Forest) → IsTest p options → PassesIds p → IsBuilt bytes Blocks document → KeepsGrammar options
+meaning-reads : (p : Attribute → Bool) (bytes : List ℕ) (names : List (List ℕ × List ℕ))
+    (options : CompileOptions) (document : Forest) → IsTest p options → PassesIds p →
+    IsBuilt bytes Blocks document → KeepsGrammar options
     → HasReadingWith p (meaning options names bytes document)
 meaning-reads p bytes names options document test ids built keeps =
     let known = prepared bytes names options document built keeps in
     let ending : List ℕ = ending_at options bytes (first_ending document) in
-    let alone : Given =
-    record { bytes = bytes; names = names; options = options; ending = ending; calls = []; definitions = [] } in
-    let called : Given = record alone { calls = (outcome alone outermost nothing_before document).calls } in
+    let alone : Given = record {
+      bytes = bytes;
+      names = names;
+      options = options;
+      ending = ending;
+      calls = [];
+      definitions = [];
+    } in
+    let called : Given =
+    record alone { calls = (outcome alone outermost nothing_before document).calls } in
     let s : Setting = record {
       p = reading p;
-      given = record called { definitions = (outcome called outermost nothing_before document).definitions };
+      given = record called {
+        definitions = (outcome called outermost nothing_before document).definitions;
+      };
       test = test;
       ending = known.0;
       titles = known.1;
@@ -207,7 +236,8 @@ link-test options keeps = record {
       (not (bytes_eq name (codes "src")) && not (bytes_eq name (codes "id"))) h).0);
   link = λ destination.
       subst (λ b. is_safe_value link_protocols (cond b (sanitized destination)
-      (sanitized_with link_protocols destination)) ≡ true) (sym keeps.permitted_links) (kept-link destination);
+      (sanitized_with link_protocols destination)) ≡ true) (sym keeps.permitted_links)
+      (kept-link destination);
   anchor = λ rest. refl;
   image = λ destination. refl;
   html = keeps.grammar.escapes_html;
@@ -224,7 +254,8 @@ image-test options keeps = record {
   link = λ destination. refl;
   anchor = λ rest. refl;
   image = λ destination.
-      subst (λ b. is_safe_value image_protocols (cond (b || options.allow_dangerous_protocol) (sanitized destination)
+      subst (λ b. is_safe_value image_protocols
+      (cond (b || options.allow_dangerous_protocol) (sanitized destination)
       (sanitized_with image_protocols destination)) ≡ true) (sym keeps.permitted_images)
       (subst (λ b. is_safe_value image_protocols (cond b (sanitized destination)
       (sanitized_with image_protocols destination)) ≡ true) (sym keeps.links.permitted_links)
@@ -232,35 +263,37 @@ image-test options keeps = record {
   html = keeps.links.grammar.escapes_html;
 }
 
-pub one-reading : (bytes : List ℕ) (names : List (List ℕ × List ℕ)) (options : CompileOptions) (document : Forest) →
+pub one-reading : (bytes : List ℕ) (names : List (List ℕ × List ℕ)) (options : CompileOptions)
+    (document : Forest) →
     IsBuilt bytes Blocks document → KeepsGrammar options →
     HasOneReadingWith any_attribute (meaning options names bytes document)
 one-reading bytes names options document built keeps =
-    only_reading any_attribute (meaning options names bytes document)
-    (meaning-reads any_attribute bytes names options document (any-test options keeps) (λ value. refl) built keeps)
+    only_reading any_attribute (meaning options names bytes document) (meaning-reads any_attribute
+    bytes names options document (any-test options keeps) (λ value. refl) built keeps)
 
-pub safe-links : (bytes : List ℕ) (names : List (List ℕ × List ℕ)) (options : CompileOptions) (document : Forest) →
+pub safe-links : (bytes : List ℕ) (names : List (List ℕ × List ℕ)) (options : CompileOptions)
+    (document : Forest) →
     IsBuilt bytes Blocks document → KeepsLinks options →
     HasOneReadingWith is_safe_link (meaning options names bytes document)
 safe-links bytes names options document built keeps =
-    only_reading is_safe_link (meaning options names bytes document)
-    (meaning-reads is_safe_link bytes names options document (link-test options keeps) (λ value. refl) built
-    keeps.grammar)
+    only_reading is_safe_link (meaning options names bytes document) (meaning-reads is_safe_link
+    bytes names options document (link-test options keeps) (λ value. refl) built keeps.grammar)
 
-pub safe-images : (bytes : List ℕ) (names : List (List ℕ × List ℕ)) (options : CompileOptions) (document : Forest) →
+pub safe-images : (bytes : List ℕ) (names : List (List ℕ × List ℕ)) (options : CompileOptions)
+    (document : Forest) →
     IsBuilt bytes Blocks document → KeepsImages options →
     HasOneReadingWith is_safe_image (meaning options names bytes document)
 safe-images bytes names options document built keeps =
     only_reading is_safe_image (meaning options names bytes document)
-    (meaning-reads is_safe_image bytes names options document (image-test options keeps) (λ value. refl) built
-    keeps.links.grammar)
+    (meaning-reads is_safe_image bytes names options document (image-test options keeps)
+    (λ value. refl) built keeps.links.grammar)
 
 -- the identifiers of the footnote calls in some nodes, in the order of their exits
 abbrev calls_in : List ℕ → Forest → List (List ℕ)
 calls_in bytes Empty = []
 calls_in bytes (Node name start end children rest) =
-    (calls_in bytes children ++ when (named GfmFootnoteCall name) (identifier_of bytes children ∷ []))
-    ++ calls_in bytes rest
+    (calls_in bytes children
+    ++ when (named GfmFootnoteCall name) (identifier_of bytes children ∷ [])) ++ calls_in bytes rest
 
 -- which calls there are doesn't go by what else is given
 calls-same : (given : Given) (forest : Forest) (around : Surroundings) (before : Before) →
@@ -280,9 +313,12 @@ calls-same given (Node name start end children rest) around before =
       is_last = around.is_outermost && is_empty rest;
     } in
     let next : Before = before_next t name (node given t name inner) in
-    let own : List (List ℕ) = when (named GfmFootnoteCall name) (identifier_of given.bytes children ∷ []) in
-    ap (λ calls. (calls ++ own) ++ (outcome given around next rest).calls) (calls-same given children around' before')
-    ∙ ap (λ calls. (calls_in given.bytes children ++ own) ++ calls) (calls-same given rest around next)
+    let own : List (List ℕ) =
+    when (named GfmFootnoteCall name) (identifier_of given.bytes children ∷ []) in
+    ap (λ calls. (calls ++ own) ++ (outcome given around next rest).calls)
+    (calls-same given children around' before')
+    ∙ ap (λ calls. (calls_in given.bytes children ++ own) ++ calls)
+    (calls-same given rest around next)
 
 -- a document has no more calls than half its events
 calls-fewer : (bytes : List ℕ) (forest : Forest) →
@@ -290,7 +326,8 @@ calls-fewer : (bytes : List ℕ) (forest : Forest) →
 calls-fewer bytes Empty = omega arith
 calls-fewer bytes (Node name start end children rest) =
     let below : List (List ℕ) = calls_in bytes children in
-    let own : List (List ℕ) = when (named GfmFootnoteCall name) (identifier_of bytes children ∷ []) in
+    let own : List (List ℕ) =
+    when (named GfmFootnoteCall name) (identifier_of bytes children ∷ []) in
     let after : List (List ℕ) = calls_in bytes rest in
     omega (
       length-append (below ++ own) after,
@@ -306,15 +343,23 @@ calls-fewer bytes (Node name start end children rest) =
     one true identifier = omega arith
     one false identifier = omega arith
 
-pub distinct-ids : (bytes : List ℕ) (names : List (List ℕ × List ℕ)) (options : CompileOptions) (document : Forest) →
+pub distinct-ids : (bytes : List ℕ) (names : List (List ℕ × List ℕ)) (options : CompileOptions)
+    (document : Forest) →
     IsBuilt bytes Blocks document → IsUnderlined false document → KeepsIds options →
     length (flatten document) < 2 ^ 64 → HasDistinctIds (meaning options names bytes document)
 distinct-ids bytes names options document built underlined keeps small =
     let known = prepared bytes names options document built keeps.grammar in
     let ending : List ℕ = ending_at options bytes (first_ending document) in
-    let alone : Given =
-    record { bytes = bytes; names = names; options = options; ending = ending; calls = []; definitions = [] } in
-    let called : Given = record alone { calls = (outcome alone outermost nothing_before document).calls } in
+    let alone : Given = record {
+      bytes = bytes;
+      names = names;
+      options = options;
+      ending = ending;
+      calls = [];
+      definitions = [];
+    } in
+    let called : Given =
+    record alone { calls = (outcome alone outermost nothing_before document).calls } in
     let given : Given = record called {
       definitions = (outcome called outermost nothing_before document).definitions;
     } in
@@ -332,19 +377,28 @@ distinct-ids bytes names options document built underlined keeps small =
       small,
       arith,
     ))
-    (calls-same given document outermost nothing_before ∙ sym (calls-same alone document outermost nothing_before)))
+    (calls-same given document outermost nothing_before
+    ∙ sym (calls-same alone document outermost nothing_before)))
 
 -- each id of a document is that of the heading, of a footnote or of a call
-known-id : (bytes : List ℕ) (names : List (List ℕ × List ℕ)) (options : CompileOptions) (document : Forest) →
+known-id : (bytes : List ℕ) (names : List (List ℕ × List ℕ)) (options : CompileOptions)
+    (document : Forest) →
     IsBuilt bytes Blocks document → IsUnderlined false document → KeepsIds options → (f : Html) →
     IsReading (meaning options names bytes document) f → (w : List ℕ) → 1 ≤ occurs w (ids f) →
     (codes "footnote-label" ≡ w) ⊎ (IsNote options w ⊎ IsCall options w)
 known-id bytes names options document built underlined keeps f reading w some =
     let known = prepared bytes names options document built keeps.grammar in
     let ending : List ℕ = ending_at options bytes (first_ending document) in
-    let alone : Given =
-    record { bytes = bytes; names = names; options = options; ending = ending; calls = []; definitions = [] } in
-    let called : Given = record alone { calls = (outcome alone outermost nothing_before document).calls } in
+    let alone : Given = record {
+      bytes = bytes;
+      names = names;
+      options = options;
+      ending = ending;
+      calls = [];
+      definitions = [];
+    } in
+    let called : Given =
+    record alone { calls = (outcome alone outermost nothing_before document).calls } in
     let given : Given = record called {
       definitions = (outcome called outermost nothing_before document).definitions;
     } in
@@ -355,7 +409,8 @@ known-id bytes names options document built underlined keeps f reading w some =
       titles = known.1;
     } in
     let counts = document-counts d w document keeps.grammar built underlined
-    (calls-same given document outermost nothing_before ∙ sym (calls-same alone document outermost nothing_before)) in
+    (calls-same given document outermost nothing_before
+    ∙ sym (calls-same alone document outermost nothing_before)) in
     let same : f ≡ counts.forest =
     one_reading (meaning options names bytes document) f counts.forest reading counts.reading in
     document-known options keeps.by_number w given.calls
@@ -369,13 +424,17 @@ one-prefix options other w (inl n) (inl m) =
     (note-once n.0) (note-once m.0) (sym n.1 ∙ m.1)
 one-prefix options other w (inl n) (inr m) =
     same-prefix (prefix_of options) (prefix_of other) (45 ∷ decimal n.0)
-    (codes "ref-" ++ (decimal m.0 ++ (45 ∷ decimal m.1))) (note-once n.0) (call-once m.0 m.1) (sym n.1 ∙ m.2)
+    (codes "ref-" ++ (decimal m.0 ++ (45 ∷ decimal m.1))) (note-once n.0)
+    (call-once m.0 m.1) (sym n.1 ∙ m.2)
 one-prefix options other w (inr n) (inl m) =
-    same-prefix (prefix_of options) (prefix_of other) (codes "ref-" ++ (decimal n.0 ++ (45 ∷ decimal n.1)))
+    same-prefix (prefix_of options) (prefix_of other)
+    (codes "ref-" ++ (decimal n.0 ++ (45 ∷ decimal n.1)))
     (45 ∷ decimal m.0) (call-once n.0 n.1) (note-once m.0) (sym n.2 ∙ m.1)
 one-prefix options other w (inr n) (inr m) =
-    same-prefix (prefix_of options) (prefix_of other) (codes "ref-" ++ (decimal n.0 ++ (45 ∷ decimal n.1)))
-    (codes "ref-" ++ (decimal m.0 ++ (45 ∷ decimal m.1))) (call-once n.0 n.1) (call-once m.0 m.1) (sym n.2 ∙ m.2)
+    same-prefix (prefix_of options) (prefix_of other)
+    (codes "ref-" ++ (decimal n.0 ++ (45 ∷ decimal n.1)))
+    (codes "ref-" ++ (decimal m.0 ++ (45 ∷ decimal m.1))) (call-once n.0 n.1)
+    (call-once m.0 m.1) (sym n.2 ∙ m.2)
 
 -- where no id but the heading's is among both, they are apart
 apart-ids : (xs ys : List (List ℕ)) → ((w : List ℕ) → 1 ≤ occurs w xs → 1 ≤ occurs w ys →
@@ -386,7 +445,8 @@ apart-ids (x ∷ xs) ys h =
     (of (list_any (λ other. bytes_eq other x) ys) refl)
     (apart-ids xs ys (λ w some. h w (later w (bytes_eq x w) some)))
   where
-    later : (w : List ℕ) (is : Bool) → 1 ≤ occurs w xs → 1 ≤ cond is (suc (occurs w xs)) (occurs w xs)
+    later : (w : List ℕ) (is : Bool) → 1 ≤ occurs w xs →
+        1 ≤ cond is (suc (occurs w xs)) (occurs w xs)
     later w true some = omega (arith, some)
     later w false some = some
 
@@ -398,21 +458,25 @@ apart-ids (x ∷ xs) ys h =
         (bytes_eq (codes "footnote-label") x || not is) ≡ true
     of false e = or_right (bytes_eq (codes "footnote-label") x) true refl
     of true e =
-        let label : codes "footnote-label" ≡ x = h x (first (bytes_eq x x) (itself x)) (any-occurs x ys e) in
+        let label : codes "footnote-label" ≡ x =
+        h x (first (bytes_eq x x) (itself x)) (any-occurs x ys e) in
         or_left (bytes_eq (codes "footnote-label") x) false
         (ap (λ y. bytes_eq y x) label ∙ itself x)
 
 pub apart : (bytes other_bytes : List ℕ) (names other_names : List (List ℕ × List ℕ))
-    (options other_options : CompileOptions) (document other : Forest) → IsBuilt bytes Blocks document →
-    IsUnderlined false document → KeepsIds options → IsBuilt other_bytes Blocks other → IsUnderlined false other →
+    (options other_options : CompileOptions) (document other : Forest) →
+    IsBuilt bytes Blocks document →
+    IsUnderlined false document → KeepsIds options → IsBuilt other_bytes Blocks other →
+    IsUnderlined false other →
     KeepsIds other_options → (prefix_of options ≡ prefix_of other_options → ⊥) →
-    ShareNoId (meaning options names bytes document) (meaning other_options other_names other_bytes other)
-apart bytes other_bytes names other_names options other_options document other built underlined keeps other_built
-    other_underlined other_keeps differ f g reading other_reading =
+    ShareNoId (meaning options names bytes document)
+    (meaning other_options other_names other_bytes other)
+apart bytes other_bytes names other_names options other_options document other built underlined
+    keeps other_built other_underlined other_keeps differ f g reading other_reading =
     apart-ids (ids f) (ids g) (λ w here there.
     of w (known-id bytes names options document built underlined keeps f reading w here)
-    (known-id other_bytes other_names other_options other other_built other_underlined other_keeps g other_reading w
-    there))
+    (known-id other_bytes other_names other_options other other_built other_underlined other_keeps g
+    other_reading w there))
   where
     of : (w : List ℕ) → (codes "footnote-label" ≡ w) ⊎ (IsNote options w ⊎ IsCall options w) →
         (codes "footnote-label" ≡ w) ⊎ (IsNote other_options w ⊎ IsCall other_options w) →

@@ -14,18 +14,21 @@ use Rattle.md_safe.specs.Formatting.{last_active}
 use Rattle.md_safe.specs.Built.{put, at, IsPlace, Builds, IsBuiltAsRead, AreOpen, has_none_active}
 use Rattle.md_safe.proofs.Flow.{flow-done, kept-none}
 
-none-open : (node : Open) (others : List Open) (active : List Entry) → has_none_active active ≡ true →
+none-open : (node : Open) (others : List Open) (active : List Entry) →
+    has_none_active active ≡ true →
     AreOpen (node ∷ others) active
 none-open node others [] h = tt
 none-open node others (Marker ∷ active) h = tt
 none-open node others (Formatting identity name attributes ∷ active) h = lie h
 
-none-linked : (active : List Entry) → has_none_active active ≡ true → last_active (codes "a") active ≡ None
+none-linked : (active : List Entry) → has_none_active active ≡ true →
+    last_active (codes "a") active ≡ None
 none-linked [] h = refl
 none-linked (Marker ∷ active) h = refl
 none-linked (Formatting identity name attributes ∷ active) h = lie h
 
-pub reading-built : (forest : Forest) → is_forest forest ≡ true → is_contained false Flow forest ≡ true →
+pub reading-built : (forest : Forest) → is_forest forest ≡ true →
+    is_contained false Flow forest ≡ true →
     (mode : Mode) (node : Open) (others : List Open) (active : List Entry) (created : ℕ) →
     IsPlace mode node others active created → Builds mode node others active created forest
 reading-built forest h c mode node others active created place =
@@ -42,7 +45,8 @@ reading-built forest h c mode node others active created place =
       no_item = λ items. lie items;
     }) in (
       d.more,
-      d.runs ∙ ap (λ left. Some (at mode (record node { children = put node.children forest } ∷ others) left d.more))
+      d.runs ∙ ap (λ left.
+          Some (at mode (record node { children = put node.children forest } ∷ others) left d.more))
           (kept-none active d.left place.none_active d.keeps),
     )
 
@@ -62,5 +66,6 @@ text-built text h =
           (h.only read.forest read.reading)
           read.tokenized;
       builds = λ mode node others active created place.
-          reading-built h.forest h.reading.in_grammar h.contained mode node others active created place;
+          reading-built h.forest h.reading.in_grammar h.contained mode node others
+          active created place;
     }

@@ -1,11 +1,13 @@
--- The insertion modes of a document before its body and after it (HTML Standard, 13.2.6.4). At a tag or a character
--- that a mode has no rule for it makes an element or closes one, and the next mode takes it. What isn't written out are
--- rules of tags that "in body", which takes these in the end, hasn't either.
+-- The insertion modes of a document before its body and after it (HTML Standard, 13.2.6.4). At a
+-- tag or a character that a mode has no rule for it makes an element or closes one, and the next
+-- mode takes it. What isn't written out are rules of tags that "in body", which takes these in the
+-- end, hasn't either.
 use Rattle.std.specs.Prelude.{ℕ, if◌then◌else◌, List, [], ◌∷◌, Option, Some, bytes_eq, codes}
 use Rattle.md_text.specs.Bytes.{is_one_of}
 use Rattle.md_safe.specs.Token.{TokenAttribute}
 use Rattle.md_safe.specs.Contents.{is_space}
-use Rattle.md_safe.specs.Node.{Mode, BeforeHtml, BeforeHead, InHead, InText, AfterHead, InBody, AfterAfterBody, Parser}
+use Rattle.md_safe.specs.Node.{Mode, BeforeHtml, BeforeHead, InHead, InText, AfterHead, InBody}
+use Rattle.md_safe.specs.Node.{AfterAfterBody, Parser}
 use Rattle.md_safe.specs.Stack.{popped, insert, say}
 use Rattle.md_safe.specs.InBody.{insert_void, start_in_body, end_in_body, character_in_body}
 
@@ -44,23 +46,27 @@ start_after_head name attributes parser =
 
 -- 13.2.6.4.4, "in head": a title's text is RCDATA (13.2.6.2), and the mode is "text" until it ends
 abbrev pub start_in_head : List ℕ → List TokenAttribute → Parser → Option Parser
-start_in_head name attributes parser = if bytes_eq name (codes "meta") then Some (insert_void name attributes parser)
+start_in_head name attributes parser =
+    if bytes_eq name (codes "meta") then Some (insert_void name attributes parser)
     else (if bytes_eq name (codes "title") then Some (enter (InText InHead) name attributes parser)
     else start_after_head name attributes (without_head parser))
 
 -- 13.2.6.4.3, "before head"
 abbrev pub start_before_head : List ℕ → List TokenAttribute → Parser → Option Parser
 start_before_head name attributes parser = if bytes_eq name (codes "head")
-    then Some (enter InHead name attributes parser) else start_in_head name attributes (with_head parser)
+    then Some (enter InHead name attributes parser)
+    else start_in_head name attributes (with_head parser)
 
 -- 13.2.6.4.2, "before html"
 abbrev pub start_before_html : List ℕ → List TokenAttribute → Parser → Option Parser
 start_before_html name attributes parser = if bytes_eq name (codes "html")
-    then Some (enter BeforeHead name attributes parser) else start_before_head name attributes (with_root parser)
+    then Some (enter BeforeHead name attributes parser)
+    else start_before_head name attributes (with_root parser)
 
 -- 13.2.6.4.19 and .22, "after body" and "after after body"
 abbrev pub start_after_body : List ℕ → List TokenAttribute → Parser → Option Parser
-start_after_body name attributes parser = start_in_body name attributes (record parser { mode = InBody })
+start_after_body name attributes parser =
+    start_in_body name attributes (record parser { mode = InBody })
 
 -- ---- end tags
 
@@ -69,7 +75,8 @@ abbrev pub closing : List (List ℕ)
 closing = codes "body" ∷ codes "html" ∷ codes "br" ∷ []
 
 abbrev pub end_after_head : List ℕ → Parser → Option Parser
-end_after_head name parser = if is_one_of closing name then end_in_body name (with_body parser) else Some parser
+end_after_head name parser =
+    if is_one_of closing name then end_in_body name (with_body parser) else Some parser
 
 abbrev pub end_in_head : List ℕ → Parser → Option Parser
 end_in_head name parser = if bytes_eq name (codes "head") then Some (without_head parser)
@@ -81,11 +88,13 @@ end_in_text original parser = Some (leave original parser)
 
 abbrev pub end_before_head : List ℕ → Parser → Option Parser
 end_before_head name parser =
-    if is_one_of (codes "head" ∷ closing) name then end_in_head name (with_head parser) else Some parser
+    if is_one_of (codes "head" ∷ closing) name then end_in_head name (with_head parser)
+    else Some parser
 
 abbrev pub end_before_html : List ℕ → Parser → Option Parser
 end_before_html name parser =
-    if is_one_of (codes "head" ∷ closing) name then end_before_head name (with_root parser) else Some parser
+    if is_one_of (codes "head" ∷ closing) name then end_before_head name (with_root parser)
+    else Some parser
 
 abbrev pub end_after_after_body : List ℕ → Parser → Option Parser
 end_after_after_body name parser = end_in_body name (record parser { mode = InBody })
@@ -94,7 +103,8 @@ abbrev pub end_after_body : List ℕ → Parser → Option Parser
 end_after_body name parser = if bytes_eq name (codes "html")
     then Some (record parser { mode = AfterAfterBody }) else end_after_after_body name parser
 
--- ---- characters: white space is ignored up to the head, and goes into the root after it and into the body at the end
+-- ---- characters: white space is ignored up to the head, and goes into the root after it and into
+-- the body at the end
 
 abbrev pub character_after_head : ℕ → Parser → Option Parser
 character_after_head byte parser =
@@ -102,7 +112,8 @@ character_after_head byte parser =
 
 abbrev pub character_in_head : ℕ → Parser → Option Parser
 character_in_head byte parser =
-    if is_space byte then Some (saying byte parser) else character_after_head byte (without_head parser)
+    if is_space byte then Some (saying byte parser)
+    else character_after_head byte (without_head parser)
 
 abbrev pub character_in_text : ℕ → Parser → Option Parser
 character_in_text byte parser = Some (saying byte parser)
@@ -118,7 +129,8 @@ character_before_html byte parser =
 -- 13.2.6.4.1, "initial"
 abbrev pub character_in_initial : ℕ → Parser → Option Parser
 character_in_initial byte parser =
-    if is_space byte then Some parser else character_before_html byte (record parser { mode = BeforeHtml })
+    if is_space byte then Some parser
+    else character_before_html byte (record parser { mode = BeforeHtml })
 
 -- by the rules of "in body", so that it goes into the body, which is still the current node
 abbrev pub character_after_body : ℕ → Parser → Option Parser

@@ -4,7 +4,8 @@ use Rattle.md_text.specs.Html.{Forest, Empty, Text, Void, Element, IsReading}
 use Rattle.md_safe.specs.Token.{EndOfFile}
 use Rattle.md_safe.specs.Tokenizer.{IsTokenized}
 use Rattle.md_safe.specs.Tokens.{seen, seen_attributes, tokens}
-use Rattle.md_safe.specs.Node.{Nodes, with_element, with_character, Open, Entry, Marker, Formatting, Mode, InBody, InCell, Parser}
+use Rattle.md_safe.specs.Node.{Nodes, with_element, with_character, Open, Entry, Marker, Formatting}
+use Rattle.md_safe.specs.Node.{Mode, InBody, InCell, Parser}
 use Rattle.md_safe.specs.Node.{Empty as NoNode}
 use Rattle.md_safe.specs.Elements.{button_scope, headings}
 use Rattle.md_safe.specs.Stack.{is_named, is_among, has_in_scope}
@@ -21,7 +22,8 @@ with_characters nodes (byte ∷ bytes) = with_characters (with_character nodes b
 abbrev pub put : Nodes → Forest → Nodes
 put nodes Empty = nodes
 put nodes (Text bytes rest) = put (with_characters nodes (seen bytes)) rest
-put nodes (Void name attributes rest) = put (with_element nodes name (seen_attributes attributes) NoNode) rest
+put nodes (Void name attributes rest) =
+    put (with_element nodes name (seen_attributes attributes) NoNode) rest
 put nodes (Element name attributes inner rest) =
     put (with_element nodes name (seen_attributes attributes) (put NoNode inner)) rest
 
@@ -43,26 +45,31 @@ is_body mode = elim mode [ InBody ↦ true | InCell ↦ true | _ ↦ false ]
 abbrev pub AreCreated : ℕ → List Entry → Type 0
 AreCreated created [] = Unit {0}
 AreCreated created (Marker ∷ entries) = AreCreated created entries
-AreCreated created (Formatting identity name attributes ∷ entries) = (identity < created) × AreCreated created entries
+AreCreated created (Formatting identity name attributes ∷ entries) =
+    (identity < created) × AreCreated created entries
 
 -- each formatting element after the last marker is open
 abbrev pub AreOpen : List Open → List Entry → Type 0
 AreOpen stack [] = Unit {0}
 AreOpen stack (Marker ∷ entries) = Unit {0}
-AreOpen stack (Formatting identity name attributes ∷ entries) = (is_open identity stack ≡ true) × AreOpen stack entries
+AreOpen stack (Formatting identity name attributes ∷ entries) =
+    (is_open identity stack ≡ true) × AreOpen stack entries
 
 -- no formatting element is active after the last marker
 abbrev pub has_none_active : List Entry → Bool
-has_none_active entries = elim entries [ Formatting identity name attributes ∷ others ↦ false | _ ↦ true ]
+has_none_active entries =
+    elim entries [ Formatting identity name attributes ∷ others ↦ false | _ ↦ true ]
 
 -- an element without attributes on the stack
 abbrev pub open_at : ℕ → List ℕ → Nodes → Open
-open_at identity name nodes = record { identity = identity; name = name; attributes = []; children = nodes }
+open_at identity name nodes =
+    record { identity = identity; name = name; attributes = []; children = nodes }
 
--- where flow content may be set: in a body or a cell, with no formatting element active since the last marker; the
--- current node isn't a heading and is in no paragraph that a block would close; the elements that are open lead back to
--- this mode
-pub record IsPlace (mode : Mode) (node : Open) (others : List Open) (active : List Entry) (created : ℕ) : Type 0 where
+-- where flow content may be set: in a body or a cell, with no formatting element active since the
+-- last marker; the current node isn't a heading and is in no paragraph that a block would close;
+-- the elements that are open lead back to this mode
+pub record IsPlace (mode : Mode) (node : Open) (others : List Open) (active : List Entry)
+    (created : ℕ) : Type 0 where
   pub body : is_body mode ≡ true
   pub none_active : has_none_active active ≡ true
   pub made : AreCreated created active
@@ -70,19 +77,20 @@ pub record IsPlace (mode : Mode) (node : Open) (others : List Open) (active : Li
   pub no_heading : is_among headings node ≡ false
   pub leads_back : mode_for (node ∷ others) ≡ mode
 
--- the tokens of a reading put its nodes after those of the current node, and leave all else as it was: the mode, the
--- other open elements and the list; but elements were created
+-- the tokens of a reading put its nodes after those of the current node, and leave all else as it
+-- was: the mode, the other open elements and the list; but elements were created
 abbrev pub Builds : Mode → Open → List Open → List Entry → ℕ → Forest → Type 0
 Builds mode node others active created forest =
     (more : ℕ) × (run (at mode (node ∷ others) active created) (tokens forest)
     ≡ Some (at mode (record node { children = put node.children forest } ∷ others) active more))
 
--- a text has exactly one reading, the tokenizer emits its tokens, and of these tree construction builds the reading's
--- own tree, wherever flow content may be set
+-- a text has exactly one reading, the tokenizer emits its tokens, and of these tree construction
+-- builds the reading's own tree, wherever flow content may be set
 pub record IsBuiltAsRead (text : List ℕ) : Type 0 where
   pub forest : Forest
   pub reading : IsReading text forest
   pub only : (other : Forest) → IsReading text other → other ≡ forest
   pub tokenized : IsTokenized text (tokens forest ++ (EndOfFile ∷ []))
-  pub builds : (mode : Mode) (node : Open) (others : List Open) (active : List Entry) (created : ℕ) →
+  pub builds :
+      (mode : Mode) (node : Open) (others : List Open) (active : List Entry) (created : ℕ) →
       IsPlace mode node others active created → Builds mode node others active created forest

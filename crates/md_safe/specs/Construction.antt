@@ -1,10 +1,22 @@
--- Tree construction's dispatcher (HTML Standard, 13.2.6): what is done at each token, and at some in a row.
-use Rattle.std.specs.Prelude.{ℕ, false, ◌&&◌, ◌==◌, if◌then◌else◌, List, [], ◌∷◌, ◌++◌, Option, Some, None, option_and_then}
+-- Tree construction's dispatcher (HTML Standard, 13.2.6): what is done at each token, and
+-- at some in a row.
+use Rattle.std.specs.Prelude.{ℕ, false, ◌&&◌, ◌==◌, if◌then◌else◌, List, [], ◌∷◌, ◌++◌, Option}
+use Rattle.std.specs.Prelude.{Some, None, option_and_then}
 use Rattle.md_safe.specs.Token.{Token, Character, StartTag, EndTag, TokenAttribute}
-use Rattle.md_safe.specs.Node.{Mode, Initial, BeforeHtml, BeforeHead, InHead, InText, AfterHead, InBody, InTable, InTableBody, InRow, InCell, InTableText, AfterBody, AfterAfterBody, Parser}
+use Rattle.md_safe.specs.Node.{Mode, Initial, BeforeHtml, BeforeHead, InHead, InText, AfterHead}
+use Rattle.md_safe.specs.Node.{InBody, InTable, InTableBody, InRow, InCell, InTableText, AfterBody}
+use Rattle.md_safe.specs.Node.{AfterAfterBody, Parser}
 use Rattle.md_safe.specs.InBody.{start_in_body, end_in_body, character_in_body}
-use Rattle.md_safe.specs.AroundBody.{start_before_html, start_before_head, start_in_head, start_after_head, start_after_body, end_before_html, end_before_head, end_in_head, end_in_text, end_after_head, end_after_body, end_after_after_body, character_in_initial, character_before_html, character_before_head, character_in_head, character_in_text, character_after_head, character_after_body}
-use Rattle.md_safe.specs.InTable.{start_in_table, end_in_table, start_in_table_body, end_in_table_body, start_in_row, end_in_row, start_in_cell, end_in_cell, character_in_table, end_table_text}
+use Rattle.md_safe.specs.AroundBody.{start_before_html, start_before_head, start_in_head}
+use Rattle.md_safe.specs.AroundBody.{start_after_head, start_after_body, end_before_html}
+use Rattle.md_safe.specs.AroundBody.{end_before_head, end_in_head, end_in_text, end_after_head}
+use Rattle.md_safe.specs.AroundBody.{end_after_body, end_after_after_body, character_in_initial}
+use Rattle.md_safe.specs.AroundBody.{character_before_html, character_before_head}
+use Rattle.md_safe.specs.AroundBody.{character_in_head, character_in_text, character_after_head}
+use Rattle.md_safe.specs.AroundBody.{character_after_body}
+use Rattle.md_safe.specs.InTable.{start_in_table, end_in_table, start_in_table_body}
+use Rattle.md_safe.specs.InTable.{end_in_table_body, start_in_row, end_in_row, start_in_cell}
+use Rattle.md_safe.specs.InTable.{end_in_cell, character_in_table, end_table_text}
 
 abbrev pub start : Mode → List ℕ → List TokenAttribute → Parser → Option Parser
 start Initial name attributes parser = start_before_html name attributes parser
@@ -50,7 +62,8 @@ character InTable byte parser = character_in_table byte parser
 character InTableBody byte parser = character_in_table byte parser
 character InRow byte parser = character_in_table byte parser
 character InCell byte parser = character_in_body byte parser
-character (InTableText mode) byte parser = Some (record parser { pending = parser.pending ++ (byte ∷ []) })
+character (InTableText mode) byte parser =
+    Some (record parser { pending = parser.pending ++ (byte ∷ []) })
 character AfterBody byte parser = character_after_body byte parser
 character AfterAfterBody byte parser = character_after_body byte parser
 
@@ -63,10 +76,11 @@ after_table_text parser tag = elim parser.mode [
 
 -- none for a NUL; doctypes and the end of file are for documents alone (`Page`)
 abbrev pub step : Parser → Token → Option Parser
-step parser (Character byte) = if byte == 0 then None
-    else (if parser.skips_line_feed && byte == 10 then Some (record parser { skips_line_feed = false })
+step parser (Character byte) = if byte == 0 then None else (if parser.skips_line_feed && byte == 10
+    then Some (record parser { skips_line_feed = false })
     else character parser.mode byte (record parser { skips_line_feed = false }))
-step parser (StartTag name attributes flag) = after_table_text (record parser { skips_line_feed = false })
+step parser (StartTag name attributes flag) =
+    after_table_text (record parser { skips_line_feed = false })
     (λ parser. start parser.mode name attributes parser)
 step parser (EndTag name) = after_table_text (record parser { skips_line_feed = false })
     (λ parser. end parser.mode name parser)

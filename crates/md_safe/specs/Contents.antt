@@ -1,12 +1,14 @@
 -- What may stand in what in the HTML that is written: a content model. It knows no events.
-use Rattle.std.specs.Prelude.{◌≡◌, ℕ, Bool, true, false, ◌&&◌, ◌||◌, ◌==◌, IsTrue, if◌then◌else◌, List, [], ◌∷◌, ◌++◌, Option, map, find, option_map, bytes_eq, codes}
+use Rattle.std.specs.Prelude.{◌≡◌, ℕ, Bool, true, false, ◌&&◌, ◌||◌, ◌==◌, IsTrue, if◌then◌else◌}
+use Rattle.std.specs.Prelude.{List, [], ◌∷◌, ◌++◌, Option, map, find, option_map, bytes_eq, codes}
 use Rattle.std.specs.Option.{option_map_or}
 use Rattle.std.specs.List.{list_all}
 use Rattle.md_text.specs.Bytes.{is_one_of}
 use Rattle.md_text.specs.Html.{Forest, Empty, Text, Void, Element, IsReading}
 
--- what stands somewhere: blocks, spans and texts; spans and texts; these without links; the items of a list; the parts
--- of a table, its rows and its cells; code that is preformatted; characters alone
+-- what stands somewhere: blocks, spans and texts; spans and texts; these without links; the
+-- items of a list; the parts of a table, its rows and its cells; code that is preformatted;
+-- characters alone
 pub data Content : Type 0 where
   Flow : Content
   Phrasing : Content
@@ -29,9 +31,10 @@ span_elements nested = (codes "a", if nested then Phrasing else Linked) ∷ span
 
 -- those of blocks
 abbrev pub block_elements : List (List ℕ × Content)
-block_elements = (codes "ul", Items) ∷ (codes "ol", Items) ∷ (codes "table", Parts) ∷ (codes "pre", Preformatted)
-    ∷ (codes "blockquote", Flow) ∷ (codes "section", Flow) ∷ map (λ name. (name, Phrasing)) (codes "p" ∷ codes "h1"
-    ∷ codes "h2" ∷ codes "h3" ∷ codes "h4" ∷ codes "h5" ∷ codes "h6" ∷ [])
+block_elements =
+    (codes "ul", Items) ∷ (codes "ol", Items) ∷ (codes "table", Parts) ∷ (codes "pre", Preformatted)
+    ∷ (codes "blockquote", Flow) ∷ (codes "section", Flow) ∷ map (λ name. (name, Phrasing))
+    (codes "p" ∷ codes "h1" ∷ codes "h2" ∷ codes "h3" ∷ codes "h4" ∷ codes "h5" ∷ codes "h6" ∷ [])
 
 -- the elements that may stand somewhere
 abbrev pub elements_in : Bool → Content → List (List ℕ × Content)
@@ -48,7 +51,8 @@ elements_in nested Characters = []
 -- what an element holds there, where it may stand
 abbrev pub held_in : Bool → Content → List ℕ → Option Content
 held_in nested content name =
-    option_map (λ element. element.1) (find (λ element. bytes_eq element.0 name) (elements_in nested content))
+    option_map (λ element. element.1)
+    (find (λ element. bytes_eq element.0 name) (elements_in nested content))
 
 -- the void tags that may stand somewhere
 abbrev pub voids_in : Content → List (List ℕ)
@@ -73,7 +77,8 @@ may_say _ text = list_all is_space text
 -- everything in a forest stands where it may, and the forest itself as this content
 abbrev pub is_contained : Bool → Content → Forest → Bool
 is_contained nested content Empty = true
-is_contained nested content (Text bytes rest) = may_say content bytes && is_contained nested content rest
+is_contained nested content (Text bytes rest) =
+    may_say content bytes && is_contained nested content rest
 is_contained nested content (Void name attributes rest) =
     is_one_of (voids_in content) name && is_contained nested content rest
 is_contained nested content (Element name attributes inner rest) =

@@ -1,16 +1,19 @@
--- Which elements are what to tree construction (HTML Standard, 13.2.4.2 and 13.2.6). Of the special elements only those
--- that the grammar has, and a few around a text; a stack has no others.
+-- Which elements are what to tree construction (HTML Standard, 13.2.4.2 and 13.2.6). Of the special
+-- elements only those that the grammar has, and a few around a text; a stack has no others.
 use Rattle.std.specs.Prelude.{List, [], ◌∷◌, ◌++◌, ℕ, codes}
 
 abbrev pub special : List (List ℕ)
-special = codes "address" ∷ codes "article" ∷ codes "blockquote" ∷ codes "body" ∷ codes "br" ∷ codes "div" ∷ codes "h1"
-    ∷ codes "h2" ∷ codes "h3" ∷ codes "h4" ∷ codes "h5" ∷ codes "h6" ∷ codes "hr" ∷ codes "html" ∷ codes "img"
-    ∷ codes "input" ∷ codes "li" ∷ codes "main" ∷ codes "ol" ∷ codes "p" ∷ codes "pre" ∷ codes "section"
-    ∷ codes "table" ∷ codes "tbody" ∷ codes "td" ∷ codes "th" ∷ codes "thead" ∷ codes "tr" ∷ codes "ul" ∷ []
+special = codes "address" ∷ codes "article" ∷ codes "blockquote" ∷ codes "body" ∷ codes "br"
+    ∷ codes "div" ∷ codes "h1" ∷ codes "h2" ∷ codes "h3" ∷ codes "h4" ∷ codes "h5" ∷ codes "h6"
+    ∷ codes "hr" ∷ codes "html" ∷ codes "img" ∷ codes "input" ∷ codes "li" ∷ codes "main"
+    ∷ codes "ol" ∷ codes "p" ∷ codes "pre" ∷ codes "section"
+    ∷ codes "table" ∷ codes "tbody" ∷ codes "td" ∷ codes "th" ∷ codes "thead"
+    ∷ codes "tr" ∷ codes "ul" ∷ []
 
 -- where scopes end: that of any element, of a list item, of a button, of a table
 abbrev pub any_scope : List (List ℕ)
-any_scope = codes "applet" ∷ codes "caption" ∷ codes "html" ∷ codes "table" ∷ codes "td" ∷ codes "th"
+any_scope =
+    codes "applet" ∷ codes "caption" ∷ codes "html" ∷ codes "table" ∷ codes "td" ∷ codes "th"
     ∷ codes "marquee" ∷ codes "object" ∷ codes "template" ∷ []
 
 abbrev pub list_item_scope : List (List ℕ)
@@ -24,7 +27,8 @@ table_scope = codes "html" ∷ codes "table" ∷ codes "template" ∷ []
 
 -- elements whose end tags are implied
 abbrev pub implied : List (List ℕ)
-implied = codes "dd" ∷ codes "dt" ∷ codes "li" ∷ codes "optgroup" ∷ codes "option" ∷ codes "p" ∷ codes "rb"
+implied = codes "dd" ∷ codes "dt" ∷ codes "li" ∷ codes "optgroup" ∷ codes "option"
+    ∷ codes "p" ∷ codes "rb"
     ∷ codes "rp" ∷ codes "rt" ∷ codes "rtc" ∷ []
 
 abbrev pub headings : List (List ℕ)

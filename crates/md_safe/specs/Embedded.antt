@@ -6,10 +6,11 @@ use Rattle.md_safe.specs.Token.{Token}
 use Rattle.md_safe.specs.Tokenizer.{Data, IsTokenized}
 use Rattle.md_safe.specs.Leads.{Leads}
 
--- from the data state on, whatever characters follow those of the text: the tokenizer emits these tokens, and is in the
--- data state then, with exactly what follows left of its input
+-- from the data state on, whatever characters follow those of the text: the tokenizer emits these
+-- tokens, and is in the data state then, with exactly what follows left of its input
 abbrev pub EndsInDataState : List ℕ → List Token → Type 0
-EndsInDataState text tokens = (after : List ℕ) → Leads Data (with_line_feeds text ++ after) tokens after
+EndsInDataState text tokens =
+    (after : List ℕ) → Leads Data (with_line_feeds text ++ after) tokens after
 
 -- a text ends with CR
 abbrev pub ends_with_return : List ℕ → Bool

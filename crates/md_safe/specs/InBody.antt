@@ -1,15 +1,21 @@
--- The insertion mode "in body" (HTML Standard, 13.2.6.4.7), for the grammar's tags; any other tag isn't written out.
-use Rattle.std.specs.Prelude.{ℕ, Bool, true, false, not, ◌&&◌, ◌||◌, if◌then◌else◌, List, [], ◌∷◌, Option, Some, None, is_some, bytes_eq, codes}
+-- The insertion mode "in body" (HTML Standard, 13.2.6.4.7), for the grammar's tags; any other tag
+-- isn't written out.
+use Rattle.std.specs.Prelude.{ℕ, Bool, true, false, not, ◌&&◌, ◌||◌, if◌then◌else◌, List, [], ◌∷◌}
+use Rattle.std.specs.Prelude.{Option, Some, None, is_some, bytes_eq, codes}
 use Rattle.md_text.specs.Bytes.{is_one_of}
 use Rattle.md_safe.specs.Token.{TokenAttribute}
 use Rattle.md_safe.specs.Node.{Open, InBody, InTable, AfterBody, AfterAfterBody, Parser}
-use Rattle.md_safe.specs.Elements.{special, any_scope, list_item_scope, button_scope, implied, headings, blocks, formatting, ordinary, parts}
-use Rattle.md_safe.specs.Stack.{is_named, is_among, has_in_scope, current, popped, pop_while, pop_until, insert, say}
-use Rattle.md_safe.specs.Formatting.{needs_reconstruction, push, last_active, end_other, end_formatting}
+use Rattle.md_safe.specs.Elements.{special, any_scope, list_item_scope, button_scope, implied}
+use Rattle.md_safe.specs.Elements.{headings, blocks, formatting, ordinary, parts}
+use Rattle.md_safe.specs.Stack.{is_named, is_among, has_in_scope, current, popped, pop_while}
+use Rattle.md_safe.specs.Stack.{pop_until, insert, say}
+use Rattle.md_safe.specs.Formatting.{needs_reconstruction, push, last_active, end_other}
+use Rattle.md_safe.specs.Formatting.{end_formatting}
 
 -- elements whose end tags are implied are popped, but for this name
 abbrev pub imply_except : List ℕ → List Open → List Open
-imply_except name stack = pop_while (λ node. is_among implied node && not (is_named name node)) stack
+imply_except name stack =
+    pop_while (λ node. is_among implied node && not (is_named name node)) stack
 
 -- a `p` element is closed, where one is in button scope
 abbrev pub close_p : List Open → List Open
@@ -18,13 +24,15 @@ close_p stack = if has_in_scope button_scope (is_named (codes "p")) stack
 
 -- after what is done before a block
 abbrev pub insert_block : List ℕ → List TokenAttribute → Parser → Parser
-insert_block name attributes parser = insert name attributes (record parser { stack = close_p parser.stack })
+insert_block name attributes parser =
+    insert name attributes (record parser { stack = close_p parser.stack })
 
--- a start tag of a list item looks for an item that is open, up to a special element that is none of three
+-- a start tag of a list item looks for an item that is open, up to a special element that
+-- is none of three
 abbrev pub has_item : List Open → Bool
 has_item [] = false
-has_item (node ∷ rest) = is_named (codes "li") node
-    || (not (is_among special node) || is_among (codes "address" ∷ codes "div" ∷ codes "p" ∷ []) node) && has_item rest
+has_item (node ∷ rest) = is_named (codes "li") node || (not (is_among special node)
+    || is_among (codes "address" ∷ codes "div" ∷ codes "p" ∷ []) node) && has_item rest
 
 abbrev pub close_item : List Open → List Open
 close_item stack = if has_item stack
@@ -37,7 +45,8 @@ reconstructed parser change = if needs_reconstruction parser then None else Some
 -- a formatting element is inserted and pushed onto the list
 abbrev pub insert_formatting : List ℕ → List TokenAttribute → Parser → Parser
 insert_formatting name attributes parser =
-    record (insert name attributes parser) { active = push parser.created name attributes parser.active }
+    record (insert name attributes
+    parser) { active = push parser.created name attributes parser.active }
 
 -- a void element is inserted and popped at once
 abbrev pub insert_void : List ℕ → List TokenAttribute → Parser → Parser
@@ -47,8 +56,8 @@ insert_void name attributes parser =
 
 abbrev pub start_in_body : List ℕ → List TokenAttribute → Parser → Option Parser
 start_in_body name attributes parser =
-    if is_one_of blocks name || bytes_eq name (codes "p") then Some (insert_block name attributes parser)
-    else (if is_one_of headings name then
+    if is_one_of blocks name || bytes_eq name (codes "p")
+    then Some (insert_block name attributes parser) else (if is_one_of headings name then
     (let closed = close_p parser.stack in
     Some (insert name attributes (record parser {
       stack = if current (is_among headings) closed then popped closed else closed;
@@ -67,16 +76,20 @@ start_in_body name attributes parser =
     then reconstructed parser (insert_void name attributes)
     else (if bytes_eq name (codes "hr")
     then Some (insert_void name attributes (record parser { stack = close_p parser.stack }))
-    else (if is_one_of parts name then Some parser
-    else (if is_one_of ordinary name then reconstructed parser (insert name attributes) else None))))))))))
+    else (if is_one_of parts name then Some parser else (if is_one_of ordinary name
+    then reconstructed parser (insert name attributes) else None))))))))))
 
--- the end tags of the body and of the root pop nothing: the mode is "after body", and at that of the root, which is
--- reprocessed there, "after after body"; what a cell does with them isn't written out
+-- the end tags of the body and of the root pop nothing: the mode is "after body", and at that
+-- of the root, which is reprocessed there, "after after body"; what a cell does with them
+-- isn't written out
 abbrev pub end_body : List ℕ → Parser → Option Parser
 end_body name parser = elim parser.mode [
   | InBody ↦ Some
       (if has_in_scope any_scope (is_named (codes "body")) parser.stack
-      then record parser { mode = if bytes_eq name (codes "html") then AfterAfterBody else AfterBody } else parser)
+      then record parser {
+        mode = if bytes_eq name (codes "html") then AfterAfterBody else AfterBody;
+      }
+      else parser)
   | _ ↦ None
 ]
 
@@ -84,8 +97,8 @@ abbrev pub end_in_body : List ℕ → Parser → Option Parser
 end_in_body name parser =
     if is_one_of blocks name || bytes_eq name (codes "pre") then
     Some (if has_in_scope any_scope (is_named name) parser.stack
-    then record parser { stack = pop_until (is_named name) (imply_except [] parser.stack) } else parser)
-    else (if bytes_eq name (codes "p") then
+    then record parser { stack = pop_until (is_named name) (imply_except [] parser.stack) }
+    else parser) else (if bytes_eq name (codes "p") then
     (if has_in_scope button_scope (is_named name) parser.stack
     then Some (record parser { stack = close_p parser.stack }) else Some (record parser {
       stack = popped (insert name [] parser).stack;
@@ -93,13 +106,14 @@ end_in_body name parser =
     }))
     else (if bytes_eq name (codes "li") then
     Some (if has_in_scope list_item_scope (is_named name) parser.stack
-    then record parser { stack = pop_until (is_named name) (imply_except name parser.stack) } else parser)
-    else (if is_one_of headings name then
+    then record parser { stack = pop_until (is_named name) (imply_except name parser.stack) }
+    else parser) else (if is_one_of headings name then
     Some (if has_in_scope any_scope (is_among headings) parser.stack
-    then record parser { stack = pop_until (is_among headings) (imply_except [] parser.stack) } else parser)
-    else (if is_one_of (codes "a" ∷ formatting) name then end_formatting name parser
-    else (if is_one_of ordinary name || is_one_of (codes "table" ∷ parts) name then end_other name parser
-    else (if is_one_of (codes "body" ∷ codes "html" ∷ []) name then end_body name parser else None))))))
+    then record parser { stack = pop_until (is_among headings) (imply_except [] parser.stack) }
+    else parser) else (if is_one_of (codes "a" ∷ formatting) name then end_formatting name parser
+    else (if is_one_of ordinary name || is_one_of (codes "table" ∷ parts) name
+    then end_other name parser else (if is_one_of (codes "body" ∷ codes "html" ∷ []) name
+    then end_body name parser else None))))))
 
 abbrev pub character_in_body : ℕ → Parser → Option Parser
 character_in_body byte parser =

@@ -1,4 +1,5 @@
--- What several steps of the HTML Standard's tokenizer make, and where they lead: nothing is said of the steps after.
+-- What several steps of the HTML Standard's tokenizer make, and where they lead: nothing is said of
+-- the steps after.
 use Rattle.std.specs.Prelude.{◌≡◌, ℕ, zero, suc, List, [], ◌++◌}
 use Rattle.md_safe.specs.Token.{Token}
 use Rattle.md_safe.specs.Tokenizer.{State, Data, Step, Goes, Stops, Stuck, step}
@@ -20,7 +21,9 @@ abbrev pub steps : ℕ → State → List ℕ → Step
 steps zero state input = Goes [] state input
 steps (suc n) state input = and_then (steps n) (step state input)
 
--- from a state on, some steps emit these tokens and lead to the data state, where this is left of the input
-pub record Leads (state : State) (input : List ℕ) (tokens : List Token) (rest : List ℕ) : Type 0 where
+-- from a state on, some steps emit these tokens and lead to the data state, where this is
+-- left of the input
+pub record Leads (state : State) (input : List ℕ) (tokens : List Token)
+    (rest : List ℕ) : Type 0 where
   pub count : ℕ
   pub goes : steps count state input ≡ Goes tokens Data rest

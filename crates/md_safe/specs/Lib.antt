@@ -1,11 +1,11 @@
--- Which options are safe, and what two documents on one page share, which a reader must believe; when a link stands in a
--- link; and what stands where in a document, of which only proofs speak.
+-- Which options are safe, and what two documents on one page share, which a reader must believe;
+-- when a link stands in a link; and what stands where in a document, of which only proofs speak.
 pub mod Options
 pub mod Apart
 pub mod Links
 pub mod Placed
--- What the HTML Standard's tokenizer makes of a text, what it is to make of a forest of the HTML grammar and of a page,
--- and the scheme that the URL Standard finds in a URL.
+-- What the HTML Standard's tokenizer makes of a text, what it is to make of a forest of the HTML
+-- grammar and of a page, and the scheme that the URL Standard finds in a URL.
 pub mod Input
 pub mod Token
 pub mod Tag

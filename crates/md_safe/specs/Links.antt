@@ -1,14 +1,21 @@
 -- Which documents have a link in a link.
 use Rattle.std.specs.Prelude.{Bool, true, false, not, ◌&&◌, ◌||◌}
 use Rattle.md_base.specs.declared.event.Name.{Name}
-use Rattle.md_base.specs.declared.event.Name.TheVariants.{AutolinkEmail, AutolinkProtocol, GfmFootnoteCall, Image, Link}
+use Rattle.md_base.specs.declared.event.Name.TheVariants.{AutolinkEmail, AutolinkProtocol}
+use Rattle.md_base.specs.declared.event.Name.TheVariants.{GfmFootnoteCall, Image, Link}
 use Rattle.md_base.specs.Is.{is}
 use Rattle.md_base.specs.Tree.{Forest, Empty, Node}
 
--- a name that prints a link wherever it stands outside images; a literal autolink in a link is a text
+-- a name that prints a link wherever it stands outside images; a literal autolink in
+-- a link is a text
 abbrev pub prints_link : Name → Bool
-prints_link name =
-    elim name [ Link ↦ true | AutolinkEmail ↦ true | AutolinkProtocol ↦ true | GfmFootnoteCall ↦ true | _ ↦ false ]
+prints_link name = elim name [
+  | Link ↦ true
+  | AutolinkEmail ↦ true
+  | AutolinkProtocol ↦ true
+  | GfmFootnoteCall ↦ true
+  | _ ↦ false
+]
 
 -- some nodes, in a link or not, have a link in a link, of which neither stands in an image
 abbrev pub has_nested_link : Bool → Forest → Bool

@@ -14,19 +14,23 @@ is_none nodes = elim nodes [ Empty ↦ true | _ ↦ false ]
 -- the same with an element after them
 abbrev pub with_element : Nodes → List ℕ → List TokenAttribute → Nodes → Nodes
 with_element Empty name attributes inner = Element name attributes inner Empty
-with_element (Text bytes rest) name attributes inner = Text bytes (with_element rest name attributes inner)
+with_element (Text bytes rest) name attributes inner =
+    Text bytes (with_element rest name attributes inner)
 with_element (Element other those within rest) name attributes inner =
     Element other those within (with_element rest name attributes inner)
 
--- the same with a character after them: it is appended to a text that is the last of them (13.2.6.1)
+-- the same with a character after them: it is appended to a text that is the last of them
+-- (13.2.6.1)
 abbrev pub with_character : Nodes → ℕ → Nodes
 with_character Empty byte = Text (byte ∷ []) Empty
 with_character (Text bytes rest) byte =
-    if is_none rest then Text (bytes ++ (byte ∷ [])) Empty else Text bytes (with_character rest byte)
-with_character (Element name attributes inner rest) byte = Element name attributes inner (with_character rest byte)
+    if is_none rest then Text (bytes ++ (byte ∷ [])) Empty
+    else Text bytes (with_character rest byte)
+with_character (Element name attributes inner rest) byte =
+    Element name attributes inner (with_character rest byte)
 
--- an element on the stack of open elements: which it is, and its children so far. While it is open nothing is inserted
--- into its parent, so that it is put there as it is popped
+-- an element on the stack of open elements: which it is, and its children so far. While it is open
+-- nothing is inserted into its parent, so that it is put there as it is popped
 pub record Open : Type 0 where
   pub identity : ℕ
   pub name : List ℕ
@@ -59,8 +63,9 @@ pub data Mode : Type 0 where
 abbrev pub is_text : Mode → Bool
 is_text mode = elim mode [ InText original ↦ true | _ ↦ false ]
 
--- the insertion mode, the stack of open elements, the current node first, the list of active formatting elements, the
--- last one first, how many elements were created, the pending table characters, and whether the next LF is ignored
+-- the insertion mode, the stack of open elements, the current node first, the list of active
+-- formatting elements, the last one first, how many elements were created, the pending table
+-- characters, and whether the next LF is ignored
 pub record Parser : Type 0 where
   pub mode : Mode
   pub stack : List Open

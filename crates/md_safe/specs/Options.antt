@@ -2,7 +2,8 @@
 use Rattle.std.specs.Prelude.{◌≡◌, true, false, None}
 use Rattle.md_text.specs.declared.options.CompileOptions.{CompileOptions}
 
--- nothing is written as it is given: HTML is escaped, and the heading of the footnotes is the usual one
+-- nothing is written as it is given: HTML is escaped, and the heading of the footnotes
+-- is the usual one
 pub record KeepsGrammar (options : CompileOptions) : Type 0 where
   pub escapes_html : options.allow_dangerous_html ≡ false
   pub usual_tag : options.gfm_footnote_label_tag_name ≡ None

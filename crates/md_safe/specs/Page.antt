@@ -1,11 +1,15 @@
--- Which document tree construction builds of a list of tokens from its beginning, and which of a page.
-use Rattle.std.specs.Prelude.{◌≡◌, ℕ, Bool, not, ◌==◌, List, [], ◌∷◌, length, if◌then◌else◌, Option, Some, None, option_map, option_and_then, bytes_eq, codes}
+-- Which document tree construction builds of a list of tokens from its beginning, and
+-- which of a page.
+use Rattle.std.specs.Prelude.{◌≡◌, ℕ, Bool, not, ◌==◌, List, [], ◌∷◌, length, if◌then◌else◌, Option}
+use Rattle.std.specs.Prelude.{Some, None, option_map, option_and_then, bytes_eq, codes}
 use Rattle.std.specs.List.{list_all}
 use Rattle.md_text.specs.Html.{Forest, IsReading}
 use Rattle.md_safe.specs.Token.{Token, Doctype, EndOfFile}
 use Rattle.md_safe.specs.Tokenizer.{IsTokenized}
 use Rattle.md_safe.specs.PageTokens.{charset, page_tokens}
-use Rattle.md_safe.specs.Node.{Nodes, Empty, Element, with_character, Open, Mode, Initial, BeforeHtml, BeforeHead, InHead, InText, AfterHead, InTableText, Parser}
+use Rattle.md_safe.specs.Node.{Nodes, Empty, Element, with_character, Open, Mode, Initial}
+use Rattle.md_safe.specs.Node.{BeforeHtml, BeforeHead, InHead, InText, AfterHead, InTableText}
+use Rattle.md_safe.specs.Node.{Parser}
 use Rattle.md_safe.specs.Stack.{popped_by}
 use Rattle.md_safe.specs.AroundBody.{with_root, with_head, without_head, with_body}
 use Rattle.md_safe.specs.InTable.{end_table_text}
@@ -17,7 +21,8 @@ pub record Document : Type 0 where
   pub doctype : Option (List ℕ)
   pub root : Nodes
 
--- the end of file: an element that is missing is made; in a body, a table and after a body, parsing stops
+-- the end of file: an element that is missing is made; in a body, a table and after a
+-- body, parsing stops
 abbrev pub stop : Mode → Parser → Option Parser
 stop Initial parser = Some (with_body (without_head (with_head (with_root parser))))
 stop BeforeHtml parser = Some (with_body (without_head (with_head (with_root parser))))
@@ -35,10 +40,12 @@ root_of stack = elim (popped_by (length stack) stack) [
   | [] ↦ Empty
 ]
 
--- 13.2.6.4.1, a doctype in "initial"; the name `html`, without identifiers, sets no quirks, and no other is written out
+-- 13.2.6.4.1, a doctype in "initial"; the name `html`, without identifiers, sets no quirks, and no
+-- other is written out
 abbrev pub with_doctype : List ℕ → Parser → Option Parser
 with_doctype name parser = elim parser.mode [
-  | Initial ↦ if bytes_eq name (codes "html") then Some (record parser { mode = BeforeHtml }) else None
+  | Initial ↦
+      if bytes_eq name (codes "html") then Some (record parser { mode = BeforeHtml }) else None
   | _ ↦ None
 ]
 
@@ -48,7 +55,8 @@ constructed doctype parser [] = None
 constructed doctype parser (Doctype name ∷ tokens) =
     option_and_then (λ next. constructed (Some name) next tokens) (with_doctype name parser)
 constructed doctype parser (EndOfFile ∷ tokens) =
-    option_map (λ last. record { doctype = doctype; root = root_of last.stack }) (stop parser.mode parser)
+    option_map (λ last. record { doctype = doctype; root = root_of last.stack })
+    (stop parser.mode parser)
 constructed doctype parser (token ∷ tokens) =
     option_and_then (λ next. constructed doctype next tokens) (step parser token)
 
@@ -60,8 +68,8 @@ document_of tokens = constructed None (at Initial [] [] 0) tokens
 abbrev pub has_no_nul : List ℕ → Bool
 has_no_nul bytes = list_all (λ byte. not (byte == 0)) bytes
 
--- a page's document: its head has the title's characters, its body the nodes of a reading and the line feed that the
--- page ends with, in one text with what is before it
+-- a page's document: its head has the title's characters, its body the nodes of a reading and the
+-- line feed that the page ends with, in one text with what is before it
 abbrev pub page_document : List ℕ → Forest → Document
 page_document title body = record {
   doctype = Some (codes "html");
@@ -73,8 +81,8 @@ page_document title body = record {
       Empty;
 }
 
--- a body's text has exactly one reading, and of the page's text the tokenizer emits the tokens of which the document
--- with that reading is built
+-- a body's text has exactly one reading, and of the page's text the tokenizer emits the tokens of
+-- which the document with that reading is built
 pub record IsBuiltPage (title body text : List ℕ) : Type 0 where
   pub inside : Forest
   pub reading : IsReading body inside

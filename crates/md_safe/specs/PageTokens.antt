@@ -1,8 +1,10 @@
--- What the tokenizer is to make of a page: a doctype, a head with a title, and a body of the HTML grammar.
+-- What the tokenizer is to make of a page: a doctype, a head with a title, and a body of
+-- the HTML grammar.
 use Rattle.std.specs.Prelude.{◌≡◌, ℕ, true, false, IsTrue, List, [], ◌∷◌, ◌++◌, map, codes}
 use Rattle.std.specs.List.{list_all}
 use Rattle.md_text.specs.Html.{Forest, IsReading}
-use Rattle.md_safe.specs.Token.{Token, TokenAttribute, Doctype, Character, StartTag, EndTag, EndOfFile}
+use Rattle.md_safe.specs.Token.{Token, TokenAttribute, Doctype, Character, StartTag, EndTag}
+use Rattle.md_safe.specs.Token.{EndOfFile}
 use Rattle.md_safe.specs.Tokenizer.{IsTokenized}
 use Rattle.md_safe.specs.Tokens.{tokens}
 use Rattle.md_safe.specs.SafeTokens.{has_safe_links, has_safe_images}
@@ -25,12 +27,13 @@ plain_tag name = StartTag name [] false
 abbrev pub page_tokens : List ℕ → Forest → List Token
 page_tokens title body =
     Doctype (codes "html") ∷ Character 10 ∷ plain_tag (codes "html") ∷ plain_tag (codes "head")
-    ∷ StartTag (codes "meta") (charset ∷ []) true ∷ plain_tag (codes "title")
-    ∷ (map Character title ++ (EndTag (codes "title") ∷ EndTag (codes "head") ∷ plain_tag (codes "body")
-    ∷ (tokens body ++ (EndTag (codes "body") ∷ EndTag (codes "html") ∷ Character 10 ∷ EndOfFile ∷ []))))
+    ∷ StartTag (codes "meta") (charset ∷ []) true ∷ plain_tag (codes "title") ∷ (map Character title
+    ++ (EndTag (codes "title") ∷ EndTag (codes "head") ∷ plain_tag (codes "body") ∷ (tokens body
+    ++ (EndTag (codes "body") ∷ EndTag (codes "html") ∷ Character 10 ∷ EndOfFile ∷ []))))
 
--- the tokenizer emits exactly the tokens of a page of the text, with a title of these characters and a reading of that
--- body, and each `href` and each `src` among them has no scheme of its own or a permitted one
+-- the tokenizer emits exactly the tokens of a page of the text, with a title of these characters
+-- and a reading of that body, and each `href` and each `src` among them has no scheme of its own
+-- or a permitted one
 pub record IsTokenizedPage (title body text : List ℕ) : Type 0 where
   pub inside : Forest
   pub reading : IsReading body inside

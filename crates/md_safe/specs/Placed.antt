@@ -1,14 +1,21 @@
--- Which content the children of a node are, and which names stand in it. Only proofs speak of it: each document of the
--- grammar is so.
+-- Which content the children of a node are, and which names stand in it. Only proofs speak of it:
+-- each document of the grammar is so.
 use Rattle.std.specs.Prelude.{◌≡◌, Bool, true, false, ◌||◌, if◌then◌else◌}
 use Rattle.md_base.specs.declared.event.Name.{Name}
-use Rattle.md_base.specs.declared.event.Name.TheVariants.{LineEnding, BlankLineEnding, BlockQuote, ListOrdered, ListUnordered, ListItem, GfmFootnoteDefinition, CodeIndented, CodeFenced, CodeFlowChunk, MathFlow, HtmlFlow, Definition, HeadingAtx, HeadingSetextText, HeadingSetextUnderlineSequence, GfmTable, GfmTableHead, GfmTableBody, GfmTableRow, GfmTableCell, GfmTableDelimiterRow, Paragraph, ThematicBreak, Frontmatter}
+use Rattle.md_base.specs.declared.event.Name.TheVariants as name_variants
+use name_variants.{LineEnding, BlankLineEnding, BlockQuote, ListOrdered, ListUnordered, ListItem}
+use name_variants.{GfmFootnoteDefinition, CodeIndented, CodeFenced, CodeFlowChunk, MathFlow}
+use name_variants.{HtmlFlow, Definition, HeadingAtx, HeadingSetextText}
+use name_variants.{HeadingSetextUnderlineSequence, GfmTable, GfmTableHead, GfmTableBody}
+use name_variants.{GfmTableRow, GfmTableCell, GfmTableDelimiterRow, Paragraph, ThematicBreak}
+use name_variants.{Frontmatter}
 use Rattle.md_base.specs.Tree.{Forest, Empty, Node}
 use Rattle.md_base.specs.NameTests.{is_transparent}
-use Rattle.md_safe.specs.Contents.{Content, Flow, Phrasing, Linked, Items, Parts, Rows, Cells, Preformatted, Characters}
+use Rattle.md_safe.specs.Contents.{Content, Flow, Phrasing, Linked, Items, Parts, Rows, Cells}
+use Rattle.md_safe.specs.Contents.{Preformatted, Characters}
 
--- what a name is to the node around it: a block, an item, a table's part, a row, a cell, a line ending, a line of code,
--- the row of delimiters, or anything else
+-- what a name is to the node around it: a block, an item, a table's part, a row, a cell, a line
+-- ending, a line of code, the row of delimiters, or anything else
 pub data Sort : Type 0 where
   Block : Sort
   Item : Sort

@@ -1,4 +1,5 @@
--- Which tokens are safe: each `href`, and each `src`, has by the URL Standard no scheme of its own or a permitted one.
+-- Which tokens are safe: each `href`, and each `src`, has by the URL Standard no scheme of its own
+-- or a permitted one.
 use Rattle.std.specs.Str.{bytes_eq}
 use Rattle.std.specs.Prelude.{ℕ, Bool, true, if◌then◌else◌, List, codes}
 use Rattle.std.specs.List.{list_all}
@@ -8,11 +9,13 @@ use Rattle.md_safe.specs.Scheme.{has_permitted_scheme}
 
 -- an attribute of this name has no scheme or one of the list, and any other attribute passes
 abbrev pub is_permitted : List ℕ → List (List ℕ) → TokenAttribute → Bool
-is_permitted name schemes a = if bytes_eq a.name name then has_permitted_scheme schemes a.value else true
+is_permitted name schemes a =
+    if bytes_eq a.name name then has_permitted_scheme schemes a.value else true
 
 -- each attribute of a start tag passes the test
 abbrev pub attributes_pass : (TokenAttribute → Bool) → Token → Bool
-attributes_pass p token = elim token [ StartTag name attributes flag ↦ list_all p attributes | _ ↦ true ]
+attributes_pass p token =
+    elim token [ StartTag name attributes flag ↦ list_all p attributes | _ ↦ true ]
 
 -- an `href` has no scheme of its own, or http, https, irc, ircs, mailto or xmpp
 abbrev pub has_safe_links : Token → Bool

@@ -1,6 +1,7 @@
--- The scheme that the URL Standard's basic URL parser (https://url.spec.whatwg.org/, 4.4) finds in its input, by the
--- bytes of UTF-8.
-use Rattle.std.specs.Prelude.{ℕ, Bool, true, ◌==◌, ◌||◌, if◌then◌else◌, nat_le, List, [], ◌∷◌, ◌++◌, Option, Some, None}
+-- The scheme that the URL Standard's basic URL parser (https://url.spec.whatwg.org/, 4.4) finds in
+-- its input, by the bytes of UTF-8.
+use Rattle.std.specs.Prelude.{ℕ, Bool, true, ◌==◌, ◌||◌, if◌then◌else◌, nat_le, List, [], ◌∷◌, ◌++◌}
+use Rattle.std.specs.Prelude.{Option, Some, None}
 use Rattle.std.specs.List.{list_all}
 use Rattle.std.specs.Option.{option_map_or}
 use Rattle.md_text.specs.Bytes.{is_between, is_letter, lower, is_one_of}
@@ -17,7 +18,8 @@ without_leading (b ∷ rest) = if is_control_or_space b then without_leading res
 -- 4.4, "remove any trailing C0 control or space": a byte goes where nothing else follows it
 abbrev pub without_trailing : List ℕ → List ℕ
 without_trailing [] = []
-without_trailing (b ∷ rest) = if list_all is_control_or_space (b ∷ rest) then [] else b ∷ without_trailing rest
+without_trailing (b ∷ rest) =
+    if list_all is_control_or_space (b ∷ rest) then [] else b ∷ without_trailing rest
 
 -- an ASCII tab or newline: tab, LF or CR
 abbrev pub is_tab_or_newline : ℕ → Bool
@@ -26,7 +28,8 @@ is_tab_or_newline b = (b == 9) || (b == 10) || (b == 13)
 -- 4.4, "remove all ASCII tab or newline"
 abbrev pub without_newlines : List ℕ → List ℕ
 without_newlines [] = []
-without_newlines (b ∷ rest) = if is_tab_or_newline b then without_newlines rest else b ∷ without_newlines rest
+without_newlines (b ∷ rest) =
+    if is_tab_or_newline b then without_newlines rest else b ∷ without_newlines rest
 
 -- 4.4, what the parser's states are given, after its first steps
 abbrev pub trimmed : List ℕ → List ℕ
@@ -36,13 +39,15 @@ trimmed url = without_newlines (without_trailing (without_leading url))
 abbrev pub is_scheme_byte : ℕ → Bool
 is_scheme_byte b = is_letter b || is_between 48 57 b || (b == 43) || (b == 45) || (b == 46)
 
--- 4.4, the scheme state, with its buffer: at `:` that is the scheme, and at the end or at any other byte there is none
+-- 4.4, the scheme state, with its buffer: at `:` that is the scheme, and at the end or at any other
+-- byte there is none
 abbrev pub in_scheme : List ℕ → List ℕ → Option (List ℕ)
 in_scheme buffer [] = None
 in_scheme buffer (b ∷ rest) = if is_scheme_byte b then in_scheme (buffer ++ (lower b ∷ [])) rest
     else (if b == 58 then Some buffer else None)
 
--- 4.4, the scheme start state: a letter begins a scheme, and at the end or at any other byte there is none
+-- 4.4, the scheme start state: a letter begins a scheme, and at the end or at any other
+-- byte there is none
 abbrev pub in_scheme_start : List ℕ → Option (List ℕ)
 in_scheme_start [] = None
 in_scheme_start (b ∷ rest) = if is_letter b then in_scheme (lower b ∷ []) rest else None

@@ -1,5 +1,7 @@
--- The stack of open elements (HTML Standard, 13.2.4.2), and what is inserted at its current node (13.2.6.1).
-use Rattle.std.specs.Prelude.{ℕ, zero, suc, Bool, false, not, ◌&&◌, ◌||◌, ◌==◌, if◌then◌else◌, List, [], ◌∷◌, bytes_eq}
+-- The stack of open elements (HTML Standard, 13.2.4.2), and what is inserted at its current
+-- node (13.2.6.1).
+use Rattle.std.specs.Prelude.{ℕ, zero, suc, Bool, false, not, ◌&&◌, ◌||◌, ◌==◌, if◌then◌else◌, List}
+use Rattle.std.specs.Prelude.{[], ◌∷◌, bytes_eq}
 use Rattle.md_text.specs.Bytes.{is_one_of}
 use Rattle.md_safe.specs.Token.{TokenAttribute}
 use Rattle.md_safe.specs.Node.{Empty, with_element, with_character, Open, Parser}
@@ -16,7 +18,8 @@ has_identity identity node = node.identity == identity
 -- the stack has an element that passes the test in the scope that these end (13.2.4.2)
 abbrev pub has_in_scope : List (List ℕ) → (Open → Bool) → List Open → Bool
 has_in_scope ends test [] = false
-has_in_scope ends test (node ∷ rest) = test node || not (is_among ends node) && has_in_scope ends test rest
+has_in_scope ends test (node ∷ rest) =
+    test node || not (is_among ends node) && has_in_scope ends test rest
 
 -- the current node passes the test
 abbrev pub current : (Open → Bool) → List Open → Bool
@@ -26,15 +29,18 @@ current test stack = elim stack [ node ∷ rest ↦ test node | [] ↦ false ]
 abbrev pub popped : List Open → List Open
 popped [] = []
 popped (node ∷ []) = node ∷ []
-popped (node ∷ parent ∷ rest) =
-    record parent { children = with_element parent.children node.name node.attributes node.children } ∷ rest
+popped (node ∷ parent ∷ rest) = record parent {
+  children = with_element parent.children node.name node.attributes node.children;
+}
+    ∷ rest
 
 -- so many are popped
 abbrev pub popped_by : ℕ → List Open → List Open
 popped_by zero stack = stack
 popped_by (suc count) stack = popped_by count (popped stack)
 
--- how many nodes from the current one on pass a test in a row, and how many there are up to the first that does
+-- how many nodes from the current one on pass a test in a row, and how many there are up to
+-- the first that does
 abbrev pub count_while : (Open → Bool) → List Open → ℕ
 count_while test [] = 0
 count_while test (node ∷ rest) = if test node then suc (count_while test rest) else 0
@@ -53,7 +59,9 @@ pop_until test stack = popped_by (count_until test stack) stack
 -- an element is inserted and becomes the current node
 abbrev pub insert : List ℕ → List TokenAttribute → Parser → Parser
 insert name attributes parser = record parser {
-  stack = record { identity = parser.created; name = name; attributes = attributes; children = Empty } ∷ parser.stack;
+  stack =
+      record { identity = parser.created; name = name; attributes = attributes; children = Empty }
+      ∷ parser.stack;
   created = suc parser.created;
 }
 

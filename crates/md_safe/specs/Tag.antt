@@ -4,20 +4,22 @@ use Rattle.std.specs.Prelude.{ℕ, Bool, if◌then◌else◌, List, [], ◌∷�
 use Rattle.std.specs.List.{list_any}
 use Rattle.md_safe.specs.Token.{TokenAttribute, Token, StartTag, EndTag}
 
--- a start tag or an end tag, with its name and its attributes so far; the one that was begun last stands first, and it
--- is the current one
+-- a start tag or an end tag, with its name and its attributes so far; the one that was begun last
+-- stands first, and it is the current one
 pub record Tag : Type 0 where
   pub is_end : Bool
   pub name : List ℕ
   pub attributes : List TokenAttribute
 
--- 13.2.5.6 and 13.2.5.7, "create a new start tag token", "a new end tag token": its name is the empty string
+-- 13.2.5.6 and 13.2.5.7, "create a new start tag token", "a new end tag token": its name is
+-- the empty string
 abbrev pub new_tag : Bool → Tag
 new_tag is_end = record { is_end = is_end; name = []; attributes = [] }
 
 -- 13.2.5.8, "append to the current tag token's tag name"
 abbrev pub with_tag_name : Tag → List ℕ → Tag
-with_tag_name tag bytes = record { is_end = tag.is_end; name = tag.name ++ bytes; attributes = tag.attributes }
+with_tag_name tag bytes =
+    record { is_end = tag.is_end; name = tag.name ++ bytes; attributes = tag.attributes }
 
 -- 13.2.5.32, "start a new attribute in the current tag token": its name is this, its value empty
 abbrev pub with_attribute : Tag → List ℕ → Tag
@@ -49,12 +51,15 @@ with_value tag bytes = record {
   ];
 }
 
--- 13.2.5.33, duplicate attributes: in the order in which they were begun, without each that has an earlier one's name
+-- 13.2.5.33, duplicate attributes: in the order in which they were begun, without each that has an
+-- earlier one's name
 abbrev pub kept : List TokenAttribute → List TokenAttribute
 kept [] = []
 kept (a ∷ earlier) =
-    if list_any (λ b. bytes_eq b.name a.name) earlier then kept earlier else kept earlier ++ (a ∷ [])
+    if list_any (λ b. bytes_eq b.name a.name) earlier then kept earlier
+    else kept earlier ++ (a ∷ [])
 
 -- "emit the current tag token", whose self-closing flag is this
 abbrev pub token_of : Tag → Bool → Token
-token_of tag flag = if tag.is_end then EndTag tag.name else StartTag tag.name (kept tag.attributes) flag
+token_of tag flag =
+    if tag.is_end then EndTag tag.name else StartTag tag.name (kept tag.attributes) flag

@@ -14,13 +14,15 @@ pub record HasTokensWith (p : Token → Bool) (text : List ℕ) : Type 0 where
   pub only : (other : List Token) → IsTokenized text other → other ≡ emits
   pub passes : IsTrue (list_all p emits)
 
--- of a text that has a reading the tokenizer emits exactly the tokens of that reading and the end of file, and each tag
--- among them is of the grammar's tables, with no attributes but those that it may have
+-- of a text that has a reading the tokenizer emits exactly the tokens of that reading and the
+-- end of file, and each tag among them is of the grammar's tables, with no attributes but those
+-- that it may have
 pub record IsTokenizedAsRead (text : List ℕ) : Type 0 where
   pub forest : Forest
   pub reading : IsReading text forest
   pub tokenized : IsTokenized text (tokens forest ++ (EndOfFile ∷ []))
-  pub only : (other : List Token) → IsTokenized text other → other ≡ tokens forest ++ (EndOfFile ∷ [])
+  pub only : (other : List Token) → IsTokenized text other →
+      other ≡ tokens forest ++ (EndOfFile ∷ [])
   pub listed : IsTrue (list_all is_listed (tokens forest))
 
 -- besides, each `href` and each `src` among the tokens has no scheme of its own or a permitted one

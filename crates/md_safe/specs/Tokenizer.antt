@@ -1,19 +1,23 @@
--- The HTML Standard's tokenizer (https://html.spec.whatwg.org/, 13.2.5), as far as it is written out here: each
--- transition is the Standard's, or it is `Stuck`, and of a text that gets stuck nothing is claimed. It goes by the
--- bytes of UTF-8: from 128 on each is "anything else" in all these states. Parse errors change no token, and are left
--- out.
+-- The HTML Standard's tokenizer (https://html.spec.whatwg.org/, 13.2.5), as far as it is written
+-- out here: each transition is the Standard's, or it is `Stuck`, and of a text that gets stuck
+-- nothing is claimed. It goes by the bytes of UTF-8: from 128 on each is "anything else" in all
+-- these states. Parse errors change no token, and are left out.
 use Rattle.std.specs.Str.{bytes_eq}
-use Rattle.std.specs.Prelude.{◌≡◌, ℕ, zero, suc, ◌==◌, Bool, true, false, not, ◌&&◌, ◌||◌, if◌then◌else◌, List, [], ◌∷◌, ◌++◌, map, take, drop, length, Option, Some, None, option_map, codes, nat_eq}
+use Rattle.std.specs.Prelude.{◌≡◌, ℕ, zero, suc, ◌==◌, Bool, true, false, not, ◌&&◌, ◌||◌}
+use Rattle.std.specs.Prelude.{if◌then◌else◌, List, [], ◌∷◌, ◌++◌, map, take, drop, length, Option}
+use Rattle.std.specs.Prelude.{Some, None, option_map, codes, nat_eq}
 use Rattle.std.specs.List.{starts_with}
 use Rattle.md_text.specs.Bytes.{is_between, is_letter, lower, lowered, is_one_of}
 use Rattle.md_safe.specs.Input.{with_line_feeds}
 use Rattle.md_safe.specs.Token.{Token, Doctype, Character, StartTag, EndOfFile}
-use Rattle.md_safe.specs.Tag.{Tag, new_tag, with_tag_name, with_attribute, with_name, with_value, token_of}
+use Rattle.md_safe.specs.Tag.{Tag, new_tag, with_tag_name, with_attribute, with_name, with_value}
+use Rattle.md_safe.specs.Tag.{token_of}
 
 -- ---- states
 
--- the states that are written out: those of tags have the current tag, those of a character reference the return state,
--- the DOCTYPE name state the name so far, and the RCDATA end tag name state the temporary buffer
+-- the states that are written out: those of tags have the current tag, those of a character
+-- reference the return state, the DOCTYPE name state the name so far, and the RCDATA end tag name
+-- state the temporary buffer
 pub data State : Type 0 where
   Data : State
   TagOpen : State
@@ -37,8 +41,8 @@ pub data State : Type 0 where
   RcdataEndTagOpen : State
   RcdataEndTagName : Tag → List ℕ → State
 
--- tokens are emitted, and the tokenizer goes on in a state with what is left of its input; or, at the end of the input,
--- tokens are emitted and it stops; or the transition isn't written out
+-- tokens are emitted, and the tokenizer goes on in a state with what is left of its input; or, at
+-- the end of the input, tokens are emitted and it stops; or the transition isn't written out
 pub data Step : Type 0 where
   Goes : List Token → State → List ℕ → Step
   Stops : List Token → Step
@@ -58,27 +62,31 @@ in_value b = if b == 0 then 239 ∷ 191 ∷ 189 ∷ [] else b ∷ []
 abbrev pub in_name : ℕ → List ℕ
 in_name b = in_value (lower b)
 
--- 13.2.6, the names of start tags at which tree construction may give the tokenizer another state, or begins foreign
--- content, and the three (the last) inside which it may ignore a `title`, and leave the state as it is
+-- 13.2.6, the names of start tags at which tree construction may give the tokenizer another state,
+-- or begins foreign content, and the three (the last) inside which it may ignore a `title`, and
+-- leave the state as it is
 abbrev pub switching : List (List ℕ)
-switching = codes "title" ∷ codes "textarea" ∷ codes "style" ∷ codes "xmp" ∷ codes "iframe" ∷ codes "noembed"
-    ∷ codes "noframes" ∷ codes "script" ∷ codes "plaintext" ∷ codes "noscript" ∷ codes "svg" ∷ codes "math"
-    ∷ codes "select" ∷ codes "frameset" ∷ codes "template" ∷ []
+switching = codes "title" ∷ codes "textarea" ∷ codes "style" ∷ codes "xmp" ∷ codes "iframe"
+    ∷ codes "noembed" ∷ codes "noframes" ∷ codes "script" ∷ codes "plaintext" ∷ codes "noscript"
+    ∷ codes "svg" ∷ codes "math" ∷ codes "select" ∷ codes "frameset" ∷ codes "template" ∷ []
 
 -- no start tag of these names
 abbrev pub leaves_state : Token → Bool
-leaves_state token = elim token [ StartTag name attributes flag ↦ not (is_one_of switching name) | _ ↦ true ]
+leaves_state token =
+    elim token [ StartTag name attributes flag ↦ not (is_one_of switching name) | _ ↦ true ]
 
 -- a start tag `title`
 abbrev pub begins_title : Token → Bool
-begins_title token = elim token [ StartTag name attributes flag ↦ bytes_eq name (codes "title") | _ ↦ false ]
+begins_title token =
+    elim token [ StartTag name attributes flag ↦ bytes_eq name (codes "title") | _ ↦ false ]
 
--- "switch to the data state; emit the current tag token": at `title` tree construction then switches to the RCDATA
--- state (13.2.6.2), and what it does at the other names isn't written out
+-- "switch to the data state; emit the current tag token": at `title` tree construction then
+-- switches to the RCDATA state (13.2.6.2), and what it does at the other names isn't written out
 abbrev pub emitted : Tag → Bool → List ℕ → Step
 emitted tag flag rest =
     if begins_title (token_of tag flag) then Goes (token_of tag flag ∷ []) Rcdata rest
-    else (if leaves_state (token_of tag flag) then Goes (token_of tag flag ∷ []) Data rest else Stuck)
+    else (if leaves_state (token_of tag flag)
+    then Goes (token_of tag flag ∷ []) Data rest else Stuck)
 
 -- ---- one state after another: the next byte, and what follows it
 
@@ -131,7 +139,8 @@ in_rcdata_end_tag_open b rest =
     if is_letter b then Goes [] (RcdataEndTagName (new_tag true) []) (b ∷ rest)
     else Goes (Character 60 ∷ Character 47 ∷ []) Rcdata (b ∷ rest)
 
--- "an appropriate end tag token": its name is that of the last start tag, in the RCDATA states `title`
+-- "an appropriate end tag token": its name is that of the last start tag, in the
+-- RCDATA states `title`
 abbrev pub is_appropriate : Tag → Bool
 is_appropriate tag = bytes_eq tag.name (codes "title")
 
@@ -140,8 +149,8 @@ abbrev pub in_rcdata_end_tag_name : Tag → List ℕ → ℕ → List ℕ → St
 in_rcdata_end_tag_name tag buffer b rest =
     if is_appropriate tag && is_space b then Goes [] (BeforeAttributeName tag) rest
     else (if is_appropriate tag && (b == 47) then Goes [] (SelfClosingStartTag tag) rest
-    else (if is_appropriate tag && (b == 62) then emitted tag false rest
-    else (if is_letter b then Goes [] (RcdataEndTagName (with_tag_name tag (lower b ∷ [])) (buffer ++ (b ∷ []))) rest
+    else (if is_appropriate tag && (b == 62) then emitted tag false rest else (if is_letter b
+    then Goes [] (RcdataEndTagName (with_tag_name tag (lower b ∷ [])) (buffer ++ (b ∷ []))) rest
     else Goes (Character 60 ∷ Character 47 ∷ map Character buffer) Rcdata (b ∷ rest))))
 
 -- 13.2.5.32 Before attribute name state
@@ -168,7 +177,8 @@ in_after_attribute_name tag b rest =
     else (if b == 62 then emitted tag false rest
     else Goes [] (AttributeName (with_attribute tag [])) (b ∷ rest))))
 
--- 13.2.5.35 Before attribute value state; not written out are values in single quotes and values without quotes
+-- 13.2.5.35 Before attribute value state; not written out are values in single quotes and
+-- values without quotes
 abbrev pub in_before_attribute_value : Tag → ℕ → List ℕ → Step
 in_before_attribute_value tag b rest =
     if is_space b then Goes [] (BeforeAttributeValue tag) rest
@@ -197,14 +207,17 @@ in_self_closing_start_tag tag b rest =
     if b == 62 then emitted tag true rest
     else Goes [] (BeforeAttributeName tag) (b ∷ rest)
 
--- 13.2.5.42 Markup declaration open state, at all that is left; not written out are comments and CDATA sections
+-- 13.2.5.42 Markup declaration open state, at all that is left; not written out are comments
+-- and CDATA sections
 abbrev pub in_markup_declaration_open : List ℕ → Step
 in_markup_declaration_open input =
-    if bytes_eq (lowered (take 7 input)) (codes "doctype") then Goes [] DoctypeBegun (drop 7 input) else Stuck
+    if bytes_eq (lowered (take 7 input)) (codes "doctype")
+    then Goes [] DoctypeBegun (drop 7 input) else Stuck
 
 -- 13.2.5.53 DOCTYPE state
 abbrev pub in_doctype : ℕ → List ℕ → Step
-in_doctype b rest = if is_space b then Goes [] BeforeDoctypeName rest else Goes [] BeforeDoctypeName (b ∷ rest)
+in_doctype b rest =
+    if is_space b then Goes [] BeforeDoctypeName rest else Goes [] BeforeDoctypeName (b ∷ rest)
 
 -- 13.2.5.54 Before DOCTYPE name state; not written out is `>`, a doctype without a name
 abbrev pub in_before_doctype_name : ℕ → List ℕ → Step
@@ -220,10 +233,11 @@ in_doctype_name name b rest =
     else (if b == 62 then Goes (Doctype name ∷ []) Data rest
     else Goes [] (DoctypeName (name ++ in_name b)) rest)
 
--- "flush code points consumed as a character reference", and switch to the return state: they come to the current
--- attribute's value, or are emitted as characters
+-- "flush code points consumed as a character reference", and switch to the return state: they come
+-- to the current attribute's value, or are emitted as characters
 abbrev pub flushed : State → List ℕ → List ℕ → Step
-flushed (AttributeValueDoubleQuoted tag) bytes rest = Goes [] (AttributeValueDoubleQuoted (with_value tag bytes)) rest
+flushed (AttributeValueDoubleQuoted tag) bytes rest =
+    Goes [] (AttributeValueDoubleQuoted (with_value tag bytes)) rest
 flushed state bytes rest = Goes (map Character bytes) state rest
 
 -- 13.2.5.72 Character reference state; not written out is `#`, a numeric reference
@@ -233,16 +247,19 @@ in_character_reference state b rest =
     else (if b == 35 then Stuck
     else flushed state (38 ∷ []) (b ∷ rest))
 
--- 13.5, the names of the table that are written out, each with its character. In that table a `;` stands only at a
--- name's end, so none of these is the beginning of another name: one that the input begins with is the longest such
+-- 13.5, the names of the table that are written out, each with its character. In that table a `;`
+-- stands only at a name's end, so none of these is the beginning of another name: one that the
+-- input begins with is the longest such
 abbrev pub references : List (List ℕ × ℕ)
 references = (codes "amp;", 38) ∷ (codes "lt;", 60) ∷ (codes "gt;", 62) ∷ (codes "quot;", 34) ∷ []
 
--- 13.2.5.73 Named character reference state, at all that is left; not written out are the other names, and no name
+-- 13.2.5.73 Named character reference state, at all that is left; not written out are the other
+-- names, and no name
 abbrev pub in_named_reference : List (List ℕ × ℕ) → State → List ℕ → Step
 in_named_reference [] state input = Stuck
 in_named_reference (reference ∷ more) state input =
-    if starts_with nat_eq input reference.0 then flushed state (reference.1 ∷ []) (drop (length reference.0) input)
+    if starts_with nat_eq input reference.0
+    then flushed state (reference.1 ∷ []) (drop (length reference.0) input)
     else in_named_reference more state input
 
 -- ---- all states
@@ -269,7 +286,8 @@ at_end (DoctypeName name) = Stuck
 at_end Rcdata = Stops (EndOfFile ∷ [])
 at_end RcdataLessThanSign = Goes (Character 60 ∷ []) Rcdata []
 at_end RcdataEndTagOpen = Goes (Character 60 ∷ Character 47 ∷ []) Rcdata []
-at_end (RcdataEndTagName tag buffer) = Goes (Character 60 ∷ Character 47 ∷ map Character buffer) Rcdata []
+at_end (RcdataEndTagName tag buffer) =
+    Goes (Character 60 ∷ Character 47 ∷ map Character buffer) Rcdata []
 
 -- each state at the next byte
 abbrev pub at_byte : State → ℕ → List ℕ → Step
@@ -308,12 +326,14 @@ after_step go (Goes tokens state rest) = option_map (λ later. tokens ++ later) 
 after_step go (Stops tokens) = Some tokens
 after_step go Stuck = None
 
--- the tokens that are emitted where the tokenizer stops after at most so many steps, and none where it doesn't
+-- the tokens that are emitted where the tokenizer stops after at most so many steps, and none
+-- where it doesn't
 abbrev pub run : ℕ → State → List ℕ → Option (List Token)
 run zero state input = None
 run (suc n) state input = after_step (run n) (step state input)
 
--- from a state on, an input with normalized newlines is emitted as these tokens, and no step of it gets stuck
+-- from a state on, an input with normalized newlines is emitted as these tokens, and no step
+-- of it gets stuck
 pub record IsRun (state : State) (input : List ℕ) (tokens : List Token) : Type 0 where
   pub steps : ℕ
   pub emits : run steps state input ≡ Some tokens

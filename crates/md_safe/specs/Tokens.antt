@@ -6,7 +6,8 @@ use Rattle.md_text.specs.Bytes.{is_one_of}
 use Rattle.md_text.specs.References.{read_back}
 use Rattle.md_text.specs.Html.{Attribute, Forest, Empty, Text, Void, Element, elements, void_tags}
 use Rattle.md_safe.specs.Input.{with_line_feeds}
-use Rattle.md_safe.specs.Token.{Token, Doctype, Character, StartTag, EndTag, EndOfFile, TokenAttribute}
+use Rattle.md_safe.specs.Token.{Token, Doctype, Character, StartTag, EndTag, EndOfFile}
+use Rattle.md_safe.specs.Token.{TokenAttribute}
 
 -- what is read of a text or a value as it is written: newlines normalized, and references read back
 abbrev pub seen : List ℕ → List ℕ
@@ -17,8 +18,8 @@ abbrev pub seen_attributes : List Attribute → List TokenAttribute
 seen_attributes [] = []
 seen_attributes (a ∷ rest) = record { name = a.name; value = seen a.value } ∷ seen_attributes rest
 
--- a text is its characters, a void tag a start tag whose self-closing flag is set, and an element a start tag, what it
--- holds and an end tag
+-- a text is its characters, a void tag a start tag whose self-closing flag is set, and an element a
+-- start tag, what it holds and an end tag
 abbrev pub tokens : Forest → List Token
 tokens Empty = []
 tokens (Text bytes rest) = map Character (seen bytes) ++ tokens rest
@@ -29,11 +30,14 @@ tokens (Element name attributes inner rest) =
 -- a tag of a table, with no attributes but those that it may have
 abbrev pub is_tag_of : List (List ℕ × List (List ℕ)) → List ℕ → List TokenAttribute → Bool
 is_tag_of rules name attributes =
-    list_any (λ rule. bytes_eq rule.0 name && list_all (λ a. is_one_of rule.1 a.name) attributes) rules
+    list_any (λ rule. bytes_eq rule.0 name && list_all (λ a. is_one_of rule.1 a.name) attributes)
+    rules
 
--- a tag of the grammar's tables, the void ones with the self-closing flag, or a character, or the end of file
+-- a tag of the grammar's tables, the void ones with the self-closing flag, or a character,
+-- or the end of file
 abbrev pub is_listed : Token → Bool
-is_listed (StartTag name attributes flag) = is_tag_of (if flag then void_tags else elements) name attributes
+is_listed (StartTag name attributes flag) =
+    is_tag_of (if flag then void_tags else elements) name attributes
 is_listed (EndTag name) = is_tag_of elements name []
 is_listed (Doctype name) = false
 is_listed (Character b) = true

@@ -41,7 +41,8 @@ pub fn what_follows_stands_alone()
 /// So both in a row are tokenized as the text's tokens and then those of what follows alone, where
 /// that is tokenized, and as nothing else.
 pub fn what_follows_is_tokenized_alone()
-    ensures tokenized { (text after : List ℕ) (emits later : List Token) → EndsInDataState text emits
+    ensures tokenized { (text after : List ℕ) (emits later : List Token)
+        → EndsInDataState text emits
         → splits_newline text after ≡ false → IsTokenized after later
         → IsTokenized (text ++ after) (emits ++ later) }
     ensures only { (text after : List ℕ) (emits all : List Token) → EndsInDataState text emits

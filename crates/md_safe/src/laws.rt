@@ -16,53 +16,62 @@ ghost use Rattle.md_safe.specs.Apart.{prefix_of, ShareNoId};
 ghost use Rattle.md_safe.specs.Links.{has_nested_link};
 ghost use Rattle.md_safe.specs.Contents.{IsContained, IsUnnested};
 
-/// A document that is built of what may stand where it is means a text of the HTML grammar with exactly one
-/// reading, where the options write nothing as it is given; and in that reading each link, and each image, has
-/// no protocol or a permitted one, where the options keep to those.
+/// A document that is built of what may stand where it is means a text of the HTML grammar with
+/// exactly one reading, where the options write nothing as it is given; and in that reading each
+/// link, and each image, has no protocol or a permitted one, where the options keep to those.
 pub fn safe_options_make_safe_output()
-    ensures one_reading { (bytes : List ℕ) (names : List (List ℕ × List ℕ)) (options : CompileOptions)
+    ensures one_reading { (bytes : List ℕ) (names : List (List ℕ × List ℕ))
+        (options : CompileOptions)
         (document : Forest) → IsBuilt bytes Blocks document → KeepsGrammar options
         → HasOneReadingWith any_attribute (meaning options names bytes document) }
-    ensures safe_links { (bytes : List ℕ) (names : List (List ℕ × List ℕ)) (options : CompileOptions)
+    ensures safe_links { (bytes : List ℕ) (names : List (List ℕ × List ℕ))
+        (options : CompileOptions)
         (document : Forest) → IsBuilt bytes Blocks document → KeepsLinks options
         → HasOneReadingWith is_safe_link (meaning options names bytes document) }
-    ensures safe_images { (bytes : List ℕ) (names : List (List ℕ × List ℕ)) (options : CompileOptions)
+    ensures safe_images { (bytes : List ℕ) (names : List (List ℕ × List ℕ))
+        (options : CompileOptions)
         (document : Forest) → IsBuilt bytes Blocks document → KeepsImages options
         → HasOneReadingWith is_safe_image (meaning options names bytes document) }
 {}
 
-/// Where ids go by number and the options write nothing as it is given, no two ids in the text are equal, whatever the
-/// prefix, if the document has no more events than 64 bits count.
+/// Where ids go by number and the options write nothing as it is given, no two ids in the text are
+/// equal, whatever the prefix, if the document has no more events than 64 bits count.
 pub fn ids_by_number_are_distinct()
-    ensures { (bytes : List ℕ) (names : List (List ℕ × List ℕ)) (options : CompileOptions) (document : Forest)
+    ensures { (bytes : List ℕ) (names : List (List ℕ × List ℕ))
+        (options : CompileOptions) (document : Forest)
         → IsBuilt bytes Blocks document → IsUnderlined false document → KeepsIds options
-        → length (flatten document) < 2 ^ 64 → HasDistinctIds (meaning options names bytes document) }
+        → length (flatten document) < 2 ^ 64
+        → HasDistinctIds (meaning options names bytes document) }
 {}
 
-/// Where ids go by number and the options write nothing as it is given, two texts whose prefixes differ share no id but
-/// `footnote-label`, that of the heading of footnotes. The prefixes may begin with one another; they differ as they are
-/// read, so that NUL and U+FFFD are one.
+/// Where ids go by number and the options write nothing as it is given, two texts whose prefixes
+/// differ share no id but `footnote-label`, that of the heading of footnotes. The prefixes may
+/// begin with one another; they differ as they are read, so that NUL and U+FFFD are one.
 pub fn ids_of_two_documents_are_apart()
     ensures { (bytes other_bytes : List ℕ) (names other_names : List (List ℕ × List ℕ))
         (options other_options : CompileOptions) (document other : Forest)
         → IsBuilt bytes Blocks document → IsUnderlined false document → KeepsIds options
         → IsBuilt other_bytes Blocks other → IsUnderlined false other → KeepsIds other_options
         → (prefix_of options ≡ prefix_of other_options → ⊥)
-        → ShareNoId (meaning options names bytes document) (meaning other_options other_names other_bytes other) }
+        → ShareNoId (meaning options names bytes document)
+        (meaning other_options other_names other_bytes other) }
 {}
 
-/// Where the options write nothing as it is given, a document of the grammar means a text with exactly one reading, and
-/// in it everything stands where the content model lets it stand.
+/// Where the options write nothing as it is given, a document of the grammar means a text with
+/// exactly one reading, and in it everything stands where the content model lets it stand.
 pub fn meaning_is_contained()
-    ensures { (bytes : List ℕ) (names : List (List ℕ × List ℕ)) (options : CompileOptions) (document : Forest)
+    ensures { (bytes : List ℕ) (names : List (List ℕ × List ℕ))
+        (options : CompileOptions) (document : Forest)
         → IsGrammatical bytes names document → KeepsGrammar options
         → IsContained (meaning options names bytes document) }
 {}
 
 /// So, and no link stands in a link, where none does in the document.
 pub fn links_nest_as_in_the_document()
-    ensures { (bytes : List ℕ) (names : List (List ℕ × List ℕ)) (options : CompileOptions) (document : Forest)
-        → IsGrammatical bytes names document → KeepsGrammar options → has_nested_link false document ≡ false
+    ensures { (bytes : List ℕ) (names : List (List ℕ × List ℕ))
+        (options : CompileOptions) (document : Forest)
+        → IsGrammatical bytes names document → KeepsGrammar options
+        → has_nested_link false document ≡ false
         → IsUnnested (meaning options names bytes document) }
 {}
 

@@ -42,11 +42,12 @@ pub fn forest_is_tokenized_in_its_place()
 /// A text with one reading is tokenized as that, and each tag among the tokens is of the grammar's
 /// tables.
 pub fn reading_is_tokenized()
-    ensures { (p : Attribute → Bool) (text : List ℕ) → HasOneReadingWith p text → IsTokenizedAsRead text }
+    ensures { (p : Attribute → Bool) (text : List ℕ) → HasOneReadingWith p text
+        → IsTokenizedAsRead text }
 {}
 
-/// Each tag among the tokens of a text with a reading is of the grammar's tables, with no attributes
-/// but those that it may have.
+/// Each tag among the tokens of a text with a reading is of the grammar's tables, with no
+/// attributes but those that it may have.
 pub fn tags_are_listed()
     ensures { (p : Attribute → Bool) (text : List ℕ) (tokens : List Token)
         → HasOneReadingWith p text → IsTokenized text tokens → IsTrue (list_all is_listed tokens) }
@@ -56,14 +57,16 @@ pub fn tags_are_listed()
 /// that runs something or acts on the page around, and none has an attribute that is listed so.
 pub fn nothing_runs()
     ensures { (p : Attribute → Bool) (text : List ℕ) (tokens : List Token)
-        → HasOneReadingWith p text → IsTokenized text tokens → IsTrue (list_all runs_nothing tokens) }
+        → HasOneReadingWith p text → IsTokenized text tokens
+        → IsTrue (list_all runs_nothing tokens) }
 {}
 
 /// No start tag among the tokens of a text with a reading is one at which tree construction changes
 /// the tokenizer's state, or which begins foreign content.
 pub fn state_is_left_alone()
     ensures { (p : Attribute → Bool) (text : List ℕ) (tokens : List Token)
-        → HasOneReadingWith p text → IsTokenized text tokens → IsTrue (list_all leaves_state tokens) }
+        → HasOneReadingWith p text → IsTokenized text tokens
+        → IsTrue (list_all leaves_state tokens) }
 {}
 
 /// An escaped value that the grammar's test passes has, as a browser sees it, no scheme of its own
@@ -79,15 +82,20 @@ pub fn safe_values_have_permitted_schemes()
 
 /// Where a text is safe, so are its tokens.
 pub fn safe_text_has_safe_tokens()
-    ensures links { (text : List ℕ) → HasOneReadingWith is_safe_link text → HasTokensWith has_safe_links text }
-    ensures images { (text : List ℕ) → HasOneReadingWith is_safe_image text → HasTokensWith has_safe_images text }
+    ensures links { (text : List ℕ) → HasOneReadingWith is_safe_link text
+        → HasTokensWith has_safe_links text }
+    ensures images { (text : List ℕ) → HasOneReadingWith is_safe_image text
+        → HasTokensWith has_safe_images text }
 {}
 
 /// A page is tokenized as its doctype, its head, its title and its body, and is safe where its body
 /// is.
 pub fn page_is_tokenized()
-    ensures tokens { (title : List ℕ) (body : Forest) → IsTrue (is_escaped title) → IsTrue (is_forest body)
+    ensures tokens { (title : List ℕ) (body : Forest) → IsTrue (is_escaped title)
+        → IsTrue (is_forest body)
         → IsTokenized (page_text title (written body)) (page_tokens (seen title) body) }
-    ensures safe { (title body : List ℕ) → IsTrue (is_escaped title) → HasOneReadingWith is_safe_link body
-        → HasOneReadingWith is_safe_image body → IsTokenizedPage (seen title) body (page_text title body) }
+    ensures safe { (title body : List ℕ) → IsTrue (is_escaped title)
+        → HasOneReadingWith is_safe_link body
+        → HasOneReadingWith is_safe_image body
+        → IsTokenizedPage (seen title) body (page_text title body) }
 {}

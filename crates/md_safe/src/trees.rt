@@ -1,20 +1,24 @@
-//! What holds of each reading that is contained without a link in a link: contracts of functions that do nothing.
+//! What holds of each reading that is contained without a link in a link: contracts of functions
+//! that do nothing.
 
 ghost use Rattle.std.specs.Prelude.{◌≡◌, ℕ, Bool, false, IsTrue, List, [], ◌∷◌, Some, None, codes};
 ghost use Rattle.md_text.specs.Html.{Forest, is_forest};
 ghost use Rattle.md_safe.specs.PageTokens.{page_tokens, plain_tag};
-ghost use Rattle.md_safe.specs.Token.{TokenAttribute, Doctype, Character, StartTag, EndTag, EndOfFile};
+ghost use Rattle.md_safe.specs.Token.{TokenAttribute, Doctype, Character, StartTag, EndTag};
+ghost use Rattle.md_safe.specs.Token.{EndOfFile};
 ghost use Rattle.md_safe.specs.Tokenizer.{begins_title};
 ghost use Rattle.md_safe.specs.Contents.{Flow, is_contained, IsUnnested};
-ghost use Rattle.md_safe.specs.Node.{Nodes, Empty, Text, Element, Open, Entry, Marker, Mode, InBody, InCell, is_text, Parser};
+ghost use Rattle.md_safe.specs.Node.{Nodes, Empty, Text, Element, Open, Entry, Marker, Mode};
+ghost use Rattle.md_safe.specs.Node.{InBody, InCell, is_text, Parser};
 ghost use Rattle.md_safe.specs.Construction.{step, run};
 ghost use Rattle.md_safe.specs.Built.{at, open_at, IsPlace, Builds, IsBuiltAsRead};
 ghost use Rattle.md_safe.specs.Page.{has_no_nul, document_of, page_document};
 
-/// Wherever flow content may be set, the tokens of a reading build its own tree there, and leave the other open
-/// elements and the list of active formatting elements as they were.
+/// Wherever flow content may be set, the tokens of a reading build its own tree there, and leave
+/// the other open elements and the list of active formatting elements as they were.
 pub fn reading_is_built()
-    ensures { (forest : Forest) → IsTrue (is_forest forest) → IsTrue (is_contained false Flow forest)
+    ensures { (forest : Forest) → IsTrue (is_forest forest)
+        → IsTrue (is_contained false Flow forest)
         → (mode : Mode) (node : Open) (others : List Open) (active : List Entry) (created : ℕ)
         → IsPlace mode node others active created → Builds mode node others active created forest }
 {}
@@ -24,79 +28,93 @@ pub fn text_is_built()
     ensures { (text : List ℕ) → IsUnnested text → IsBuiltAsRead text }
 {}
 
-/// Of a page's tokens, from the beginning, exactly its document is built: the doctype; the root with its head and its
-/// body; in the head the title's characters; in the body the nodes of a reading that is contained without a link in a
-/// link, or of a text that is known to be built as it is read. The line feed at the page's end goes into the body,
-/// after all else in it, and into the text that stands last there, if one does.
+/// Of a page's tokens, from the beginning, exactly its document is built: the doctype; the root
+/// with its head and its body; in the head the title's characters; in the body the nodes of a
+/// reading that is contained without a link in a link, or of a text that is known to be built as it
+/// is read. The line feed at the page's end goes into the body, after all else in it, and into the
+/// text that stands last there, if one does.
 pub fn page_is_built()
-    ensures reading { (title : List ℕ) (body : Forest) → IsTrue (has_no_nul title) → IsTrue (is_forest body)
+    ensures reading { (title : List ℕ) (body : Forest) → IsTrue (has_no_nul title)
+        → IsTrue (is_forest body)
         → IsTrue (is_contained false Flow body)
         → document_of (page_tokens title body) ≡ Some (page_document title body) }
     ensures text { (title text : List ℕ) → IsTrue (has_no_nul title) → (built : IsBuiltAsRead text)
         → document_of (page_tokens title built.forest) ≡ Some (page_document title built.forest) }
 {}
 
-/// A start tag leads to the mode "text" exactly where the tokenizer's definition switches its state: at `title`. So the
-/// two definitions agree.
+/// A start tag leads to the mode "text" exactly where the tokenizer's definition switches its
+/// state: at `title`. So the two definitions agree.
 pub fn state_is_switched_where_text_begins()
-    ensures { (parser next : Parser) (name : List ℕ) (attributes : List TokenAttribute) (flag : Bool)
+    ensures { (parser next : Parser) (name : List ℕ)
+        (attributes : List TokenAttribute) (flag : Bool)
         → step parser (StartTag name attributes flag) ≡ Some next
         → is_text next.mode ≡ begins_title (StartTag name attributes flag) }
 {}
 
-/// Flow content may be set in a `div`, a list's item and a `section` of a body, in a table's cell, whatever is around the
-/// table, and in the root of a fragment, as which a browser reads what is assigned to `innerHTML`.
+/// Flow content may be set in a `div`, a list's item and a `section` of a body, in a table's cell,
+/// whatever is around the table, and in the root of a fragment, as which a browser reads what is
+/// assigned to `innerHTML`.
 pub fn places()
     ensures div { (nodes : Nodes) → IsPlace InBody (open_at 2 (codes "div") nodes)
         (open_at 1 (codes "body") nodes ∷ open_at 0 (codes "html") nodes ∷ []) [] 3 }
     ensures item { (nodes : Nodes) → IsPlace InBody (open_at 3 (codes "li") nodes)
-        (open_at 2 (codes "ul") nodes ∷ open_at 1 (codes "body") nodes ∷ open_at 0 (codes "html") nodes ∷ []) [] 4 }
+        (open_at 2 (codes "ul") nodes ∷ open_at 1 (codes "body") nodes
+        ∷ open_at 0 (codes "html") nodes ∷ []) [] 4 }
     ensures section { (nodes : Nodes) → IsPlace InBody (open_at 2 (codes "section") nodes)
         (open_at 1 (codes "body") nodes ∷ open_at 0 (codes "html") nodes ∷ []) [] 3 }
     ensures cell { (nodes : Nodes) → IsPlace InCell (open_at 5 (codes "td") nodes)
-        (open_at 4 (codes "tr") nodes ∷ open_at 3 (codes "tbody") nodes ∷ open_at 2 (codes "table") nodes
+        (open_at 4 (codes "tr") nodes ∷ open_at 3 (codes "tbody") nodes
+        ∷ open_at 2 (codes "table") nodes
         ∷ open_at 1 (codes "body") nodes ∷ open_at 0 (codes "html") nodes ∷ []) (Marker ∷ []) 6 }
     ensures fragment { (nodes : Nodes) → IsPlace InBody (open_at 0 (codes "html") nodes) [] [] 1 }
     ensures cell_in_paragraph { (nodes : Nodes) → IsPlace InCell (open_at 5 (codes "td") nodes)
-        (open_at 4 (codes "tr") nodes ∷ open_at 3 (codes "tbody") nodes ∷ open_at 2 (codes "table") nodes
-        ∷ open_at 1 (codes "p") nodes ∷ open_at 0 (codes "body") nodes ∷ []) (Marker ∷ []) 6 }
+        (open_at 4 (codes "tr") nodes ∷ open_at 3 (codes "tbody") nodes ∷ open_at 2 (codes "table")
+        nodes ∷ open_at 1 (codes "p") nodes ∷ open_at 0 (codes "body") nodes ∷ []) (Marker ∷ []) 6 }
 {}
 
-/// What leaves its place, and what doesn't: a list's start tag closes the paragraph around it, also from within another
-/// element; an item's start tag closes no item around its list; a cell's end tag is ignored where no cell is open; a
-/// link's start tag in a link isn't written out.
+/// What leaves its place, and what doesn't: a list's start tag closes the paragraph around it, also
+/// from within another element; an item's start tag closes no item around its list; a cell's end
+/// tag is ignored where no cell is open; a link's start tag in a link isn't written out.
 pub fn what_leaves_its_place()
-    ensures paragraph { run (at InBody (open_at 1 (codes "p") Empty ∷ open_at 0 (codes "body") Empty ∷ []) [] 2)
+    ensures paragraph { run (at InBody
+        (open_at 1 (codes "p") Empty ∷ open_at 0 (codes "body") Empty ∷ []) [] 2)
         (StartTag (codes "ul") [] false ∷ []) ≡ Some (at InBody (open_at 2 (codes "ul") Empty
         ∷ open_at 0 (codes "body") (Element (codes "p") [] Empty Empty) ∷ []) [] 3) }
-    ensures paragraph_around { run (at InBody (open_at 2 (codes "del") Empty ∷ open_at 1 (codes "p") Empty
+    ensures paragraph_around { run (at InBody
+        (open_at 2 (codes "del") Empty ∷ open_at 1 (codes "p") Empty
         ∷ open_at 0 (codes "body") Empty ∷ []) [] 3) (StartTag (codes "ul") [] false ∷ [])
         ≡ Some (at InBody (open_at 3 (codes "ul") Empty ∷ open_at 0 (codes "body")
         (Element (codes "p") [] (Element (codes "del") [] Empty Empty) Empty) ∷ []) [] 4) }
-    ensures items { run (at InBody (open_at 1 (codes "ul") Empty ∷ open_at 0 (codes "li") Empty ∷ []) [] 2)
+    ensures items { run (at InBody
+        (open_at 1 (codes "ul") Empty ∷ open_at 0 (codes "li") Empty ∷ []) [] 2)
         (StartTag (codes "li") [] false ∷ []) ≡ Some (at InBody (open_at 2 (codes "li") Empty
         ∷ open_at 1 (codes "ul") Empty ∷ open_at 0 (codes "li") Empty ∷ []) [] 3) }
-    ensures cell_in_div { run (at InBody (open_at 1 (codes "div") Empty ∷ open_at 0 (codes "body") Empty ∷ []) [] 2)
+    ensures cell_in_div { run (at InBody
+        (open_at 1 (codes "div") Empty ∷ open_at 0 (codes "body") Empty ∷ []) [] 2)
         (EndTag (codes "td") ∷ [])
-        ≡ Some (at InBody (open_at 1 (codes "div") Empty ∷ open_at 0 (codes "body") Empty ∷ []) [] 2) }
+        ≡ Some (at InBody
+        (open_at 1 (codes "div") Empty ∷ open_at 0 (codes "body") Empty ∷ []) [] 2) }
     ensures nested { run (at InBody (open_at 0 (codes "div") Empty ∷ []) [] 1)
         (StartTag (codes "a") [] false ∷ StartTag (codes "a") [] false ∷ []) ≡ None }
 {}
 
-/// Single documents: of nothing, of a character and of a head, a root with its head and its body is built; white space
-/// before the head is ignored, in it and after it it stays where it is; what comes after the body's end tag and after
-/// the root's goes into the body; a character that a title has is no tag.
+/// Single documents: of nothing, of a character and of a head, a root with its head and its body
+/// is built; white space before the head is ignored, in it and after it it stays where it is; what
+/// comes after the body's end tag and after the root's goes into the body; a character that a
+/// title has is no tag.
 pub fn what_documents_hold()
     ensures nothing { document_of (EndOfFile ∷ []) ≡ Some (record {
       doctype = None;
-      root = Element (codes "html") [] (Element (codes "head") [] Empty (Element (codes "body") [] Empty Empty)) Empty;
+      root = Element (codes "html") []
+          (Element (codes "head") [] Empty (Element (codes "body") [] Empty Empty)) Empty;
     }) }
     ensures character { document_of (Character 97 ∷ EndOfFile ∷ []) ≡ Some (record {
       doctype = None;
       root = Element (codes "html") [] (Element (codes "head") [] Empty
           (Element (codes "body") [] (Text (codes "a") Empty) Empty)) Empty;
     }) }
-    ensures head_alone { document_of (plain_tag (codes "head") ∷ EndTag (codes "head") ∷ EndOfFile ∷ [])
+    ensures head_alone { document_of (plain_tag (codes "head")
+        ∷ EndTag (codes "head") ∷ EndOfFile ∷ [])
         ≡ Some (record {
           doctype = None;
           root = Element (codes "html") [] (Element (codes "head") [] Empty
@@ -104,14 +122,17 @@ pub fn what_documents_hold()
         }) }
     ensures around_the_head { document_of (Character 10 ∷ Doctype (codes "html") ∷ Character 10
         ∷ plain_tag (codes "html") ∷ Character 10 ∷ plain_tag (codes "head") ∷ Character 10
-        ∷ plain_tag (codes "title") ∷ Character 60 ∷ Character 10 ∷ EndTag (codes "title") ∷ Character 32
-        ∷ EndTag (codes "head") ∷ Character 9 ∷ plain_tag (codes "body") ∷ EndOfFile ∷ []) ≡ Some (record {
+        ∷ plain_tag (codes "title") ∷ Character 60 ∷ Character 10
+        ∷ EndTag (codes "title") ∷ Character 32
+        ∷ EndTag (codes "head") ∷ Character 9 ∷ plain_tag (codes "body") ∷ EndOfFile ∷ [])
+        ≡ Some (record {
           doctype = Some (codes "html");
           root = Element (codes "html") [] (Element (codes "head") [] (Text (codes "\n")
-              (Element (codes "title") [] (Text (codes "<\n") Empty) (Text (codes " ") Empty))) (Text (codes "\t")
-              (Element (codes "body") [] Empty Empty))) Empty;
+              (Element (codes "title") [] (Text (codes "<\n") Empty) (Text (codes " ") Empty)))
+              (Text (codes "\t") (Element (codes "body") [] Empty Empty))) Empty;
         }) }
-    ensures after_the_body { document_of (plain_tag (codes "body") ∷ Character 97 ∷ EndTag (codes "body") ∷ Character 10
+    ensures after_the_body { document_of (plain_tag (codes "body") ∷ Character 97
+        ∷ EndTag (codes "body") ∷ Character 10
         ∷ EndTag (codes "html") ∷ Character 10 ∷ Character 98 ∷ EndOfFile ∷ []) ≡ Some (record {
           doctype = None;
           root = Element (codes "html") [] (Element (codes "head") [] Empty

@@ -1,15 +1,21 @@
 -- Names and numbers at the front of a text, and sixteen bytes that are compared at once.
-use Rattle.std.proofs.Common.{◌≡◌, ℕ, zero, suc, ◌+◌, ◌-◌, ◌<◌, ◌≤◌, ◌%◌, ◌^◌, Bool, true, false, not, cond, ◌&&◌, ◌||◌, leb, eqb, List, [], ◌∷◌, ◌++◌, map, length, take, drop, get_or, replicate, Option, Some, None, refl, sym, ap, ◌∙◌, arith, subst, inl, inr, codes, bytes_eq, w8}
+use Rattle.std.proofs.Common.{◌≡◌, ℕ, zero, suc, ◌+◌, ◌-◌, ◌<◌, ◌≤◌, ◌%◌, ◌^◌, Bool, true, false}
+use Rattle.std.proofs.Common.{not, cond, ◌&&◌, ◌||◌, leb, eqb, List, [], ◌∷◌, ◌++◌, map, length}
+use Rattle.std.proofs.Common.{take, drop, get_or, replicate, Option, Some, None, refl, sym, ap, ◌∙◌}
+use Rattle.std.proofs.Common.{arith, subst, inl, inr, codes, bytes_eq, w8}
 use Rattle.std.specs.Prelude.{nat_le, option_map, find}
 use Rattle.std.specs.List.{before_first, list_all, list_any, prefix_len, slice_get}
 use Rattle.std.specs.Char.{is_ascii_digit}
 use Rattle.std.specs.Str.{all_ascii_digits}
 use Rattle.std.specs.Str.Parse.{digits_value}
-use Rattle.std.proofs.lemmas.Bool.{cases_eq, and_parts, leb-true, le-leb, eqb-true, ne_eqb, not-true, not-false}
-use Rattle.std.proofs.lemmas.List.{take-append-drop, length-take-le, take_rest, get_or-take, length-map, get_or-map}
+use Rattle.std.proofs.lemmas.Bool.{cases_eq, and_parts, leb-true, le-leb, eqb-true, ne_eqb}
+use Rattle.std.proofs.lemmas.Bool.{not-true, not-false}
+use Rattle.std.proofs.lemmas.List.{take-append-drop, length-take-le, take_rest, get_or-take}
+use Rattle.std.proofs.lemmas.List.{length-map, get_or-map}
 use Rattle.std.proofs.lemmas.List.Folds.{list_any-append}
 use Rattle.std.proofs.lemmas.List.Sums.{prefix_len_passes, prefix_len_stops}
-use Rattle.std.proofs.lemmas.Simd.{tops_compared, bitmask_splat, mask_l-mod, length-zip2, get_or-zip2, leading_from_mask_l, trailing_mask_l}
+use Rattle.std.proofs.lemmas.Simd.{tops_compared, bitmask_splat, mask_l-mod, length-zip2}
+use Rattle.std.proofs.lemmas.Simd.{get_or-zip2, leading_from_mask_l, trailing_mask_l}
 use Rattle.std.proofs.lemmas.Slice.Eq.{bytes_eq-Decides}
 use lib.Lanes.{zip2, mask_l, top}
 use lib.Count.{count_trailing_zeros}
@@ -19,29 +25,36 @@ use Rattle.md_base.specs.declared.event.Point.{Point}
 use Rattle.md_base.specs.declared.event.Name.TheVariants.{Other}
 use Rattle.md_base.specs.EventNames.{event_names}
 use Rattle.md_base.specs.Table.{listed}
-use Rattle.md_script.specs.Line.{◌>>=◌, is_space, is_line_feed, kind_of, otherwise, other_name, name_of}
+use Rattle.md_script.specs.Line.{◌>>=◌, is_space, is_line_feed, kind_of, otherwise, other_name}
+use Rattle.md_script.specs.Line.{name_of}
 use Rattle.md_script.specs.Number.{number_of}
 use Rattle.md_script.specs.CommonName.{IsFirstSpace, spelled, named, is_full, AreRows}
-use Rattle.md_script.specs.PlainLine.{is_break, BeginsWithEvent, BeginsWithNumber, BeginsWithName, BeginsWithPlace}
-use Rattle.md_script.proofs.PlainLemmas.{before_cut, cut_at, number_is_digits, line_placed, line_plain}
+use Rattle.md_script.specs.PlainLine.{is_break, BeginsWithEvent, BeginsWithNumber, BeginsWithName}
+use Rattle.md_script.specs.PlainLine.{BeginsWithPlace}
+use Rattle.md_script.proofs.PlainLemmas.{before_cut, cut_at, number_is_digits, line_placed}
+use Rattle.md_script.proofs.PlainLemmas.{line_plain}
 
 -- ---- digits up to a byte
 
-pub number_read : (bytes : List ℕ) (i most end number : ℕ) → i < length bytes → get_or bytes i 0 ≡ end → 0 < i →
+pub number_read : (bytes : List ℕ) (i most end number : ℕ) → i < length bytes →
+    get_or bytes i 0 ≡ end → 0 < i →
     i ≤ most → number ≡ digits_value 10 (take i bytes) → all_ascii_digits (take i bytes) ≡ true →
     BeginsWithNumber most end bytes number (take (length bytes - (i + 1)) (drop (i + 1) bytes))
 number_read bytes i most end number inside ends some few value all =
     let size = length-take-le i bytes (omega (arith, inside)) in
     record {
       digits = take i bytes;
-      whole = cut_at bytes i end inside ends ∙ ap (λ rest. take i bytes ++ end ∷ rest) (sym (take_rest bytes (i + 1)));
+      whole = cut_at bytes i end inside ends
+          ∙ ap (λ rest. take i bytes ++ end ∷ rest) (sym (take_rest bytes (i + 1)));
       value =
           ap (λ t. cond (t && leb (length (take i bytes)) most
           && all_ascii_digits (take i bytes)) (Some (digits_value 10 (take i bytes))) None)
           (le-leb 1 (length (take i bytes)) (omega (arith, size, some)))
-          ∙ ap (λ t. cond (true && t && all_ascii_digits (take i bytes)) (Some (digits_value 10 (take i bytes))) None)
+          ∙ ap (λ t. cond (true && t && all_ascii_digits (take i bytes))
+          (Some (digits_value 10 (take i bytes))) None)
           (le-leb (length (take i bytes)) most (omega (arith, size, few)))
-          ∙ ap (λ t. cond (true && true && t) (Some (digits_value 10 (take i bytes))) None) all ∙ ap Some (sym value);
+          ∙ ap (λ t. cond (true && true && t) (Some (digits_value 10 (take i bytes))) None) all
+          ∙ ap Some (sym value);
     }
 
 -- ---- sixteen bytes that are compared at once
@@ -55,14 +68,20 @@ lowest : (marks : List Bool) → length marks ≤ 64 → 0 < mask_l marks →
 lowest marks few some =
     let same = itself marks in
     let least : 0 < mask_l (map (λ m. m) marks) = subst (λ l. 0 < mask_l l) (sym same) some in
-    ap (λ l. count_trailing_zeros 64 (mask_l l)) (sym same) ∙ trailing_mask_l (λ m. m) 64 marks few least
+    ap (λ l. count_trailing_zeros 64 (mask_l l)) (sym same)
+    ∙ trailing_mask_l (λ m. m) 64 marks few least
 
 clear_before : (marks : List Bool) (k : ℕ) → k < length marks → length marks ≤ 64 →
     k < count_trailing_zeros 64 (mask_l marks) → get_or marks k false ≡ false
 clear_before marks k inside few low =
     let counted : k < prefix_len (λ m. not m) marks =
     elim (cases_eq (mask_l marks) 0) [
-      | inl none ↦ omega (arith, leading_from_mask_l (λ m. m) marks (ap mask_l (itself marks) ∙ none), inside)
+      | inl none ↦
+          omega (
+            arith,
+            leading_from_mask_l (λ m. m) marks (ap mask_l (itself marks) ∙ none),
+            inside,
+          )
       | inr some ↦ omega (arith, lowest marks few (omega (arith, some)), low)
     ] in
     not-true _ (prefix_len_passes (λ m. not m) marks k false counted)
@@ -71,7 +90,8 @@ abbrev differs : ℕ → ℕ → Bool
 differs a b = not (eqb a b)
 
 pub same_before : (xs ys : List ℕ) (k : ℕ) → 16 ≤ length xs → length ys ≡ 16 →
-    k < count_trailing_zeros 64 (mask_l (map (top 7) (zip2 (λ a b. cond (differs a b) 255 0) (take 16 xs) (take 16 ys)))
+    k < count_trailing_zeros 64
+    (mask_l (map (top 7) (zip2 (λ a b. cond (differs a b) 255 0) (take 16 xs) (take 16 ys)))
     % 2 ^ 64) → k < 16 → get_or xs k 0 ≡ get_or ys k 0
 same_before xs ys k long exact low few =
     let front = take 16 xs in
@@ -84,8 +104,10 @@ same_before xs ys k long exact low few =
     ∙ mask_l-mod marks 64 (omega (arith, many)) in
     let clear = clear_before marks k (omega (arith, many, few)) (omega (arith, many))
     (subst (λ m. k < count_trailing_zeros 64 m) is low) in
-    let at = get_or-zip2 differs front text k 0 0 false (omega (arith, size, few)) (omega (arith, other, few)) in
-    sym (get_or-take 16 xs k 0 few) ∙ eqb-true (get_or front k 0) (get_or text k 0) (not-false _ (sym at ∙ clear))
+    let at = get_or-zip2 differs front text k 0 0 false (omega (arith, size, few))
+    (omega (arith, other, few)) in
+    sym (get_or-take 16 xs k 0 few)
+    ∙ eqb-true (get_or front k 0) (get_or text k 0) (not-false _ (sym at ∙ clear))
     ∙ get_or-take 16 ys k 0 few
 
 take_same : (xs ys : List ℕ) (n : ℕ) → n ≤ length xs → n ≤ length ys →
@@ -94,16 +116,19 @@ take_same xs ys zero some other same = refl
 take_same [] ys (suc n) some other same = absurd (omega (arith, some))
 take_same (x ∷ xs) [] (suc n) some other same = absurd (omega (arith, other))
 take_same (x ∷ xs) (y ∷ ys) (suc n) some other same =
-    ap (λ c. c ∷ take n xs) (same 0 (omega arith)) ∙ ap (λ l. y ∷ l) (take_same xs ys n (omega (arith, some))
+    ap (λ c. c ∷ take n xs) (same 0 (omega arith))
+    ∙ ap (λ l. y ∷ l) (take_same xs ys n (omega (arith, some))
     (omega (arith, other)) (λ k low. same (suc k) (omega (arith, low))))
 
-set_at : (marks : List Bool) → length marks ≤ 64 → count_trailing_zeros 64 (mask_l marks) < length marks →
+set_at : (marks : List Bool) → length marks ≤ 64 →
+    count_trailing_zeros 64 (mask_l marks) < length marks →
     get_or marks (count_trailing_zeros 64 (mask_l marks)) false ≡ true
 unfolding count_trailing_zeros
 set_at marks few low =
     elim (cases_eq (mask_l marks) 0) [
       | inl none ↦
-          let past : count_trailing_zeros 64 (mask_l marks) ≡ 64 = ap (count_trailing_zeros 64) none in
+          let past : count_trailing_zeros 64 (mask_l marks) ≡ 64 =
+          ap (count_trailing_zeros 64) none in
           absurd (omega (arith, past, low, few))
       | inr some ↦
           let e = lowest marks few (omega (arith, some)) in
@@ -115,20 +140,25 @@ abbrev spaces : List ℕ → List Bool
 spaces front = map is_space front
 
 abbrev space_mask : List ℕ → ℕ
-space_mask front = mask_l (map (top 7) (zip2 (λ a b. cond (eqb a b) 255 0) front (replicate 16 32))) % 2 ^ 64
+space_mask front =
+    mask_l (map (top 7) (zip2 (λ a b. cond (eqb a b) 255 0) front (replicate 16 32))) % 2 ^ 64
 
-pub space_found : (bytes : List ℕ) → 16 ≤ length bytes → count_trailing_zeros 64 (space_mask (take 16 bytes)) < 16 →
+pub space_found : (bytes : List ℕ) → 16 ≤ length bytes →
+    count_trailing_zeros 64 (space_mask (take 16 bytes)) < 16 →
     IsFirstSpace bytes (count_trailing_zeros 64 (space_mask (take 16 bytes)))
 space_found bytes long low =
     let front = take 16 bytes in
     let size = length-take-le 16 bytes long in
     let marks = spaces front in
     let many : length marks ≡ 16 = length-map front is_space ∙ size in
-    let is : space_mask front ≡ mask_l marks = bitmask_splat w8 eqb front 16 32 size (omega arith) in
+    let is : space_mask front ≡ mask_l marks =
+    bitmask_splat w8 eqb front 16 32 size (omega arith) in
     let at : (k : ℕ) → k < 16 → get_or marks k false ≡ is_space (get_or bytes k 0) =
     λ k few.
-    get_or-map is_space front k 0 false (omega (arith, size, few)) ∙ ap is_space (get_or-take 16 bytes k 0 few) in
-    let place : count_trailing_zeros 64 (space_mask front) ≡ count_trailing_zeros 64 (mask_l marks) =
+    get_or-map is_space front k 0 false (omega (arith, size, few))
+    ∙ ap is_space (get_or-take 16 bytes k 0 few) in
+    let place :
+    count_trailing_zeros 64 (space_mask front) ≡ count_trailing_zeros 64 (mask_l marks) =
     ap (count_trailing_zeros 64) is in
     record {
       none = λ k before.
@@ -147,7 +177,8 @@ space_found bytes long low =
 abbrev Row : Type 0
 Row = List ℕ × Name
 
-row_named : (rows : List Row) (i : ℕ) (row : Row) → map spelled rows ≡ map named rows → slice_get rows i ≡ Some row →
+row_named : (rows : List Row) (i : ℕ) (row : Row) → map spelled rows ≡ map named rows →
+    slice_get rows i ≡ Some row →
     spelled row ≡ named row
 row_named [] i row same at = cc
 row_named (first ∷ rows) zero row same at =
@@ -156,16 +187,18 @@ row_named (first ∷ rows) zero row same at =
     subst (λ r. spelled r ≡ named r) is heads
 row_named (first ∷ rows) (suc i) row same at = row_named rows i row (cc) at
 
-row_full : (rows : List Row) (i : ℕ) (row : Row) → list_all is_full rows ≡ true → slice_get rows i ≡ Some row →
+row_full : (rows : List Row) (i : ℕ) (row : Row) → list_all is_full rows ≡ true →
+    slice_get rows i ≡ Some row →
     is_full row ≡ true
 row_full [] i row all at = cc
 row_full (first ∷ rows) zero row all at =
     let is : first ≡ row = cc in
     subst (λ r. is_full r ≡ true) is (and_parts (is_full first) (list_all is_full rows) all).0
-row_full (first ∷ rows) (suc i) row all at = row_full rows i row (and_parts (is_full first) (list_all is_full rows)
-    all).1 at
+row_full (first ∷ rows) (suc i) row all at =
+    row_full rows i row (and_parts (is_full first) (list_all is_full rows) all).1 at
 
-none_below : (xs : List ℕ) (n : ℕ) → n ≤ length xs → ((k : ℕ) → k < n → is_space (get_or xs k 0) ≡ false) →
+none_below : (xs : List ℕ) (n : ℕ) → n ≤ length xs →
+    ((k : ℕ) → k < n → is_space (get_or xs k 0) ≡ false) →
     list_any is_space (take n xs) ≡ false
 none_below xs zero some none = refl
 none_below [] (suc n) some none = absurd (omega (arith, some))
@@ -173,7 +206,8 @@ none_below (x ∷ xs) (suc n) some none =
     ap (λ t. t || list_any is_space (take n xs)) (none 0 (omega arith))
     ∙ none_below xs n (omega (arith, some)) (λ k low. none (suc k) (omega (arith, low)))
 
-pub row_read : (rows : List Row) (i : ℕ) (row : Row) (bytes : List ℕ) (size same : ℕ) → AreRows rows →
+pub row_read : (rows : List Row) (i : ℕ) (row : Row) (bytes : List ℕ) (size same : ℕ) →
+    AreRows rows →
     slice_get rows i ≡ Some row → 16 ≤ length bytes → size < 16 → IsFirstSpace bytes size →
     ((k : ℕ) → k < same → k < 16 → get_or bytes k 0 ≡ get_or row.0 k 0) → size < same →
     BeginsWithName bytes row.1 (take (length bytes - (size + 1)) (drop (size + 1) bytes))
@@ -184,17 +218,20 @@ row_read rows i row bytes size same are at long few space equal past =
     let same_front = take_same bytes text size (omega (arith, few, long)) (omega (arith, inside))
     (λ k low. equal k (omega (arith, low, past)) (omega (arith, low, few))) in
     let none = none_below text size (omega (arith, inside))
-    (λ k low. ap is_space (sym (equal k (omega (arith, low, past)) (omega (arith, low, few)))) ∙ space.none k low) in
+    (λ k low. ap is_space (sym (equal k (omega (arith, low, past)) (omega (arith, low, few))))
+    ∙ space.none k low) in
     let cut = cut_at text size 32 inside (sym (equal size past few) ∙ space.there) in
     let before : before_first is_space text ≡ take size text =
-    ap (before_first is_space) cut ∙ before_cut is_space (take size text) 32 (drop (size + 1) text) none refl in
+    ap (before_first is_space) cut
+    ∙ before_cut is_space (take size text) 32 (drop (size + 1) text) none refl in
     record {
       text = take size bytes;
       whole = cut_at bytes size 32 (omega (arith, few, long)) space.there
           ∙ ap (λ rest. take size bytes ++ 32 ∷ rest) (sym (take_rest bytes (size + 1)));
       says =
           ap name_of (same_front ∙ sym before)
-          ∙ ap (λ name. otherwise name (other_name (before_first is_space text))) (row_named rows i row are.names at);
+          ∙ ap (λ name. otherwise name (other_name (before_first is_space text)))
+          (row_named rows i row are.names at);
     }
 
 -- ---- `Other`
@@ -204,13 +241,16 @@ numbered number = cond (nat_le number 65535) (Some (Other number)) None
 
 pub other_read : (bytes digits following : List ℕ) (number : ℕ) (name : Name) →
     bytes_eq (take 5 bytes) (codes "Other") ≡ true → digits ≡ drop 5 bytes →
-    BeginsWithNumber 5 32 digits number following → Some name ≡ numbered number → BeginsWithName bytes name following
+    BeginsWithNumber 5 32 digits number following → Some name ≡ numbered number →
+    BeginsWithName bytes name following
 other_read bytes digits following number name other rest read is =
     let spelling = read.digits in
     let whole : bytes ≡ codes "Other" ++ digits =
-    sym (take-append-drop 5 bytes) ∙ ap (λ front. front ++ drop 5 bytes) ((bytes_eq-Decides (take 5 bytes)
+    sym (take-append-drop 5 bytes)
+    ∙ ap (λ front. front ++ drop 5 bytes) ((bytes_eq-Decides (take 5 bytes)
     (codes "Other")).0 other) ∙ ap (λ d. codes "Other" ++ d) (sym rest) in
-    let same : other_name (codes "Other" ++ spelling) ≡ name_of (codes "Other" ++ spelling) = refl in
+    let same : other_name (codes "Other" ++ spelling) ≡ name_of (codes "Other" ++ spelling) =
+    refl in
     record {
       text = codes "Other" ++ spelling;
       whole = whole ∙ ap (λ d. codes "Other" ++ d) read.whole;
@@ -226,11 +266,13 @@ digit_unbroken c h =
     ap (λ t. t || is_line_feed c) (ne_eqb c 32 (λ e. omega (arith, least, e)))
     ∙ ne_eqb c 10 (λ e. omega (arith, least, e))
 
-digits_unbroken : (digits : List ℕ) → all_ascii_digits digits ≡ true → list_any is_break digits ≡ false
+digits_unbroken : (digits : List ℕ) → all_ascii_digits digits ≡ true →
+    list_any is_break digits ≡ false
 digits_unbroken [] all = refl
 digits_unbroken (d ∷ digits) all =
     let parts = and_parts (is_ascii_digit d) (all_ascii_digits digits) all in
-    ap (λ t. t || list_any is_break digits) (digit_unbroken d parts.0) ∙ digits_unbroken digits parts.1
+    ap (λ t. t || list_any is_break digits) (digit_unbroken d parts.0)
+    ∙ digits_unbroken digits parts.1
 
 abbrev is_whole : List ℕ × Name → Bool
 is_whole entry = not (list_any is_break entry.0)
@@ -238,16 +280,20 @@ is_whole entry = not (list_any is_break entry.0)
 abbrev find_in : List (List ℕ × Name) → List ℕ → Option (List ℕ × Name)
 find_in table text = find (λ entry. bytes_eq entry.0 text) table
 
-listed_step : (entry : List ℕ × Name) (table : List (List ℕ × Name)) (text : List ℕ) (name : Name) (test : Bool) →
+listed_step : (entry : List ℕ × Name) (table : List (List ℕ × Name)) (text : List ℕ)
+    (name : Name) (test : Bool) →
     test ≡ bytes_eq entry.0 text → is_whole entry ≡ true →
-    (listed table text ≡ Some name → list_any is_break text ≡ false) → listed (entry ∷ table) text ≡ Some name →
+    (listed table text ≡ Some name → list_any is_break text ≡ false) →
+    listed (entry ∷ table) text ≡ Some name →
     list_any is_break text ≡ false
 listed_step entry table text name true e whole rest at =
-    subst (λ t. list_any is_break t ≡ false) ((bytes_eq-Decides entry.0 text).0 (sym e)) (not-true _ whole)
+    subst (λ t. list_any is_break t ≡ false) ((bytes_eq-Decides entry.0 text).0 (sym e))
+    (not-true _ whole)
 listed_step entry table text name false e whole rest at =
     rest (ap (λ t. option_map (λ found. found.1) (cond t (Some entry) (find_in table text))) e ∙ at)
 
-listed_unbroken : (table : List (List ℕ × Name)) (text : List ℕ) (name : Name) → list_all is_whole table ≡ true →
+listed_unbroken : (table : List (List ℕ × Name)) (text : List ℕ) (name : Name) →
+    list_all is_whole table ≡ true →
     listed table text ≡ Some name → list_any is_break text ≡ false
 listed_unbroken [] text name all at = cc
 listed_unbroken (entry ∷ table) text name all at =
@@ -265,17 +311,20 @@ other_unbroken text name true None et en e = cc
 other_unbroken text name true (Some n) et en e =
     let all = number_is_digits 5 (drop 5 text) n _ _ refl refl (sym en) in
     let whole : text ≡ codes "Other" ++ drop 5 text =
-    sym (take-append-drop 5 text) ∙ ap (λ front. front ++ drop 5 text) ((bytes_eq-Decides (take 5 text)
-    (codes "Other")).0 (sym et)) in
+    sym (take-append-drop 5 text) ∙ ap (λ front. front ++ drop 5 text)
+    ((bytes_eq-Decides (take 5 text) (codes "Other")).0 (sym et)) in
     ap (list_any is_break) whole ∙ list_any-append is_break (codes "Other") (drop 5 text)
     ∙ digits_unbroken (drop 5 text) all
 
-named_unbroken : (text : List ℕ) (name : Name) (first second : Option Name) → first ≡ listed event_names text →
+named_unbroken : (text : List ℕ) (name : Name) (first second : Option Name) →
+    first ≡ listed event_names text →
     second ≡ other_name text → otherwise first second ≡ Some name → list_any is_break text ≡ false
-named_unbroken text name (Some found) second ef es e = listed_unbroken event_names text found names_whole (sym ef)
+named_unbroken text name (Some found) second ef es e =
+    listed_unbroken event_names text found names_whole (sym ef)
 named_unbroken text name None second ef es e = other_unbroken text name _ _ refl refl (sym es ∙ e)
 
-pub line_common : (sign : ℕ) (input rest place following : List ℕ) (kind : Kind) (name : Name) (index : ℕ) →
+pub line_common :
+    (sign : ℕ) (input rest place following : List ℕ) (kind : Kind) (name : Name) (index : ℕ) →
     input ≡ sign ∷ rest → kind_of sign ≡ Some kind → BeginsWithName rest name place →
     BeginsWithNumber 9 10 place index following →
     BeginsWithEvent input (record {
@@ -284,14 +333,17 @@ pub line_common : (sign : ℕ) (input rest place following : List ℕ) (kind : K
       point = record { line = 1; column = 1; index = index; vs = 0 };
     }) following
 line_common sign input rest place following kind name index is ek read number =
-    line_plain sign read.text place input following kind name index (is ∙ ap (λ r. sign ∷ r) read.whole) ek read.says
+    line_plain sign read.text place input following kind name index
+    (is ∙ ap (λ r. sign ∷ r) read.whole) ek read.says
     (named_unbroken read.text name _ _ refl refl read.says)
     (record { digits = number.digits; whole = number.whole; value = number.value })
 
-pub line_cut : (sign : ℕ) (input rest place following : List ℕ) (kind : Kind) (name : Name) (point : Point) →
+pub line_cut :
+    (sign : ℕ) (input rest place following : List ℕ) (kind : Kind) (name : Name) (point : Point) →
     input ≡ sign ∷ rest → kind_of sign ≡ Some kind → BeginsWithName rest name place →
     BeginsWithPlace place point following →
     BeginsWithEvent input (record { kind = kind; name = name; point = point }) following
 line_cut sign input rest place following kind name point is ek read said =
-    line_placed sign read.text place input following kind name point (is ∙ ap (λ r. sign ∷ r) read.whole) ek read.says
+    line_placed sign read.text place input following kind name point
+    (is ∙ ap (λ r. sign ∷ r) read.whole) ek read.says
     (named_unbroken read.text name _ _ refl refl read.says) said

@@ -1,9 +1,12 @@
 -- The names of events by their length, and `Other`.
-use Rattle.std.proofs.Common.{◌≡◌, ℕ, zero, suc, ◌+◌, ◌<◌, ◌≤◌, true, false, cond, leb, List, [], ◌∷◌, ◌++◌, length, take, drop, Option, Some, None, refl, sym, ap, ◌∙◌, arith, inl, inr, codes, bytes_eq}
+use Rattle.std.proofs.Common.{◌≡◌, ℕ, zero, suc, ◌+◌, ◌<◌, ◌≤◌, true, false, cond, leb, List, []}
+use Rattle.std.proofs.Common.{◌∷◌, ◌++◌, length, take, drop, Option, Some, None, refl, sym, ap, ◌∙◌}
+use Rattle.std.proofs.Common.{arith, inl, inr, codes, bytes_eq}
 use Rattle.std.specs.Prelude.{filter, option_map, option_and_then, nat_le}
 use Rattle.std.specs.Borrow.{Bor}
 use Rattle.std.specs.List.{list_all, slice_get}
-use Rattle.std.proofs.lemmas.Bool.{cases_Bool, and_parts, leb-true, leb-false, eq-eqb, ne_eqb, true≢false}
+use Rattle.std.proofs.lemmas.Bool.{cases_Bool, and_parts, leb-true, leb-false, eq-eqb, ne_eqb}
+use Rattle.std.proofs.lemmas.Bool.{true≢false}
 use Rattle.std.proofs.lemmas.List.{take-append-drop}
 use Rattle.std.proofs.lemmas.Option.{slice_get_past}
 use Rattle.std.proofs.lemmas.Slice.Eq.{bytes_eq-Decides}
@@ -20,29 +23,35 @@ other_length : (text : List ℕ) (entry : List ℕ × Name) → is_long (length 
     bytes_eq entry.0 text ≡ false
 other_length text entry other =
     elim (cases_Bool (bytes_eq entry.0 text)) [
-      | inl same ↦ absurd (true≢false (sym (eq-eqb _ _ (ap length ((bytes_eq-Decides entry.0 text).0 same))) ∙ other))
+      | inl same ↦ absurd (true≢false
+          (sym (eq-eqb _ _ (ap length ((bytes_eq-Decides entry.0 text).0 same))) ∙ other))
       | inr differs ↦ differs
     ]
 
 -- only names that are as long can be the text
-pub listed_by_length : (text : List ℕ) → listed (names_of_length (length text)) text ≡ listed event_names text
+pub listed_by_length : (text : List ℕ) →
+    listed (names_of_length (length text)) text ≡ listed event_names text
 listed_by_length text =
-    ap (option_map (λ entry. entry.1)) (find-filter (λ entry. bytes_eq entry.0 text) (is_long (length text))
-    (other_length text) event_names)
+    ap (option_map (λ entry. entry.1)) (find-filter (λ entry. bytes_eq entry.0 text)
+    (is_long (length text)) (other_length text) event_names)
 
-none_long : (table : List (List ℕ × Name)) (size : ℕ) → list_all (λ entry. leb (length entry.0) 35) table ≡ true →
+none_long : (table : List (List ℕ × Name)) (size : ℕ) →
+    list_all (λ entry. leb (length entry.0) 35) table ≡ true →
     36 ≤ size → filter (is_long size) table ≡ []
 none_long [] size all long = refl
 none_long (entry ∷ table) size all long =
-    let parts = and_parts (leb (length entry.0) 35) (list_all (λ e. leb (length e.0) 35) table) all in
+    let parts =
+    and_parts (leb (length entry.0) 35) (list_all (λ e. leb (length e.0) 35) table) all in
     let least = leb-true (length entry.0) 35 parts.0 in
-    let other : is_long size entry ≡ false = ne_eqb (length entry.0) size (λ e. omega (arith, least, long, e)) in
+    let other : is_long size entry ≡ false =
+    ne_eqb (length entry.0) size (λ e. omega (arith, least, long, e)) in
     ap (λ t. cond t (entry ∷ filter (is_long size) table) (filter (is_long size) table)) other
     ∙ none_long table size parts.1 long
 
 pub unlisted_long : (text : List ℕ) → 36 ≤ length text → listed event_names text ≡ None
 unlisted_long text long =
-    sym (listed_by_length text) ∙ ap (λ table. listed table text) (none_long event_names (length text) refl long)
+    sym (listed_by_length text)
+    ∙ ap (λ table. listed table text) (none_long event_names (length text) refl long)
 
 -- ---- tables that stand at their lengths
 
@@ -52,7 +61,8 @@ Table = Bor (List (Bor (List ℕ) × Name))
 abbrev in_table : List ℕ → Option Table → Option Name
 in_table text table = option_and_then (λ names. listed (entries_of names.now) text) table
 
-at_place : (tables : List Table) (first i : ℕ) (text : List ℕ) → IsByLength tables first → i < length tables →
+at_place : (tables : List Table) (first i : ℕ) (text : List ℕ) →
+    IsByLength tables first → i < length tables →
     in_table text (slice_get tables i) ≡ listed (names_of_length (first + i)) text
 at_place [] first i text are inside = absurd (omega (arith, inside))
 at_place (table ∷ tables) first zero text are inside =
@@ -85,12 +95,14 @@ otherwise_none : (name : Option Name) → otherwise name None ≡ name
 otherwise_none None = refl
 otherwise_none (Some name) = refl
 
-pub name_of_other : (text digits : List ℕ) → bytes_eq (take 5 text) (codes "Other") ≡ true → digits ≡ drop 5 text →
+pub name_of_other : (text digits : List ℕ) → bytes_eq (take 5 text) (codes "Other") ≡ true →
+    digits ≡ drop 5 text →
     other_name (codes "Other" ++ digits) ≡ name_of text
 name_of_other text digits other rest =
     let whole : codes "Other" ++ digits ≡ text =
     ap (λ d. codes "Other" ++ d) rest ∙ ap (λ front. front
-    ++ drop 5 text) (sym ((bytes_eq-Decides (take 5 text) (codes "Other")).0 other)) ∙ take-append-drop 5 text in
+    ++ drop 5 text) (sym ((bytes_eq-Decides (take 5 text) (codes "Other")).0 other))
+    ∙ take-append-drop 5 text in
     let same : other_name (codes "Other" ++ digits) ≡ name_of (codes "Other" ++ digits) = refl in
     same ∙ ap name_of whole
 
@@ -98,5 +110,5 @@ pub name_of_listed : (text : List ℕ) → bytes_eq (take 5 text) (codes "Other"
     listed event_names text ≡ name_of text
 name_of_listed text other =
     sym (otherwise_none (listed event_names text)) ∙ sym
-    (ap (λ t. otherwise (listed event_names text) (cond t
-    (number_of 5 (drop 5 text) >>= λ number. cond (nat_le number 65535) (Some (Other number)) None) None)) other)
+    (ap (λ t. otherwise (listed event_names text) (cond t (number_of 5 (drop 5 text)
+    >>= λ number. cond (nat_le number 65535) (Some (Other number)) None) None)) other)

@@ -1,20 +1,27 @@
 -- Plain lines, read in one go.
-use Rattle.std.proofs.Common.{◌≡◌, ℕ, suc, ◌+◌, Bool, true, false, not, cond, ◌&&◌, ◌||◌, List, [], ◌∷◌, ◌++◌, length, take, drop, get_or, ◌<◌, ◌≤◌, Option, Some, None, refl, sym, ap, ◌∙◌, arith, leb, eqb, inl, inr, subst, ◌-◌}
+use Rattle.std.proofs.Common.{◌≡◌, ℕ, suc, ◌+◌, Bool, true, false, not, cond, ◌&&◌, ◌||◌, List, []}
+use Rattle.std.proofs.Common.{◌∷◌, ◌++◌, length, take, drop, get_or, ◌<◌, ◌≤◌, Option, Some, None}
+use Rattle.std.proofs.Common.{refl, sym, ap, ◌∙◌, arith, leb, eqb, inl, inr, subst, ◌-◌}
 use Rattle.std.specs.Prelude.{position}
-use Rattle.std.specs.List.{before_first, after_first, list_any, onto_first, position_or_len, slice_split}
+use Rattle.std.specs.List.{before_first, after_first, list_any, onto_first, position_or_len}
+use Rattle.std.specs.List.{slice_split}
 use Rattle.std.specs.Char.{is_ascii_digit}
 use Rattle.std.specs.Str.{all_ascii_digits}
 use Rattle.std.specs.Str.Parse.{digits_value}
-use Rattle.std.proofs.lemmas.Bool.{cases_Bool, and_parts, or_parts, leb-true, le-leb, eqb-true, ne_eqb}
-use Rattle.std.proofs.lemmas.List.{append_assoc, length-append, take-append-drop, drop_more, length-take-le, length-drop, take_all}
+use Rattle.std.proofs.lemmas.Bool.{cases_Bool, and_parts, or_parts, leb-true, le-leb, eqb-true}
+use Rattle.std.proofs.lemmas.Bool.{ne_eqb}
+use Rattle.std.proofs.lemmas.List.{append_assoc, length-append, take-append-drop, drop_more}
+use Rattle.std.proofs.lemmas.List.{length-take-le, length-drop, take_all}
 use Rattle.std.proofs.lemmas.List.Folds.{list_any-append}
 use Rattle.std.proofs.lemmas.List.Splits.{slice_split-cons_no, slice_split-cons_yes}
 use Rattle.md_base.specs.declared.event.Kind.{Kind}
 use Rattle.md_base.specs.declared.event.Name.{Name}
 use Rattle.md_base.specs.declared.event.Point.{Point}
-use Rattle.md_script.specs.Line.{◌>>=◌, is_dot, is_space, is_line_feed, lines_of, kind_of, name_of, point_of, event_of}
+use Rattle.md_script.specs.Line.{◌>>=◌, is_dot, is_space, is_line_feed, lines_of, kind_of, name_of}
+use Rattle.md_script.specs.Line.{point_of, event_of}
 use Rattle.md_script.specs.Number.{number_of}
-use Rattle.md_script.specs.PlainLine.{is_break, BeginsWithEvent, BeginsWithIndex, BeginsWithNumber, BeginsWithPlace}
+use Rattle.md_script.specs.PlainLine.{is_break, BeginsWithEvent, BeginsWithIndex, BeginsWithNumber}
+use Rattle.md_script.specs.PlainLine.{BeginsWithPlace}
 use Rattle.md_script.proofs.LineLemmas.{built}
 
 -- ---- a list that is cut at its first byte of a kind
@@ -39,12 +46,14 @@ module _ (p : ℕ → Bool) where
 
   pub before_cut : (xs : List ℕ) (c : ℕ) (ys : List ℕ) → list_any p xs ≡ false → p c ≡ true →
       before_first p (xs ++ c ∷ ys) ≡ xs
-  before_cut xs c ys none hit = ap (λ n. take n (xs ++ c ∷ ys)) (place_of xs c ys none hit) ∙ front xs (c ∷ ys)
+  before_cut xs c ys none hit =
+      ap (λ n. take n (xs ++ c ∷ ys)) (place_of xs c ys none hit) ∙ front xs (c ∷ ys)
 
   pub after_cut : (xs : List ℕ) (c : ℕ) (ys : List ℕ) → list_any p xs ≡ false → p c ≡ true →
       after_first p (xs ++ c ∷ ys) ≡ ys
   after_cut xs c ys none hit =
-      let next : position_or_len p (xs ++ c ∷ ys) + 1 ≡ suc (length xs) = omega (arith, place_of xs c ys none hit) in
+      let next : position_or_len p (xs ++ c ∷ ys) + 1 ≡ suc (length xs) =
+      omega (arith, place_of xs c ys none hit) in
       ap (λ n. drop n (xs ++ c ∷ ys)) next ∙ back xs c ys
 
   pub before_none : (xs : List ℕ) → list_any p xs ≡ false → before_first p xs ≡ xs
@@ -60,14 +69,17 @@ module _ (p : ℕ → Bool) where
   split_cut [] c ys none hit = slice_split-cons_yes p c ys hit
   split_cut (x ∷ xs) c ys none hit =
       let parts = or_parts (p x) (list_any p xs) none in
-      slice_split-cons_no p x (xs ++ c ∷ ys) parts.0 ∙ ap (onto_first x) (split_cut xs c ys parts.1 hit)
+      slice_split-cons_no p x (xs ++ c ∷ ys) parts.0
+      ∙ ap (onto_first x) (split_cut xs c ys parts.1 hit)
 
-  none_step : (x : ℕ) (xs : List ℕ) (here : Bool) → p x ≡ here → list_any p (before_first p xs) ≡ false →
+  none_step : (x : ℕ) (xs : List ℕ) (here : Bool) → p x ≡ here →
+      list_any p (before_first p xs) ≡ false →
       list_any p (take (cond (not here) (1 + position_or_len p xs) 0) (x ∷ xs)) ≡ false
   none_step x xs true e rest = refl
   none_step x xs false e rest =
       let next : 1 + position_or_len p xs ≡ suc (position_or_len p xs) = omega arith in
-      ap (λ n. list_any p (take n (x ∷ xs))) next ∙ ap (λ t. t || list_any p (before_first p xs)) e ∙ rest
+      ap (λ n. list_any p (take n (x ∷ xs))) next
+      ∙ ap (λ t. t || list_any p (before_first p xs)) e ∙ rest
 
   none_before : (xs : List ℕ) → list_any p (before_first p xs) ≡ false
   none_before [] = refl
@@ -78,9 +90,11 @@ module _ (p : ℕ → Bool) where
   place_found n i false e = cc
 
   pub none_until : (xs : List ℕ) (i : ℕ) → Some i ≡ position p xs → list_any p (take i xs) ≡ false
-  none_until xs i e = ap (λ n. list_any p (take n xs)) (place_found (position_or_len p xs) i _ e) ∙ none_before xs
+  none_until xs i e =
+      ap (λ n. list_any p (take n xs)) (place_found (position_or_len p xs) i _ e) ∙ none_before xs
 
-pub cut_at : (xs : List ℕ) (i c : ℕ) → i < length xs → get_or xs i 0 ≡ c → xs ≡ take i xs ++ c ∷ drop (i + 1) xs
+pub cut_at : (xs : List ℕ) (i c : ℕ) → i < length xs → get_or xs i 0 ≡ c →
+    xs ≡ take i xs ++ c ∷ drop (i + 1) xs
 cut_at xs i c inside is =
     sym (take-append-drop i xs) ∙ ap (λ l. take i xs ++ l) (drop_more xs i 0 inside)
     ∙ ap (λ b. take i xs ++ b ∷ drop (i + 1) xs) is
@@ -112,10 +126,12 @@ number_is_digits most digits n true true ea eb e = refl
 number_is_digits most digits n true false ea eb e = cc
 number_is_digits most digits n false b ea eb e = cc
 
-number_digits : (digits : List ℕ) (n : ℕ) → number_of 9 digits ≡ Some n → all_ascii_digits digits ≡ true
+number_digits : (digits : List ℕ) (n : ℕ) → number_of 9 digits ≡ Some n →
+    all_ascii_digits digits ≡ true
 number_digits digits n e = number_is_digits 9 digits n _ _ refl refl e
 
-pub index_read : (bytes : List ℕ) (i index : ℕ) → i < length bytes → get_or bytes i 0 ≡ 10 → 0 < i → i ≤ 9 →
+pub index_read : (bytes : List ℕ) (i index : ℕ) → i < length bytes →
+    get_or bytes i 0 ≡ 10 → 0 < i → i ≤ 9 →
     index ≡ digits_value 10 (take i bytes) → all_ascii_digits (take i bytes) ≡ true →
     BeginsWithIndex bytes index (drop (i + 1) bytes)
 index_read bytes i index inside feed some few value all =
@@ -127,20 +143,25 @@ index_read bytes i index inside feed some few value all =
           ap (λ t. cond (t && leb (length (take i bytes)) 9
           && all_ascii_digits (take i bytes)) (Some (digits_value 10 (take i bytes))) None)
           (le-leb 1 (length (take i bytes)) (omega (arith, size, some)))
-          ∙ ap (λ t. cond (true && t && all_ascii_digits (take i bytes)) (Some (digits_value 10 (take i bytes))) None)
+          ∙ ap (λ t. cond (true && t && all_ascii_digits (take i bytes))
+          (Some (digits_value 10 (take i bytes))) None)
           (le-leb (length (take i bytes)) 9 (omega (arith, size, few)))
-          ∙ ap (λ t. cond (true && true && t) (Some (digits_value 10 (take i bytes))) None) all ∙ ap Some (sym value);
+          ∙ ap (λ t. cond (true && true && t) (Some (digits_value 10 (take i bytes))) None) all
+          ∙ ap Some (sym value);
     }
 
-pub index_read_at : (bytes : List ℕ) (i size index : ℕ) → size ≡ i → i < length bytes → get_or bytes i 0 ≡ 10 →
-    0 < size → size ≤ 9 → index ≡ digits_value 10 (take i bytes) → all_ascii_digits (take i bytes) ≡ true →
+pub index_read_at : (bytes : List ℕ) (i size index : ℕ) → size ≡ i → i < length bytes →
+    get_or bytes i 0 ≡ 10 →
+    0 < size → size ≤ 9 → index ≡ digits_value 10 (take i bytes) →
+    all_ascii_digits (take i bytes) ≡ true →
     BeginsWithIndex bytes index (take (length bytes - (size + 1)) (drop (size + 1) bytes))
 index_read_at bytes i size index place inside feed some few value all =
     let after : drop (i + 1) bytes ≡ take (length bytes - (size + 1)) (drop (size + 1) bytes) =
-    ap (λ n. drop (n + 1) bytes) (sym place) ∙ sym (take_all (length bytes - (size + 1)) (drop (size + 1) bytes)
-    (omega (arith, length-drop (size + 1) bytes))) in
+    ap (λ n. drop (n + 1) bytes) (sym place) ∙ sym (take_all (length bytes - (size + 1))
+    (drop (size + 1) bytes) (omega (arith, length-drop (size + 1) bytes))) in
     subst (λ following. BeginsWithIndex bytes index following) after
-    (index_read bytes i index inside feed (omega (arith, place, some)) (omega (arith, place, few)) value all)
+    (index_read bytes i index inside feed (omega (arith, place, some))
+    (omega (arith, place, few)) value all)
 
 -- ---- the event of a plain line
 
@@ -153,12 +174,15 @@ pointed index columns = do
 abbrev place : ℕ → Point
 place index = record { line = 1; column = 1; index = index; vs = 0 }
 
-point_plain : (digits : List ℕ) (index : ℕ) → number_of 9 digits ≡ Some index → point_of digits ≡ Some (place index)
+point_plain : (digits : List ℕ) (index : ℕ) → number_of 9 digits ≡ Some index →
+    point_of digits ≡ Some (place index)
 point_plain digits index value =
     let none = (digits_are_none digits (number_digits digits index value)).0 in
-    ap (λ d. pointed (number_of 9 d) (cond (list_any is_dot digits) (number_of 3 (after_first is_dot digits))
+    ap (λ d. pointed (number_of 9 d)
+    (cond (list_any is_dot digits) (number_of 3 (after_first is_dot digits))
     (Some 0))) (before_none is_dot digits none)
-    ∙ ap (λ t. pointed (number_of 9 digits) (cond t (number_of 3 (after_first is_dot digits)) (Some 0))) none
+    ∙ ap (λ t. pointed (number_of 9 digits)
+    (cond t (number_of 3 (after_first is_dot digits)) (Some 0))) none
     ∙ ap (λ i. pointed i (Some 0)) value
 
 unbroken : (text : List ℕ) → list_any is_break text ≡ false →
@@ -167,8 +191,10 @@ unbroken [] none = (refl, refl)
 unbroken (x ∷ text) none =
     let parts = or_parts (is_break x) (list_any is_break text) none in
     let here = or_parts (is_space x) (is_line_feed x) parts.0 in
-    let there = unbroken text parts.1 in
-    (ap (λ t. t || list_any is_space text) here.0 ∙ there.0, ap (λ t. t || list_any is_line_feed text) here.1 ∙ there.1)
+    let there = unbroken text parts.1 in (
+      ap (λ t. t || list_any is_space text) here.0 ∙ there.0,
+      ap (λ t. t || list_any is_line_feed text) here.1 ∙ there.1,
+    )
 
 sign_is_none : (sign : ℕ) (kind : Kind) → kind_of sign ≡ Some kind → is_line_feed sign ≡ false
 sign_is_none sign kind e =
@@ -179,17 +205,22 @@ sign_is_none sign kind e =
       unsigned : (sign : ℕ) (kind : Kind) → sign ≡ 10 → kind_of sign ≡ Some kind → ⊥
       unsigned sign kind is e = let no : kind_of 10 ≡ Some kind = sym (ap kind_of is) ∙ e in cc
 
-event_placed : (sign : ℕ) (text said : List ℕ) (kind : Kind) (name : Name) (point : Point) → kind_of sign ≡ Some kind →
+event_placed : (sign : ℕ) (text said : List ℕ) (kind : Kind) (name : Name) (point : Point) →
+    kind_of sign ≡ Some kind →
     name_of text ≡ Some name → point_of said ≡ Some point → list_any is_space text ≡ false →
-    event_of (sign ∷ (text ++ 32 ∷ said)) ≡ Some (record { kind = kind; name = name; point = point })
+    event_of (sign ∷ (text ++ 32 ∷ said))
+    ≡ Some (record { kind = kind; name = name; point = point })
 event_placed sign text said kind name point ek en ep none =
     ap (λ t. built (kind_of sign) (name_of t) (point_of (after_first is_space (text ++ 32 ∷ said))))
     (before_cut is_space text 32 said none refl)
-    ∙ ap (λ t. built (kind_of sign) (name_of text) (point_of t)) (after_cut is_space text 32 said none refl)
-    ∙ ap (λ k. built k (name_of text) (point_of said)) ek ∙ ap (λ n. built (Some kind) n (point_of said)) en
+    ∙ ap (λ t. built (kind_of sign) (name_of text) (point_of t))
+    (after_cut is_space text 32 said none refl)
+    ∙ ap (λ k. built k (name_of text) (point_of said)) ek
+    ∙ ap (λ n. built (Some kind) n (point_of said)) en
     ∙ ap (λ p. built (Some kind) (Some name) p) ep
 
-pub line_placed : (sign : ℕ) (text rest input following : List ℕ) (kind : Kind) (name : Name) (point : Point) →
+pub line_placed :
+    (sign : ℕ) (text rest input following : List ℕ) (kind : Kind) (name : Name) (point : Point) →
     input ≡ sign ∷ (text ++ 32 ∷ rest) → kind_of sign ≡ Some kind → name_of text ≡ Some name →
     list_any is_break text ≡ false → BeginsWithPlace rest point following →
     BeginsWithEvent input (record { kind = kind; name = name; point = point }) following
@@ -201,7 +232,8 @@ line_placed sign text rest input following kind name point is ek en none read =
     is ∙ ap (λ r. sign ∷ (text ++ 32 ∷ r)) read.whole ∙ sym
     (ap (λ l. sign ∷ l) (append_assoc text (32 ∷ said) (10 ∷ following))) in
     let after : list_any is_line_feed (text ++ 32 ∷ said) ≡ false =
-    list_any-append is_line_feed text (32 ∷ said) ∙ ap (λ t. t || list_any is_line_feed said) free.1 ∙ read.uncut in
+    list_any-append is_line_feed text (32 ∷ said) ∙ ap (λ t. t || list_any is_line_feed said) free.1
+    ∙ read.uncut in
     let whole : list_any is_line_feed line ≡ false = ap (λ t. t
     || list_any is_line_feed (text ++ 32 ∷ said)) (sign_is_none sign kind ek) ∙ after in
     record {
@@ -221,7 +253,8 @@ index_placed rest following index read = record {
   uncut = (digits_are_none read.digits (number_digits read.digits index read.value)).1;
 }
 
-pub line_plain : (sign : ℕ) (text rest input following : List ℕ) (kind : Kind) (name : Name) (index : ℕ) →
+pub line_plain :
+    (sign : ℕ) (text rest input following : List ℕ) (kind : Kind) (name : Name) (index : ℕ) →
     input ≡ sign ∷ (text ++ 32 ∷ rest) → kind_of sign ≡ Some kind → name_of text ≡ Some name →
     list_any is_break text ≡ false → BeginsWithIndex rest index following →
     BeginsWithEvent input (record { kind = kind; name = name; point = place index }) following
@@ -231,7 +264,8 @@ line_plain sign text rest input following kind name index is ek en none read =
 
 -- ---- a place within a tab
 
-pub place_cut : (bytes columns following : List ℕ) (index vs : ℕ) → BeginsWithNumber 9 46 bytes index columns →
+pub place_cut : (bytes columns following : List ℕ) (index vs : ℕ) →
+    BeginsWithNumber 9 46 bytes index columns →
     BeginsWithNumber 3 10 columns vs following →
     BeginsWithPlace bytes (record { line = 1; column = 1; index = index; vs = vs }) following
 place_cut bytes columns following index vs front back =
@@ -241,17 +275,21 @@ place_cut bytes columns following index vs front back =
     let none = digits_are_none first (number_is_digits 9 first index _ _ refl refl front.value) in
     let others = digits_are_none second (number_is_digits 3 second vs _ _ refl refl back.value) in
     let dotted : list_any is_dot said ≡ true =
-    list_any-append is_dot first (46 ∷ second) ∙ ap (λ t. t || list_any is_dot (46 ∷ second)) none.0 in
+    list_any-append is_dot first (46 ∷ second)
+    ∙ ap (λ t. t || list_any is_dot (46 ∷ second)) none.0 in
     record {
       text = said;
-      whole = front.whole ∙ ap (λ c. first ++ 46 ∷ c) back.whole ∙ sym (append_assoc first (46 ∷ second) (10
-          ∷ following));
+      whole = front.whole ∙ ap (λ c. first ++ 46 ∷ c) back.whole
+          ∙ sym (append_assoc first (46 ∷ second) (10 ∷ following));
       says =
-          ap (λ d. pointed (number_of 9 d) (cond (list_any is_dot said) (number_of 3 (after_first is_dot said)) (Some 0)))
-          (before_cut is_dot first 46 second none.0 refl)
-          ∙ ap (λ t. pointed (number_of 9 first) (cond t (number_of 3 (after_first is_dot said)) (Some 0))) dotted
-          ∙ ap (λ d. pointed (number_of 9 first) (number_of 3 d)) (after_cut is_dot first 46 second none.0 refl)
-          ∙ ap (λ i. pointed i (number_of 3 second)) front.value ∙ ap (λ c. pointed (Some index) c) back.value;
+          ap (λ d. pointed (number_of 9 d)
+          (cond (list_any is_dot said) (number_of 3 (after_first is_dot said)) (Some 0)))
+          (before_cut is_dot first 46 second none.0 refl) ∙ ap (λ t. pointed (number_of 9 first)
+          (cond t (number_of 3 (after_first is_dot said)) (Some 0))) dotted
+          ∙ ap (λ d. pointed (number_of 9 first) (number_of 3 d))
+          (after_cut is_dot first 46 second none.0 refl)
+          ∙ ap (λ i. pointed i (number_of 3 second)) front.value
+          ∙ ap (λ c. pointed (Some index) c) back.value;
       uncut = list_any-append is_line_feed first (46 ∷ second) ∙ ap (λ t. t
           || list_any is_line_feed (46 ∷ second)) none.1 ∙ others.1;
     }

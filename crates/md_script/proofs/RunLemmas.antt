@@ -16,37 +16,45 @@ use Rattle.md_script.specs.Run.{document_of, ExplainsEvents}
 use Rattle.md_script.specs.SafeRun.{ExplainsSafeEvents, safe_run_error_of}
 use Rattle.md_script.specs.declared.error.SafeRunError.{SafeRunError}
 
-pub refused : (events : List Event) (bytes : List ℕ) (why : CompileError) → IsRefusal (document_of events bytes) why →
+pub refused : (events : List Event) (bytes : List ℕ) (why : CompileError) →
+    IsRefusal (document_of events bytes) why →
     ExplainsEvents events bytes (run_error_of why)
 refused events bytes refusal.Memory h = tt
 refused events bytes (refusal.Event index rule) h = h
 
 -- what the conversion of a refusal gives
-pub told : {T : Type 0} (r : Result T RunError) (why : CompileError) (given events : List Event) (bytes : List ℕ) →
-    given ≡ events → IsErrAnd r (λ made. made ≡ run_error_of why) → IsRefusal (document_of given bytes) why →
+pub told : {T : Type 0} (r : Result T RunError) (why : CompileError)
+    (given events : List Event) (bytes : List ℕ) →
+    given ≡ events → IsErrAnd r (λ made. made ≡ run_error_of why) →
+    IsRefusal (document_of given bytes) why →
     IfErr r (λ error. ExplainsEvents events bytes error)
 told (Ok x) why given events bytes same h refusal = tt
 told (Err made) why given events bytes same h refusal =
-    subst (λ es. ExplainsEvents es bytes made) same (subst (λ error. ExplainsEvents given bytes error) (sym h)
-    (refused given bytes why refusal))
+    subst (λ es. ExplainsEvents es bytes made) same
+    (subst (λ error. ExplainsEvents given bytes error) (sym h) (refused given bytes why refusal))
 
 -- what is said of a refusal in five claims is said in one
-pub refusal_of : (given : Handed) (why : SafeError) → OfCompile (IsOrder given) why → OfCompile (IsMdx given) why →
-    OfCompile (IsOfNode given) why → OfCompile (IsLost given) why → OfCompile (IsOutside given) why →
+pub refusal_of : (given : Handed) (why : SafeError) → OfCompile (IsOrder given) why →
+    OfCompile (IsMdx given) why →
+    OfCompile (IsOfNode given) why → OfCompile (IsLost given) why →
+    OfCompile (IsOutside given) why →
     OfCompile (IsRefusal given) why
 refusal_of given safe.Options order mdx of_node lost outside = tt
 refusal_of given (safe.Compile cause) order mdx of_node lost outside =
     record { order = order; mdx = mdx; of_node = of_node; lost = lost; outside = outside }
 
-refused_safely : (events : List Event) (bytes : List ℕ) (options : CompileOptions) (why : SafeError) →
+refused_safely :
+    (events : List Event) (bytes : List ℕ) (options : CompileOptions) (why : SafeError) →
     IsRefusedFor options why → OfCompile (IsRefusal (document_of events bytes)) why →
     ExplainsSafeEvents events bytes options (safe_run_error_of why)
 refused_safely events bytes options safe.Options unsafe refusal = unsafe
-refused_safely events bytes options (safe.Compile cause) keeps refusal = (keeps, refused events bytes cause refusal)
+refused_safely events bytes options (safe.Compile cause) keeps refusal =
+    (keeps, refused events bytes cause refusal)
 
 -- what the conversion of a safe compiler's error gives
-pub told_safely : {T : Type 0} (r : Result T SafeRunError) (why : SafeError) (given events : List Event)
-    (bytes : List ℕ) (options : CompileOptions) → given ≡ events → IsErrAnd r (λ made. made ≡ safe_run_error_of why) →
+pub told_safely : {T : Type 0} (r : Result T SafeRunError) (why : SafeError)
+    (given events : List Event) (bytes : List ℕ) (options : CompileOptions) → given ≡ events →
+    IsErrAnd r (λ made. made ≡ safe_run_error_of why) →
     IsRefusedFor options why → OfCompile (IsRefusal (document_of given bytes)) why →
     IfErr r (λ error. ExplainsSafeEvents events bytes options error)
 told_safely (Ok x) why given events bytes options same h refused_for refusal = tt

@@ -1,6 +1,9 @@
--- A script read line by line: each line that can be read is one step of progress, and the others end the reading.
--- `read_script` has its invariant and its answers from here, since what it says is of all lines together.
-use Rattle.std.proofs.Common.{◌≡◌, ℕ, ◌+◌, ◌*◌, ◌<◌, ◌≤◌, Bool, true, false, ◌&&◌, ◌||◌, cond, List, [], ◌∷◌, ◌++◌, length, Option, Some, None, refl, sym, ap, ◌∙◌, arith, subst, is_some, bytes_eq}
+-- A script read line by line: each line that can be read is one step of progress, and the others
+-- end the reading. `read_script` has its invariant and its answers from here, since what it says is
+-- of all lines together.
+use Rattle.std.proofs.Common.{◌≡◌, ℕ, ◌+◌, ◌*◌, ◌<◌, ◌≤◌, Bool, true, false, ◌&&◌, ◌||◌, cond, List}
+use Rattle.std.proofs.Common.{[], ◌∷◌, ◌++◌, length, Option, Some, None, refl, sym, ap, ◌∙◌, arith}
+use Rattle.std.proofs.Common.{subst, is_some, bytes_eq}
 use Rattle.std.specs.Prelude.{filter_map, filter, option_to_list, MatchOption, unwrap_or}
 use Rattle.std.specs.Borrow.{Bor}
 use Rattle.std.specs.List.{join_with_byte, cons_option}
@@ -10,13 +13,15 @@ use Rattle.std.proofs.lemmas.List.Splits.{join_with_byte-slice_split}
 use Rattle.std.proofs.lemmas.Slice.Eq.{bytes_eq-Decides}
 use Rattle.md_base.specs.declared.event.Event.{Event}
 use Rattle.md_script.specs.Line.{lines_of, event_of}
-use Rattle.md_script.specs.Script.{end_line, is_readable_after, ReadsAfter, StandsFor, StopsAfter, IsFirstUnreadable}
+use Rattle.md_script.specs.Script.{end_line, is_readable_after, ReadsAfter, StandsFor, StopsAfter}
+use Rattle.md_script.specs.Script.{IsFirstUnreadable}
 use Rattle.md_script.specs.Script.{Explains}
 use Rattle.md_script.specs.PlainLine.{BeginsWithEvent}
 use Rattle.md_script.specs.declared.error.RunError.TheVariants.{Line}
 use Rattle.md_text.specs.declared.options.CompileOptions.{CompileOptions}
 use Rattle.md_script.specs.Setting.{is_setting, option_name, is_new, HasOptions}
-use Rattle.md_script.proofs.SettingLemmas.{is_marked, setting_is_marked, event_is_unmarked, new_by_marked, options_by_marked}
+use Rattle.md_script.proofs.SettingLemmas.{is_marked, setting_is_marked, event_is_unmarked}
+use Rattle.md_script.proofs.SettingLemmas.{new_by_marked, options_by_marked}
 
 -- what is known while lines are read: those seen, and what the reader holds
 pub record Progress (input : List ℕ) (number : ℕ) (events : List Event) (settings : List (List ℕ))
@@ -39,10 +44,12 @@ reads_push earlier [] line reads readable = (
 reads_push earlier (first ∷ seen) line reads readable = (
   reads.0,
   reads_push (earlier ++ first ∷ []) seen line reads.1
-      (subst (λ lines. is_readable_after lines line ≡ true) (sym (append_assoc earlier (first ∷ []) seen)) readable),
+      (subst (λ lines. is_readable_after lines line ≡ true)
+      (sym (append_assoc earlier (first ∷ []) seen)) readable),
 )
 
-cons_append : (first : Option Event) (xs ys : List Event) → cons_option first (xs ++ ys) ≡ cons_option first xs ++ ys
+cons_append : (first : Option Event) (xs ys : List Event) →
+    cons_option first (xs ++ ys) ≡ cons_option first xs ++ ys
 cons_append None xs ys = refl
 cons_append (Some x) xs ys = refl
 
@@ -50,7 +57,8 @@ cons_alone : (said : Option Event) → option_to_list said ≡ cons_option said 
 cons_alone None = refl
 cons_alone (Some event) = refl
 
-says_push : (seen : List (List ℕ)) (line : List ℕ) → filter_map event_of seen ++ option_to_list (event_of line)
+says_push : (seen : List (List ℕ)) (line : List ℕ) →
+    filter_map event_of seen ++ option_to_list (event_of line)
     ≡ filter_map event_of (seen ++ line ∷ [])
 says_push [] line = cons_alone (event_of line)
 says_push (first ∷ seen) line =
@@ -62,7 +70,8 @@ cond_append : (test : Bool) (x : List ℕ) (xs ys : List (List ℕ)) →
 cond_append true x xs ys = refl
 cond_append false x xs ys = refl
 
-filter-append : (q : List ℕ → Bool) (xs ys : List (List ℕ)) → filter q (xs ++ ys) ≡ filter q xs ++ filter q ys
+filter-append : (q : List ℕ → Bool) (xs ys : List (List ℕ)) →
+    filter q (xs ++ ys) ≡ filter q xs ++ filter q ys
 filter-append q [] ys = refl
 filter-append q (x ∷ xs) ys = ap (λ rest. cond (q x) (x ∷ rest) rest) (filter-append q xs ys)
     ∙ cond_append (q x) x (filter q xs) (filter q ys)
@@ -71,7 +80,8 @@ filter-append q (x ∷ xs) ys = ap (λ rest. cond (q x) (x ∷ rest) rest) (filt
 
 -- what is answered of a line by the settings that are kept
 abbrev pub takes : List (List ℕ) → List ℕ → Bool
-takes settings line = is_some (event_of line) || is_setting line && is_new settings (option_name line)
+takes settings line =
+    is_some (event_of line) || is_setting line && is_new settings (option_name line)
 
 readable_by_marked : (seen : List (List ℕ)) (line : List ℕ) →
     takes (filter is_marked seen) line ≡ is_readable_after seen line
@@ -79,32 +89,40 @@ readable_by_marked seen line = ap (λ new. is_some (event_of line) || is_setting
     && new) (new_by_marked seen (option_name line))
 
 -- a line that is read is kept unless it is an event
-kept_line : (settings : List (List ℕ)) (line : List ℕ) (said : Option Event) → said ≡ event_of line →
+kept_line : (settings : List (List ℕ)) (line : List ℕ) (said : Option Event) →
+    said ≡ event_of line →
     takes settings line ≡ true → cond (is_some said) [] (line ∷ []) ≡ filter is_marked (line ∷ [])
-kept_line settings line (Some event) e taken = sym (ap (λ t. cond t (line ∷ []) []) (event_is_unmarked line event e))
+kept_line settings line (Some event) e taken =
+    sym (ap (λ t. cond t (line ∷ []) []) (event_is_unmarked line event e))
 kept_line settings line None e taken =
     let second : (is_setting line && is_new settings (option_name line)) ≡ true =
     ap (λ said. is_some said || is_setting line && is_new settings (option_name line)) e ∙ taken in
-    sym (ap (λ t. cond t (line ∷ []) []) (setting_is_marked line (and_parts (is_setting line) _ second).0))
+    sym (ap (λ t. cond t (line ∷ []) [])
+    (setting_is_marked line (and_parts (is_setting line) _ second).0))
 
-read_line_has_bytes : (settings : List (List ℕ)) (line : List ℕ) → takes settings line ≡ true → 0 < length line
+read_line_has_bytes : (settings : List (List ℕ)) (line : List ℕ) →
+    takes settings line ≡ true → 0 < length line
 read_line_has_bytes settings [] taken = cc
 read_line_has_bytes settings (b ∷ line) taken = omega arith
 
-pub line_more : {input rest : List ℕ} {number : ℕ} {events : List Event} {settings : List (List ℕ)} →
+pub line_more :
+    {input rest : List ℕ} {number : ℕ} {events : List Event} {settings : List (List ℕ)} →
     Progress input number events settings rest → (line following : List ℕ) →
     lines_of rest ≡ line ∷ lines_of following → length line + length following + 1 ≡ length rest →
-    takes settings line ≡ true → Progress input (number + 1) (events ++ option_to_list (event_of line)) (settings
+    takes settings line ≡ true →
+    Progress input (number + 1) (events ++ option_to_list (event_of line)) (settings
     ++ cond (is_some (event_of line)) [] (line ∷ [])) following
 line_more {input} {rest} {number} {events} {settings} known line following cut size taken =
     let readable : is_readable_after known.seen line ≡ true =
-    sym (readable_by_marked known.seen line) ∙ ap (λ kept. takes kept line) (sym known.sets) ∙ taken in
+    sym (readable_by_marked known.seen line)
+    ∙ ap (λ kept. takes kept line) (sym known.sets) ∙ taken in
     record {
       seen = known.seen ++ line ∷ [];
       whole = known.whole ∙ ap (λ lines. known.seen ++ lines) cut
           ∙ sym (append_assoc known.seen (line ∷ []) (lines_of following));
       reads = reads_push [] known.seen line known.reads readable;
-      says = ap (λ said. said ++ option_to_list (event_of line)) known.says ∙ says_push known.seen line;
+      says = ap (λ said. said ++ option_to_list (event_of line)) known.says
+          ∙ says_push known.seen line;
       sets =
           ap (λ kept. settings ++ kept) (kept_line settings line (event_of line) refl taken)
           ∙ ap (λ kept. kept ++ filter is_marked (line ∷ [])) known.sets
@@ -114,17 +132,21 @@ line_more {input} {rest} {number} {events} {settings} known line following cut s
     }
 
 -- each line more is an event or a setting more
-pub counted_more : (events : List Event) (settings : List (List ℕ)) (line : List ℕ) (said : Option Event) →
-    length events + length settings + 1
-    ≡ length (events ++ option_to_list said) + length (settings ++ cond (is_some said) [] (line ∷ []))
+pub counted_more :
+    (events : List Event) (settings : List (List ℕ)) (line : List ℕ) (said : Option Event) →
+    length events + length settings + 1 ≡ length (events ++ option_to_list said)
+    + length (settings ++ cond (is_some said) [] (line ∷ []))
 counted_more events settings line (Some event) =
     omega (arith, length-append events (event ∷ []), length-append settings [])
-counted_more events settings line None = omega (arith, length-append events [], length-append settings (line ∷ []))
+counted_more events settings line None =
+    omega (arith, length-append events [], length-append settings (line ∷ []))
 
 -- a plain line more
-pub plain_more : {input rest : List ℕ} {number : ℕ} {events : List Event} {settings : List (List ℕ)} →
+pub plain_more :
+    {input rest : List ℕ} {number : ℕ} {events : List Event} {settings : List (List ℕ)} →
     Progress input number events settings rest → (event : Event) (following : List ℕ) →
-    BeginsWithEvent rest event following → Progress input (number + 1) (events ++ event ∷ []) settings following
+    BeginsWithEvent rest event following →
+    Progress input (number + 1) (events ++ event ∷ []) settings following
 plain_more {input} {rest} {number} {events} {settings} known event following read =
     let line = read.line in
     let taken : takes settings line ≡ true = ap (λ said. is_some said || is_setting line
@@ -132,31 +154,37 @@ plain_more {input} {rest} {number} {events} {settings} known event following rea
     let more = line_more known line following read.cut read.size taken in
     let said = subst (λ said. Progress input (number + 1) (events ++ option_to_list said) (settings
     ++ cond (is_some said) [] (line ∷ [])) following) read.says more in
-    subst (λ kept. Progress input (number + 1) (events ++ event ∷ []) kept following) (append-nil settings) said
+    subst (λ kept. Progress input (number + 1) (events ++ event ∷ []) kept following)
+    (append-nil settings) said
 
 -- ---- the line that ends the script
 
 is_end : (line : List ℕ) → bytes_eq line end_line ≡ true → line ≡ end_line
 is_end line h = (bytes_eq-Decides line end_line).0 h
 
-pub script_ends : {input rest : List ℕ} {number : ℕ} {events : List Event} {settings : List (List ℕ)} →
+pub script_ends :
+    {input rest : List ℕ} {number : ℕ} {events : List Event} {settings : List (List ℕ)} →
     Progress input number events settings rest → (line bytes : List ℕ) (document : List (List ℕ))
     (options : CompileOptions) → lines_of rest ≡ line ∷ document → bytes_eq line end_line ≡ true →
-    bytes ≡ join_with_byte 10 document → HasOptions settings options → StandsFor input events bytes options
+    bytes ≡ join_with_byte 10 document → HasOptions settings options →
+    StandsFor input events bytes options
 script_ends {settings} known line bytes document options cut ends joined has = record {
   body = known.seen;
   document = document;
   script = record {
-    whole = known.whole ∙ ap (λ lines. known.seen ++ lines) (cut ∙ ap (λ l. l ∷ document) (is_end line ends));
+    whole = known.whole
+        ∙ ap (λ lines. known.seen ++ lines) (cut ∙ ap (λ l. l ∷ document) (is_end line ends));
     reads = known.reads;
   };
   says = known.says;
-  sets = options_by_marked known.seen options (subst (λ kept. HasOptions kept options) known.sets has);
+  sets =
+      options_by_marked known.seen options (subst (λ kept. HasOptions kept options) known.sets has);
   rest = joined;
 }
 
 -- the document after the line, or none
-pub script_ends_at : {input rest : List ℕ} {number : ℕ} {events : List Event} {settings : List (List ℕ)} →
+pub script_ends_at :
+    {input rest : List ℕ} {number : ℕ} {events : List Event} {settings : List (List ℕ)} →
     Progress input number events settings rest → (line : List ℕ) (following : Option (Bor (List ℕ)))
     (document empty : Bor (List ℕ)) (options : CompileOptions) →
     MatchOption following (lines_of rest ≡ line ∷ []) (λ f. lines_of rest ≡ line ∷ lines_of f.now) →
@@ -174,7 +202,8 @@ end_unreadable : (earlier : List (List ℕ)) → is_readable_after earlier end_l
 end_unreadable earlier = refl
 
 -- what stops the reading and what ends a script don't go together
-clash : (before earlier others body document : List (List ℕ)) → earlier ++ others ≡ body ++ end_line ∷ document →
+clash : (before earlier others body document : List (List ℕ)) →
+    earlier ++ others ≡ body ++ end_line ∷ document →
     ReadsAfter before earlier → ReadsAfter before body → StopsAfter (before ++ earlier) others → ⊥
 clash before [] [] [] document e reads script stops = cc
 clash before [] (line ∷ others) [] document e reads script stops =
@@ -195,23 +224,31 @@ clash before (line ∷ earlier) others (first ∷ body) document e reads script 
     (subst (λ l. ReadsAfter (before ++ l ∷ []) body) same script.1)
     (subst (λ lines. StopsAfter lines others) (sym (append_assoc before (line ∷ []) earlier)) stops)
 
-explained : {input : List ℕ} {number : ℕ} → IsFirstUnreadable input number → Explains input (Line number)
+explained : {input : List ℕ} {number : ℕ} → IsFirstUnreadable input number →
+    Explains input (Line number)
 explained why = (
   (λ (body, document, script). clash [] why.earlier why.others body document (sym why.whole
       ∙ script.whole) why.reads script.reads why.stops),
   why,
 )
 
-pub line_stops : {input rest : List ℕ} {number : ℕ} {events : List Event} {settings : List (List ℕ)} →
-    Progress input number events settings rest → (line : List ℕ) (following : Option (Bor (List ℕ))) →
+pub line_stops :
+    {input rest : List ℕ} {number : ℕ} {events : List Event} {settings : List (List ℕ)} →
+    Progress input number events settings rest →
+    (line : List ℕ) (following : Option (Bor (List ℕ))) →
     MatchOption following (lines_of rest ≡ line ∷ []) (λ f. lines_of rest ≡ line ∷ lines_of f.now) →
-    bytes_eq line end_line ≡ false → takes settings line ≡ false → Explains input (Line (number + 1))
+    bytes_eq line end_line ≡ false → takes settings line ≡ false →
+    Explains input (Line (number + 1))
 line_stops {settings} known line None cut other nothing = explained (record {
   earlier = known.seen;
   others = line ∷ [];
   whole = known.whole ∙ ap (λ lines. known.seen ++ lines) cut;
   reads = known.reads;
-  stops = (other, sym (readable_by_marked known.seen line) ∙ ap (λ kept. takes kept line) (sym known.sets) ∙ nothing);
+  stops = (
+    other,
+    sym (readable_by_marked known.seen line)
+        ∙ ap (λ kept. takes kept line) (sym known.sets) ∙ nothing,
+  );
   counted = ap (λ n. n + 1) known.counted;
 })
 line_stops {settings} known line (Some f) cut other nothing = explained (record {
@@ -219,17 +256,23 @@ line_stops {settings} known line (Some f) cut other nothing = explained (record 
   others = line ∷ lines_of f.now;
   whole = known.whole ∙ ap (λ lines. known.seen ++ lines) cut;
   reads = known.reads;
-  stops = (other, sym (readable_by_marked known.seen line) ∙ ap (λ kept. takes kept line) (sym known.sets) ∙ nothing);
+  stops = (
+    other,
+    sym (readable_by_marked known.seen line)
+        ∙ ap (λ kept. takes kept line) (sym known.sets) ∙ nothing,
+  );
   counted = ap (λ n. n + 1) known.counted;
 })
 
-pub input_stops : {input rest : List ℕ} {number : ℕ} {events : List Event} {settings : List (List ℕ)} →
+pub input_stops :
+    {input rest : List ℕ} {number : ℕ} {events : List Event} {settings : List (List ℕ)} →
     Progress input number events settings rest → (line : List ℕ) → lines_of rest ≡ line ∷ [] →
     takes settings line ≡ true → Explains input (Line (number + 1 + 1))
 input_stops {settings} known line cut taken = explained (record {
   earlier = known.seen ++ line ∷ [];
   others = [];
-  whole = known.whole ∙ ap (λ lines. known.seen ++ lines) cut ∙ sym (append-nil (known.seen ++ line ∷ []));
+  whole = known.whole ∙ ap (λ lines. known.seen ++ lines) cut
+      ∙ sym (append-nil (known.seen ++ line ∷ []));
   reads = reads_push [] known.seen line known.reads (sym (readable_by_marked known.seen line)
       ∙ ap (λ kept. takes kept line) (sym known.sets) ∙ taken);
   stops = tt;

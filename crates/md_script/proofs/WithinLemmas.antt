@@ -38,7 +38,8 @@ explained events bytes options limits (within.Compile cause) much longer checked
 -- what the conversion of the compiler's error gives
 pub told_within : {T : Type 0} (r : Result T RunWithinError) (why : WithinError)
     (given events : List Event) (bytes : List ℕ) (options : CompileOptions) (limits : Limits) →
-    given ≡ events → IsErrAnd r (λ made. made ≡ run_within_error_of why) → IsTooMuchFor given limits.work why →
+    given ≡ events → IsErrAnd r (λ made. made ≡ run_within_error_of why) →
+    IsTooMuchFor given limits.work why →
     OfTooLong (IsLonger options (document_of given bytes) limits.text) why →
     OfTooLong (IsChecked (document_of given bytes)) why →
     OfWithin (IsRefusal (document_of given bytes)) why →

@@ -1,5 +1,7 @@
--- The first space among sixteen bytes, and the rows of names of under sixteen bytes; only private contracts cite it.
-use Rattle.std.specs.Prelude.{◌≡◌, ℕ, ◌<◌, Bool, true, false, ◌==◌, List, length, map, Option, Some, slice_index}
+-- The first space among sixteen bytes, and the rows of names of under sixteen bytes; only private
+-- contracts cite it.
+use Rattle.std.specs.Prelude.{◌≡◌, ℕ, ◌<◌, Bool, true, false, ◌==◌, List, length, map, Option, Some}
+use Rattle.std.specs.Prelude.{slice_index}
 use Rattle.std.specs.List.{list_all, before_first}
 use Rattle.md_base.specs.declared.event.Name.{Name}
 use Rattle.md_base.specs.EventNames.{event_names}

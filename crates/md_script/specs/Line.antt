@@ -1,5 +1,6 @@
 -- The lines of an input, and the event that a line of a script says.
-use Rattle.std.specs.Prelude.{ℕ, Bool, ◌==◌, nat_le, if◌then◌else◌, List, [], ◌∷◌, take, drop, Option, Some, None, option_and_then, bytes_eq, codes}
+use Rattle.std.specs.Prelude.{ℕ, Bool, ◌==◌, nat_le, if◌then◌else◌, List, [], ◌∷◌, take, drop}
+use Rattle.std.specs.Prelude.{Option, Some, None, option_and_then, bytes_eq, codes}
 use Rattle.std.specs.List.{list_any, before_first, after_first, slice_split}
 use Rattle.md_base.specs.declared.event.Kind.{Kind}
 use Rattle.md_base.specs.declared.event.Kind.TheVariants.{Enter, Exit}
@@ -25,8 +26,8 @@ value >>= next = option_and_then next value
 -- `Other` and its number
 abbrev pub other_name : List ℕ → Option Name
 other_name text =
-    if bytes_eq (take 5 text) (codes "Other") then (number_of 5 (drop 5 text) >>= λ number. if nat_le number 65535
-    then Some (Other number) else None) else None
+    if bytes_eq (take 5 text) (codes "Other") then (number_of 5 (drop 5 text)
+    >>= λ number. if nat_le number 65535 then Some (Other number) else None) else None
 
 abbrev pub otherwise : {A : Type 0} → Option A → Option A → Option A
 otherwise (Some value) other = Some value

@@ -25,7 +25,8 @@ pub record BeginsWithIndex (bytes : List ℕ) (index : ℕ) (following : List �
   pub value : number_of 9 digits ≡ Some index
 
 -- the digits of this number, at most so many, and this after the byte that ends them
-pub record BeginsWithNumber (most end : ℕ) (bytes : List ℕ) (number : ℕ) (following : List ℕ) : Type 0 where
+pub record BeginsWithNumber (most end : ℕ) (bytes : List ℕ) (number : ℕ)
+    (following : List ℕ) : Type 0 where
   pub digits : List ℕ
   pub whole : bytes ≡ digits ++ end ∷ following
   pub value : number_of most digits ≡ Some number

@@ -24,8 +24,8 @@ use Rattle.md_script.specs.declared.error.RunError.TheVariants as error
 -- the names of character references, each with its text
 abbrev pub reference_names : List (List ℕ × List ℕ)
 reference_names =
-    (codes "amp", codes "&") ∷ (codes "lt", codes "<") ∷ (codes "gt", codes ">") ∷ (codes "quot", 34 ∷ [])
-    ∷ (codes "apos", codes "'")
+    (codes "amp", codes "&") ∷ (codes "lt", codes "<") ∷ (codes "gt", codes ">")
+    ∷ (codes "quot", 34 ∷ []) ∷ (codes "apos", codes "'")
     ∷ (codes "colon", codes ":") ∷ (codes "sol", codes "/") ∷ (codes "num", codes "#")
     ∷ (codes "quest", codes "?") ∷ []
 
@@ -33,12 +33,13 @@ reference_names =
 abbrev pub document_of : List Event → List ℕ → Handed
 document_of events bytes = record { events = events; bytes = bytes; names = reference_names }
 
--- the events are of the grammar over the bytes, and the text is the meaning of their document; where the options
--- are safe, it has one reading, with links and images of permitted protocols alone, in which everything stands where it
--- may, and the HTML Standard's tokenizer emits that, with links and images of permitted schemes alone; where no link
--- stands in a link, tree construction builds it; where ids go by number no two ids are equal
-pub record IsCompiled (events : List Event) (bytes : List ℕ) (options : CompileOptions) (text : List ℕ)
-    : Type 0 where
+-- the events are of the grammar over the bytes, and the text is the meaning of their document;
+-- where the options are safe, it has one reading, with links and images of permitted protocols
+-- alone, in which everything stands where it may, and the HTML Standard's tokenizer emits that,
+-- with links and images of permitted schemes alone; where no link stands in a link, tree
+-- construction builds it; where ids go by number no two ids are equal
+pub record IsCompiled (events : List Event) (bytes : List ℕ) (options : CompileOptions)
+    (text : List ℕ) : Type 0 where
   pub grammatical : IsChecked (document_of events bytes)
   pub means : (document : Forest) → flatten document ≡ events →
       text ≡ meaning options reference_names bytes document
@@ -46,7 +47,8 @@ pub record IsCompiled (events : List Event) (bytes : List ℕ) (options : Compil
   pub safe_links : KeepsLinks options → HasOneReadingWith is_safe_link text
   pub safe_images : KeepsImages options → HasOneReadingWith is_safe_image text
   pub contained : KeepsGrammar options → IsContained text
-  pub tree : (document : Forest) → flatten document ≡ events → has_nested_link false document ≡ false →
+  pub tree : (document : Forest) → flatten document ≡ events →
+      has_nested_link false document ≡ false →
       KeepsGrammar options → IsBuiltAsRead text
   pub tokenized : KeepsGrammar options → IsTokenizedAsRead text
   pub safe_link_tokens : KeepsLinks options → HasTokensWith has_safe_links text
@@ -57,7 +59,8 @@ pub record IsCompiled (events : List Event) (bytes : List ℕ) (options : Compil
 abbrev pub ExplainsEvents : List Event → List ℕ → RunError → Type 0
 ExplainsEvents events bytes error.Memory = Unit {0}
 ExplainsEvents events bytes (error.Line number) = ⊥
-ExplainsEvents events bytes (error.Event index rule) = IsRefusal (document_of events bytes) (refusal.Event index rule)
+ExplainsEvents events bytes (error.Event index rule) =
+    IsRefusal (document_of events bytes) (refusal.Event index rule)
 
 -- the text is that of what the input stands for
 pub record IsTextOf (input text : List ℕ) : Type 0 where

@@ -28,10 +28,10 @@ abbrev pub safe_message_of : SafeRunError → List ℕ
 safe_message_of Options = codes "unsafe options"
 safe_message_of (Run error) = message_of error
 
--- the options are safe, the events are of the grammar over the bytes, and the text is the meaning of their document;
--- the HTML Standard's tokenizer emits its reading, with links and images of permitted schemes alone; in it everything
--- stands where it may; where no link stands in a link, tree construction builds it; where ids go by number no two ids
--- are equal
+-- the options are safe, the events are of the grammar over the bytes, and the text is the meaning
+-- of their document; the HTML Standard's tokenizer emits its reading, with links and images of
+-- permitted schemes alone; in it everything stands where it may; where no link stands in a link,
+-- tree construction builds it; where ids go by number no two ids are equal
 pub record IsSafelyCompiled (events : List Event) (bytes : List ℕ) (options : CompileOptions)
     (text : List ℕ) : Type 0 where
   pub safe : KeepsImages options
@@ -40,14 +40,16 @@ pub record IsSafelyCompiled (events : List Event) (bytes : List ℕ) (options : 
       text ≡ meaning options reference_names bytes document
   pub tokens : IsSafelyTokenized text
   pub contained : IsContained text
-  pub tree : (document : Forest) → flatten document ≡ events → has_nested_link false document ≡ false →
+  pub tree : (document : Forest) → flatten document ≡ events →
+      has_nested_link false document ≡ false →
       IsBuiltAsRead text
   pub distinct_ids : options.gfm_footnote_number_ids ≡ true → HasDistinctIds text
 
 -- why events give no safe text: their options aren't safe, or they are and the events give no text
 abbrev pub ExplainsSafeEvents : List Event → List ℕ → CompileOptions → SafeRunError → Type 0
 ExplainsSafeEvents events bytes options Options = KeepsImages options → ⊥
-ExplainsSafeEvents events bytes options (Run error) = KeepsImages options × ExplainsEvents events bytes error
+ExplainsSafeEvents events bytes options (Run error) =
+    KeepsImages options × ExplainsEvents events bytes error
 
 -- the text is that of what the input stands for, whose options are safe
 pub record IsSafeTextOf (input text : List ℕ) : Type 0 where

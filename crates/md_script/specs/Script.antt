@@ -1,5 +1,6 @@
 -- What a whole script stands for, and which of its lines can't be read.
-use Rattle.std.specs.Prelude.{◌≡◌, ℕ, ◌+◌, Bool, ◌&&◌, ◌||◌, IsTrue, IsFalse, List, [], ◌∷◌, ◌++◌, length, filter_map, is_some, bytes_eq, codes}
+use Rattle.std.specs.Prelude.{◌≡◌, ℕ, ◌+◌, Bool, ◌&&◌, ◌||◌, IsTrue, IsFalse, List, [], ◌∷◌, ◌++◌}
+use Rattle.std.specs.Prelude.{length, filter_map, is_some, bytes_eq, codes}
 use Rattle.std.specs.List.{join_with_byte}
 use Rattle.md_base.specs.declared.event.Event as event
 use Rattle.md_script.specs.declared.error.RunError.{RunError}
@@ -14,7 +15,8 @@ end_line = codes "--"
 
 -- a line is readable after these: an event, or an option that none of them sets
 abbrev pub is_readable_after : List (List ℕ) → List ℕ → Bool
-is_readable_after earlier line = is_some (event_of line) || is_setting line && is_new earlier (option_name line)
+is_readable_after earlier line =
+    is_some (event_of line) || is_setting line && is_new earlier (option_name line)
 
 -- each line is readable after the earlier ones and those before it
 abbrev pub ReadsAfter : List (List ℕ) → List (List ℕ) → Type 0
@@ -28,7 +30,8 @@ pub record IsScript (input : List ℕ) (body document : List (List ℕ)) : Type 
   pub reads : ReadsAfter [] body
 
 abbrev pub IsReadable : List ℕ → Type 0
-IsReadable input = (body : List (List ℕ)) × (document : List (List ℕ)) × IsScript input body document
+IsReadable input =
+    (body : List (List ℕ)) × (document : List (List ℕ)) × IsScript input body document
 
 -- it stands for these events over these bytes, under these options
 pub record StandsFor (input : List ℕ) (events : List event.Event) (bytes : List ℕ)
@@ -43,7 +46,8 @@ pub record StandsFor (input : List ℕ) (events : List event.Event) (bytes : Lis
 -- there is no line here, or one that is neither `--` nor readable
 abbrev pub StopsAfter : List (List ℕ) → List (List ℕ) → Type 0
 StopsAfter earlier [] = Unit {0}
-StopsAfter earlier (line ∷ lines) = IsFalse (bytes_eq line end_line) × IsFalse (is_readable_after earlier line)
+StopsAfter earlier (line ∷ lines) =
+    IsFalse (bytes_eq line end_line) × IsFalse (is_readable_after earlier line)
 
 -- the first line that can't be read has this number: the lines before it are readable
 pub record IsFirstUnreadable (input : List ℕ) (number : ℕ) : Type 0 where
@@ -54,7 +58,8 @@ pub record IsFirstUnreadable (input : List ℕ) (number : ℕ) : Type 0 where
   pub stops : StopsAfter earlier others
   pub counted : number ≡ length earlier + 1
 
--- why a script isn't read: a line is named only where the input isn't readable, and it is the first that can't be read
+-- why a script isn't read: a line is named only where the input isn't readable, and it is the first
+-- that can't be read
 abbrev pub Explains : List ℕ → RunError → Type 0
 Explains input Memory = Unit {0}
 Explains input (Line number) = (¬ IsReadable input) × IsFirstUnreadable input number

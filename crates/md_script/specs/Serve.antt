@@ -1,5 +1,5 @@
--- What `serve` does: it reads a script to its end, runs it, and writes its text. What a reader has left and what
--- a writer holds is known or not; where it isn't, nothing is claimed of it.
+-- What `serve` does: it reads a script to its end, runs it, and writes its text. What a reader has
+-- left and what a writer holds is known or not; where it isn't, nothing is claimed of it.
 use Rattle.std.specs.Prelude.{◌≡◌, ℕ, List, ◌++◌, codes, Option}
 use Rattle.std.specs.Io.KnownBytes.{Keeps, Appends, Consumes, IsAtEnd}
 use Rattle.md_script.specs.declared.error.RunError.{RunError}
@@ -39,7 +39,8 @@ pub record IsServed (left leaves held holds : Option (List ℕ)) : Type 0 where
 
 -- what was read, to its end, gives no text for this cause
 abbrev pub IsTold : Option (List ℕ) → Option (List ℕ) → RunError → Type 0
-IsTold left leaves cause = (input : List ℕ) × IsReadWhole left leaves input × ExplainsRun input cause
+IsTold left leaves cause =
+    (input : List ℕ) × IsReadWhole left leaves input × ExplainsRun input cause
 
 -- why a script was not served; nothing is claimed where it is out of memory or a read fails
 abbrev pub ExplainsServe : Option (List ℕ) → Option (List ℕ) → ServeError → Type 0
@@ -61,7 +62,8 @@ abbrev pub IsUnwritten : Option (List ℕ) → Option (List ℕ) → Option (Lis
     ServeError → Type 0
 IsUnwritten left leaves held holds (Run cause) = Keeps held holds
 IsUnwritten left leaves held holds Input = Keeps held holds
-IsUnwritten left leaves held holds Output = (text : List ℕ) × IsRun left leaves text × IsCutOff held holds text
+IsUnwritten left leaves held holds Output =
+    (text : List ℕ) × IsRun left leaves text × IsCutOff held holds text
 
 -- reading failed, or memory ran out
 abbrev pub IsBeforeRun : ServeError → Type 0

@@ -13,7 +13,8 @@ use Rattle.md_html.specs.declared.within.WithinError.{WithinError}
 use Rattle.md_html.specs.declared.within.WithinError.TheVariants as within
 use Rattle.md_script.specs.declared.error.RunError.TheVariants as error
 use Rattle.md_script.specs.declared.running_within.RunWithinError.{RunWithinError}
-use Rattle.md_script.specs.declared.running_within.RunWithinError.TheVariants.{TooLong, TooMuch, Run}
+use Rattle.md_script.specs.declared.running_within.RunWithinError.TheVariants.{TooLong, TooMuch}
+use Rattle.md_script.specs.declared.running_within.RunWithinError.TheVariants.{Run}
 use Rattle.md_script.specs.Error.{message_of, status_of, run_error_of}
 use Rattle.md_script.specs.Run.{document_of, IsCompiled, ExplainsEvents, ExplainsRun}
 use Rattle.md_script.specs.Script.{StandsFor}

@@ -1,6 +1,7 @@
 //! Names at the front of a text, most of them recognized by one load of sixteen bytes.
 
-ghost use Rattle.std.specs.Prelude.{◌≡◌, ℕ, ◌<◌, ◌≤◌, nat_le, if◌then◌else◌, length, slice_index, IfSome};
+ghost use Rattle.std.specs.Prelude.{◌≡◌, ℕ, ◌<◌, ◌≤◌, nat_le, if◌then◌else◌, length, slice_index};
+ghost use Rattle.std.specs.Prelude.{IfSome};
 ghost use Rattle.md_script.specs.PlainLine.{BeginsWithName};
 ghost use Rattle.md_script.specs.CommonName.{IsFirstSpace, IsSpaceAt, AreRows};
 
@@ -16,8 +17,8 @@ const LANES: usize = 16;
 /// How many bytes are looked at for the end of a name; no name has as many.
 const LONGEST: usize = 48;
 
-/// The name that bytes begin with, and what follows the space after it. Nothing also where it is one that a slower way
-/// reads.
+/// The name that bytes begin with, and what follows the space after it. Nothing also where it is
+/// one that a slower way reads.
 #[inline(always)]
 pub(crate) fn read_common_name(bytes: &[u8]) -> Option<(Name, &[u8])>
     ensures { IfSome result (λ read. BeginsWithName bytes.now read.0 read.1.now) }
@@ -39,7 +40,8 @@ pub(crate) fn read_common_name(bytes: &[u8]) -> Option<(Name, &[u8])>
     }
 }
 
-/// How many bytes stand before the first space, which is more than fifteen where there is none among the first sixteen.
+/// How many bytes stand before the first space, which is more than fifteen where there is none
+/// among the first sixteen.
 #[inline(always)]
 fn first_space(bytes: &[u8]) -> usize
     requires { LANES ≤ length bytes.now }
@@ -105,7 +107,8 @@ fn read_long_name(bytes: &[u8]) -> Option<(Name, &[u8])>
     Some((name, &bytes[size + 1..]))
 }
 
-/// Where a space stands after the first sixteen bytes, and before the last of the next blocks that a name may reach.
+/// Where a space stands after the first sixteen bytes, and before the last of the next blocks that
+/// a name may reach.
 fn space_after_block(bytes: &[u8]) -> Option<usize>
     requires { LANES ≤ length bytes.now }
     ensures { IfSome result (λ size. IsSpaceAt bytes.now size) }
@@ -121,8 +124,8 @@ fn space_after_block(bytes: &[u8]) -> Option<usize>
     None
 }
 
-/// The place of the row for a name with these bytes as its first, its middle and its last one: no two of these names
-/// have the same. It is a guess, as other texts may have them too.
+/// The place of the row for a name with these bytes as its first, its middle and its last one: no
+/// two of these names have the same. It is a guess, as other texts may have them too.
 #[inline(always)]
 fn place_of_row(first: u8, middle: u8, last: u8) -> usize {
     let sum = usize::from(first) + MIDDLE * usize::from(middle) + LAST * usize::from(last);

@@ -4,8 +4,8 @@ ghost use Rattle.std.specs.Prelude.{◌≡◌, ◌-◌, ◌<◌, ◌≤◌, true
 ghost use Rattle.std.specs.Char.{is_ascii_digit};
 ghost use Rattle.md_script.specs.PlainLine.{BeginsWithNumber};
 
-/// The number that the digits before a byte write, of which there are one or more and at most so many, and what follows
-/// that byte.
+/// The number that the digits before a byte write, of which there are one or more and at most so
+/// many, and what follows that byte.
 #[inline(always)]
 pub(crate) fn digits_before(bytes: &[u8], end: u8, most: usize) -> Option<(usize, &[u8])>
     requires few { most ≤ 9 }

@@ -1,8 +1,10 @@
 //! Plain lines of events: a sign, a name, one space and an index.
 
-ghost use Rattle.std.specs.Prelude.{◌≡◌, ◌+◌, ◌*◌, ◌++◌, ◌∷◌, List, false, length, position, IfSome};
+ghost use Rattle.std.specs.Prelude.{◌≡◌, ◌+◌, ◌*◌, ◌++◌, ◌∷◌, List, false, length, position};
+ghost use Rattle.std.specs.Prelude.{IfSome};
 ghost use Rattle.std.specs.List.{list_any};
-ghost use Rattle.md_script.specs.PlainLine.{is_break, BeginsWithEvent, BeginsWithIndex, BeginsWithPlace};
+ghost use Rattle.md_script.specs.PlainLine.{is_break, BeginsWithEvent, BeginsWithIndex};
+ghost use Rattle.md_script.specs.PlainLine.{BeginsWithPlace};
 
 use crate::common_name::read_common_name;
 use crate::digits::digits_before;
@@ -10,9 +12,9 @@ use crate::line::read_kind;
 use crate::name::read_name;
 use md_base::{Event, Point};
 
-/// The event of the first line and what follows its line feed, where the line is plain: a sign, a name, one space, an
-/// index, and after a dot perhaps columns. Nothing where it is another one, and near the end of the input also where
-/// it has columns.
+/// The event of the first line and what follows its line feed, where the line is plain: a sign, a
+/// name, one space, an index, and after a dot perhaps columns. Nothing where it is another one, and
+/// near the end of the input also where it has columns.
 pub fn read_plain_line(input: &[u8]) -> Option<(Event, &[u8])>
     ensures { IfSome result (λ read. BeginsWithEvent input.now read.0 read.1.now) }
 {
@@ -79,9 +81,9 @@ const INDEX_SIZE: usize = 10;
 /// How many bytes the most columns have with their line feed.
 const COLUMNS_SIZE: usize = 4;
 
-/// The event of a line that gives an index and nothing else, and what follows the line, as [`read_plain_line`] tells
-/// them, in fewer steps, of lines as most are. Nothing also where fewer than sixteen bytes follow the sign, fewer than
-/// ten the name, or few a long one.
+/// The event of a line that gives an index and nothing else, and what follows the line, as
+/// [`read_plain_line`] tells them, in fewer steps, of lines as most are. Nothing also where fewer
+/// than sixteen bytes follow the sign, fewer than ten the name, or few a long one.
 #[inline(always)]
 pub fn read_common_line(input: &[u8]) -> Option<(Event, &[u8])>
     ensures { IfSome result (λ read. BeginsWithEvent input.now read.0 read.1.now) }

@@ -2,7 +2,8 @@
 
 ghost use Rattle.std.specs.Prelude.{string_bytes, IfOk, IfErr};
 ghost use Rattle.md_script.specs.Run.{IsCompiled, ExplainsEvents, IsTextOf, ExplainsRun};
-ghost use Rattle.md_script.specs.SafeRun.{IsSafelyCompiled, ExplainsSafeEvents, IsSafeTextOf, ExplainsSafeRun};
+ghost use Rattle.md_script.specs.SafeRun.{IsSafelyCompiled, ExplainsSafeEvents, IsSafeTextOf};
+ghost use Rattle.md_script.specs.SafeRun.{ExplainsSafeRun};
 
 use crate::error::{RunError, SafeRunError};
 use crate::script::{Script, read_script};
@@ -45,7 +46,8 @@ pub fn run(alloc: Global, input: &[u8]) -> Result<String, RunError>
 
 fn compile_script(alloc: Global, script: &Script) -> Result<String, RunError>
     ensures text { IfOk result (λ text.
-        IsCompiled script.now.events.items script.now.document.now script.now.options (string_bytes text)) }
+        IsCompiled script.now.events.items script.now.document.now script.now.options
+        (string_bytes text)) }
     ensures err { IfErr result (λ error.
         ExplainsEvents script.now.events.items script.now.document.now error) }
 {
@@ -62,7 +64,8 @@ fn compile_script(alloc: Global, script: &Script) -> Result<String, RunError>
 ///
 /// # Errors
 ///
-/// `SafeRunError::Options` where the script can be read and its options aren't safe; else as [`run`].
+/// `SafeRunError::Options` where the script can be read and its options aren't safe;
+/// else as [`run`].
 ///
 /// # Examples
 ///
@@ -86,7 +89,8 @@ fn compile_safely(alloc: Global, script: &Script) -> Result<SafeHtml, SafeRunErr
     ensures text { IfOk result (λ html.
         IsSafelyCompiled script.now.events.items script.now.document.now script.now.options html) }
     ensures err { IfErr result (λ error.
-        ExplainsSafeEvents script.now.events.items script.now.document.now script.now.options error) }
+        ExplainsSafeEvents script.now.events.items script.now.document.now
+        script.now.options error) }
 {
     Ok(compile_safe(
         alloc,

@@ -1,6 +1,8 @@
 //! Reads a script: its events, its options and its document.
 
-ghost use Rattle.std.specs.Prelude.{◌≡◌, bytes_eq, ◌+◌, ◌<◌, vec_len, ◌&&◌, ◌||◌, [], ◌∷◌, ◌++◌, true, if◌then◌else◌, is_some, option_to_list, length, MatchOption, IfOk, OnOk, IfErr};
+ghost use Rattle.std.specs.Prelude.{◌≡◌, bytes_eq, ◌+◌, ◌<◌, vec_len, ◌&&◌, ◌||◌, [], ◌∷◌, ◌++◌};
+ghost use Rattle.std.specs.Prelude.{true, if◌then◌else◌, is_some, option_to_list, length};
+ghost use Rattle.std.specs.Prelude.{MatchOption, IfOk, OnOk, IfErr};
 ghost use Rattle.std.specs.Vec.{vec_capacity};
 ghost use Rattle.md_script.specs.Line.{lines_of, event_of};
 ghost use Rattle.md_script.specs.Setting.{texts_of, is_setting, option_name, is_new};
@@ -90,8 +92,8 @@ fn keep_event(events: &mut Vec<Event>, event: Event, following: &[u8]) -> Result
     Ok(())
 }
 
-/// Makes room for an event more, and for as many as there are, unless fewer lines follow: so there is never more than
-/// where room grows by doubling.
+/// Makes room for an event more, and for as many as there are, unless fewer lines follow: so there
+/// is never more than where room grows by doubling.
 #[inline(never)]
 fn make_room(events: &mut Vec<Event>, following: &[u8]) -> Result<(), AllocError>
     ensures events { events.new.items ≡ events.old.items }
@@ -128,7 +130,8 @@ fn take_line<'a>(
     ensures events { OnOk result
         (events.new.items ≡ events.old.items ++ option_to_list (event_of line.now)) }
     ensures settings { IfOk result (λ taken. taken ≡ true → texts_of settings.new.items
-        ≡ texts_of settings.old.items ++ (if is_some (event_of line.now) then [] else line.now ∷ [])) }
+        ≡ texts_of settings.old.items
+        ++ (if is_some (event_of line.now) then [] else line.now ∷ [])) }
 {
     if let Some(event) = read_event(line) {
         events.push(event)?;
@@ -137,7 +140,8 @@ fn take_line<'a>(
     keep_setting(settings, line)
 }
 
-/// Keeps a line that sets an option, if none of those before it sets the same one; whether it was kept.
+/// Keeps a line that sets an option, if none of those before it sets the same one;
+/// whether it was kept.
 fn keep_setting<'a>(settings: &mut Vec<&'a [u8]>, line: &'a [u8]) -> Result<bool, AllocError>
     ensures kept { IfOk result (λ kept. kept ≡ (is_setting line.now
         && is_new (texts_of settings.old.items) (option_name line.now))) }

@@ -2,7 +2,8 @@
 
 ghost use Rattle.std.specs.Prelude.{◌≡◌, ◌<◌, IfOk, OnOk, IfErr, length};
 ghost use Rattle.std.specs.Io.KnownBytes.{Appends};
-ghost use Rattle.md_script.specs.Serve.{IsReadWhole, IsServed, ExplainsServe, IsUnwritten, IsCutOff, IsBeforeRun};
+ghost use Rattle.md_script.specs.Serve.{IsReadWhole, IsServed, ExplainsServe, IsUnwritten};
+ghost use Rattle.md_script.specs.Serve.{IsCutOff, IsBeforeRun};
 ghost use Rattle.md_script.specs.declared.serving.ServeError.TheVariants as error;
 
 use crate::error::RunError;
@@ -33,7 +34,8 @@ impl ServeError {
     ghost use Rattle.std.specs.Prelude.{◌≡◌};
     ghost use Rattle.md_script.specs.Serve.{serve_status};
 
-    /// The status with which a program ends: that of the script's error, 4 where reading or writing failed.
+    /// The status with which a program ends: that of the script's error, 4 where reading
+    /// or writing failed.
     ///
     /// # Examples
     ///
@@ -94,9 +96,9 @@ impl From<AllocError> for ServeError {
 ///
 /// # Errors
 ///
-/// `ServeError::Run` where the script gives no text, or memory runs out; `ServeError::Input` where a read fails, or
-/// none of 16,777,216 reads meets the end. With both nothing was written. `ServeError::Output` where a write fails;
-/// a prefix of the text was written then, or nothing.
+/// `ServeError::Run` where the script gives no text, or memory runs out; `ServeError::Input` where
+/// a read fails, or none of 16,777,216 reads meets the end. With both nothing was written.
+/// `ServeError::Output` where a write fails; a prefix of the text was written then, or nothing.
 ///
 /// # Examples
 ///
@@ -112,10 +114,12 @@ pub fn serve<R: Read, W: Write>(
     writer: &mut W,
 ) -> Result<(), ServeError>
     ensures ok { OnOk result
-        (IsServed (R.remaining reader.old) (R.remaining reader.new) (W.contents writer.old) (W.contents writer.new)) }
+        (IsServed (R.remaining reader.old) (R.remaining reader.new) (W.contents writer.old)
+        (W.contents writer.new)) }
     ensures err { IfErr result (ExplainsServe (R.remaining reader.old) (R.remaining reader.new)) }
     ensures unwritten { IfErr result (IsUnwritten
-        (R.remaining reader.old) (R.remaining reader.new) (W.contents writer.old) (W.contents writer.new)) }
+        (R.remaining reader.old) (R.remaining reader.new) (W.contents writer.old)
+        (W.contents writer.new)) }
 {
     let input = read_input(alloc, reader)?;
     let text = run(alloc, input.as_slice())?;
@@ -126,8 +130,8 @@ pub fn serve<R: Read, W: Write>(
 ///
 /// # Errors
 ///
-/// `ServeError::Input` where a read fails, or none of 16,777,216 reads meets the end, and `ServeError::Run` where
-/// memory runs out.
+/// `ServeError::Input` where a read fails, or none of 16,777,216 reads meets the end, and
+/// `ServeError::Run` where memory runs out.
 ///
 /// # Examples
 ///
@@ -137,7 +141,8 @@ pub fn serve<R: Read, W: Write>(
 /// assert_eq!(input.as_slice(), b"--\n".as_slice());
 /// ```
 pub fn read_input<R: Read>(alloc: Global, reader: &mut R) -> Result<Vec<u8>, ServeError>
-    ensures ok { IfOk result (λ input. IsReadWhole (R.remaining reader.old) (R.remaining reader.new) input.items) }
+    ensures ok { IfOk result
+        (λ input. IsReadWhole (R.remaining reader.old) (R.remaining reader.new) input.items) }
     ensures err { IfErr result IsBeforeRun }
 {
     let mut input = Vec::new(alloc);
@@ -165,7 +170,8 @@ fn buffer(alloc: Global) -> Result<Vec<u8>, AllocError>
 fn write_text<W: Write>(writer: &mut W, text: &[u8]) -> Result<(), ServeError>
     ensures ok { OnOk result (Appends (W.contents writer.old) (W.contents writer.new) text.now) }
     ensures err { IfErr result (λ e. e ≡ error.Output) }
-    ensures cut_off { IfErr result (λ _. IsCutOff (W.contents writer.old) (W.contents writer.new) text.now) }
+    ensures cut_off { IfErr result
+        (λ _. IsCutOff (W.contents writer.old) (W.contents writer.new) text.now) }
 {
     let mut rest = text;
     while !rest.is_empty() {

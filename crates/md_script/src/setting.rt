@@ -1,6 +1,7 @@
 //! Lines of a script that set options, and the options that they set.
 
-ghost use Rattle.std.specs.Prelude.{◌≡◌, unwrap_or, option_and_then, option_copied, option_map, string_bytes, IfOk};
+ghost use Rattle.std.specs.Prelude.{◌≡◌, unwrap_or, option_and_then, option_copied, option_map};
+ghost use Rattle.std.specs.Prelude.{string_bytes, IfOk};
 ghost use Rattle.md_script.specs.Setting as spec;
 ghost use Rattle.md_script.specs.Setting.{ending_named, ending_name, is_equals, HasOptions};
 ghost use Rattle.std.specs.List.{after_first};

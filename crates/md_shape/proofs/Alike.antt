@@ -1,5 +1,6 @@
 -- Which definition the check says, and which the meaning looks up.
-use Rattle.std.proofs.Common.{◌≡◌, ℕ, suc, Bool, true, false, Option, Some, None, List, [], ◌∷◌, refl, sym, ap, ◌∙◌, subst}
+use Rattle.std.proofs.Common.{◌≡◌, ℕ, suc, Bool, true, false, Option, Some, None, List, [], ◌∷◌}
+use Rattle.std.proofs.Common.{refl, sym, ap, ◌∙◌, subst}
 use Rattle.std.specs.Prelude.{map, unwrap_or, option_map, find, bytes_eq, slice_get, if◌then◌else◌}
 use Rattle.md_base.specs.declared.event.Name.{Name}
 use Rattle.md_base.specs.declared.event.Point.{Point}
@@ -16,9 +17,11 @@ use Rattle.md_tree.specs.Mentions.{mentions_of, defined, footnoted}
 use Rattle.md_tree.specs.Mentions.{identifier_at as label_identifier}
 use Rattle.md_tree.specs.Numbers.{which, definition_for}
 use Rattle.md_tree.specs.Grammar.{IsGrammatical}
-use Rattle.md_tree.proofs.Labels.{HasIdentifier, target-there, mentions-there, defined-texts, footnoted-texts}
+use Rattle.md_tree.proofs.Labels.{HasIdentifier, target-there, mentions-there, defined-texts}
+use Rattle.md_tree.proofs.Labels.{footnoted-texts}
 use Rattle.md_meaning.specs.Meaning.At.{Defined, identifier_of}
-use Rattle.md_shape.specs.Leads.{Everywhere, LeadsAlike, defined_in, footnotes_defined_in, first_of, found_at}
+use Rattle.md_shape.specs.Leads.{Everywhere, LeadsAlike, defined_in, footnotes_defined_in, first_of}
+use Rattle.md_shape.specs.Leads.{found_at}
 use Rattle.md_shape.proofs.Resolved.{definitions-known, footnotes-known}
 
 abbrev known : Option (List ℕ) → List ℕ
@@ -36,13 +39,16 @@ pub find-first : {A : Type 0} (of : A → List ℕ) (found : List A) (wanted : L
     find (λ one. bytes_eq (of one) wanted) found ≡ found_at found (first_of (map of found) wanted)
 find-first of [] wanted = refl
 find-first of (one ∷ found) wanted =
-    elim (bytes_eq (of one) wanted) as (λ b. (if b then Some one else find (λ x. bytes_eq (of x) wanted) found)
-    ≡ found_at (one ∷ found) (if b then Some 0 else option_map (λ place. suc place) (first_of (map of found) wanted))) [
+    elim (bytes_eq (of one) wanted) as
+    (λ b. (if b then Some one else find (λ x. bytes_eq (of x) wanted) found)
+    ≡ found_at (one ∷ found)
+    (if b then Some 0 else option_map (λ place. suc place) (first_of (map of found) wanted))) [
       | true ↦ refl
       | false ↦ find-first of found wanted ∙ later (first_of (map of found) wanted)
     ]
   where
-    later : (o : Option ℕ) → found_at found o ≡ found_at (one ∷ found) (option_map (λ place. suc place) o)
+    later : (o : Option ℕ) →
+        found_at found o ≡ found_at (one ∷ found) (option_map (λ place. suc place) o)
     later None = refl
     later (Some place) = refl
 
@@ -56,15 +62,19 @@ named bytes children label text is there =
     ])) is
     ∙ ap (λ o. Some (known o)) there)
 
-looked_up : (found : List (Option (List ℕ))) (identifiers : List (List ℕ)) (wanted : Option (List ℕ)) (text : List ℕ) →
+looked_up : (found : List (Option (List ℕ))) (identifiers : List (List ℕ))
+    (wanted : Option (List ℕ)) (text : List ℕ) →
     found ≡ map Some (map (λ identifier. unwrap_or identifier []) found) →
-    map known found ≡ identifiers → wanted ≡ Some text → which found wanted ≡ first_of identifiers text
+    map known found ≡ identifiers → wanted ≡ Some text →
+    which found wanted ≡ first_of identifiers text
 looked_up found identifiers wanted text texts known_are is =
     ap (λ w. which found w) is ∙ ap (λ xs. which xs (Some text)) (texts ∙ ap (map Some) known_are)
     ∙ which_first identifiers text
 
-each : (bytes : List ℕ) (names : List (List ℕ × List ℕ)) (document : Forest) → IsGrammatical bytes names document →
-    (forest : Forest) (around : Role) (before : Option Symbol) → MeetRules bytes names forest around before →
+each : (bytes : List ℕ) (names : List (List ℕ × List ℕ)) (document : Forest) →
+    IsGrammatical bytes names document →
+    (forest : Forest) (around : Role) (before : Option Symbol) →
+    MeetRules bytes names forest around before →
     Everywhere (LeadsAlike bytes document) forest
 each bytes names document is Empty around before meets = tt
 each bytes names document is (Node name start end children rest) around before meets = (
@@ -73,7 +83,8 @@ each bytes names document is (Node name start end children rest) around before m
       let there = target-there bytes names children _ _ Missing meets.1 tt in
       let has = has_label (target_of children Missing) label leads there in
       let text = named bytes children label has.0 leads has.1 in (
-        looked_up (defined bytes (mentions_of document)) (defined_in bytes document) (label_identifier bytes label)
+        looked_up (defined bytes (mentions_of document)) (defined_in bytes document)
+            (label_identifier bytes label)
             (identifier_of bytes children) (defined-texts bytes (mentions_of document) mentions)
             (definitions-known bytes document _ _ (IsGrammatical.shape is).0) text,
         looked_up (footnoted bytes (mentions_of document)) (footnotes_defined_in bytes document)
@@ -85,7 +96,8 @@ each bytes names document is (Node name start end children rest) around before m
   each bytes names document is rest _ _ meets.2,
 )
   where
-    has_label : (target : Referral) (label : Position) → target ≡ Label label → HasIdentifier bytes target →
+    has_label : (target : Referral) (label : Position) → target ≡ Label label →
+        HasIdentifier bytes target →
         HasIdentifier bytes (Label label)
     has_label target label leads has = subst (λ t. HasIdentifier bytes t) leads has
 
@@ -94,7 +106,8 @@ pub leads-alike : (bytes : List ℕ) (names : List (List ℕ × List ℕ)) (docu
 leads-alike bytes names document is =
     each bytes names document is document role.Flow None (IsGrammatical.rules is)
 
--- where these definitions have the identifiers of the document's, the first one is found where the check says
+-- where these definitions have the identifiers of the document's, the first one is found
+-- where the check says
 abbrev pub IsFoundByPlace : List ℕ → Forest → List Defined → Name → Point → Point → Forest → Type 0
 IsFoundByPlace bytes document definitions name start end children =
     (label : Position) → target_of children Missing ≡ Label label →
@@ -102,8 +115,10 @@ IsFoundByPlace bytes document definitions name start end children =
     ≡ found_at definitions (definition_for bytes (mentions_of document) (Reference label))
 
 found_by_place : (bytes : List ℕ) (document : Forest) (definitions : List Defined) →
-    map (λ (d : Defined). d.identifier) definitions ≡ defined_in bytes document → (forest : Forest) →
-    Everywhere (LeadsAlike bytes document) forest → Everywhere (IsFoundByPlace bytes document definitions) forest
+    map (λ (d : Defined). d.identifier) definitions ≡ defined_in bytes document →
+    (forest : Forest) →
+    Everywhere (LeadsAlike bytes document) forest →
+    Everywhere (IsFoundByPlace bytes document definitions) forest
 found_by_place bytes document definitions are Empty alike = tt
 found_by_place bytes document definitions are (Node name start end children rest) alike = (
   λ label leads.

@@ -1,8 +1,10 @@
--- What may stand where, said by the symbols of the grammar in place of names, and that both say the same. `told` says
--- of each name what proofs ask of how it stands.
+-- What may stand where, said by the symbols of the grammar in place of names, and that both say the
+-- same. `told` says of each name what proofs ask of how it stands.
 use Rattle.std.proofs.Common.{◌≡◌, Bool, true, false, ◌&&◌, ◌||◌, List, [], ◌∷◌, refl}
 use Rattle.md_base.specs.declared.event.Name.{Name}
-use Rattle.md_base.specs.declared.event.Name.TheVariants.{BlockQuotePrefix, SpaceOrTab, Other, MdxEsm, MdxFlowExpression, MdxTextExpression, MdxJsxFlowTag, MdxJsxTextTag}
+use Rattle.md_base.specs.declared.event.Name.TheVariants as name_variants
+use name_variants.{BlockQuotePrefix, SpaceOrTab, Other, MdxEsm, MdxFlowExpression}
+use name_variants.{MdxTextExpression, MdxJsxFlowTag, MdxJsxTextTag}
 use Rattle.md_pattern.specs.declared.kinds.Symbol.{Symbol}
 use Rattle.md_pattern.specs.declared.kinds.Symbol.TheVariants as symbol
 use Rattle.md_pattern.specs.declared.kinds.Role.{Role}
@@ -11,7 +13,12 @@ use Rattle.md_pattern.specs.declared.kinds.Standing.{Standing}
 use Rattle.md_pattern.specs.declared.kinds.Standing.TheVariants.{Through, Space, Solid, Mdx}
 use Rattle.md_pattern.specs.Standing.{standing_of}
 use Rattle.md_base.specs.NameTests.{is_transparent}
-use Rattle.md_shape.specs.Content.{Content, Blocks, Spans, Strings, Html, Lines, Fences, BeforeLabel, AfterLabel, Sources, Rows, Cells, Parts, Nothing, Childless, is_string, is_span, is_block, is_label_text, is_code_data, is_html, is_line, is_said_by_fence, is_label, is_after_label, is_source, is_in_table, may_be_cell, is_part, may_stand, content_of, content_past}
+use Rattle.md_shape.specs.Content.{Content, Blocks, Spans, Strings, Html, Lines, Fences}
+use Rattle.md_shape.specs.Content.{BeforeLabel, AfterLabel, Sources, Rows, Cells, Parts, Nothing}
+use Rattle.md_shape.specs.Content.{Childless, is_string, is_span, is_block, is_label_text}
+use Rattle.md_shape.specs.Content.{is_code_data, is_html, is_line, is_said_by_fence, is_label}
+use Rattle.md_shape.specs.Content.{is_after_label, is_source, is_in_table, may_be_cell, is_part}
+use Rattle.md_shape.specs.Content.{may_stand, content_of, content_past}
 
 -- what is asked of a name, or of a symbol
 pub record Tests : Type 0 where
@@ -78,7 +85,8 @@ abbrev pub is_label_text_symbol : Symbol → Bool
 is_label_text_symbol seen = elim seen [ symbol.LabelText ↦ true | _ ↦ false ]
 
 abbrev pub is_code_data_symbol : Symbol → Bool
-is_code_data_symbol seen = elim seen [ symbol.CodeTextData ↦ true | symbol.MathTextData ↦ true | _ ↦ false ]
+is_code_data_symbol seen =
+    elim seen [ symbol.CodeTextData ↦ true | symbol.MathTextData ↦ true | _ ↦ false ]
 
 abbrev pub is_html_symbol : Symbol → Bool
 is_html_symbol seen = elim seen [
@@ -101,14 +109,19 @@ is_line_symbol seen = elim seen [
 ]
 
 abbrev pub is_said_by_fence_symbol : Symbol → Bool
-is_said_by_fence_symbol seen =
-    elim seen [ symbol.CodeInfo ↦ true | symbol.CodeMeta ↦ true | symbol.MathMeta ↦ true | _ ↦ false ]
+is_said_by_fence_symbol seen = elim seen [
+  | symbol.CodeInfo ↦ true
+  | symbol.CodeMeta ↦ true
+  | symbol.MathMeta ↦ true
+  | _ ↦ false
+]
 
 abbrev pub is_label_symbol : Symbol → Bool
 is_label_symbol seen = elim seen [ symbol.Label ↦ true | _ ↦ false ]
 
 abbrev pub is_after_label_symbol : Symbol → Bool
-is_after_label_symbol seen = elim seen [ symbol.Resource ↦ true | symbol.ReferenceString ↦ true | _ ↦ false ]
+is_after_label_symbol seen =
+    elim seen [ symbol.Resource ↦ true | symbol.ReferenceString ↦ true | _ ↦ false ]
 
 abbrev pub is_source_symbol : Symbol → Bool
 is_source_symbol seen = elim seen [
@@ -182,7 +195,8 @@ may_by Parts tests = tests.part
 may_by Nothing tests = false
 may_by Childless tests = false
 
-pub may_by-names : (content : Content) (name : Name) → may_by content (tests_of name) ≡ may_stand content name
+pub may_by-names : (content : Content) (name : Name) →
+    may_by content (tests_of name) ≡ may_stand content name
 may_by-names Blocks name = refl
 may_by-names Spans name = refl
 may_by-names Strings name = refl
@@ -258,7 +272,8 @@ abbrev pub Says : Standing → Name → Type 0
 Says Through name = is_transparent name ≡ true
 Says Space name = is_transparent name ≡ true
 Says (Solid seen usual reading) name =
-    (is_transparent name ≡ false) × (tests_of name ≡ tests_for seen) × (content_of name ≡ group_of usual)
+    (is_transparent name ≡ false) × (tests_of name ≡ tests_for seen)
+    × (content_of name ≡ group_of usual)
 Says Mdx name = Unit {0}
 
 pub says : (name : Name) → Says (standing_of name) name

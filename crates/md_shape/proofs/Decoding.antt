@@ -1,5 +1,7 @@
 -- Each reference of a document of the grammar decodes, by the mark that stands before its value.
-use Rattle.std.proofs.Common.{◌≡◌, inl, inr, ℕ, zero, suc, Bool, true, false, ◌&&◌, Option, Some, None, List, [], ◌∷◌, ◌++◌, refl, sym, ap, ◌∙◌, subst, append_assoc, append-nil, arith}
+use Rattle.std.proofs.Common.{◌≡◌, inl, inr, ℕ, zero, suc, Bool, true, false, ◌&&◌, Option, Some}
+use Rattle.std.proofs.Common.{None, List, [], ◌∷◌, ◌++◌, refl, sym, ap, ◌∙◌, subst, append_assoc}
+use Rattle.std.proofs.Common.{append-nil, arith}
 use Rattle.std.specs.Prelude.{if◌then◌else◌, is_some, replicate, unwrap_or, length, slice_get, ◌-◌}
 use Rattle.std.specs.Option.{option_map_or}
 use Rattle.std.specs.List.{list_all}
@@ -21,7 +23,8 @@ use Rattle.md_base.specs.Tree.{Forest, Empty, Node}
 use Rattle.md_pattern.specs.Standing.{standing_of}
 use Rattle.md_pattern.specs.Pattern.{pattern_of}
 use Rattle.md_pattern.specs.Spine.{spine, shown, IsTail, IsGrouped, Matches}
-use Rattle.md_pattern.specs.Shape.{IsStanding, AreShaped, role_for, last_symbol, inner_role, inner_before}
+use Rattle.md_pattern.specs.Shape.{IsStanding, AreShaped, role_for, last_symbol, inner_role}
+use Rattle.md_pattern.specs.Shape.{inner_before}
 use Rattle.md_tree.specs.Rules.{broken_by, unless, is_decodable, marker_after}
 use Rattle.md_tree.specs.Laws.{symbols_of}
 use Rattle.md_tree.specs.Grammar.{IsGrammatical}
@@ -57,50 +60,60 @@ abbrev is_no_value : Symbol → Bool
 is_no_value symbol.ReferenceValue = false
 is_no_value _ = true
 
-well-first : (before : Option Symbol) (seen : Symbol) → is_no_value seen ≡ true → stands_well before seen ≡ true
+well-first : (before : Option Symbol) (seen : Symbol) → is_no_value seen ≡ true →
+    stands_well before seen ≡ true
 well-first before symbol.ReferenceValue h = lie h
 well-first before _ h = refl
 
 well-endings : (n : ℕ) (before : Option Symbol) (rest : List Symbol) →
-    ((b : Option Symbol) → are_well b rest ≡ true) → are_well before (replicate n symbol.LineEnding ++ rest) ≡ true
+    ((b : Option Symbol) → are_well b rest ≡ true) →
+    are_well before (replicate n symbol.LineEnding ++ rest) ≡ true
 well-endings zero before rest later = later before
 well-endings (suc n) before rest later = well-endings n (Some symbol.LineEnding) rest later
 
 well-tail : (first : Symbol) (tail rest : List Symbol) → IsTail first tail →
     ((b : Option Symbol) → are_well b rest ≡ true) → are_well (Some first) (tail ++ rest) ≡ true
 well-tail symbol.ReferenceMarker tail rest is later = elim is [
-  | inl e ↦ ap (λ t. are_well (Some symbol.ReferenceMarker) (t ++ rest)) e ∙ later (Some symbol.ReferenceValue)
+  | inl e ↦ ap (λ t. are_well (Some symbol.ReferenceMarker) (t ++ rest)) e
+      ∙ later (Some symbol.ReferenceValue)
   | inr more ↦ elim more [
-    | inl e ↦ ap (λ t. are_well (Some symbol.ReferenceMarker) (t ++ rest)) e ∙ later (Some symbol.ReferenceValue)
-    | inr e ↦ ap (λ t. are_well (Some symbol.ReferenceMarker) (t ++ rest)) e ∙ later (Some symbol.ReferenceValue)
+    | inl e ↦ ap (λ t. are_well (Some symbol.ReferenceMarker) (t ++ rest)) e
+        ∙ later (Some symbol.ReferenceValue)
+    | inr e ↦ ap (λ t. are_well (Some symbol.ReferenceMarker) (t ++ rest)) e
+        ∙ later (Some symbol.ReferenceValue)
   ]
 ]
 well-tail symbol.SetextText tail rest is later =
     ap (λ t. are_well (Some symbol.SetextText) (t ++ rest)) is.1
-    ∙ ap (are_well (Some symbol.SetextText)) (append_assoc (replicate is.0 symbol.LineEnding) (symbol.SetextUnderline
-    ∷ []) rest)
+    ∙ ap (are_well (Some symbol.SetextText))
+    (append_assoc (replicate is.0 symbol.LineEnding) (symbol.SetextUnderline ∷ []) rest)
     ∙ well-endings is.0 (Some symbol.SetextText) (symbol.SetextUnderline
     ∷ rest) (λ b. later (Some symbol.SetextUnderline))
-well-tail first tail rest is later = ap (λ t. are_well (Some first) (t ++ rest)) is ∙ later (Some first)
+well-tail first tail rest is later =
+    ap (λ t. are_well (Some first) (t ++ rest)) is ∙ later (Some first)
 
-well-grouped : (firsts spine : List Symbol) → list_all is_no_value firsts ≡ true → IsGrouped firsts spine →
+well-grouped : (firsts spine : List Symbol) → list_all is_no_value firsts ≡ true →
+    IsGrouped firsts spine →
     (before : Option Symbol) → are_well before spine ≡ true
 well-grouped [] spine h is before = ap (are_well before) is
 well-grouped (first ∷ firsts) spine h is before =
     let parts = and_parts (is_no_value first) (list_all is_no_value firsts) h in
     ap (are_well before) is.2
-    ∙ and_from (stands_well before first) (are_well (Some first) (is.0 ++ is.1)) (well-first before first parts.0)
+    ∙ and_from (stands_well before first) (are_well (Some first) (is.0 ++ is.1))
+    (well-first before first parts.0)
     (well-tail first is.0 is.1 is.3 (well-grouped firsts is.1 parts.1 is.4))
 
 pattern-no_value : (around : Role) → letters is_no_value (pattern_of around) ≡ true
 pattern-no_value role.Flow = refl
 pattern-no_value _ = refl
 
-well-spine : (around : Role) (spine : List Symbol) → Matches around spine → are_well None spine ≡ true
-well-spine around spine match = well-grouped match.0 spine
-    (fits-all is_no_value (pattern_of around) match.0 match.2 (pattern-no_value around)) match.1 None
+well-spine : (around : Role) (spine : List Symbol) → Matches around spine →
+    are_well None spine ≡ true
+well-spine around spine match = well-grouped match.0 spine (fits-all is_no_value (pattern_of around)
+    match.0 match.2 (pattern-no_value around)) match.1 None
 
-well-split : (before : Option Symbol) (symbols others : List Symbol) → are_well before (symbols ++ others) ≡ true →
+well-split : (before : Option Symbol) (symbols others : List Symbol) →
+    are_well before (symbols ++ others) ≡ true →
     (are_well before symbols ≡ true) × (are_well (last_symbol before symbols) others ≡ true)
 well-split before [] others h = (refl, h)
 well-split before (seen ∷ symbols) others h =
@@ -126,7 +139,8 @@ last-push : (names : List Name) (n : Name) → last_of (names ++ n ∷ []) ≡ S
 last-push [] n = refl
 last-push (other ∷ names) n = ap (λ o. Some (unwrap_or o other)) (last-push names n)
 
-solid-shown : (standing : Standing) (before : Option Symbol) (symbols : List Symbol) → is_solid standing ≡ true →
+solid-shown : (standing : Standing) (before : Option Symbol) (symbols : List Symbol) →
+    is_solid standing ≡ true →
     last_symbol before (shown standing [] ++ symbols) ≡ last_symbol (symbol_in standing) symbols
 solid-shown (Solid seen usual reading) before symbols h = refl
 solid-shown Through before symbols h = lie h
@@ -137,9 +151,11 @@ solid-shown Mdx before symbols h = lie h
 last-symbols : (names earlier : List Name) (before : Option Symbol) →
     list_all (λ n. is_solid (standing_of n)) names ≡ true → before ≡ symbol_of (last_of earlier) →
     last_symbol before (symbols_of names) ≡ symbol_of (last_of (earlier ++ names))
-last-symbols [] earlier before h e = e ∙ ap (λ ns. symbol_of (last_of ns)) (sym (append-nil earlier))
+last-symbols [] earlier before h e =
+    e ∙ ap (λ ns. symbol_of (last_of ns)) (sym (append-nil earlier))
 last-symbols (n ∷ names) earlier before h e =
-    let parts = and_parts (is_solid (standing_of n)) (list_all (λ m. is_solid (standing_of m)) names) h in
+    let parts =
+    and_parts (is_solid (standing_of n)) (list_all (λ m. is_solid (standing_of m)) names) h in
     solid-shown (standing_of n) before (symbols_of names) parts.0
     ∙ last-symbols names (earlier ++ n ∷ []) (symbol_in (standing_of n)) parts.1
     (ap symbol_of (sym (last-push earlier n)))
@@ -150,34 +166,41 @@ solid-append : (names others : List Name) → list_all (λ n. is_solid (standing
     list_all (λ n. is_solid (standing_of n)) (names ++ others) ≡ true
 solid-append [] others h g = g
 solid-append (n ∷ names) others h g =
-    let parts = and_parts (is_solid (standing_of n)) (list_all (λ m. is_solid (standing_of m)) names) h in
-    and_from (is_solid (standing_of n)) (list_all (λ m. is_solid (standing_of m)) (names ++ others)) parts.0
+    let parts =
+    and_parts (is_solid (standing_of n)) (list_all (λ m. is_solid (standing_of m)) names) h in
+    and_from (is_solid (standing_of n))
+    (list_all (λ m. is_solid (standing_of m)) (names ++ others)) parts.0
     (solid-append names others parts.1 g)
 
-solid-here : (standing : Standing) (n : Name) (children : Forest) (around : Role) (before : Option Symbol) →
+solid-here :
+    (standing : Standing) (n : Name) (children : Forest) (around : Role) (before : Option Symbol) →
     standing_of n ≡ standing → Told standing n → IsStanding standing around before children →
     list_all (λ m. is_solid (standing_of m)) (spine_names children) ≡ true →
-    list_all (λ m. is_solid (standing_of m)) (if is_transparent n then spine_names children else n ∷ []) ≡ true
+    list_all (λ m. is_solid (standing_of m))
+    (if is_transparent n then spine_names children else n ∷ []) ≡ true
 solid-here Through n children around before e says is inner =
-    ap (λ t. list_all (λ m. is_solid (standing_of m)) (if t then spine_names children else n ∷ [])) says ∙ inner
+    ap (λ t. list_all (λ m. is_solid (standing_of m)) (if t then spine_names children else n ∷ []))
+    says ∙ inner
 solid-here Space n children around before e says is inner =
-    ap (λ t. list_all (λ m. is_solid (standing_of m)) (if t then spine_names children else n ∷ [])) says
-    ∙ ap (λ c. list_all (λ m. is_solid (standing_of m)) (spine_names c)) is
+    ap (λ t. list_all (λ m. is_solid (standing_of m)) (if t then spine_names children else n ∷ []))
+    says ∙ ap (λ c. list_all (λ m. is_solid (standing_of m)) (spine_names c)) is
 solid-here (Solid seen usual reading) n children around before e says is inner =
-    ap (λ t. list_all (λ m. is_solid (standing_of m)) (if t then spine_names children else n ∷ [])) says.0
-    ∙ ap (λ s. is_solid s && true) e
+    ap (λ t. list_all (λ m. is_solid (standing_of m)) (if t then spine_names children else n ∷ []))
+    says.0 ∙ ap (λ s. is_solid s && true) e
 solid-here Mdx n children around before e says is inner = absurd is
 
-solid-names : (forest : Forest) (around : Role) (before : Option Symbol) → AreShaped forest around before →
+solid-names : (forest : Forest) (around : Role) (before : Option Symbol) →
+    AreShaped forest around before →
     list_all (λ n. is_solid (standing_of n)) (spine_names forest) ≡ true
 solid-names Empty around before shaped = refl
 solid-names (Node n start end children rest) around before shaped =
     solid-append (if is_transparent n then spine_names children else n ∷ []) (spine_names rest)
-    (solid-here (standing_of n) n children around before refl (told n) shaped.0.1 (solid-names children _ _ shaped.1))
-    (solid-names rest _ _ shaped.2)
+    (solid-here (standing_of n) n children around before refl (told n) shaped.0.1
+    (solid-names children _ _ shaped.1)) (solid-names rest _ _ shaped.2)
 
 -- the last of some names is the one at the last place
-got-later : (n : Name) (names : List Name) (k : ℕ) → slice_get (n ∷ names) (suc k) ≡ slice_get names k
+got-later : (n : Name) (names : List Name) (k : ℕ) →
+    slice_get (n ∷ names) (suc k) ≡ slice_get names k
 got-later n names k = refl
 
 pub last-got : (names : List Name) → last_of names ≡ slice_get names (length names - 1)
@@ -192,7 +215,8 @@ last-got (n ∷ other ∷ names) =
     ∙ sym (ap (λ k. slice_get (n ∷ other ∷ names) k) later)
   where
     there : (names : List Name) (other : Name) →
-        Some (unwrap_or (slice_get (other ∷ names) (length names)) n) ≡ slice_get (other ∷ names) (length names)
+        Some (unwrap_or (slice_get (other ∷ names) (length names)) n)
+        ≡ slice_get (other ∷ names) (length names)
     there [] other = refl
     there (more ∷ names) other = there names more
 
@@ -206,15 +230,19 @@ mark-name name.CharacterReferenceMarkerHexadecimal h = refl
 mark-name _ h = lie h
 
 decodable : (names : List (List ℕ × List ℕ)) (before : Option Symbol) (text : List ℕ) (m : ℕ) →
-    marker_after before ≡ Some m → is_decodable names before text ≡ true → is_some (decoded names m text) ≡ true
-decodable names before text m e h = ap (λ o. option_map_or (λ k. is_some (decoded names k text)) o true) (sym e) ∙ h
+    marker_after before ≡ Some m → is_decodable names before text ≡ true →
+    is_some (decoded names m text) ≡ true
+decodable names before text m e h =
+    ap (λ o. option_map_or (λ k. is_some (decoded names k text)) o true) (sym e) ∙ h
 
-after_name : (names : List (List ℕ × List ℕ)) (before : Option Symbol) (text : List ℕ) (last : Option Name) →
+after_name :
+    (names : List (List ℕ × List ℕ)) (before : Option Symbol) (text : List ℕ) (last : Option Name) →
     is_mark before ≡ true → before ≡ symbol_of last → is_decodable names before text ≡ true →
     is_some (decoded names (option_map_or marker last 38) text) ≡ true
 after_name names before text None h e d = lie (ap is_mark (sym e) ∙ h)
 after_name names before text (Some n) h e d =
-    decodable names before text (marker n) (ap marker_after e ∙ mark-name n (ap is_mark (sym e) ∙ h)) d
+    decodable names before text (marker n)
+    (ap marker_after e ∙ mark-name n (ap is_mark (sym e) ∙ h)) d
 
 value-decodes : (names : List (List ℕ × List ℕ)) (before : Option Symbol) (text : Option (List ℕ))
     (last : Option Name) → is_mark before ≡ true → before ≡ symbol_of last →
@@ -224,41 +252,48 @@ value-decodes names before None last h e rules = cc
 value-decodes names before (Some text) last h e rules = after_name names before text last h e
     (unless-holds (is_decodable names before text) rule.CharacterReference rules)
 
-node-decodes : (bytes : List ℕ) (names : List (List ℕ × List ℕ)) (earlier : List Name) (n : Name) (start end : Point)
-    (children : Forest) (around : Role) (before : Option Symbol) →
+node-decodes : (bytes : List ℕ) (names : List (List ℕ × List ℕ)) (earlier : List Name) (n : Name)
+    (start end : Point) (children : Forest) (around : Role) (before : Option Symbol) →
     IsFine bytes names around before n start end children →
-    are_well before (shown (standing_of n) (spine children)) ≡ true → before ≡ symbol_of (last_of earlier) →
+    are_well before (shown (standing_of n) (spine children)) ≡ true →
+    before ≡ symbol_of (last_of earlier) →
     Decodes bytes names earlier n start end children
-node-decodes bytes names earlier name.CharacterReferenceValue start end children around before here well e =
-    subst (λ last. is_some (decoded names (option_map_or marker last 38) (unwrap_or (text_between bytes start end) []))
-    ≡ true) (last-got earlier)
+node-decodes bytes names earlier name.CharacterReferenceValue start end children around
+    before here well e =
+    subst (λ last. is_some (decoded names (option_map_or marker last 38)
+    (unwrap_or (text_between bytes start end) [])) ≡ true) (last-got earlier)
     (value-decodes names before (text_between bytes start end) (last_of earlier)
     (and_parts (is_mark before) true well).0 e here.1)
 node-decodes bytes names earlier _ start end children around before here well e = tt
 
 -- what holds of children by themselves holds of them where they stand
-inner-decodes : (bytes : List ℕ) (names : List (List ℕ × List ℕ)) (earlier : List Name) (standing : Standing)
+inner-decodes :
+    (bytes : List ℕ) (names : List (List ℕ × List ℕ)) (earlier : List Name) (standing : Standing)
     (n : Name) (children : Forest) (around : Role) (before : Option Symbol) → Told standing n →
     IsStanding standing around before children →
-    AreFine bytes names children (inner_role standing around before) (inner_before standing before) →
-    are_well before (shown standing (spine children)) ≡ true → before ≡ symbol_of (last_of earlier) →
+    AreFine bytes names children (inner_role standing around before)
+    (inner_before standing before) →
+    are_well before (shown standing (spine children)) ≡ true →
+    before ≡ symbol_of (last_of earlier) →
     ((a : Role) (b : Option Symbol) (s : List Name) → AreFine bytes names children a b →
     are_well b (spine children) ≡ true → b ≡ symbol_of (last_of s) →
     EverywhereAfter (Decodes bytes names) s children) →
     EverywhereAfter (Decodes bytes names) (spine_inside n earlier) children
 inner-decodes bytes names earlier Through n children around before says is all well e again =
-    subst (λ t. EverywhereAfter (Decodes bytes names) (if t then earlier else []) children) (sym says)
-    (again around before earlier all well e)
+    subst (λ t. EverywhereAfter (Decodes bytes names) (if t then earlier else []) children)
+    (sym says) (again around before earlier all well e)
 inner-decodes bytes names earlier Space n children around before says is all well e again =
     subst (λ c. EverywhereAfter (Decodes bytes names) (spine_inside n earlier) c) (sym is) tt
-inner-decodes bytes names earlier (Solid seen usual reading) n children around before says is all well e again =
-    subst (λ t. EverywhereAfter (Decodes bytes names) (if t then earlier else []) children) (sym says.0)
-    (again (role_for around before usual) None [] all (well-spine (role_for around before usual) (spine children) is)
-    refl)
+inner-decodes bytes names earlier (Solid seen usual reading) n children around before says
+    is all well e again =
+    subst (λ t. EverywhereAfter (Decodes bytes names) (if t then earlier else []) children)
+    (sym says.0) (again (role_for around before usual) None [] all
+    (well-spine (role_for around before usual) (spine children) is) refl)
 inner-decodes bytes names earlier Mdx n children around before says is all well e again = absurd is
 
 -- the last symbol after a node is that of the last name there
-after-node : (n : Name) (start end : Point) (children : Forest) (around : Role) (before : Option Symbol)
+after-node :
+    (n : Name) (start end : Point) (children : Forest) (around : Role) (before : Option Symbol)
     (earlier : List Name) → AreShaped (Node n start end children Empty) around before →
     before ≡ symbol_of (last_of earlier) →
     last_symbol before (shown (standing_of n) (spine children))
@@ -267,21 +302,24 @@ after-node n start end children around before earlier shaped_node e =
     let own : List Name = if is_transparent n then spine_names children else n ∷ [] in
     let same : shown (standing_of n) (spine children) ≡ symbols_of own =
     sym (append-nil (shown (standing_of n) (spine children)))
-    ∙ spine-names (Node n start end children Empty) around before shaped_node ∙ ap symbols_of (append-nil own)
+    ∙ spine-names (Node n start end children Empty) around before shaped_node
+    ∙ ap symbols_of (append-nil own)
     in
     ap (last_symbol before) same
     ∙ last-symbols own earlier before (solid-here (standing_of n) n children around before refl
     (told n) shaped_node.0.1 (solid-names children _ _ shaped_node.1)) e
 
-decodes : (bytes : List ℕ) (names : List (List ℕ × List ℕ)) (forest : Forest) (around : Role) (before : Option Symbol)
-    (earlier : List Name) → AreFine bytes names forest around before → are_well before (spine forest) ≡ true →
+decodes : (bytes : List ℕ) (names : List (List ℕ × List ℕ)) (forest : Forest) (around : Role)
+    (before : Option Symbol) (earlier : List Name) → AreFine bytes names forest around before →
+    are_well before (spine forest) ≡ true →
     before ≡ symbol_of (last_of earlier) →
     EverywhereAfter (Decodes bytes names) earlier forest
 decodes bytes names Empty around before earlier all well e = tt
 decodes bytes names (Node n start end children rest) around before earlier all well e =
     let parts = well-split before (shown (standing_of n) (spine children)) (spine rest) well in (
       node-decodes bytes names earlier n start end children around before all.0 parts.0 e,
-      inner-decodes bytes names earlier (standing_of n) n children around before (told n) all.0.0.1 all.1 parts.0 e
+      inner-decodes bytes names earlier (standing_of n) n children around before (told n)
+          all.0.0.1 all.1 parts.0 e
           (λ a b s f w i. decodes bytes names children a b s f w i),
       decodes bytes names rest around (last_symbol before (shown (standing_of n) (spine children)))
           (spine_after_node n children earlier) all.2 parts.1
@@ -295,6 +333,6 @@ decodes bytes names (Node n start end children rest) around before earlier all w
 pub references-decode : (bytes : List ℕ) (names : List (List ℕ × List ℕ)) (document : Forest) →
     IsGrammatical bytes names document → EverywhereAfter (Decodes bytes names) [] document
 references-decode bytes names document grammatical =
-    decodes bytes names document role.Flow None [] (fine bytes names document role.Flow None grammatical.shape.0
-    grammatical.rules)
+    decodes bytes names document role.Flow None []
+    (fine bytes names document role.Flow None grammatical.shape.0 grammatical.rules)
     (well-spine role.Flow (spine document) grammatical.shape.1) refl

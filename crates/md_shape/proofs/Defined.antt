@@ -1,9 +1,17 @@
 -- What a definition defines doesn't depend on where it stands.
-use Rattle.std.proofs.Common.{◌≡◌, ℕ, ◌-◌, Bool, true, false, not, ◌&&◌, ◌||◌, List, [], ◌∷◌, ◌++◌, length, Option, Some, refl, ap, sym, ◌∙◌, append-nil, unwrap_or, codes}
+use Rattle.std.proofs.Common.{◌≡◌, ℕ, ◌-◌, Bool, true, false, not, ◌&&◌, ◌||◌, List, [], ◌∷◌, ◌++◌}
+use Rattle.std.proofs.Common.{length, Option, Some, refl, ap, sym, ◌∙◌, append-nil, unwrap_or}
+use Rattle.std.proofs.Common.{codes}
 use Rattle.std.specs.Prelude.{if◌then◌else◌, slice_get}
 use Rattle.std.specs.Option.{option_map_or}
 use Rattle.md_base.specs.declared.event.Name.{Name}
-use Rattle.md_base.specs.declared.event.Name.TheVariants.{LineEnding, SpaceOrTab, BlockQuotePrefix, Other, Data, CharacterEscapeValue, CharacterReferenceMarker, CharacterReferenceMarkerNumeric, CharacterReferenceMarkerHexadecimal, CharacterReferenceValue, CodeText, CodeTextData, MathText, MathTextData, HtmlFlow, HtmlText, Definition, DefinitionLabelString, DefinitionDestinationString, DefinitionTitleString, GfmFootnoteDefinitionLabelString, ResourceDestinationString, ResourceTitleString}
+use Rattle.md_base.specs.declared.event.Name.TheVariants as name_variants
+use name_variants.{LineEnding, SpaceOrTab, BlockQuotePrefix, Other, Data, CharacterEscapeValue}
+use name_variants.{CharacterReferenceMarker, CharacterReferenceMarkerNumeric}
+use name_variants.{CharacterReferenceMarkerHexadecimal, CharacterReferenceValue, CodeText}
+use name_variants.{CodeTextData, MathText, MathTextData, HtmlFlow, HtmlText, Definition}
+use name_variants.{DefinitionLabelString, DefinitionDestinationString, DefinitionTitleString}
+use name_variants.{GfmFootnoteDefinitionLabelString, ResourceDestinationString, ResourceTitleString}
 use Rattle.md_base.specs.declared.event.Point.{Point}
 use Rattle.md_base.proofs.Lies.{lie}
 use Rattle.md_base.specs.Is.{is}
@@ -17,13 +25,17 @@ use Rattle.md_text.specs.declared.options.CompileOptions.{CompileOptions}
 use Rattle.md_meaning.specs.declared.context.Surroundings.{Surroundings}
 use Rattle.md_meaning.specs.Meaning.Around.{inside, outermost}
 use Rattle.md_meaning.specs.Meaning.Layout.{Piece, layout, said, when}
-use Rattle.md_meaning.specs.Meaning.At.{Given, At, Before, Found, nothing_found, target_in, text_in, identifier_of}
+use Rattle.md_meaning.specs.Meaning.At.{Given, At, Before, Found, nothing_found, target_in, text_in}
+use Rattle.md_meaning.specs.Meaning.At.{identifier_of}
 use Rattle.md_meaning.specs.Meaning.Before.{before_children, nothing_before}
 use Rattle.md_meaning.specs.Meaning.Spans.{marker}
 use Rattle.md_meaning.specs.Meaning.Means.{prints}
 use Rattle.md_meaning.specs.Meaning.Nodes.{outcome, found_at}
 use Rattle.md_shape.specs.Underlined.{IsUnderlined, waits_after, waits_past}
-use Rattle.md_shape.specs.Content.{Content, Blocks, Spans, Strings, Html, Lines, Fences, BeforeLabel, AfterLabel, Sources, Rows, Cells, Parts, Nothing, Childless, Fits, is_allowed, content_inside, content_past, content_after_node}
+use Rattle.md_shape.specs.Content.{Content, Blocks, Spans, Strings, Html, Lines, Fences}
+use Rattle.md_shape.specs.Content.{BeforeLabel, AfterLabel, Sources, Rows, Cells, Parts, Nothing}
+use Rattle.md_shape.specs.Content.{Childless, Fits, is_allowed, content_inside, content_past}
+use Rattle.md_shape.specs.Content.{content_after_node}
 use Rattle.md_shape.specs.Steps.{State, told_of, entered, over, beginning, is_passed}
 use Rattle.md_shape.specs.Claim.{Done, at_node, inner_of, next_before, node_of}
 use Rattle.md_shape.specs.Run.{defined}
@@ -92,13 +104,16 @@ escaping-inside options loose ResourceDestinationString a b h = refl
 escaping-inside options loose _ a b h = h
 
 code-inside : (options : CompileOptions) (loose : Bool) (name : Name) (a b : Surroundings) →
-    a.in_code ≡ b.in_code → (inside options loose name a).in_code ≡ (inside options loose name b).in_code
+    a.in_code ≡ b.in_code →
+    (inside options loose name a).in_code ≡ (inside options loose name b).in_code
 code-inside options loose CodeText a b h = refl
 code-inside options loose MathText a b h = refl
 code-inside options loose _ a b h = h
 
-alike-inside : (options : CompileOptions) (name : Name) (children : Forest) (a b : Surroundings) (x y : Before) →
-    Alike a b x y → Alike (inside options (is_loose children) name a) (inside options (is_loose children) name b)
+alike-inside : (options : CompileOptions) (name : Name) (children : Forest)
+    (a b : Surroundings) (x y : Before) →
+    Alike a b x y →
+    Alike (inside options (is_loose children) name a) (inside options (is_loose children) name b)
     (before_children name children x) (before_children name children y)
 alike-inside options name children a b x y h = record {
   escaping = escaping-inside options (is_loose children) name a b h.escaping;
@@ -110,43 +125,50 @@ alike-inside options name children a b x y h = record {
 }
 
 -- a line ending in a definition
-defined_line : (given : Given) (code : Bool) (slurps : Bool) (defines : Bool) (text : List ℕ) (o : Option Name) →
+defined_line : (given : Given) (code : Bool) (slurps : Bool) (defines : Bool)
+    (text : List ℕ) (o : Option Name) →
     defines ≡ true →
-    (if code then said (codes " ") else (if not defines && slurps || option_map_or is_definition o false then []
-    else said text)) ≡ (if code then said (codes " ") else (if option_map_or is_definition o false then []
+    (if code then said (codes " ")
+    else (if not defines && slurps || option_map_or is_definition o false then [] else said text))
+    ≡ (if code then said (codes " ") else (if option_map_or is_definition o false then []
     else said text))
 defined_line given code slurps defines text o h =
-    ap (λ d. if code then said (codes " ") else (if not d && slurps || option_map_or is_definition o false then []
-    else said text)) h
+    ap (λ d. if code then said (codes " ")
+    else (if not d && slurps || option_map_or is_definition o false then [] else said text)) h
 
 module _ (given : Given) (at other : At) (place : at.place ≡ other.place)
-    (alike : Alike at.around other.around at.before other.before) (p q : List Piece) (same : p ≡ q) where
+    (alike : Alike at.around other.around at.before other.before) (p q : List Piece)
+    (same : p ≡ q) where
   shown-alike : said (encoded at.around.is_escaping (text_in given.bytes at.place))
       ≡ said (encoded other.around.is_escaping (text_in given.bytes other.place))
   shown-alike = ap (λ e. said (encoded e (text_in given.bytes at.place))) alike.escaping
       ∙ ap (λ l. said (encoded other.around.is_escaping (text_in given.bytes l))) place
 
-  prints-alike : (name : Name) → is_plain name ≡ true → prints given at name p ≡ prints given other name q
+  prints-alike : (name : Name) → is_plain name ≡ true →
+      prints given at name p ≡ prints given other name q
   prints-alike Data h = shown-alike
   prints-alike CharacterEscapeValue h = shown-alike
   prints-alike CodeTextData h = shown-alike
   prints-alike MathTextData h = shown-alike
   prints-alike CharacterReferenceValue h =
-      ap (λ e. said (encoded e (unwrap_or (decoded given.names (option_map_or marker (slice_get at.before.spine
+      ap (λ e. said (encoded e
+      (unwrap_or (decoded given.names (option_map_or marker (slice_get at.before.spine
       (length at.before.spine - 1)) 38) (text_in given.bytes at.place)) []))) alike.escaping
-      ∙ ap (λ l. said (encoded other.around.is_escaping (unwrap_or (decoded given.names (option_map_or marker
-      (slice_get l (length l - 1)) 38) (text_in given.bytes at.place)) []))) alike.spine
-      ∙ ap (λ l. said (encoded other.around.is_escaping (unwrap_or (decoded given.names (option_map_or marker
-      (slice_get other.before.spine (length other.before.spine - 1)) 38) (text_in given.bytes l)) []))) place
+      ∙ ap (λ l.
+      said (encoded other.around.is_escaping (unwrap_or (decoded given.names (option_map_or marker
+      (slice_get l (length l - 1)) 38) (text_in given.bytes at.place)) []))) alike.spine ∙ ap (λ l.
+      said (encoded other.around.is_escaping (unwrap_or (decoded given.names (option_map_or marker
+      (slice_get other.before.spine (length other.before.spine - 1)) 38) (text_in given.bytes l))
+      []))) place
   prints-alike LineEnding h =
-      defined_line given at.around.in_code at.before.slurps at.around.in_definition (text_in given.bytes at.place)
-      at.before.previous alike.one
-      ∙ ap (λ c. if c then said (codes " ") else (if option_map_or is_definition at.before.previous false then []
-      else said (text_in given.bytes at.place))) alike.code
-      ∙ ap (λ o. if other.around.in_code then said (codes " ") else (if option_map_or is_definition o false then []
+      defined_line given at.around.in_code at.before.slurps at.around.in_definition
+      (text_in given.bytes at.place) at.before.previous alike.one ∙ ap (λ c. if c
+      then said (codes " ") else (if option_map_or is_definition at.before.previous false then []
+      else said (text_in given.bytes at.place))) alike.code ∙ ap (λ o. if other.around.in_code
+      then said (codes " ") else (if option_map_or is_definition o false then []
       else said (text_in given.bytes at.place))) alike.previous
-      ∙ ap (λ l. if other.around.in_code then said (codes " ")
-      else (if option_map_or is_definition other.before.previous false then [] else said (text_in given.bytes l))) place
+      ∙ ap (λ l. if other.around.in_code then said (codes " ") else (if option_map_or is_definition
+      other.before.previous false then [] else said (text_in given.bytes l))) place
       ∙ sym (defined_line given other.around.in_code other.before.slurps other.around.in_definition
       (text_in given.bytes other.place) other.before.previous alike.other)
   prints-alike CharacterReferenceMarker h = same
@@ -198,7 +220,8 @@ later_found one two = record {
   resource = or_else two.resource one.resource;
 }
 
-pub outcomes-alike : (given : Given) (a b : Surroundings) (x y : Before) (c : Content) (forest : Forest) →
+pub outcomes-alike :
+    (given : Given) (a b : Surroundings) (x y : Before) (c : Content) (forest : Forest) →
     is_callless c ≡ true → Fits c forest → Alike a b x y →
     ((outcome given a x forest).pieces ≡ (outcome given b y forest).pieces)
     × ((outcome given a x forest).found ≡ (outcome given b y forest).found)
@@ -210,9 +233,10 @@ outcomes-alike given a b x y c (Node name start end children rest) h fits alike 
     let other : At = at_node given b y lastt name start end children in
     let facts = (allowed-facts c name fits.0).callless h in
     let inner = outcomes-alike given (inside given.options (is_loose children) name a)
-    (inside given.options (is_loose children) name b) (before_children name children x) (before_children name children
-    y)
-    (content_inside c name) children facts.0 fits.1 (alike-inside given.options name children a b x y alike) in
+    (inside given.options (is_loose children) name b) (before_children name children x)
+    (before_children name children y)
+    (content_inside c name) children facts.0 fits.1
+    (alike-inside given.options name children a b x y alike) in
     let next = next_before given a x lasts name start end children in
     let beyond = next_before given b y lastt name start end children in
     let later = outcomes-alike given a b next beyond (content_after_node c name children) rest
@@ -221,7 +245,8 @@ outcomes-alike given a b x y c (Node name start end children rest) h fits alike 
       code = alike.code;
       one = alike.one;
       other = alike.other;
-      spine = ap (λ l. l ++ (if is_transparent name then spine_names children else name ∷ [])) alike.spine;
+      spine = ap (λ l. l ++ (if is_transparent name then spine_names children else name ∷ []))
+          alike.spine;
       previous = refl;
     }) in
     let is : _ = plain c name h fits.0 in
@@ -230,7 +255,8 @@ outcomes-alike given a b x y c (Node name start end children rest) h fits alike 
       ap (λ l. l ++ (outcome given a next rest).pieces)
           (prints-alike given at other refl alike (inner_of given a x name children).pieces
           (inner_of given b y name children).pieces inner.0 name is)
-          ∙ ap (λ l. prints given other name (inner_of given b y name children).pieces ++ l) later.0,
+          ∙ ap (λ l. prints given other name (inner_of given b y name children).pieces ++ l)
+          later.0,
       ap (λ f. later_found f (outcome given a next rest).found) found
           ∙ ap (λ f. later_found (node_of given b y lastt name start end children).found f) later.1,
     )
@@ -304,7 +330,8 @@ not_both true true h k l = h
 not_both true false h k l = l
 not_both false b h k l = k
 
-blocks-in : (c : Content) (n : Name) → is_allowed c n ≡ true → is_blocks (content_inside c n) ≡ true →
+blocks-in : (c : Content) (n : Name) → is_allowed c n ≡ true →
+    is_blocks (content_inside c n) ≡ true →
     is_blocks c ≡ true
 blocks-in Blocks n h k = refl
 blocks-in Spans n h k = lie (not_both (is_allowed Spans n) _ (in_spans n) h k)
@@ -321,21 +348,25 @@ blocks-in Parts n h k = lie (not_both (is_allowed Parts n) _ (in_parts n) h k)
 blocks-in Nothing n h k = lie (not_both (is_allowed Nothing n) _ (under_nothing n) h k)
 blocks-in Childless n h k = lie h
 
-escaping-kept : (options : CompileOptions) (loose : Bool) (c : Content) (name : Name) (a : Surroundings) →
-    is_blocks (content_inside c name) ≡ true → (inside options loose name a).is_escaping ≡ a.is_escaping
+escaping-kept :
+    (options : CompileOptions) (loose : Bool) (c : Content) (name : Name) (a : Surroundings) →
+    is_blocks (content_inside c name) ≡ true →
+    (inside options loose name a).is_escaping ≡ a.is_escaping
 escaping-kept options loose c HtmlFlow a h = lie h
 escaping-kept options loose c HtmlText a h = lie h
 escaping-kept options loose c DefinitionDestinationString a h = lie h
 escaping-kept options loose c ResourceDestinationString a h = lie h
 escaping-kept options loose c _ a h = refl
 
-code-kept : (options : CompileOptions) (loose : Bool) (c : Content) (name : Name) (a : Surroundings) →
+code-kept :
+    (options : CompileOptions) (loose : Bool) (c : Content) (name : Name) (a : Surroundings) →
     is_blocks (content_inside c name) ≡ true → (inside options loose name a).in_code ≡ a.in_code
 code-kept options loose c CodeText a h = lie h
 code-kept options loose c MathText a h = lie h
 code-kept options loose c _ a h = refl
 
-open-inside : (options : CompileOptions) (loose : Bool) (c : Content) (name : Name) (a : Surroundings) →
+open-inside :
+    (options : CompileOptions) (loose : Bool) (c : Content) (name : Name) (a : Surroundings) →
     is_allowed c name ≡ true → Open c a → Open (content_inside c name) (inside options loose name a)
 open-inside options loose c name a h plain_there k =
     let o = plain_there (blocks-in c name h k) in
@@ -349,41 +380,48 @@ plain-defines : (name : Name) → is_plain name ≡ true → is Definition name 
 plain-defines Definition h = lie h
 plain-defines _ h = refl
 
-no-definitions : (given : Given) (around : Surroundings) (before : Before) (c : Content) (forest : Forest) →
+no-definitions :
+    (given : Given) (around : Surroundings) (before : Before) (c : Content) (forest : Forest) →
     is_callless c ≡ true → Fits c forest → (outcome given around before forest).definitions ≡ []
 no-definitions given around before c Empty h fits = refl
 no-definitions given around before c (Node name start end children rest) h fits =
     let facts = (allowed-facts c name fits.0).callless h in
     let last : Bool = around.is_outermost && is_empty rest in
     let next = next_before given around before last name start end children in
-    none (inner_of given around before name children).definitions (outcome given around next rest).definitions
+    none (inner_of given around before name children).definitions
+    (outcome given around next rest).definitions
     (is Definition name) _
-    (no-definitions given (inside given.options (is_loose children) name around) (before_children name children before)
+    (no-definitions given (inside given.options (is_loose children) name around)
+    (before_children name children before)
     (content_inside c name) children facts.0 fits.1) (plain-defines name (plain c name h fits.0))
     (no-definitions given around next (content_after_node c name children) rest
     (node-same is_callless past-callless c name children ∙ h) fits.2)
   where
     none : {A : Type 0} (a b : List A) (t : Bool) (x : A) → a ≡ [] → t ≡ false → b ≡ [] →
         (a ++ when t (x ∷ [])) ++ b ≡ []
-    none a b t x h k l = ap (λ m. (m ++ when t (x ∷ [])) ++ b) h ∙ ap (λ u. when u (x ∷ []) ++ b) k ∙ l
+    none a b t x h k l =
+        ap (λ m. (m ++ when t (x ∷ [])) ++ b) h ∙ ap (λ u. when u (x ∷ []) ++ b) k ∙ l
 
 -- where a definition leads is what its own events tell
-target-defined : (given : Given) (around : Surroundings) (before : Before) (start end : Point) (children : Forest) →
-    around.is_escaping ≡ true → around.in_code ≡ false → Fits Sources children → IsUnderlined false children →
-    target_in (inner_of given around before Definition children).found
-    ≡ (over given false children (entered given (told_of given.bytes false children start end) Definition
-    beginning)).target
+target-defined : (given : Given) (around : Surroundings) (before : Before) (start end : Point)
+    (children : Forest) →
+    around.is_escaping ≡ true → around.in_code ≡ false → Fits Sources children →
+    IsUnderlined false children →
+    target_in (inner_of given around before Definition children).found ≡ (over given false children
+    (entered given (told_of given.bytes false children start end) Definition beginning)).target
 target-defined given around before start end children escaping code fits lines =
     let within : Surroundings = inside given.options (is_loose children) Definition outermost in
     let first : Before = before_children Definition children nothing_before in
-    let begun : State = entered given (told_of given.bytes false children start end) Definition beginning in
+    let begun : State =
+    entered given (told_of given.bytes false children start end) Definition beginning in
     let none = (no-calls given within first Sources children refl fits).0 in
-    let done : Done given Sources false within first children begun (over given false children begun) =
+    let done :
+    Done given Sources false within first children begun (over given false children begun) =
     nodes given Sources false within first children begun fits lines
-    (children_know given Blocks false outermost nothing_before false Definition start end children beginning begins)
-    (given.calls, ap (λ l. l ++ given.calls) (sym none)) in
-    ap target_in (outcomes-alike given (inside given.options (is_loose children) Definition around) within
-    (before_children Definition children before) first Sources children refl fits (record {
+    (children_know given Blocks false outermost nothing_before false Definition start end children
+    beginning begins) (given.calls, ap (λ l. l ++ given.calls) (sym none)) in
+    ap target_in (outcomes-alike given (inside given.options (is_loose children) Definition around)
+    within (before_children Definition children before) first Sources children refl fits (record {
       escaping = escaping;
       code = code;
       one = refl;
@@ -391,30 +429,37 @@ target-defined given around before start end children escaping code fits lines =
       spine = refl;
       previous = refl;
     })).1
-    ∙ ap (λ t. record { destination = unwrap_or (outcome given within first children).found.destination []; title = t })
+    ∙ ap (λ t.
+    record {
+      destination = unwrap_or (outcome given within first children).found.destination [];
+      title = t;
+    })
     (sym (or_else-none (outcome given within first children).found.title))
     ∙ sym done.target
 
-pub defined-known : (given : Given) (around : Surroundings) (before : Before) (c : Content) (waits : Bool)
+pub defined-known :
+    (given : Given) (around : Surroundings) (before : Before) (c : Content) (waits : Bool)
     (forest : Forest) → Fits c forest → IsUnderlined waits forest → Open c around →
     (outcome given around before forest).definitions ≡ defined given forest
 defined-known given around before c waits Empty fits lines plain_there = refl
-defined-known given around before c waits (Node name start end children rest) fits lines plain_there =
+defined-known given around before c waits (Node name start end children rest)
+    fits lines plain_there =
     let last : Bool = around.is_outermost && is_empty rest in
     let next = next_before given around before last name start end children in
-    ap (λ l. l ++ (outcome given around next rest).definitions)
-    (here name fits.0 fits.1 lines.1 (defined-known given (inside given.options (is_loose children) name around)
-    (before_children name children before) (content_inside c name) (if is_transparent name then waits else false)
-    children
-    fits.1 lines.1 (open-inside given.options (is_loose children) c name around fits.0 plain_there)))
+    ap (λ l. l ++ (outcome given around next rest).definitions) (here name fits.0 fits.1 lines.1
+    (defined-known given (inside given.options (is_loose children) name around)
+    (before_children name children before) (content_inside c name)
+    (if is_transparent name then waits else false) children
+    fits.1 lines.1
+    (open-inside given.options (is_loose children) c name around fits.0 plain_there)))
     ∙ ap (λ l. (if is_passed name then record {
       identifier = identifier_of given.bytes children;
-      target = (over given false children (entered given (told_of given.bytes false children start end) Definition
-          beginning)).target;
+      target = (over given false children (entered given
+          (told_of given.bytes false children start end) Definition beginning)).target;
     } ∷ [] else defined given children) ++ l)
     (defined-known given around next (content_after_node c name children)
-    (if is_transparent name then waits_after waits children else waits_past waits name) rest fits.2 lines.2
-    (λ k. plain_there (sym (node-same is_blocks past-blocks c name children) ∙ k)))
+    (if is_transparent name then waits_after waits children else waits_past waits name) rest fits.2
+    lines.2 (λ k. plain_there (sym (node-same is_blocks past-blocks c name children) ∙ k)))
   where
     here : (n : Name) → is_allowed c n ≡ true → Fits (content_inside c n) children →
         IsUnderlined (if is_transparent n then waits else false) children →
@@ -424,8 +469,8 @@ defined-known given around before c waits (Node name start end children rest) fi
           target = target_in (inner_of given around before n children).found;
         } ∷ []) ≡ (if is_passed n then record {
           identifier = identifier_of given.bytes children;
-          target = (over given false children (entered given (told_of given.bytes false children start end) Definition
-              beginning)).target;
+          target = (over given false children (entered given
+              (told_of given.bytes false children start end) Definition beginning)).target;
         } ∷ [] else defined given children)
     here Definition h f l again =
         ap (λ ds. ds ++ record {
@@ -434,6 +479,6 @@ defined-known given around before c waits (Node name start end children rest) fi
         } ∷ []) (no-definitions given (inside given.options (is_loose children) Definition around)
         (before_children Definition children before) Sources children refl f)
         ∙ ap (λ t. record { identifier = identifier_of given.bytes children; target = t } ∷ [])
-        (target-defined given around before start end children (plain_there (defined_at c h)).0 (plain_there
-        (defined_at c h)).1 f l)
+        (target-defined given around before start end children (plain_there (defined_at c h)).0
+        (plain_there (defined_at c h)).1 f l)
     here _ h f l again = append-nil _ ∙ again

@@ -1,6 +1,7 @@
--- The first node on a spine that passes a test: there is one where the pattern begins with it. So a heading's mark, a
--- fence and a label are found where the meaning looks for them.
-use Rattle.std.proofs.Common.{◌≡◌, ◌⊎◌, inl, inr, ℕ, Bool, true, false, ◌||◌, cond, Option, Some, None, List, [], ◌∷◌, ◌++◌, refl, sym, ap, ◌∙◌, subst, length, arith}
+-- The first node on a spine that passes a test: there is one where the pattern begins with it. So a
+-- heading's mark, a fence and a label are found where the meaning looks for them.
+use Rattle.std.proofs.Common.{◌≡◌, ◌⊎◌, inl, inr, ℕ, Bool, true, false, ◌||◌, cond, Option, Some}
+use Rattle.std.proofs.Common.{None, List, [], ◌∷◌, ◌++◌, refl, sym, ap, ◌∙◌, subst, length, arith}
 use Rattle.std.specs.List.{list_all, list_any}
 use Rattle.std.proofs.lemmas.Bool.{and_parts}
 use Rattle.md_base.proofs.Lies.{lie}
@@ -17,7 +18,8 @@ use Rattle.md_base.specs.Tree.{Forest, Empty, Node}
 use Rattle.md_pattern.specs.Standing.{standing_of}
 use Rattle.md_pattern.specs.Pattern.{members, takes, pattern_of, Fits}
 use Rattle.md_pattern.specs.Spine.{spine, shown, IsGrouped, Matches}
-use Rattle.md_pattern.specs.Shape.{Claim, EachNode, IsShapedNode, IsStanding, AreShaped, inner_role, inner_before, last_symbol}
+use Rattle.md_pattern.specs.Shape.{Claim, EachNode, IsShapedNode, IsStanding, AreShaped, inner_role}
+use Rattle.md_pattern.specs.Shape.{inner_before, last_symbol}
 use Rattle.md_tree.specs.Rules.{MeetsRules, MeetRules}
 use Rattle.md_base.specs.NameTests.{is_transparent}
 use Rattle.md_base.specs.Children.{or_else, first_on_spine}
@@ -27,20 +29,26 @@ use Rattle.md_shape.proofs.Admitted.{taken}
 -- a node has its shape and meets the rules
 abbrev pub IsFine : List ℕ → List (List ℕ × List ℕ) → Claim
 IsFine bytes names around before name start end children =
-    IsShapedNode around before name start end children × MeetsRules bytes names around before name start end children
+    IsShapedNode around before name start end children
+    × MeetsRules bytes names around before name start end children
 
 abbrev pub AreFine : List ℕ → List (List ℕ × List ℕ) → Forest → Role → Option Symbol → Type 0
 AreFine bytes names forest around before = EachNode (IsFine bytes names) forest around before
 
 pub fine : (bytes : List ℕ) (names : List (List ℕ × List ℕ)) (forest : Forest) (around : Role)
-    (before : Option Symbol) → AreShaped forest around before → MeetRules bytes names forest around before →
+    (before : Option Symbol) → AreShaped forest around before →
+    MeetRules bytes names forest around before →
     AreFine bytes names forest around before
 fine bytes names Empty around before shaped rules = tt
-fine bytes names (Node name start end children rest) around before shaped rules =
-    ((shaped.0, rules.0), fine bytes names children _ _ shaped.1 rules.1, fine bytes names rest _ _ shaped.2 rules.2)
+fine bytes names (Node name start end children rest) around before shaped rules = (
+  (shaped.0, rules.0),
+  fine bytes names children _ _ shaped.1 rules.1,
+  fine bytes names rest _ _ shaped.2 rules.2,
+)
 
 pub shaped : (bytes : List ℕ) (names : List (List ℕ × List ℕ)) (forest : Forest) (around : Role)
-    (before : Option Symbol) → AreFine bytes names forest around before → AreShaped forest around before
+    (before : Option Symbol) → AreFine bytes names forest around before →
+    AreShaped forest around before
 shaped bytes names Empty around before all = tt
 shaped bytes names (Node name start end children rest) around before all =
     (all.0.0, shaped bytes names children _ _ all.1, shaped bytes names rest _ _ all.2)
@@ -59,7 +67,8 @@ begins test (symbol ∷ symbols) = test symbol
 abbrev pub Agree : (Symbol → Bool) → (Name → Bool) → Type 0
 Agree of_symbols of_names = (name : Name) → of_names name ≡ shows of_symbols (standing_of name)
 
-begins-split : (test : Symbol → Bool) (symbols others : List Symbol) → begins test (symbols ++ others) ≡ true →
+begins-split : (test : Symbol → Bool) (symbols others : List Symbol) →
+    begins test (symbols ++ others) ≡ true →
     (begins test symbols ≡ true) ⊎ ((symbols ≡ []) × (begins test others ≡ true))
 begins-split test [] others h = inr (refl, h)
 begins-split test (symbol ∷ symbols) others h = inl h
@@ -81,25 +90,31 @@ module _ {A : Type 0} (of_symbols : Symbol → Bool) (of_names : Name →
   abbrev told_here : Bool → Bool → A → Option A → Option A
   told_here passes through here inside = cond passes (Some here) (cond through inside None)
 
-  none_step : (standing : Standing) (name : Name) (start end : Point) (children : Forest) (around : Role)
+  none_step :
+      (standing : Standing) (name : Name) (start end : Point) (children : Forest) (around : Role)
       (before : Option Symbol) → Told standing name → of_names name ≡ shows of_symbols standing →
       IsStanding standing around before children → (list_any of_symbols (spine children) ≡ false →
-      first_on_spine of_names tell children ≡ None) → list_any of_symbols (shown standing (spine children)) ≡ false →
-      told_here (of_names name) (is_transparent name) (tell start end children) (first_on_spine of_names tell children)
-      ≡ None
+      first_on_spine of_names tell children ≡ None) →
+      list_any of_symbols (shown standing (spine children)) ≡ false →
+      told_here (of_names name) (is_transparent name) (tell start end children)
+      (first_on_spine of_names tell children) ≡ None
   none_step Through name start end children around before says same stands again absent =
-      ap (λ t. told_here t (is_transparent name) (tell start end children) (first_on_spine of_names tell children)) same
-      ∙ (ap (λ t. told_here false t (tell start end children) (first_on_spine of_names tell children)) says
-      ∙ again absent)
+      ap (λ t. told_here t (is_transparent name) (tell start end children)
+      (first_on_spine of_names tell children)) same ∙ (ap (λ t. told_here false t
+      (tell start end children) (first_on_spine of_names tell children)) says ∙ again absent)
   none_step Space name start end children around before says same stands again absent =
-      ap (λ t. told_here t (is_transparent name) (tell start end children) (first_on_spine of_names tell children)) same
-      ∙ (ap (λ t. told_here false t (tell start end children) (first_on_spine of_names tell children)) says
-      ∙ ap (first_on_spine of_names tell) stands)
-  none_step (Solid symbol usual reading) name start end children around before says same stands again absent =
+      ap (λ t. told_here t (is_transparent name) (tell start end children)
+      (first_on_spine of_names tell children)) same
+      ∙ (ap (λ t. told_here false t (tell start end children)
+      (first_on_spine of_names tell children)) says ∙ ap (first_on_spine of_names tell) stands)
+  none_step (Solid symbol usual reading) name start end children around before says same
+      stands again absent =
       by (of_symbols symbol) (of_names name) (is_transparent name) same absent says.0
     where
-      by : (shows passes through : Bool) → passes ≡ shows → (shows || false) ≡ false → through ≡ false →
-          told_here passes through (tell start end children) (first_on_spine of_names tell children) ≡ None
+      by : (shows passes through : Bool) → passes ≡ shows →
+          (shows || false) ≡ false → through ≡ false →
+          told_here passes through (tell start end children) (first_on_spine of_names tell children)
+          ≡ None
       by true passes through e h t = lie (sym h)
       by false true through e h t = lie (sym e)
       by false false true e h t = lie (sym t)
@@ -109,7 +124,8 @@ module _ {A : Type 0} (of_symbols : Symbol → Bool) (of_names : Name →
   append_absent : (symbols others : List Symbol) → list_any of_symbols (symbols ++ others) ≡ false →
       (list_any of_symbols symbols ≡ false) × (list_any of_symbols others ≡ false)
   append_absent [] others h = (refl, h)
-  append_absent (symbol ∷ symbols) others h = by (of_symbols symbol) h (append_absent symbols others)
+  append_absent (symbol ∷ symbols) others h =
+      by (of_symbols symbol) h (append_absent symbols others)
     where
       by : (passes : Bool) → (passes || list_any of_symbols (symbols ++ others)) ≡ false →
           (list_any of_symbols (symbols ++ others) ≡ false →
@@ -125,9 +141,10 @@ module _ {A : Type 0} (of_symbols : Symbol → Bool) (of_names : Name →
   none_first Empty around before all absent = refl
   none_first (Node name start end children rest) around before all absent =
       let both = append_absent (shown (standing_of name) (spine children)) (spine rest) absent in
-      let here = none_step (standing_of name) name start end children around before (told name) (agree name) all.0.0.1
-      (none_first children _ _ all.1) both.0 in
-      ap (λ o. or_else o (first_on_spine of_names tell rest)) here ∙ none_first rest _ _ all.2 both.1
+      let here = none_step (standing_of name) name start end children around before (told name)
+      (agree name) all.0.0.1 (none_first children _ _ all.1) both.0 in
+      ap (λ o. or_else o (first_on_spine of_names tell rest)) here
+      ∙ none_first rest _ _ all.2 both.1
 
   -- the first node on a spine is told of, and nothing stands before it
   pub record First (forest : Forest) (around : Role) : Type 0 where
@@ -147,7 +164,8 @@ module _ {A : Type 0} (of_symbols : Symbol → Bool) (of_names : Name →
       begins of_symbols (spine forest) ≡ true → First forest around
 
   first_after : (name : Name) (start end : Point) (children rest : Forest) (around : Role) →
-      told_here (of_names name) (is_transparent name) (tell start end children) (first_on_spine of_names tell children)
+      told_here (of_names name) (is_transparent name) (tell start end children)
+      (first_on_spine of_names tell children)
       ≡ None → First rest around → First (Node name start end children rest) around
   first_after name start end children rest around none first = record {
     name = first.name;
@@ -172,39 +190,46 @@ module _ {A : Type 0} (of_symbols : Symbol → Bool) (of_names : Name →
     found =
         ap (λ t. or_else (told_here t (is_transparent name) (tell start end children)
         (first_on_spine of_names tell children)) (first_on_spine of_names tell rest)) same
-        ∙ (ap (λ t. or_else (told_here false t (tell start end children) (first_on_spine of_names tell children))
-        (first_on_spine of_names tell rest)) says
+        ∙ (ap (λ t. or_else (told_here false t (tell start end children)
+        (first_on_spine of_names tell children)) (first_on_spine of_names tell rest)) says
         ∙ ap (λ o. or_else o (first_on_spine of_names tell rest)) first.found);
     is_fine = first.is_fine;
     are_fine = first.are_fine;
   }
 
-  first_step : (standing : Standing) (name : Name) (start end : Point) (children rest : Forest) (around : Role) →
-      Told standing name → of_names name ≡ shows of_symbols standing → IsStanding standing around None children →
+  first_step : (standing : Standing) (name : Name) (start end : Point)
+      (children rest : Forest) (around : Role) →
+      Told standing name → of_names name ≡ shows of_symbols standing →
+      IsStanding standing around None children →
       AreFine bytes names children (inner_role standing around None) (inner_before standing None) →
       AreFine bytes names rest around (last_symbol None (shown standing (spine children))) →
       IsFine bytes names around None name start end children →
-      AreFine bytes names children (inner_role (standing_of name) around None) (inner_before (standing_of name) None) →
-      HasFirst children → HasFirst rest → begins of_symbols (shown standing (spine children) ++ spine rest) ≡ true →
+      AreFine bytes names children (inner_role (standing_of name) around None)
+      (inner_before (standing_of name) None) →
+      HasFirst children → HasFirst rest →
+      begins of_symbols (shown standing (spine children) ++ spine rest) ≡ true →
       First (Node name start end children rest) around
-  first_step Through name start end children rest around says same stands fine_inside fine_rest fine_here fine_own
+  first_step Through name start end children rest around says same stands fine_inside
+      fine_rest fine_here fine_own
       again later h =
       elim (begins-split of_symbols (spine children) (spine rest) h) [
-        | inl b ↦ first_inside name start end children rest around says same (again around fine_inside b)
+        | inl b ↦
+            first_inside name start end children rest around says same (again around fine_inside b)
         | inr e ↦ first_after name start end children rest around
             (none_step Through name start end children around None says same stands
             (none_first children around None fine_inside) (ap (list_any of_symbols) e.0))
-            (later around (subst (λ symbols. AreFine bytes names rest around (last_symbol None symbols)) e.0
+            (later around
+            (subst (λ symbols. AreFine bytes names rest around (last_symbol None symbols)) e.0
             fine_rest) e.1)
       ]
-  first_step Space name start end children rest around says same stands fine_inside fine_rest fine_here fine_own again
-      later h =
+  first_step Space name start end children rest around says same stands fine_inside fine_rest
+      fine_here fine_own again later h =
       first_after name start end children rest around
       (none_step Space name start end children around None says same stands
       (λ e. ap (first_on_spine of_names tell) stands) refl)
       (later around fine_rest h)
-  first_step (Solid symbol usual reading) name start end children rest around says same stands fine_inside fine_rest
-      fine_here fine_own again later h =
+  first_step (Solid symbol usual reading) name start end children rest around says same stands
+      fine_inside fine_rest fine_here fine_own again later h =
       record {
         name = name;
         start = start;
@@ -213,12 +238,13 @@ module _ {A : Type 0} (of_symbols : Symbol → Bool) (of_names : Name →
         passes = same ∙ h;
         found =
             ap (λ t. or_else (told_here t (is_transparent name) (tell start end children)
-            (first_on_spine of_names tell children)) (first_on_spine of_names tell rest)) (same ∙ h);
+            (first_on_spine of_names tell children)) (first_on_spine of_names tell rest))
+            (same ∙ h);
         is_fine = fine_here;
         are_fine = fine_own;
       }
-  first_step Mdx name start end children rest around says same stands fine_inside fine_rest fine_here fine_own again
-      later h = absurd stands
+  first_step Mdx name start end children rest around says same stands fine_inside fine_rest
+      fine_here fine_own again later h = absurd stands
 
   pub has_first : (forest : Forest) (around : Role) → AreFine bytes names forest around None →
       begins of_symbols (spine forest) ≡ true → First forest around
@@ -231,62 +257,75 @@ module _ {A : Type 0} (of_symbols : Symbol → Bool) (of_names : Name →
   -- a fact of all that passes, in this role
   abbrev pub OfAll : (A → Type 0) → Role → Type 0
   OfAll Holds around =
-      (before : Option Symbol) (name : Name) (start end : Point) (children : Forest) → of_names name ≡ true →
-      IsFine bytes names around before name start end children →
+      (before : Option Symbol) (name : Name) (start end : Point) (children : Forest) →
+      of_names name ≡ true → IsFine bytes names around before name start end children →
       AreFine bytes names children (inner_role (standing_of name) around before)
       (inner_before (standing_of name) before) → Holds (tell start end children)
 
-  of_here : (Holds : A → Type 0) (standing : Standing) (name : Name) (start end : Point) (children : Forest)
-      (around : Role) (before : Option Symbol) → Told standing name → of_names name ≡ shows of_symbols standing →
-      IsStanding standing around before children → (of_names name ≡ true → Holds (tell start end children)) →
-      AreFine bytes names children (inner_role standing around before) (inner_before standing before) →
+  of_here : (Holds : A → Type 0) (standing : Standing) (name : Name) (start end : Point)
+      (children : Forest) (around : Role) (before : Option Symbol) → Told standing name →
+      of_names name ≡ shows of_symbols standing →
+      IsStanding standing around before children →
+      (of_names name ≡ true → Holds (tell start end children)) →
+      AreFine bytes names children (inner_role standing around before)
+      (inner_before standing before) →
       ((b : Option Symbol) → AreFine bytes names children around b →
       OfFirst Holds (first_on_spine of_names tell children)) →
       OfFirst Holds (told_here (of_names name) (is_transparent name) (tell start end children)
       (first_on_spine of_names tell children))
-  of_here Holds Through name start end children around before says same stands here fine_inside again =
+  of_here Holds Through name start end children around before says same stands
+      here fine_inside again =
       subst (λ t. OfFirst Holds (told_here t (is_transparent name) (tell start end children)
       (first_on_spine of_names tell children))) (sym same)
       (subst (λ t. OfFirst Holds (told_here false t (tell start end children)
       (first_on_spine of_names tell children))) (sym says) (again before fine_inside))
-  of_here Holds Space name start end children around before says same stands here fine_inside again =
-      subst (OfFirst Holds) (sym (none_step Space name start end children around before says same stands
+  of_here Holds Space name start end children around before says same stands
+      here fine_inside again =
+      subst (OfFirst Holds)
+      (sym (none_step Space name start end children around before says same stands
       (λ e. ap (first_on_spine of_names tell) stands) refl)) tt
-  of_here Holds (Solid symbol usual reading) name start end children around before says same stands here fine_inside
-      again =
+  of_here Holds (Solid symbol usual reading) name start end children around before says same stands
+      here fine_inside again =
       by (of_names name) (is_transparent name) here says.0
     where
-      by : (passes through : Bool) → (passes ≡ true → Holds (tell start end children)) → through ≡ false →
-          OfFirst Holds (told_here passes through (tell start end children) (first_on_spine of_names tell children))
+      by : (passes through : Bool) → (passes ≡ true → Holds (tell start end children)) →
+          through ≡ false →
+          OfFirst Holds (told_here passes through (tell start end children)
+          (first_on_spine of_names tell children))
       by true through here e = here refl
       by false true here e = lie (sym e)
       by false false here e = tt
-  of_here Holds Mdx name start end children around before says same stands here fine_inside again = absurd stands
+  of_here Holds Mdx name start end children around before says same stands here fine_inside again =
+      absurd stands
 
   pub of_first : (Holds : A → Type 0) (around : Role) → OfAll Holds around →
       (forest : Forest) (before : Option Symbol) → AreFine bytes names forest around before →
       OfFirst Holds (first_on_spine of_names tell forest)
   of_first Holds around each Empty before all = tt
   of_first Holds around each (Node name start end children rest) before all =
-      or_else-holds Holds _ _
-      (of_here Holds (standing_of name) name start end children around before (told name) (agree name) all.0.0.1
+      or_else-holds Holds _ _ (of_here Holds (standing_of name) name start end children around
+      before (told name) (agree name) all.0.0.1
       (λ passes. each before name start end children passes all.0 all.1) all.1
       (λ b f. of_first Holds around each children b f))
       (of_first Holds around each rest _ all.2)
 
 -- a spine that matches a pattern begins with a symbol that the first item has once
-begins_once : (test : Symbol → Bool) (class : Class) (items : List Item) (own others firsts spine : List Symbol) →
+begins_once : (test : Symbol → Bool) (class : Class) (items : List Item)
+    (own others firsts spine : List Symbol) →
     list_all test (members class) ≡ true → list_all (takes class) own ≡ true → length own ≡ 1 →
     firsts ≡ own ++ others → IsGrouped firsts spine → begins test spine ≡ true
-begins_once test class items [] others firsts spine members_pass own_taken count e g = absurd (omega arith)
+begins_once test class items [] others firsts spine members_pass own_taken count e g =
+    absurd (omega arith)
 begins_once test class items (symbol ∷ own) others firsts spine members_pass own_taken count e g =
     let grouped = subst (λ symbols. IsGrouped symbols spine) e g in
     subst (λ symbols. begins test symbols ≡ true) (sym grouped.2)
-    (taken test (members class) symbol (and_parts (takes class symbol) (list_all (takes class) own) own_taken).0
-    members_pass)
+    (taken test (members class) symbol
+    (and_parts (takes class symbol) (list_all (takes class) own) own_taken).0 members_pass)
 
-pub begins_with : (test : Symbol → Bool) (role : Role) (class : Class) (items : List Item) (spine : List Symbol) →
-    pattern_of role ≡ Once class ∷ items → list_all test (members class) ≡ true → Matches role spine →
+pub begins_with :
+    (test : Symbol → Bool) (role : Role) (class : Class) (items : List Item) (spine : List Symbol) →
+    pattern_of role ≡ Once class ∷ items → list_all test (members class) ≡ true →
+    Matches role spine →
     begins test spine ≡ true
 begins_with test role class items spine pattern members_pass match =
     let fit = subst (λ is. Fits is match.0) pattern match.2 in

@@ -1,7 +1,9 @@
--- What else is asked of a node, as a heading's rank or a list's number, holds of each node that has its shape and
--- meets the rules.
+-- What else is asked of a node, as a heading's rank or a list's number, holds of each node that has
+-- its shape and meets the rules.
 use Rattle.std.specs.Str.{bytes_eq}
-use Rattle.std.proofs.Common.{◌≡◌, ◌⊎◌, inl, inr, ℕ, ◌^◌, ◌≤◌, Bool, true, false, not, ◌&&◌, ◌||◌, ◌==◌, if◌then◌else◌, cond, Option, Some, None, is_some, List, [], ◌∷◌, ◌++◌, length, refl, sym, ap, ◌∙◌, subst, arith}
+use Rattle.std.proofs.Common.{◌≡◌, ◌⊎◌, inl, inr, ℕ, ◌^◌, ◌≤◌, Bool, true, false, not, ◌&&◌, ◌||◌}
+use Rattle.std.proofs.Common.{◌==◌, if◌then◌else◌, cond, Option, Some, None, is_some, List, [], ◌∷◌}
+use Rattle.std.proofs.Common.{◌++◌, length, refl, sym, ap, ◌∙◌, subst, arith}
 use Rattle.std.specs.Prelude.{nat_lt, nat_le, unwrap_or}
 use Rattle.std.specs.Char.{digit_value}
 use Rattle.std.specs.Str.Parse.{digits_value}
@@ -12,7 +14,9 @@ use Rattle.std.proofs.lemmas.Bool.{and_parts, and_from, ltb-true, leb-true, le-l
 use Rattle.std.proofs.lemmas.Str.Parse.{digit_from_value}
 use Rattle.md_base.proofs.Lies.{lie}
 use Rattle.md_base.specs.declared.event.Name.{Name}
-use Rattle.md_base.specs.declared.event.Name.TheVariants.{LineEnding, BlankLineEnding, HeadingAtx, HeadingAtxSequence, ListOrdered, ListItem, ListItemPrefix, ListItemValue, CodeFenced, MathFlow, CodeFencedFence}
+use Rattle.md_base.specs.declared.event.Name.TheVariants as name_variants
+use name_variants.{LineEnding, BlankLineEnding, HeadingAtx, HeadingAtxSequence, ListOrdered}
+use name_variants.{ListItem, ListItemPrefix, ListItemValue, CodeFenced, MathFlow, CodeFencedFence}
 use Rattle.md_base.specs.declared.event.Point.{Point}
 use Rattle.md_base.specs.declared.event.Position.{Position}
 use Rattle.md_base.specs.Place.{fits, text_between}
@@ -33,7 +37,8 @@ use Rattle.md_pattern.specs.Standing.{standing_of}
 use Rattle.md_pattern.specs.Pattern.{members, takes, Fits}
 use Rattle.md_pattern.specs.Spine.{spine, shown, IsGrouped, Matches}
 use Rattle.md_pattern.specs.Shape.{IsStanding, inner_role, inner_before}
-use Rattle.md_tree.specs.Rules.{is_line_ending, is_rank, columns, unless, broken_by, MeetsRules, place}
+use Rattle.md_tree.specs.Rules.{is_line_ending, is_rank, columns, unless, broken_by, MeetsRules}
+use Rattle.md_tree.specs.Rules.{place}
 use Rattle.md_base.specs.Is.{is}
 use Rattle.md_base.specs.NameTests.{is_transparent}
 use Rattle.md_base.specs.Children.{first_on_spine, spine_names}
@@ -42,10 +47,12 @@ use Rattle.md_meaning.specs.Meaning.Finds.{first_named, in_first_named, number_i
 use Rattle.md_shape.specs.Built.{is_fence, is_digit, rank_in, IsFit}
 use Rattle.md_shape.proofs.Symbols.{is_fence_symbol, Told, told}
 use Rattle.md_shape.proofs.Admitted.{taken}
-use Rattle.md_shape.proofs.Firsts.{IsFine, AreFine, shows, begins, Agree, First, has_first, none_first, OfAll, OfFirst, of_first, begins_with}
+use Rattle.md_shape.proofs.Firsts.{IsFine, AreFine, shows, begins, Agree, First, has_first}
+use Rattle.md_shape.proofs.Firsts.{none_first, OfAll, OfFirst, of_first, begins_with}
 
 -- a rule that isn't broken holds
-pub unless-holds : (condition : Bool) (broken : Rule) → unless condition broken ≡ None → condition ≡ true
+pub unless-holds : (condition : Bool) (broken : Rule) →
+    unless condition broken ≡ None → condition ≡ true
 unless-holds true broken e = refl
 unless-holds false broken e = cc
 
@@ -59,17 +66,21 @@ ending-ends text h =
     (tests text h)
   where
     tests : (text : List ℕ) → is_line_ending text ≡ true →
-        (bytes_eq (13 ∷ 10 ∷ []) text || (bytes_eq (13 ∷ []) text || bytes_eq (10 ∷ []) text)) ≡ true
-    tests text h = found (bytes_eq (13 ∷ 10 ∷ []) text) (bytes_eq (13 ∷ []) text) (bytes_eq (10 ∷ []) text) _ _ _ h
+        (bytes_eq (13 ∷ 10 ∷ []) text || (bytes_eq (13 ∷ []) text || bytes_eq (10 ∷ []) text))
+        ≡ true
+    tests text h = found (bytes_eq (13 ∷ 10 ∷ []) text) (bytes_eq (13 ∷ []) text)
+        (bytes_eq (10 ∷ []) text) _ _ _ h
       where
         found : {A : Type 0} (a b c : Bool) (x y z : A) →
-            is_some (cond a (Some x) (cond b (Some y) (cond c (Some z) None))) ≡ true → (a || (b || c)) ≡ true
+            is_some (cond a (Some x) (cond b (Some y) (cond c (Some z) None))) ≡ true →
+            (a || (b || c)) ≡ true
         found true b c x y z h = refl
         found false true c x y z h = refl
         found false false true x y z h = refl
         found false false false x y z h = lie h
 
-    by : (a b c : Bool) → (a ≡ true → is_line_ends text ≡ true) → (b ≡ true → is_line_ends text ≡ true) →
+    by : (a b c : Bool) → (a ≡ true → is_line_ends text ≡ true) →
+        (b ≡ true → is_line_ends text ≡ true) →
         (c ≡ true → is_line_ends text ≡ true) → (a || (b || c)) ≡ true → is_line_ends text ≡ true
     by true b c f g i h = f refl
     by false true c f g i h = g refl
@@ -84,7 +95,8 @@ text_fits test broken Holds each None e = cc
 text_fits test broken Holds each (Some text) e = each text (unless-holds (test text) broken e)
 
 -- a rank of a heading's first mark
-mark_fits : (lies : Bool) (length : ℕ) → (if lies then unless (is_rank role.Heading None length) rule.HeadingMark
+mark_fits : (lies : Bool) (length : ℕ) →
+    (if lies then unless (is_rank role.Heading None length) rule.HeadingMark
     else Some rule.Place) ≡ None → (1 ≤ length) × (length ≤ 6) × (lies ≡ true)
 mark_fits true length e =
     let parts = and_parts (nat_le 1 length) (nat_le length 6)
@@ -116,13 +128,16 @@ placed start end inner = place start end
 heading_fits : (bytes : List ℕ) (names : List (List ℕ × List ℕ)) (children : Forest) →
     AreFine bytes names children role.Heading None → begins is_mark_symbol (spine children) ≡ true →
     (1 ≤ rank_in children) × (rank_in children ≤ 6)
-    × (option_map_or (λ place. fits bytes place.start place.end) (first_named HeadingAtxSequence children) true ≡ true)
+    × (option_map_or (λ place. fits bytes place.start place.end)
+    (first_named HeadingAtxSequence children) true ≡ true)
 heading_fits bytes names children all h =
-    let first = has_first is_mark_symbol (is HeadingAtxSequence) mark_agree placed bytes names children role.Heading all h in
-    let meets = subst (λ name. MeetsRules bytes names role.Heading None name first.start first.end first.children)
-    (mark_is first.name first.passes) first.is_fine.1 in
+    let first = has_first is_mark_symbol (is HeadingAtxSequence) mark_agree placed bytes names
+    children role.Heading all h in
+    let meets = subst (λ name. MeetsRules bytes names role.Heading None name first.start first.end
+    first.children) (mark_is first.name first.passes) first.is_fine.1 in
     subst (λ mark. (1 ≤ long mark) × (long mark ≤ 6)
-    × (option_map_or (λ place. fits bytes place.start place.end) mark true ≡ true)) (sym first.found)
+    × (option_map_or (λ place. fits bytes place.start place.end) mark true ≡ true))
+    (sym first.found)
     (mark_fits (fits bytes first.start first.end) (columns first.start first.end) meets)
 
 -- digits of a number are decimal digits
@@ -130,10 +145,12 @@ digits_fit : (digits : List ℕ) → list_all (λ digit. nat_lt (digit_value dig
     list_all is_digit digits ≡ true
 digits_fit [] h = refl
 digits_fit (digit ∷ digits) h =
-    let parts = and_parts (nat_lt (digit_value digit) 10) (list_all (λ d. nat_lt (digit_value d) 10) digits) h in
+    let parts = and_parts (nat_lt (digit_value digit) 10)
+    (list_all (λ d. nat_lt (digit_value d) 10) digits) h in
     let range = digit_from_value digit (ltb-true (digit_value digit) 10 parts.0) in
     and_from (is_digit digit) (list_all is_digit digits)
-    (and_from (nat_le 48 digit) (nat_le digit 57) (le-leb 48 digit range.0) (le-leb digit 57 range.1))
+    (and_from (nat_le 48 digit) (nat_le digit 57) (le-leb 48 digit range.0)
+    (le-leb digit 57 range.1))
     (digits_fit digits parts.1)
 
 number_digits : (text : List ℕ) → is_number 10 text ≡ true → list_all is_digit text ≡ true
@@ -186,7 +203,8 @@ item_is : (name : Name) → (is ListItem) name ≡ true → name ≡ ListItem
 item_is ListItem h = refl
 item_is _ h = lie h
 
-from_first_of : (bytes : List ℕ) (found : Option (Option Position)) → OfFirst (MayHaveDigits bytes) found →
+from_first_of : (bytes : List ℕ) (found : Option (Option Position)) →
+    OfFirst (MayHaveDigits bytes) found →
     MayHaveDigits bytes (unwrap_or found None)
 from_first_of bytes None h = refl
 from_first_of bytes (Some number) h = h
@@ -205,78 +223,98 @@ value_or_none : (spine : List Symbol) → Matches role.FirstOrderedPrefix spine 
     (begins is_value_symbol spine ≡ true) ⊎ (list_any is_value_symbol spine ≡ false)
 unfolding is_value_symbol is_marker_symbol
 value_or_none spine match =
-    by_value match.2.0 match.2.1 match.2.3 (subst (λ firsts. IsGrouped firsts spine) match.2.2 match.1) match.2.5
+    by_value match.2.0 match.2.1 match.2.3
+    (subst (λ firsts. IsGrouped firsts spine) match.2.2 match.1) match.2.5
   where
     alone : (seen : Symbol) → seen ≡ symbol.ListItemMarker → IsGrouped (seen ∷ []) spine →
         list_any is_value_symbol spine ≡ false
     alone seen e grouped =
         let parts = subst (λ first. IsGrouped (first ∷ []) spine) e grouped in
-        ap (list_any is_value_symbol) (parts.2 ∙ ap (λ tail. symbol.ListItemMarker ∷ tail ++ parts.1) parts.3
+        ap (list_any is_value_symbol)
+        (parts.2 ∙ ap (λ tail. symbol.ListItemMarker ∷ tail ++ parts.1) parts.3
         ∙ ap (λ others. symbol.ListItemMarker ∷ others) parts.4)
 
-    by_marker : (own others : List Symbol) → list_all (takes (Only symbol.ListItemMarker)) own ≡ true →
-        length own ≡ 1 → others ≡ [] → IsGrouped (own ++ others) spine → list_any is_value_symbol spine ≡ false
+    by_marker : (own others : List Symbol) →
+        list_all (takes (Only symbol.ListItemMarker)) own ≡ true →
+        length own ≡ 1 → others ≡ [] → IsGrouped (own ++ others) spine →
+        list_any is_value_symbol spine ≡ false
     by_marker [] others taken_own count none grouped = absurd (omega arith)
     by_marker (seen ∷ []) others taken_own count none grouped =
         let passes = taken is_marker_symbol (members (Only symbol.ListItemMarker)) seen
         (and_parts (takes (Only symbol.ListItemMarker) seen) true taken_own).0 refl in
-        alone seen (marker_is seen passes) (subst (λ others. IsGrouped (seen ∷ others) spine) none grouped)
+        alone seen (marker_is seen passes)
+        (subst (λ others. IsGrouped (seen ∷ others) spine) none grouped)
     by_marker (seen ∷ second ∷ own) others taken_own count none grouped = absurd (omega arith)
 
-    by_value : (own others : List Symbol) → list_all (takes (Only symbol.ListItemValue)) own ≡ true →
+    by_value : (own others : List Symbol) →
+        list_all (takes (Only symbol.ListItemValue)) own ≡ true →
         IsGrouped (own ++ others) spine → Fits (Once (Only symbol.ListItemMarker) ∷ []) others →
         (begins is_value_symbol spine ≡ true) ⊎ (list_any is_value_symbol spine ≡ false)
     by_value [] others taken_own grouped fit =
-        inr (by_marker fit.0 fit.1 fit.3 fit.4 fit.5 (subst (λ firsts. IsGrouped firsts spine) fit.2 grouped))
+        inr (by_marker fit.0 fit.1 fit.3 fit.4 fit.5
+        (subst (λ firsts. IsGrouped firsts spine) fit.2 grouped))
     by_value (seen ∷ own) others taken_own grouped fit =
-        inl (ap (begins is_value_symbol) grouped.2 ∙ taken is_value_symbol (members (Only symbol.ListItemValue)) seen
+        inl (ap (begins is_value_symbol) grouped.2
+        ∙ taken is_value_symbol (members (Only symbol.ListItemValue)) seen
         (and_parts (takes (Only symbol.ListItemValue) seen)
         (list_all (takes (Only symbol.ListItemValue)) own) taken_own).0 refl)
 
 prefix_number : (bytes : List ℕ) (names : List (List ℕ × List ℕ)) (children : Forest) →
-    AreFine bytes names children role.FirstOrderedPrefix None → Matches role.FirstOrderedPrefix (spine children) →
+    AreFine bytes names children role.FirstOrderedPrefix None →
+    Matches role.FirstOrderedPrefix (spine children) →
     MayHaveDigits bytes (first_named ListItemValue children)
 prefix_number bytes names children all match = by (value_or_none (spine children) match)
   where
-    of_value : First is_value_symbol (is ListItemValue) value_agree placed bytes names children role.FirstOrderedPrefix →
+    of_value : First is_value_symbol (is ListItemValue) value_agree placed bytes names children
+        role.FirstOrderedPrefix →
         MayHaveDigits bytes (first_named ListItemValue children)
     of_value first =
         subst (MayHaveDigits bytes) (sym first.found)
         (text_fits (is_number 10) rule.ListNumber (λ text. list_all is_digit text
         ≡ true) number_digits (text_between bytes first.start first.end)
-        (subst (λ n. MeetsRules bytes names role.FirstOrderedPrefix None n first.start first.end first.children)
-        (value_is first.name first.passes) first.is_fine.1))
+        (subst (λ n. MeetsRules bytes names role.FirstOrderedPrefix None n first.start first.end
+        first.children) (value_is first.name first.passes) first.is_fine.1))
 
-    by : (begins is_value_symbol (spine children) ≡ true) ⊎ (list_any is_value_symbol (spine children) ≡ false) →
+    by : (begins is_value_symbol (spine children) ≡ true)
+        ⊎ (list_any is_value_symbol (spine children) ≡ false) →
         MayHaveDigits bytes (first_named ListItemValue children)
-    by (inl h) = of_value (has_first is_value_symbol (is ListItemValue) value_agree placed bytes names children
-        role.FirstOrderedPrefix all h)
+    by (inl h) = of_value (has_first is_value_symbol (is ListItemValue) value_agree placed bytes
+        names children role.FirstOrderedPrefix all h)
     by (inr h) =
-        subst (MayHaveDigits bytes) (sym (none_first is_value_symbol (is ListItemValue) value_agree placed bytes names
+        subst (MayHaveDigits bytes)
+        (sym (none_first is_value_symbol (is ListItemValue) value_agree placed bytes names
         children role.FirstOrderedPrefix None all h)) refl
 
 item_number : (bytes : List ℕ) (names : List (List ℕ × List ℕ)) (children : Forest) →
-    AreFine bytes names children role.FirstOrderedItem None → MayHaveDigits bytes (in_first_named ListItemPrefix (first_named ListItemValue) children)
+    AreFine bytes names children role.FirstOrderedItem None →
+    MayHaveDigits bytes (in_first_named ListItemPrefix (first_named ListItemValue) children)
 item_number bytes names children all =
-    from_first_of bytes (first_on_spine (is ListItemPrefix) (λ start end inner. first_named ListItemValue inner) children)
-    (of_first is_prefix_symbol (is ListItemPrefix) prefix_agree (λ start end inner. first_named ListItemValue inner) bytes names
+    from_first_of bytes (first_on_spine (is ListItemPrefix)
+    (λ start end inner. first_named ListItemValue inner) children)
+    (of_first is_prefix_symbol (is ListItemPrefix) prefix_agree
+    (λ start end inner. first_named ListItemValue inner) bytes names
     (MayHaveDigits bytes) role.FirstOrderedItem each children None all)
   where
-    each : OfAll is_prefix_symbol (is ListItemPrefix) prefix_agree (λ start end inner. first_named ListItemValue inner) bytes names
+    each : OfAll is_prefix_symbol (is ListItemPrefix) prefix_agree
+        (λ start end inner. first_named ListItemValue inner) bytes names
         (MayHaveDigits bytes) role.FirstOrderedItem
     each before name start end inner passes here inside =
         prefix_number bytes names inner
-        (subst (λ n. AreFine bytes names inner (inner_role (standing_of n) role.FirstOrderedItem before)
-        (inner_before (standing_of n) before)) (prefix_is name passes) inside)
-        (subst (λ n. IsStanding (standing_of n) role.FirstOrderedItem before inner) (prefix_is name passes) here.0.1)
+        (subst (λ n. AreFine bytes names inner (inner_role (standing_of n) role.FirstOrderedItem
+        before) (inner_before (standing_of n) before)) (prefix_is name passes) inside)
+        (subst (λ n. IsStanding (standing_of n) role.FirstOrderedItem before inner)
+        (prefix_is name passes) here.0.1)
 
 list_fits : (bytes : List ℕ) (names : List (List ℕ × List ℕ)) (children : Forest) →
-    AreFine bytes names children role.OrderedList None → begins is_item_symbol (spine children) ≡ true →
+    AreFine bytes names children role.OrderedList None →
+    begins is_item_symbol (spine children) ≡ true →
     MayHaveDigits bytes (number_in_list children)
 list_fits bytes names children all h =
     let first = has_first is_item_symbol (is ListItem) item_agree
-    (λ start end inner. in_first_named ListItemPrefix (first_named ListItemValue) inner) bytes names children role.OrderedList all h in
-    let inside = subst (λ n. AreFine bytes names first.children (inner_role (standing_of n) role.OrderedList None)
+    (λ start end inner. in_first_named ListItemPrefix (first_named ListItemValue) inner) bytes names
+    children role.OrderedList all h in
+    let inside = subst (λ n. AreFine bytes names first.children
+    (inner_role (standing_of n) role.OrderedList None)
     (inner_before (standing_of n) None)) (item_is first.name first.passes) first.are_fine in
     subst (λ found. MayHaveDigits bytes (unwrap_or found None)) (sym first.found)
     (item_number bytes names first.children inside)
@@ -287,14 +325,16 @@ any_after : (test : Name → Bool) (names others : List Name) → list_any test 
 any_after test [] others h = h
 any_after test (name ∷ names) others h = by (test name) (any_after test names others h)
   where
-    by : (passes : Bool) → list_any test (names ++ others) ≡ true → (passes || list_any test (names ++ others)) ≡ true
+    by : (passes : Bool) → list_any test (names ++ others) ≡ true →
+        (passes || list_any test (names ++ others)) ≡ true
     by true later = refl
     by false later = later
 
 any_before : (test : Name → Bool) (names others : List Name) → list_any test names ≡ true →
     list_any test (names ++ others) ≡ true
 any_before test [] others h = lie h
-any_before test (name ∷ names) others h = by (test name) h (λ later. any_before test names others later)
+any_before test (name ∷ names) others h =
+    by (test name) h (λ later. any_before test names others later)
   where
     by : (passes : Bool) → (passes || list_any test names) ≡ true →
         (list_any test names ≡ true → list_any test (names ++ others) ≡ true) →
@@ -302,13 +342,16 @@ any_before test (name ∷ names) others h = by (test name) h (λ later. any_befo
     by true h later = refl
     by false h later = later h
 
-any_split : (test : Symbol → Bool) (symbols others : List Symbol) → list_any test (symbols ++ others) ≡ true →
+any_split : (test : Symbol → Bool) (symbols others : List Symbol) →
+    list_any test (symbols ++ others) ≡ true →
     (list_any test symbols ≡ true) ⊎ (list_any test others ≡ true)
 any_split test [] others h = inr h
-any_split test (symbol ∷ symbols) others h = by (test symbol) h (λ later. any_split test symbols others later)
+any_split test (symbol ∷ symbols) others h =
+    by (test symbol) h (λ later. any_split test symbols others later)
   where
     by : (passes : Bool) → (passes || list_any test (symbols ++ others)) ≡ true →
-        (list_any test (symbols ++ others) ≡ true → (list_any test symbols ≡ true) ⊎ (list_any test others ≡ true)) →
+        (list_any test (symbols ++ others) ≡ true →
+        (list_any test symbols ≡ true) ⊎ (list_any test others ≡ true)) →
         ((passes || list_any test symbols) ≡ true) ⊎ (list_any test others ≡ true)
     by true h later = inl refl
     by false h later = later h
@@ -317,16 +360,20 @@ fence_agree : Agree is_fence_symbol is_fence
 fence_agree CodeFencedFence = refl
 fence_agree _ = refl
 
-any_here : (standing : Standing) (name : Name) (children : Forest) (around : Role) (before : Option Symbol) →
-    Told standing name → is_fence name ≡ shows is_fence_symbol standing → IsStanding standing around before children →
-    (list_any is_fence_symbol (spine children) ≡ true → list_any is_fence (spine_names children) ≡ true) →
+any_here : (standing : Standing) (name : Name) (children : Forest) (around : Role)
+    (before : Option Symbol) →
+    Told standing name → is_fence name ≡ shows is_fence_symbol standing →
+    IsStanding standing around before children →
+    (list_any is_fence_symbol (spine children) ≡ true →
+    list_any is_fence (spine_names children) ≡ true) →
     list_any is_fence_symbol (shown standing (spine children)) ≡ true →
     list_any is_fence (if is_transparent name then spine_names children else name ∷ []) ≡ true
 any_here Through name children around before says same stands again h =
     ap (λ t. list_any is_fence (cond t (spine_names children) (name ∷ []))) says ∙ again h
 any_here Space name children around before says same stands again h = lie h
 any_here (Solid symbol usual reading) name children around before says same stands again h =
-    ap (λ t. list_any is_fence (cond t (spine_names children) (name ∷ []))) says.0 ∙ (ap (λ t. t || false) same ∙ h)
+    ap (λ t. list_any is_fence (cond t (spine_names children) (name ∷ []))) says.0
+    ∙ (ap (λ t. t || false) same ∙ h)
 any_here Mdx name children around before says same stands again h = absurd stands
 
 fence_named : (bytes : List ℕ) (names : List (List ℕ × List ℕ)) (forest : Forest) (around : Role)
@@ -337,19 +384,21 @@ fence_named bytes names (Node name start end children rest) around before all h 
     elim (any_split is_fence_symbol (shown (standing_of name) (spine children)) (spine rest) h) [
       | inl here ↦ any_before is_fence (if is_transparent name then spine_names children else name
           ∷ []) (spine_names rest)
-          (any_here (standing_of name) name children around before (told name) (fence_agree name) all.0.0.1
-          (fence_named bytes names children _ _ all.1) here)
+          (any_here (standing_of name) name children around before (told name) (fence_agree name)
+          all.0.0.1 (fence_named bytes names children _ _ all.1) here)
       | inr later ↦ any_after is_fence (if is_transparent name then spine_names children else name
           ∷ []) (spine_names rest) (fence_named bytes names rest _ _ all.2 later)
     ]
 
-any_begins : (test : Symbol → Bool) (symbols : List Symbol) → begins test symbols ≡ true → list_any test symbols ≡ true
+any_begins : (test : Symbol → Bool) (symbols : List Symbol) → begins test symbols ≡ true →
+    list_any test symbols ≡ true
 any_begins test [] h = lie h
 any_begins test (symbol ∷ symbols) h = ap (λ t. t || list_any test symbols) h
 
 -- what else is asked of a node
-pub fit : (bytes : List ℕ) (names : List (List ℕ × List ℕ)) (name : Name) (around : Role) (before : Option Symbol)
-    (start end : Point) (children : Forest) → IsFine bytes names around before name start end children →
+pub fit : (bytes : List ℕ) (names : List (List ℕ × List ℕ)) (name : Name) (around : Role)
+    (before : Option Symbol) (start end : Point) (children : Forest) →
+    IsFine bytes names around before name start end children →
     AreFine bytes names children (inner_role (standing_of name) around before)
     (inner_before (standing_of name) before) → IsFit bytes name start end children
 unfolding is_mark_symbol is_item_symbol
@@ -360,15 +409,17 @@ fit bytes names BlankLineEnding around before start end children here inside =
     text_fits is_line_ending rule.LineEnding (λ text. is_line_ends text
     ≡ true) ending-ends (text_between bytes start end) here.1
 fit bytes names HeadingAtx around before start end children here inside =
-    heading_fits bytes names children inside (begins_with is_mark_symbol role.Heading (Only symbol.HeadingSequence) _
-    (spine children) refl refl here.0.1)
+    heading_fits bytes names children inside (begins_with is_mark_symbol role.Heading
+    (Only symbol.HeadingSequence) _ (spine children) refl refl here.0.1)
 fit bytes names ListOrdered around before start end children here inside =
-    list_fits bytes names children inside (begins_with is_item_symbol role.OrderedList (Only symbol.ListItem) _
-    (spine children) refl refl here.0.1)
+    list_fits bytes names children inside (begins_with is_item_symbol role.OrderedList
+    (Only symbol.ListItem) _ (spine children) refl refl here.0.1)
 fit bytes names CodeFenced around before start end children here inside =
     fence_named bytes names children _ _ inside (any_begins is_fence_symbol (spine children)
-    (begins_with is_fence_symbol role.CodeFenced (Only symbol.CodeFence) _ (spine children) refl refl here.0.1))
+    (begins_with is_fence_symbol role.CodeFenced (Only symbol.CodeFence) _ (spine children)
+    refl refl here.0.1))
 fit bytes names MathFlow around before start end children here inside =
     fence_named bytes names children _ _ inside (any_begins is_fence_symbol (spine children)
-    (begins_with is_fence_symbol role.Math (Only symbol.MathFence) _ (spine children) refl refl here.0.1))
+    (begins_with is_fence_symbol role.Math (Only symbol.MathFence) _ (spine children)
+    refl refl here.0.1))
 fit bytes names _ around before start end children here inside = tt

@@ -1,4 +1,5 @@
--- Each document of the grammar is built of what may stand where it is: what the theorem begins with.
+-- Each document of the grammar is built of what may stand where it is: what the
+-- theorem begins with.
 use Rattle.std.proofs.Common.{◌≡◌, ℕ, true, Option, None, is_some, List}
 use Rattle.md_pattern.specs.declared.kinds.Symbol.{Symbol}
 use Rattle.md_pattern.specs.declared.kinds.Role.{Role}
@@ -16,8 +17,8 @@ use Rattle.md_shape.proofs.Firsts.{AreFine, fine, shaped}
 use Rattle.md_shape.proofs.Fitting.{fit}
 
 -- nodes whose spine may stand somewhere are built so
-built : (bytes : List ℕ) (names : List (List ℕ × List ℕ)) (forest : Forest) (around : Role) (before : Option Symbol)
-    (content : Content) → AreFine bytes names forest around before →
+built : (bytes : List ℕ) (names : List (List ℕ × List ℕ)) (forest : Forest) (around : Role)
+    (before : Option Symbol) (content : Content) → AreFine bytes names forest around before →
     admits (is_some before) content (spine forest) ≡ true → IsBuilt bytes content forest
 built bytes names Empty around before content all h = tt
 built bytes names (Node name start end children rest) around before content all h =

@@ -2,7 +2,9 @@
 use Rattle.std.proofs.Common.{◌≡◌, ℕ, Bool, true, false, List, [], Option, None, refl, ap, ◌∙◌}
 use Rattle.std.specs.Prelude.{if◌then◌else◌}
 use Rattle.md_base.specs.declared.event.Name.{Name}
-use Rattle.md_base.specs.declared.event.Name.TheVariants.{LineEnding, SpaceOrTab, BlockQuotePrefix, Other, CodeIndented, CodeFenced, MathFlow, Link, Image, GfmFootnoteCall, GfmTableRow, CharacterReferenceValue}
+use Rattle.md_base.specs.declared.event.Name.TheVariants as name_variants
+use name_variants.{LineEnding, SpaceOrTab, BlockQuotePrefix, Other, CodeIndented, CodeFenced}
+use name_variants.{MathFlow, Link, Image, GfmFootnoteCall, GfmTableRow, CharacterReferenceValue}
 use Rattle.md_base.specs.declared.event.Point.{Point}
 use Rattle.md_base.proofs.Lies.{lie}
 use Rattle.md_base.specs.Tree.{Forest}
@@ -13,8 +15,10 @@ use Rattle.md_meaning.specs.Meaning.Around.{inside}
 use Rattle.md_meaning.specs.Meaning.At.{Target, Given, Before}
 use Rattle.md_meaning.specs.Meaning.Before.{before_children}
 use Rattle.md_shape.specs.Content.{Content, Childless, content_inside}
-use Rattle.md_shape.specs.Steps.{State, told_of, entered, turns, turned, is_row, is_raw, is_labelled, is_ending, is_value}
-use Rattle.md_shape.specs.Claim.{Knows, KnowsEnded, KnowsCells, KnowsLines, KnowsResource, has_marks, mark_after, at_node}
+use Rattle.md_shape.specs.Steps.{State, told_of, entered, turns, turned, is_row, is_raw}
+use Rattle.md_shape.specs.Steps.{is_labelled, is_ending, is_value}
+use Rattle.md_shape.specs.Claim.{Knows, KnowsEnded, KnowsCells, KnowsLines, KnowsResource}
+use Rattle.md_shape.specs.Claim.{has_marks, mark_after, at_node}
 use Rattle.md_shape.proofs.Sides.{turned-seen}
 
 pub any_ended : (c : Content) (o : Option Name) → KnowsEnded c o o
@@ -36,7 +40,8 @@ marker-inside c CharacterReferenceValue spine m k h = lie h
 marker-inside c _ spine m k h = refl
 
 lines-inside : (c : Content) (name : Name) (spine : List Name) (fences : ℕ) (chunk : Bool) →
-    KnowsLines c spine fences chunk → KnowsLines (content_inside c name) (if is_transparent name then spine else [])
+    KnowsLines c spine fences chunk →
+    KnowsLines (content_inside c name) (if is_transparent name then spine else [])
     (if is_raw name then 0 else fences) (if is_raw name then false else chunk)
 lines-inside c SpaceOrTab spine fences chunk k = k
 lines-inside c BlockQuotePrefix spine fences chunk k = k
@@ -46,22 +51,27 @@ lines-inside c CodeFenced spine fences chunk k = (refl, refl)
 lines-inside c MathFlow spine fences chunk k = (refl, refl)
 lines-inside c _ spine fences chunk k = tt
 
-heading-inside : (name : Name) (waits : Bool) (heading before : List ℕ) → (waits ≡ true → heading ≡ before) →
-    (if is_transparent name then waits else false) ≡ true → heading ≡ (if is_transparent name then before else [])
+heading-inside : (name : Name) (waits : Bool) (heading before : List ℕ) →
+    (waits ≡ true → heading ≡ before) →
+    (if is_transparent name then waits else false) ≡ true →
+    heading ≡ (if is_transparent name then before else [])
 heading-inside SpaceOrTab waits heading before k h = k h
 heading-inside BlockQuotePrefix waits heading before k h = k h
 heading-inside (Other number) waits heading before k h = k h
 heading-inside _ waits heading before k h = lie h
 
-cells-inside : (c : Content) (name : Name) (spine : List Name) (cells : ℕ) → KnowsCells c spine cells →
-    KnowsCells (content_inside c name) (if is_transparent name then spine else []) (if is_row name then 0 else cells)
+cells-inside : (c : Content) (name : Name) (spine : List Name) (cells : ℕ) →
+    KnowsCells c spine cells →
+    KnowsCells (content_inside c name) (if is_transparent name then spine else [])
+    (if is_row name then 0 else cells)
 cells-inside c SpaceOrTab spine cells k = k
 cells-inside c BlockQuotePrefix spine cells k = k
 cells-inside c (Other number) spine cells k = k
 cells-inside c GfmTableRow spine cells k = refl
 cells-inside c _ spine cells k = tt
 
-resource-inside : (c : Content) (name : Name) (resource : Option Target) → KnowsResource c resource →
+resource-inside : (c : Content) (name : Name) (resource : Option Target) →
+    KnowsResource c resource →
     KnowsResource (content_inside c name) (if is_labelled name then None else resource)
 resource-inside c SpaceOrTab resource k = k
 resource-inside c BlockQuotePrefix resource k = k
@@ -71,16 +81,18 @@ resource-inside c Image resource k = refl
 resource-inside c GfmFootnoteCall resource k = refl
 resource-inside c _ resource k = tt
 
-pub children_know : (given : Given) (c : Content) (waits : Bool) (around : Surroundings) (before : Before) (last : Bool)
-    (name : Name) (start end : Point) (children : Forest) (state : State) → Knows c waits around before state →
+pub children_know : (given : Given) (c : Content) (waits : Bool) (around : Surroundings)
+    (before : Before) (last : Bool)
+    (name : Name) (start end : Point) (children : Forest) (state : State) →
+    Knows c waits around before state →
     Knows (content_inside c name) (if is_transparent name then waits else false)
     (inside given.options (is_loose children) name around) (before_children name children before)
     (entered given (told_of given.bytes last children start end) name state)
 children_know given c waits around before last name start end children state knows = record {
   sees =
-      ap (λ a. if turns name then turned given.options (told_of given.bytes last children start end) name a else a)
-      knows.sees
-      ∙ turned-seen given around before.columns (at_node given around before last name start end children) name;
+      ap (λ a. if turns name then turned given.options (told_of given.bytes last children start end)
+      name a else a) knows.sees ∙ turned-seen given around before.columns
+      (at_node given around before last name start end children) name;
   slurps = knows.slurps;
   ended = ended-inside c name state.ended;
   marker = marker-inside c name before.spine state.marker knows.marker;

@@ -13,6 +13,7 @@ laid-append ending text (Forced ∷ xs) ys = laid-append ending (text ++ ending)
 
 -- a node in three parts
 pub three : (ending text : List ℕ) (xs ys zs : List Piece) →
-    laid_after ending (laid_after ending (laid_after ending text xs) ys) zs ≡ laid_after ending text (xs ++ (ys ++ zs))
+    laid_after ending (laid_after ending (laid_after ending text xs) ys) zs
+    ≡ laid_after ending text (xs ++ (ys ++ zs))
 three ending text xs ys zs = sym (laid-append ending text xs (ys ++ zs)
     ∙ laid-append ending (laid_after ending text xs) ys zs)

@@ -1,7 +1,9 @@
--- What links, images, calls and definitions refer by is the same in the grammar, which takes the last label on a
--- spine, and in the meaning, which looks for one by name.
+-- What links, images, calls and definitions refer by is the same in the grammar, which takes the
+-- last label on a spine, and in the meaning, which looks for one by name.
 use denote.Enum.Bare.{sameb}
-use Rattle.std.proofs.Common.{◌≡◌, ◌≤◌, ◌⊎◌, inl, inr, Bool, true, false, ◌&&◌, ◌||◌, Option, Some, None, List, [], ◌∷◌, ◌++◌, refl, sym, ap, ◌∙◌, subst, length, arith, append_assoc}
+use Rattle.std.proofs.Common.{◌≡◌, ◌≤◌, ◌⊎◌, inl, inr, Bool, true, false, ◌&&◌, ◌||◌, Option, Some}
+use Rattle.std.proofs.Common.{None, List, [], ◌∷◌, ◌++◌, refl, sym, ap, ◌∙◌, subst, length, arith}
+use Rattle.std.proofs.Common.{append_assoc}
 use Rattle.std.specs.Prelude.{if◌then◌else◌, unwrap_or, is_some}
 use Rattle.std.specs.List.{list_all, list_any}
 use Rattle.std.proofs.lemmas.Bool.{and_parts, and_from}
@@ -27,16 +29,19 @@ use Rattle.md_base.specs.Tree.{Forest, Empty, Node}
 use Rattle.md_pattern.specs.Standing.{standing_of}
 use Rattle.md_pattern.specs.Pattern.{members, takes, Fits}
 use Rattle.md_pattern.specs.Spine.{spine, shown, IsTail, IsGrouped, Matches}
-use Rattle.md_pattern.specs.Shape.{IsStanding, AreShaped, role_for, label_in, inner_role, inner_before, last_symbol}
+use Rattle.md_pattern.specs.Shape.{IsStanding, AreShaped, role_for, label_in, inner_role}
+use Rattle.md_pattern.specs.Shape.{inner_before, last_symbol}
 use Rattle.md_tree.specs.Rules.{place, target_of}
-use Rattle.md_base.specs.NameTests.{is_label, is_label_text, is_reference, is_definition_label, is_footnote_prefix, is_footnote_label}
+use Rattle.md_base.specs.NameTests.{is_label, is_label_text, is_reference, is_definition_label}
+use Rattle.md_base.specs.NameTests.{is_footnote_prefix, is_footnote_label}
 use Rattle.md_base.specs.Children.{first_on_spine}
 use Rattle.md_meaning.specs.Places.{position, text_in_label, label_in_prefix}
 use Rattle.md_shape.specs.Labels.{label_in_node, referring_in, footnote_label}
 use Rattle.md_shape.specs.Leads.{label_target}
 use Rattle.md_shape.proofs.Admitted.{taken}
 use Rattle.md_shape.proofs.Firsts.{Agree}
-use Rattle.md_shape.proofs.Stands.{Stand, stand_here, stands, seen_of, spine-stands, target_by, sought, target-stands, first_seen, first-stands}
+use Rattle.md_shape.proofs.Stands.{Stand, stand_here, stands, seen_of, spine-stands, target_by}
+use Rattle.md_shape.proofs.Stands.{sought, target-stands, first_seen, first-stands}
 use Rattle.md_shape.proofs.Letters.{own-all, fits-all, followed-all}
 
 -- ---- symbols that leave no target, and those that do
@@ -56,7 +61,8 @@ is_neutral symbol.FootnotePrefix = false
 is_neutral symbol.Resource = false
 is_neutral _ = true
 
-neutral-leaves : (seen : Symbol) (found inner : Referral) (there : Position) → is_neutral seen ≡ true →
+neutral-leaves : (seen : Symbol) (found inner : Referral) (there : Position) →
+    is_neutral seen ≡ true →
     target_by seen found inner there ≡ found
 neutral-leaves symbol.LabelText found inner there h = lie h
 neutral-leaves symbol.ReferenceString found inner there h = lie h
@@ -67,7 +73,8 @@ neutral-leaves symbol.FootnotePrefix found inner there h = lie h
 neutral-leaves symbol.Resource found inner there h = lie h
 neutral-leaves _ found inner there h = refl
 
-sought-neutral : (nodes : List Stand) (found : Referral) → list_all is_neutral (seen_of nodes) ≡ true →
+sought-neutral : (nodes : List Stand) (found : Referral) →
+    list_all is_neutral (seen_of nodes) ≡ true →
     sought nodes found ≡ found
 sought-neutral [] found h = refl
 sought-neutral (node ∷ nodes) found h =
@@ -99,11 +106,15 @@ text-sought : (nodes : List Stand) → has_one_text (seen_of nodes) ≡ true →
 text-sought [] h = refl
 text-sought (node ∷ nodes) h = by (is_text node.seen) refl h (text-sought nodes)
   where
-    by : (text : Bool) → is_text node.seen ≡ text → (if text then list_all is_neutral (seen_of nodes)
+    by : (text : Bool) → is_text node.seen ≡ text →
+        (if text then list_all is_neutral (seen_of nodes)
         else is_neutral node.seen && has_one_text (seen_of nodes)) ≡ true →
-        (has_one_text (seen_of nodes) ≡ true → sought nodes Missing ≡ label_target (text_seen nodes)) →
-        sought nodes (target_by node.seen Missing (target_of node.children Missing) (place node.start node.end))
-        ≡ label_target (if text then Some (position node.start node.end node.children) else text_seen nodes)
+        (has_one_text (seen_of nodes) ≡ true →
+        sought nodes Missing ≡ label_target (text_seen nodes)) →
+        sought nodes
+        (target_by node.seen Missing (target_of node.children Missing) (place node.start node.end))
+        ≡ label_target (if text then Some (position node.start node.end node.children)
+        else text_seen nodes)
     by true e rest again =
         ap (λ seen. sought nodes (target_by seen Missing (target_of node.children Missing)
         (place node.start node.end))) (text-is node.seen e)
@@ -118,23 +129,28 @@ neutral-no_text : (seen : Symbol) → is_neutral seen ≡ true → is_text seen 
 neutral-no_text symbol.LabelText h = lie h
 neutral-no_text _ h = refl
 
-one_text-append : (symbols others : List Symbol) → list_all is_neutral symbols ≡ true → has_one_text others ≡ true →
+one_text-append : (symbols others : List Symbol) → list_all is_neutral symbols ≡ true →
+    has_one_text others ≡ true →
     has_one_text (symbols ++ others) ≡ true
 one_text-append [] others h g = g
 one_text-append (seen ∷ symbols) others h g =
     let parts = and_parts (is_neutral seen) (list_all is_neutral symbols) h in
     ap (λ text. if text then list_all is_neutral (symbols ++ others) else is_neutral seen
     && has_one_text (symbols ++ others)) (neutral-no_text seen parts.0)
-    ∙ and_from (is_neutral seen) (has_one_text (symbols ++ others)) parts.0 (one_text-append symbols others parts.1 g)
+    ∙ and_from (is_neutral seen) (has_one_text (symbols ++ others)) parts.0
+    (one_text-append symbols others parts.1 g)
 
-neutral-one_text : (symbols : List Symbol) → list_all is_neutral symbols ≡ true → has_one_text symbols ≡ true
-neutral-one_text symbols h = subst (λ s. has_one_text s ≡ true) (append_nil symbols) (one_text-append symbols [] h refl)
+neutral-one_text : (symbols : List Symbol) → list_all is_neutral symbols ≡ true →
+    has_one_text symbols ≡ true
+neutral-one_text symbols h =
+    subst (λ s. has_one_text s ≡ true) (append_nil symbols) (one_text-append symbols [] h refl)
   where
     append_nil : (xs : List Symbol) → xs ++ [] ≡ xs
     append_nil [] = refl
     append_nil (x ∷ xs) = ap (λ s. x ∷ s) (append_nil xs)
 
-grouped-neutral : (firsts spine : List Symbol) → list_all is_neutral firsts ≡ true → IsGrouped firsts spine →
+grouped-neutral : (firsts spine : List Symbol) → list_all is_neutral firsts ≡ true →
+    IsGrouped firsts spine →
     list_all is_neutral spine ≡ true
 grouped-neutral firsts spine h is = followed-all is_neutral refl firsts spine is h
 
@@ -160,17 +176,21 @@ only-is : (one seen : Symbol) → takes (Only one) seen ≡ true → one ≡ see
 only-is one seen h = same_true the_type tt one seen (or_false (sameb the_type one seen) h)
 
 -- at most one label's text, each group alone
-texts-one : (own rest spine : List Symbol) → length own ≤ 1 → list_all (takes (Only symbol.LabelText)) own ≡ true →
+texts-one : (own rest spine : List Symbol) → length own ≤ 1 →
+    list_all (takes (Only symbol.LabelText)) own ≡ true →
     list_all is_neutral rest ≡ true → IsGrouped (own ++ rest) spine → has_one_text spine ≡ true
-texts-one [] rest spine count own_taken h is = neutral-one_text spine (grouped-neutral rest spine h is)
+texts-one [] rest spine count own_taken h is =
+    neutral-one_text spine (grouped-neutral rest spine h is)
 texts-one (seen ∷ []) rest spine count own_taken h is =
-    let e = only-is symbol.LabelText seen (and_parts (takes (Only symbol.LabelText) seen) true own_taken).0 in
+    let e = only-is symbol.LabelText seen
+    (and_parts (takes (Only symbol.LabelText) seen) true own_taken).0 in
     let grouped = subst (λ first. IsGrouped (first ∷ rest) spine) (sym e) is in
     ap has_one_text (grouped.2 ∙ ap (λ tail. symbol.LabelText ∷ tail ++ grouped.1) grouped.3)
     ∙ grouped-neutral rest grouped.1 h grouped.4
 texts-one (seen ∷ another ∷ own) rest spine count own_taken h is = absurd (omega arith)
 
-label-one : (before own after firsts spine : List Symbol) → list_all (takes Phrasing) before ≡ true → length own ≤ 1 →
+label-one : (before own after firsts spine : List Symbol) →
+    list_all (takes Phrasing) before ≡ true → length own ≤ 1 →
     list_all (takes (Only symbol.LabelText)) own ≡ true → list_all (takes Phrasing) after ≡ true →
     firsts ≡ before ++ (own ++ after) → IsGrouped firsts spine → has_one_text spine ≡ true
 label-one before own after firsts spine b count o a e is =
@@ -191,25 +211,30 @@ label-pattern spine match =
     let rest = fit.5 in
     let last = rest.5 in
     label-one fit.0 rest.0 last.0 match.0 spine fit.3 rest.4 rest.3 last.3
-    (fit.2 ∙ ap (λ s. fit.0 ++ s) (rest.2 ∙ ap (λ s. rest.0 ++ s) (last.2 ∙ append-nothing last.0 last.1 last.5)))
+    (fit.2 ∙ ap (λ s. fit.0 ++ s)
+    (rest.2 ∙ ap (λ s. rest.0 ++ s) (last.2 ∙ append-nothing last.0 last.1 last.5)))
     match.1
 
-call_label-pattern : (spine : List Symbol) → Matches role.CallLabel spine → has_one_text spine ≡ true
+call_label-pattern : (spine : List Symbol) → Matches role.CallLabel spine →
+    has_one_text spine ≡ true
 call_label-pattern spine match =
     let fit = match.2 in
     let rest = fit.5 in
     let last = rest.5 in
     label-one fit.0 rest.0 last.0 match.0 spine fit.3 (omega (arith, rest.4)) rest.3 last.3
-    (fit.2 ∙ ap (λ s. fit.0 ++ s) (rest.2 ∙ ap (λ s. rest.0 ++ s) (last.2 ∙ append-nothing last.0 last.1 last.5)))
+    (fit.2 ∙ ap (λ s. fit.0 ++ s)
+    (rest.2 ∙ ap (λ s. rest.0 ++ s) (last.2 ∙ append-nothing last.0 last.1 last.5)))
     match.1
 
-either-label : (around : Role) (spine : List Symbol) → Matches (label_in around) spine → has_one_text spine ≡ true
+either-label : (around : Role) (spine : List Symbol) → Matches (label_in around) spine →
+    has_one_text spine ≡ true
 either-label role.FootnoteCall spine match = call_label-pattern spine match
 either-label _ spine match = label-pattern spine match
 
 -- what a label leaves is the place of its text
 label-leaves : (around : Role) (children : Forest) → AreShaped children (label_in around) None →
-    Matches (label_in around) (spine children) → target_of children Missing ≡ label_target (text_in_label children)
+    Matches (label_in around) (spine children) →
+    target_of children Missing ≡ label_target (text_in_label children)
 label-leaves around children shaped match =
     target-stands children Missing
     ∙ text-sought (stands children) (subst (λ s. has_one_text s
@@ -230,7 +255,8 @@ label-role : (usual : Role) → role_right symbol.Label usual ≡ true → role.
 label-role role.Label h = refl
 label-role _ h = lie h
 
-prefix-role : (usual : Role) → role_right symbol.FootnotePrefix usual ≡ true → role.FootnotePrefix ≡ usual
+prefix-role : (usual : Role) → role_right symbol.FootnotePrefix usual ≡ true →
+    role.FootnotePrefix ≡ usual
 prefix-role role.FootnotePrefix h = refl
 prefix-role _ h = lie h
 
@@ -260,12 +286,14 @@ abbrev EachHeld : Role → List Stand → Type 0
 EachHeld around [] = Unit {0}
 EachHeld around (node ∷ nodes) = IsHeld around node × EachHeld around nodes
 
-held-append : (around : Role) (nodes others : List Stand) → EachHeld around nodes → EachHeld around others →
+held-append : (around : Role) (nodes others : List Stand) → EachHeld around nodes →
+    EachHeld around others →
     EachHeld around (nodes ++ others)
 held-append around [] others a b = b
 held-append around (node ∷ nodes) others a b = (a.0, held-append around nodes others a.1 b)
 
-held-here : (standing : Standing) (start end : Point) (children : Forest) (around : Role) (before : Option Symbol) →
+held-here : (standing : Standing) (start end : Point) (children : Forest) (around : Role)
+    (before : Option Symbol) →
     IsRight standing → IsStanding standing around before children →
     AreShaped children (inner_role standing around before) (inner_before standing before) →
     (AreShaped children around before → EachHeld around (stands children)) →
@@ -293,7 +321,8 @@ held : (forest : Forest) (around : Role) (before : Option Symbol) → AreShaped 
     EachHeld around (stands forest)
 held Empty around before shaped = tt
 held (Node n start end children rest) around before shaped =
-    held-append around (stand_here (standing_of n) start end children (stands children)) (stands rest)
+    held-append around
+    (stand_here (standing_of n) start end children (stands children)) (stands rest)
     (held-here (standing_of n) start end children around before (right n) shaped.0.1 shaped.1
     (held children around before))
     (held rest around (last_symbol before (shown (standing_of n) (spine children))) shaped.2)
@@ -307,7 +336,8 @@ record Begins (seen : Symbol) (others : List Symbol) (nodes : List Stand) : Type
   are : nodes ≡ record { seen = seen; start = start; end = end; children = children } ∷ rest
   others_are : seen_of rest ≡ others
 
-begins : (seen : Symbol) (others : List Symbol) (nodes : List Stand) → seen_of nodes ≡ seen ∷ others →
+begins : (seen : Symbol) (others : List Symbol) (nodes : List Stand) →
+    seen_of nodes ≡ seen ∷ others →
     Begins seen others nodes
 begins seen others [] e = absurd (nothing e)
   where
@@ -321,7 +351,9 @@ begins seen others (node ∷ nodes) e =
       end = node.end;
       children = node.children;
       rest = nodes;
-      are = ap (λ s. record { seen = s; start = node.start; end = node.end; children = node.children } ∷ nodes) first;
+      are =
+          ap (λ s. record { seen = s; start = node.start; end = node.end; children = node.children }
+          ∷ nodes) first;
       others_are = rest;
     }
 
@@ -378,7 +410,8 @@ record Once (one : Symbol) (items : List Item) (firsts : List Symbol) : Type 0 w
   fit : Fits items others
 
 once-is : (one : Symbol) (items : List Item) (own others firsts : List Symbol) → length own ≡ 1 →
-    list_all (takes (Only one)) own ≡ true → firsts ≡ own ++ others → Fits items others → Once one items firsts
+    list_all (takes (Only one)) own ≡ true → firsts ≡ own ++ others → Fits items others →
+    Once one items firsts
 once-is one items [] others firsts count own_taken e fit = absurd (omega arith)
 once-is one items (seen ∷ []) others firsts count own_taken e fit =
     let is = only-is one seen (and_parts (takes (Only one) seen) true own_taken).0 in
@@ -391,7 +424,8 @@ is_lone symbol.ReferenceMarker = false
 is_lone symbol.SetextText = false
 is_lone _ = true
 
-lone-tail : (first : Symbol) (tail : List Symbol) → is_lone first ≡ true → IsTail first tail → tail ≡ []
+lone-tail : (first : Symbol) (tail : List Symbol) → is_lone first ≡ true →
+    IsTail first tail → tail ≡ []
 lone-tail symbol.ReferenceMarker tail h is = lie h
 lone-tail symbol.SetextText tail h is = lie h
 lone-tail _ tail h is = is
@@ -402,7 +436,8 @@ record Follows (first : Symbol) (firsts spine : List Symbol) : Type 0 where
   are : spine ≡ first ∷ others
   grouped : IsGrouped firsts others
 
-follows : (first : Symbol) (firsts spine : List Symbol) → is_lone first ≡ true → IsGrouped (first ∷ firsts) spine →
+follows : (first : Symbol) (firsts spine : List Symbol) → is_lone first ≡ true →
+    IsGrouped (first ∷ firsts) spine →
     Follows first firsts spine
 follows first firsts spine h is = record {
   others = is.1;
@@ -415,7 +450,8 @@ rest-of-media : (own others firsts spine : List Symbol) → length own ≤ 1 →
     list_all (takes (Either symbol.Resource symbol.ReferenceString)) own ≡ true → others ≡ [] →
     firsts ≡ own ++ others → IsGrouped firsts spine →
     (spine ≡ []) ⊎ ((spine ≡ symbol.Resource ∷ []) ⊎ (spine ≡ symbol.ReferenceString ∷ []))
-rest-of-media [] others firsts spine count own_taken none e is = inl (subst (λ f. IsGrouped f spine) (e ∙ none) is)
+rest-of-media [] others firsts spine count own_taken none e is =
+    inl (subst (λ f. IsGrouped f spine) (e ∙ none) is)
 rest-of-media (seen ∷ []) others firsts spine count own_taken none e is =
     by seen (taken is_either (members (Either symbol.Resource symbol.ReferenceString)) seen
     (and_parts (takes (Either symbol.Resource symbol.ReferenceString) seen) true own_taken).0 refl)
@@ -435,7 +471,8 @@ rest-of-media (seen ∷ []) others firsts spine count own_taken none e is =
         let f = follows symbol.ReferenceString [] spine refl grouped in
         inr (inr (f.are ∙ ap (λ s. symbol.ReferenceString ∷ s) f.grouped))
     by _ h grouped = lie h
-rest-of-media (seen ∷ another ∷ own) others firsts spine count own_taken none e is = absurd (omega arith)
+rest-of-media (seen ∷ another ∷ own) others firsts spine count own_taken none e is =
+    absurd (omega arith)
 
 -- the label of a link, an image or a call, and what follows it
 record Labelled (around : Role) (children : Forest) (others : List Symbol) : Type 0 where
@@ -443,12 +480,14 @@ record Labelled (around : Role) (children : Forest) (others : List Symbol) : Typ
   end : Point
   inner : Forest
   rest : List Stand
-  are : stands children ≡ record { seen = symbol.Label; start = start; end = end; children = inner } ∷ rest
+  are : stands children
+      ≡ record { seen = symbol.Label; start = start; end = end; children = inner } ∷ rest
   others_are : seen_of rest ≡ others
   holds : Holds (label_in around) inner
   text : target_of inner Missing ≡ label_target (text_in_label inner)
 
-labelled : (around : Role) (children : Forest) (others : List Symbol) → AreShaped children around None →
+labelled : (around : Role) (children : Forest) (others : List Symbol) →
+    AreShaped children around None →
     spine children ≡ symbol.Label ∷ others → Labelled around children others
 labelled around children others shaped e =
     let first = begins symbol.Label others (stands children) (sym (spine-stands children) ∙ e) in
@@ -466,32 +505,37 @@ labelled around children others shaped e =
     }
 
 -- the label's text is found by the meaning as well
-label-found : (around : Role) (children : Forest) (others : List Symbol) → AreShaped children around None →
+label-found : (around : Role) (children : Forest) (others : List Symbol) →
+    AreShaped children around None →
     (node : Labelled around children others) → label_in_node children ≡ text_in_label node.inner
 label-found around children others shaped node =
-    ap (λ found. unwrap_or found None)
-    (first-stands is_label_symbol is_label label-agree (λ start end inner. text_in_label inner) children around None
-    shaped
-    ∙ ap (first_seen is_label_symbol is_label label-agree (λ start end inner. text_in_label inner)) node.are)
+    ap (λ found. unwrap_or found None) (first-stands is_label_symbol is_label label-agree
+    (λ start end inner. text_in_label inner) children around None shaped
+    ∙ ap (first_seen is_label_symbol is_label label-agree (λ start end inner. text_in_label inner))
+    node.are)
 
-reference-found : (around : Role) (children : Forest) (others : List Symbol) → AreShaped children around None →
+reference-found : (around : Role) (children : Forest) (others : List Symbol) →
+    AreShaped children around None →
     (node : Labelled around children others) →
-    first_on_spine is_reference position children ≡ first_seen is_reference_symbol is_reference reference-agree
+    first_on_spine is_reference position children
+    ≡ first_seen is_reference_symbol is_reference reference-agree
     position node.rest
 reference-found around children others shaped node =
-    first-stands is_reference_symbol is_reference reference-agree position children around None shaped
-    ∙ ap (first_seen is_reference_symbol is_reference reference-agree position) node.are
+    first-stands is_reference_symbol is_reference reference-agree position children around None
+    shaped ∙ ap (first_seen is_reference_symbol is_reference reference-agree position) node.are
 
 -- a call refers by the text of its label
 pub call-refers : (children : Forest) → AreShaped children role.FootnoteCall None →
-    Matches role.FootnoteCall (spine children) → target_of children Missing ≡ label_target (label_in_node children)
+    Matches role.FootnoteCall (spine children) →
+    target_of children Missing ≡ label_target (label_in_node children)
 call-refers children shaped match =
     let fit = match.2 in
     let one = once-is symbol.Label [] fit.0 fit.1 match.0 fit.4 fit.3 fit.2 fit.5 in
     let f = follows symbol.Label one.others (spine children) refl
     (subst (λ s. IsGrouped s (spine children)) one.are match.1) in
     let alone : f.others ≡ [] = subst (λ s. IsGrouped s f.others) one.fit f.grouped in
-    let node = labelled role.FootnoteCall children [] shaped (f.are ∙ ap (λ s. symbol.Label ∷ s) alone) in
+    let node =
+    labelled role.FootnoteCall children [] shaped (f.are ∙ ap (λ s. symbol.Label ∷ s) alone) in
     target-stands children Missing
     ∙ ap (λ nodes. sought nodes Missing) (node.are ∙ ap (λ nodes. record {
       seen = symbol.Label;
@@ -506,15 +550,17 @@ abbrev chosen : Forest → Option Position → Option Position
 chosen children found = if is_some found then found else label_in_node children
 
 abbrev stand : Symbol → Point → Point → Forest → Stand
-stand seen start end children = record { seen = seen; start = start; end = end; children = children }
+stand seen start end children =
+    record { seen = seen; start = start; end = end; children = children }
 
-by_label : (children : Forest) → AreShaped children role.Media None → Labelled role.Media children [] →
+by_label : (children : Forest) → AreShaped children role.Media None →
+    Labelled role.Media children [] →
     target_of children Missing ≡ label_target (referring_in children)
 by_label children shaped node =
     let none = none_left node.rest node.others_are in
     target-stands children Missing
-    ∙ ap (λ nodes. sought nodes Missing) (node.are ∙ ap (λ nodes. stand symbol.Label node.start node.end node.inner
-    ∷ nodes) none)
+    ∙ ap (λ nodes. sought nodes Missing)
+    (node.are ∙ ap (λ nodes. stand symbol.Label node.start node.end node.inner ∷ nodes) none)
     ∙ node.text
     ∙ ap label_target (sym (label-found role.Media children [] shaped node))
     ∙ ap (λ found. label_target (chosen children found))
@@ -536,17 +582,19 @@ by_reference : (children : Forest) → AreShaped children role.Media None →
     target_of children Missing ≡ label_target (referring_in children)
 by_reference children shaped node =
     let next = begins symbol.ReferenceString [] node.rest node.others_are in
-    let rest = next.are ∙ ap (λ nodes. stand symbol.ReferenceString next.start next.end next.children
+    let rest =
+    next.are ∙ ap (λ nodes. stand symbol.ReferenceString next.start next.end next.children
     ∷ nodes) (none_left next.rest next.others_are) in
     target-stands children Missing
-    ∙ ap (λ nodes. sought nodes Missing) (node.are ∙ ap (λ nodes. stand symbol.Label node.start node.end node.inner
-    ∷ nodes) rest)
+    ∙ ap (λ nodes. sought nodes Missing)
+    (node.are ∙ ap (λ nodes. stand symbol.Label node.start node.end node.inner ∷ nodes) rest)
     ∙ ap (λ found. label_target (chosen children found))
     (sym (reference-found role.Media children (symbol.ReferenceString ∷ []) shaped node
     ∙ ap (first_seen is_reference_symbol is_reference reference-agree position) rest))
 
 -- a link or an image has a resource after its label, or refers by the same label
-pub media-spine : (children : Forest) → AreShaped children role.Media None → Matches role.Media (spine children) →
+pub media-spine : (children : Forest) → AreShaped children role.Media None →
+    Matches role.Media (spine children) →
     (spine children ≡ symbol.Label ∷ symbol.Resource ∷ [])
     ⊎ (target_of children Missing ≡ label_target (referring_in children))
 media-spine children shaped match =
@@ -568,79 +616,95 @@ media-spine children shaped match =
     ]
 
 -- a link or an image refers by its resource, else by the same label
-pub media-refers : (children : Forest) → AreShaped children role.Media None → Matches role.Media (spine children) →
-    (target_of children Missing ≡ Resource) ⊎ (target_of children Missing ≡ label_target (referring_in children))
+pub media-refers : (children : Forest) → AreShaped children role.Media None →
+    Matches role.Media (spine children) →
+    (target_of children Missing ≡ Resource)
+    ⊎ (target_of children Missing ≡ label_target (referring_in children))
 media-refers children shaped match = elim (media-spine children shaped match) [
-  | inl are ↦ inl (by_resource children (labelled role.Media children (symbol.Resource ∷ []) shaped are))
+  | inl are ↦
+      inl (by_resource children (labelled role.Media children (symbol.Resource ∷ []) shaped are))
   | inr label ↦ inr label
 ]
 
 -- ---- what definitions are referred to by
 
 -- nodes that begin with a symbol, after which nothing leaves a target
-after-neutral : (seen : Symbol) (start end : Point) (children : Forest) (rest : List Stand) (others : List Symbol) →
-    seen_of rest ≡ others → list_all is_neutral others ≡ true → (found : Referral) → sought rest found ≡ found
+after-neutral : (seen : Symbol) (start end : Point) (children : Forest) (rest : List Stand)
+    (others : List Symbol) →
+    seen_of rest ≡ others → list_all is_neutral others ≡ true → (found : Referral) →
+    sought rest found ≡ found
 after-neutral seen start end children rest others e h found =
     sought-neutral rest found (ap (list_all is_neutral) e ∙ h)
 
 abbrev after_a_label : List Item
 after_a_label = Many (Only symbol.LineEnding) ∷ Maybe (Only symbol.DefinitionDestination)
-    ∷ Many (Only symbol.LineEnding) ∷ Maybe (Only symbol.DefinitionTitle) ∷ Many (Only symbol.LineEnding) ∷ []
+    ∷ Many (Only symbol.LineEnding) ∷ Maybe (Only symbol.DefinitionTitle)
+    ∷ Many (Only symbol.LineEnding) ∷ []
 
 -- a definition is referred to by its label, which is there
 pub definition-label : (children : Forest) → AreShaped children role.Definition None →
     Matches role.Definition (spine children) → (there : Position)
-    × (first_on_spine is_definition_label position children ≡ Some there) × (target_of children Missing ≡ Label there)
+    × (first_on_spine is_definition_label position children ≡ Some there)
+    × (target_of children Missing ≡ Label there)
 definition-label children shaped match =
     let fit = match.2 in
-    let one = once-is symbol.DefinitionLabel after_a_label fit.0 fit.1 match.0 fit.4 fit.3 fit.2 fit.5 in
+    let one =
+    once-is symbol.DefinitionLabel after_a_label fit.0 fit.1 match.0 fit.4 fit.3 fit.2 fit.5 in
     let f = follows symbol.DefinitionLabel one.others (spine children) refl
     (subst (λ s. IsGrouped s (spine children)) one.are match.1) in
-    let node = begins symbol.DefinitionLabel f.others (stands children) (sym (spine-stands children) ∙ f.are) in
+    let node = begins symbol.DefinitionLabel f.others (stands children)
+    (sym (spine-stands children) ∙ f.are) in
     let neutral = grouped-neutral one.others f.others
     (fits-all is_neutral after_a_label one.others one.fit refl) f.grouped
     in (
       position node.start node.end node.children,
-      first-stands is_definition_symbol is_definition_label definition-agree position children role.Definition None
-          shaped
-          ∙ ap (first_seen is_definition_symbol is_definition_label definition-agree position) node.are,
+      first-stands is_definition_symbol is_definition_label definition-agree position children
+          role.Definition None shaped
+          ∙ ap (first_seen is_definition_symbol is_definition_label definition-agree position)
+          node.are,
       target-stands children Missing ∙ ap (λ nodes. sought nodes Missing) node.are
-          ∙ after-neutral symbol.DefinitionLabel node.start node.end node.children node.rest f.others node.others_are
-          neutral (Label (place node.start node.end)),
+          ∙ after-neutral symbol.DefinitionLabel node.start node.end node.children node.rest
+          f.others node.others_are neutral (Label (place node.start node.end)),
     )
 
 -- the label in a footnote definition's prefix
 prefix-label : (children : Forest) → Holds role.FootnotePrefix children →
-    (there : Position) × (label_in_prefix children ≡ Some there) × (target_of children Missing ≡ Label there)
+    (there : Position) × (label_in_prefix children ≡ Some there)
+    × (target_of children Missing ≡ Label there)
 prefix-label children holds =
     let match = holds.1 in
     let fit = match.2 in
     let one = once-is symbol.FootnoteLabel [] fit.0 fit.1 match.0 fit.4 fit.3 fit.2 fit.5 in
     let f = follows symbol.FootnoteLabel one.others (spine children) refl
     (subst (λ s. IsGrouped s (spine children)) one.are match.1) in
-    let node = begins symbol.FootnoteLabel f.others (stands children) (sym (spine-stands children) ∙ f.are) in
-    let neutral = grouped-neutral one.others f.others (fits-all is_neutral [] one.others one.fit refl) f.grouped in (
+    let node =
+    begins symbol.FootnoteLabel f.others (stands children) (sym (spine-stands children) ∙ f.are) in
+    let neutral = grouped-neutral one.others f.others
+    (fits-all is_neutral [] one.others one.fit refl) f.grouped in (
       position node.start node.end node.children,
-      first-stands is_footnote_symbol is_footnote_label footnote-agree position children role.FootnotePrefix None
-          holds.0
+      first-stands is_footnote_symbol is_footnote_label footnote-agree position children
+          role.FootnotePrefix None holds.0
           ∙ ap (first_seen is_footnote_symbol is_footnote_label footnote-agree position) node.are,
       target-stands children Missing ∙ ap (λ nodes. sought nodes Missing) node.are
-          ∙ after-neutral symbol.FootnoteLabel node.start node.end node.children node.rest f.others node.others_are
-          neutral (Label (place node.start node.end)),
+          ∙ after-neutral symbol.FootnoteLabel node.start node.end node.children node.rest f.others
+          node.others_are neutral (Label (place node.start node.end)),
     )
 
 -- a footnote definition is referred to by its label, which is there
 pub footnote-label : (children : Forest) → AreShaped children role.FootnoteDefinition None →
-    Matches role.FootnoteDefinition (spine children) → (there : Position) × (footnote_label children ≡ Some there)
+    Matches role.FootnoteDefinition (spine children) →
+    (there : Position) × (footnote_label children ≡ Some there)
     × (target_of children Missing ≡ Label there)
 footnote-label children shaped match =
     let fit = match.2 in
-    let one = once-is symbol.FootnotePrefix (Many Flow ∷ []) fit.0 fit.1 match.0 fit.4 fit.3 fit.2 fit.5 in
+    let one =
+    once-is symbol.FootnotePrefix (Many Flow ∷ []) fit.0 fit.1 match.0 fit.4 fit.3 fit.2 fit.5 in
     let f = follows symbol.FootnotePrefix one.others (spine children) refl
     (subst (λ s. IsGrouped s (spine children)) one.are match.1) in
-    let node = begins symbol.FootnotePrefix f.others (stands children) (sym (spine-stands children) ∙ f.are) in
-    let neutral = grouped-neutral one.others f.others (fits-all is_neutral (Many Flow ∷ []) one.others one.fit refl)
-    f.grouped in
+    let node =
+    begins symbol.FootnotePrefix f.others (stands children) (sym (spine-stands children) ∙ f.are) in
+    let neutral = grouped-neutral one.others f.others
+    (fits-all is_neutral (Many Flow ∷ []) one.others one.fit refl) f.grouped in
     let holds = (subst (EachHeld role.FootnoteDefinition) node.are
     (held children role.FootnoteDefinition None shaped)).0 in
     let inner = prefix-label node.children (IsHeld.prefix holds refl) in (
@@ -652,8 +716,8 @@ footnote-label children shaped match =
           (λ start end inside. label_in_prefix inside)) node.are)
           ∙ inner.1,
       target-stands children Missing ∙ ap (λ nodes. sought nodes Missing) node.are
-          ∙ after-neutral symbol.FootnotePrefix node.start node.end node.children node.rest f.others node.others_are
-          neutral (target_of node.children Missing)
+          ∙ after-neutral symbol.FootnotePrefix node.start node.end node.children node.rest f.others
+          node.others_are neutral (target_of node.children Missing)
           ∙ inner.2,
     )
 
@@ -675,25 +739,30 @@ text-there [] h = lie h
 text-there (node ∷ nodes) h = by (is_text node.seen) h (text-there nodes)
   where
     by : (text : Bool) → (text || list_any is_text (seen_of nodes)) ≡ true →
-        (list_any is_text (seen_of nodes) ≡ true → (there : Position) × (text_seen nodes ≡ Some there)) →
-        (there : Position) × ((if text then Some (position node.start node.end node.children) else text_seen nodes)
+        (list_any is_text (seen_of nodes) ≡ true →
+        (there : Position) × (text_seen nodes ≡ Some there)) →
+        (there : Position)
+        × ((if text then Some (position node.start node.end node.children) else text_seen nodes)
         ≡ Some there)
     by true h again = (position node.start node.end node.children, refl)
     by false h again = again h
 
 one-there : (before own rest spine : List Symbol) → length own ≡ 1 →
-    list_all (takes (Only symbol.LabelText)) own ≡ true → IsGrouped (before ++ (own ++ rest)) spine →
+    list_all (takes (Only symbol.LabelText)) own ≡ true →
+    IsGrouped (before ++ (own ++ rest)) spine →
     list_any is_text spine ≡ true
 one-there before [] rest spine count own_taken is = absurd (omega arith)
 one-there before (seen ∷ []) rest spine count own_taken is =
-    let e = only-is symbol.LabelText seen (and_parts (takes (Only symbol.LabelText) seen) true own_taken).0 in
+    let e = only-is symbol.LabelText seen
+    (and_parts (takes (Only symbol.LabelText) seen) true own_taken).0 in
     let parts = grouped-split before (seen ∷ rest) spine is in
     let grouped = subst (λ first. IsGrouped (first ∷ rest) parts.1) (sym e) parts.4 in
     ap (list_any is_text) parts.2 ∙ some_text parts.0 parts.1 (ap (list_any is_text) grouped.2)
 one-there before (seen ∷ another ∷ own) rest spine count own_taken is = absurd (omega arith)
 
 pub call-label : (children : Forest) → AreShaped children role.FootnoteCall None →
-    Matches role.FootnoteCall (spine children) → (there : Position) × (label_in_node children ≡ Some there)
+    Matches role.FootnoteCall (spine children) →
+    (there : Position) × (label_in_node children ≡ Some there)
 call-label children shaped match =
     let fit = match.2 in
     let one = once-is symbol.Label [] fit.0 fit.1 match.0 fit.4 fit.3 fit.2 fit.5 in
@@ -703,10 +772,12 @@ call-label children shaped match =
     let label = node.holds.1 in
     let own = label.2.5 in
     let seen = one-there label.2.0 own.0 own.1 (spine node.inner) own.4 own.3
-    (subst (λ s. IsGrouped s (spine node.inner)) (label.2.2 ∙ ap (λ s. label.2.0 ++ s) own.2) label.1) in
+    (subst (λ s. IsGrouped s (spine node.inner))
+    (label.2.2 ∙ ap (λ s. label.2.0 ++ s) own.2) label.1) in
     let stood = subst (λ s. list_any is_text s ≡ true) (spine-stands node.inner) seen in
     let text = text-there (stands node.inner) stood in (
       text.0,
       label-found role.FootnoteCall children f.others shaped node
-          ∙ first-stands is_text is_label_text text-agree position node.inner role.CallLabel None node.holds.0 ∙ text.1,
+          ∙ first-stands is_text is_label_text text-agree position node.inner role.CallLabel None
+          node.holds.0 ∙ text.1,
     )

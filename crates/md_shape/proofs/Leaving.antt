@@ -1,12 +1,20 @@
 -- Each part of a state where a node is left, and what its content tells of it.
-use Rattle.std.proofs.Common.{◌≡◌, ℕ, ◌+◌, ◌==◌, Bool, true, false, not, ◌&&◌, ◌||◌, cond, List, [], ◌∷◌, ◌++◌, Option, Some, None, refl, ap, sym, ◌∙◌, append_assoc, append-nil, arith, unwrap_or}
+use Rattle.std.proofs.Common.{◌≡◌, ℕ, ◌+◌, ◌==◌, Bool, true, false, not, ◌&&◌, ◌||◌, cond, List, []}
+use Rattle.std.proofs.Common.{◌∷◌, ◌++◌, Option, Some, None, refl, ap, sym, ◌∙◌, append_assoc}
+use Rattle.std.proofs.Common.{append-nil, arith, unwrap_or}
 use Rattle.std.specs.Prelude.{if◌then◌else◌, count_by}
 use Rattle.std.specs.Option.{option_map_or}
 use Rattle.std.specs.List.{list_any}
 use Rattle.std.proofs.lemmas.List.Sums.{sum_by-append}
 use Rattle.std.proofs.lemmas.List.Folds.{list_any-append}
 use Rattle.md_base.specs.declared.event.Name.{Name}
-use Rattle.md_base.specs.declared.event.Name.TheVariants.{LineEnding, BlankLineEnding, BlockQuote, CodeIndented, CodeFenced, MathFlow, ListItem, Paragraph, Frontmatter, SpaceOrTab, BlockQuotePrefix, Other, CodeFencedFence, MathFlowFence, HeadingSetextText, GfmFootnoteCall, GfmFootnoteDefinition, GfmTableCell, DefinitionDestinationString, DefinitionTitleString, ResourceDestinationString, ResourceTitleString, Label, Resource, ReferenceString}
+use Rattle.md_base.specs.declared.event.Name.TheVariants as name_variants
+use name_variants.{LineEnding, BlankLineEnding, BlockQuote, CodeIndented, CodeFenced, MathFlow}
+use name_variants.{ListItem, Paragraph, Frontmatter, SpaceOrTab, BlockQuotePrefix, Other}
+use name_variants.{CodeFencedFence, MathFlowFence, HeadingSetextText, GfmFootnoteCall}
+use name_variants.{GfmFootnoteDefinition, GfmTableCell, DefinitionDestinationString}
+use name_variants.{DefinitionTitleString, ResourceDestinationString, ResourceTitleString, Label}
+use name_variants.{Resource, ReferenceString}
 use Rattle.md_base.proofs.Lies.{lie}
 use Rattle.md_base.specs.Is.{is}
 use Rattle.md_base.specs.Children.{or_else, spine_names}
@@ -20,9 +28,14 @@ use Rattle.md_meaning.specs.Meaning.Spans.{marker}
 use Rattle.md_meaning.specs.Surroundings.{last_of}
 use Rattle.md_shape.specs.Underlined.{waits_past}
 use Rattle.md_shape.proofs.Decoding.{last-got}
-use Rattle.md_shape.specs.Content.{Content, Strings, Lines, BeforeLabel, AfterLabel, Sources, Cells, Nothing, Childless, is_allowed, content_inside, content_past, content_after, content_after_node}
-use Rattle.md_shape.specs.Steps.{State, cells_after, target_after, resource_after, heading_after, calls_after, noted, footnotes_after, slurps_after, nowhere, is_row, is_raw, begins_target, is_labelled}
-use Rattle.md_shape.specs.Claim.{KnowsCells, KnowsLines, KnowsResource, TargetAfter, ResourceAfter, noted_all, has_marks, mark_after, keeps_cells, keeps_lines, seen}
+use Rattle.md_shape.specs.Content.{Content, Strings, Lines, BeforeLabel, AfterLabel, Sources, Cells}
+use Rattle.md_shape.specs.Content.{Nothing, Childless, is_allowed, content_inside, content_past}
+use Rattle.md_shape.specs.Content.{content_after, content_after_node}
+use Rattle.md_shape.specs.Steps.{State, cells_after, target_after, resource_after, heading_after}
+use Rattle.md_shape.specs.Steps.{calls_after, noted, footnotes_after, slurps_after, nowhere, is_row}
+use Rattle.md_shape.specs.Steps.{is_raw, begins_target, is_labelled}
+use Rattle.md_shape.specs.Claim.{KnowsCells, KnowsLines, KnowsResource, TargetAfter, ResourceAfter}
+use Rattle.md_shape.specs.Claim.{noted_all, has_marks, mark_after, keeps_cells, keeps_lines, seen}
 use Rattle.md_shape.proofs.Noted.{noted-append}
 use Rattle.md_shape.proofs.Past.{or_else-none}
 use Rattle.md_shape.proofs.Sides.{none-counted, is_set_aside}
@@ -35,7 +48,8 @@ last-push [] n = refl
 last-push (other ∷ names) n = ap (λ o. Some (unwrap_or o other)) (last-push names n)
 
 pub mark-push : (spine : List Name) (name : Name) → mark_after (spine ++ name ∷ []) ≡ marker name
-mark-push spine name = ap (λ o. option_map_or marker o 38) (sym (last-got (spine ++ name ∷ [])) ∙ last-push spine name)
+mark-push spine name =
+    ap (λ o. option_map_or marker o 38) (sym (last-got (spine ++ name ∷ [])) ∙ last-push spine name)
 
 pub marker-after : (c : Content) (name : Name) (spine : List Name) (children : Forest) (inner : ℕ) →
     (has_marks (content_after (content_inside c name) children) ≡ true →
@@ -78,17 +92,20 @@ in-cells Cells name spine start inner facts solid k keep =
     in_row name spine start inner f.2 k (keep f.0 ∙ when_not (is_row name) 0 start f.1)
 in-cells _ name spine start inner facts solid k keep = tt
 
-pub cells-known : (c : Content) (name : Name) (spine : List Name) (children : Forest) (start inner : ℕ) →
+pub cells-known :
+    (c : Content) (name : Name) (spine : List Name) (children : Forest) (start inner : ℕ) →
     Facts c name → KnowsCells c spine start →
     KnowsCells (content_after (content_inside c name) children)
     ((if is_transparent name then spine else []) ++ spine_names children) inner →
     (keeps_cells (content_inside c name) ≡ true → inner ≡ (if is_row name then 0 else start)) →
     KnowsCells (content_after_node c name children)
-    (spine ++ (if is_transparent name then spine_names children else name ∷ [])) (cells_after name inner)
+    (spine ++ (if is_transparent name then spine_names children else name ∷ []))
+    (cells_after name inner)
 cells-known c SpaceOrTab spine children start inner facts k known keep = known
 cells-known c BlockQuotePrefix spine children start inner facts k known keep = known
 cells-known c (Other number) spine children start inner facts k known keep = known
-cells-known c name spine children start inner facts k known keep = in-cells c name spine start inner facts refl k keep
+cells-known c name spine children start inner facts k known keep =
+    in-cells c name spine start inner facts refl k keep
 
 no-cell : (name : Name) (inner : ℕ) → is_cell name ≡ false → cells_after name inner ≡ inner
 no-cell GfmTableCell inner h = lie (sym h)
@@ -120,37 +137,44 @@ or_false : (b : Bool) → b || false ≡ b
 or_false true = refl
 or_false false = refl
 
-chunk-push : (p : Name → Bool) (xs : List Name) (x : Name) → list_any p (xs ++ x ∷ []) ≡ p x || list_any p xs
+chunk-push : (p : Name → Bool) (xs : List Name) (x : Name) →
+    list_any p (xs ++ x ∷ []) ≡ p x || list_any p xs
 chunk-push p xs x =
-    list_any-append p xs (x ∷ []) ∙ ap (λ b. list_any p xs || b) (or_false (p x)) ∙ or_comm (list_any p xs) (p x)
+    list_any-append p xs (x ∷ []) ∙ ap (λ b. list_any p xs || b) (or_false (p x))
+    ∙ or_comm (list_any p xs) (p x)
 
-in-lines : (c : Content) (name : Name) (spine : List Name) (fences inner : ℕ) (chunk within : Bool) → Facts c name →
+in-lines : (c : Content) (name : Name) (spine : List Name) (fences inner : ℕ)
+    (chunk within : Bool) → Facts c name →
     is_transparent name ≡ false → KnowsLines c spine fences chunk →
     (keeps_lines (content_inside c name) ≡ true → inner ≡ (if is_raw name then 0 else fences)) →
     (keeps_lines (content_inside c name) ≡ true → within ≡ (if is_raw name then false else chunk)) →
-    KnowsLines (content_past c) (spine ++ name ∷ []) (fences_after name inner) (is_chunk name || within)
+    KnowsLines (content_past c) (spine ++ name ∷ []) (fences_after name inner)
+    (is_chunk name || within)
 in-lines Lines name spine fences inner chunk within facts solid k keep keeps =
     let f = facts.in_lines (ap (λ t. not t) solid) in (
       ap (λ n. fences_after name n) (keep f.0 ∙ when_not (is_raw name) 0 fences f.1 ∙ k.0)
           ∙ plus_if (is_fence name) (count_by is_fence spine)
           ∙ sym (count-push is_fence spine name),
-      ap (λ b. is_chunk name || b) (keeps f.0 ∙ when_not (is_raw name) false chunk f.1 ∙ k.1) ∙ sym (chunk-push
+      ap (λ b. is_chunk name || b) (keeps f.0 ∙ when_not (is_raw name) false chunk f.1 ∙ k.1)
+          ∙ sym (chunk-push
           is_chunk spine name),
     )
 in-lines _ name spine fences inner chunk within facts solid k keep keeps = tt
 
-pub lines-known : (c : Content) (name : Name) (spine : List Name) (children : Forest) (fences inner : ℕ)
-    (chunk within : Bool) → Facts c name → KnowsLines c spine fences chunk →
+pub lines-known : (c : Content) (name : Name) (spine : List Name) (children : Forest)
+    (fences inner : ℕ) (chunk within : Bool) → Facts c name → KnowsLines c spine fences chunk →
     KnowsLines (content_after (content_inside c name) children)
     ((if is_transparent name then spine else []) ++ spine_names children) inner within →
     (keeps_lines (content_inside c name) ≡ true → inner ≡ (if is_raw name then 0 else fences)) →
     (keeps_lines (content_inside c name) ≡ true → within ≡ (if is_raw name then false else chunk)) →
     KnowsLines (content_after_node c name children)
-    (spine ++ (if is_transparent name then spine_names children else name ∷ [])) (fences_after name inner)
-    (is_chunk name || within)
+    (spine ++ (if is_transparent name then spine_names children else name ∷ []))
+    (fences_after name inner) (is_chunk name || within)
 lines-known c SpaceOrTab spine children fences inner chunk within facts k known keep keeps = known
-lines-known c BlockQuotePrefix spine children fences inner chunk within facts k known keep keeps = known
-lines-known c (Other number) spine children fences inner chunk within facts k known keep keeps = known
+lines-known c BlockQuotePrefix spine children fences inner chunk within facts k known keep keeps =
+    known
+lines-known c (Other number) spine children fences inner chunk within facts k known keep keeps =
+    known
 lines-known c name spine children fences inner chunk within facts k known keep keeps =
     in-lines c name spine fences inner chunk within facts refl k keep keeps
 
@@ -177,14 +201,16 @@ kept-target Nothing found one other h k = k
 kept-target Childless found one other h k = k
 kept-target _ found one other h k = lie h
 
-pub kept-resource : (c : Content) (found : Found) (one other : Option Target) → keeps_target c ≡ true →
+pub kept-resource : (c : Content) (found : Found) (one other : Option Target) →
+    keeps_target c ≡ true →
     ResourceAfter c found one other → other ≡ one
 kept-resource Strings found one other h k = k
 kept-resource Nothing found one other h k = k
 kept-resource Childless found one other h k = k
 kept-resource _ found one other h k = lie h
 
-no-target : (name : Name) (inner : List ℕ) (target : Target) → is_set_aside name ≡ false → is Resource name ≡ false →
+no-target : (name : Name) (inner : List ℕ) (target : Target) → is_set_aside name ≡ false →
+    is Resource name ≡ false →
     target_after name inner target ≡ target
 no-target DefinitionDestinationString inner target h k = lie (sym h)
 no-target DefinitionTitleString inner target h k = lie (sym h)
@@ -204,16 +230,21 @@ no_begin Resource h = lie (sym h)
 no_begin _ h = refl
 
 -- where the target stays as it is
-target-stays : (c : Content) (name : Name) (text : List ℕ) (found : Found) (state inner : Target) → Facts c name →
-    TargetAfter (content_inside c name) found (if begins_target name then nowhere else state) inner →
+target-stays : (c : Content) (name : Name) (text : List ℕ) (found : Found) (state inner : Target) →
+    Facts c name →
+    TargetAfter (content_inside c name) found
+    (if begins_target name then nowhere else state) inner →
     keeps_target c ≡ true → target_after name text inner ≡ state
 target-stays c name text found state inner facts k h =
     let f = facts.target h in
-    no-target name text inner f.2 (no_begin name f.1) ∙ kept-target (content_inside c name) found _ inner f.0 k
+    no-target name text inner f.2 (no_begin name f.1)
+    ∙ kept-target (content_inside c name) found _ inner f.0 k
     ∙ when_not (begins_target name) nowhere state f.1
 
-resource-stays : (c : Content) (name : Name) (target : Target) (found : Found) (state inner : Option Target) →
-    Facts c name → ResourceAfter (content_inside c name) found (if is_labelled name then None else state) inner →
+resource-stays :
+    (c : Content) (name : Name) (target : Target) (found : Found) (state inner : Option Target) →
+    Facts c name →
+    ResourceAfter (content_inside c name) found (if is_labelled name then None else state) inner →
     keeps_target c ≡ true → resource_after name target inner ≡ state
 resource-stays c name target found state inner facts k h =
     let f = facts.target h in
@@ -225,20 +256,25 @@ resource-stays c name target found state inner facts k h =
 abbrev Reads : Name → List ℕ → List ℕ → Type 0
 Reads name inner text = is_set_aside name ≡ true → inner ≡ text
 
-in-sources : (name : Name) (at : At) (inner text : List ℕ) (state target : Target) → is_allowed Sources name ≡ true →
+in-sources : (name : Name) (at : At) (inner text : List ℕ) (state target : Target) →
+    is_allowed Sources name ≡ true →
     is_transparent name ≡ false → Reads name inner text → target ≡ state →
     target_after name inner target ≡ record {
       destination = unwrap_or (found_at at name text).destination state.destination;
       title = or_else (found_at at name text).title state.title;
     }
 in-sources DefinitionDestinationString at inner text state target h solid reads k =
-    ap (λ t. record target { destination = t }) (reads refl) ∙ ap (λ (t : Target). record t { destination = text }) k
+    ap (λ t. record target { destination = t }) (reads refl)
+    ∙ ap (λ (t : Target). record t { destination = text }) k
 in-sources ResourceDestinationString at inner text state target h solid reads k =
-    ap (λ t. record target { destination = t }) (reads refl) ∙ ap (λ (t : Target). record t { destination = text }) k
+    ap (λ t. record target { destination = t }) (reads refl)
+    ∙ ap (λ (t : Target). record t { destination = text }) k
 in-sources DefinitionTitleString at inner text state target h solid reads k =
-    ap (λ t. record target { title = Some t }) (reads refl) ∙ ap (λ (t : Target). record t { title = Some text }) k
+    ap (λ t. record target { title = Some t }) (reads refl)
+    ∙ ap (λ (t : Target). record t { title = Some text }) k
 in-sources ResourceTitleString at inner text state target h solid reads k =
-    ap (λ t. record target { title = Some t }) (reads refl) ∙ ap (λ (t : Target). record t { title = Some text }) k
+    ap (λ t. record target { title = Some t }) (reads refl)
+    ∙ ap (λ (t : Target). record t { title = Some text }) k
 in-sources SpaceOrTab at inner text state target h solid reads k = lie (sym solid)
 in-sources BlockQuotePrefix at inner text state target h solid reads k = lie (sym solid)
 in-sources (Other number) at inner text state target h solid reads k = lie (sym solid)
@@ -246,9 +282,11 @@ in-sources LineEnding at inner text state target h solid reads k = k
 in-sources Resource at inner text state target h solid reads k = lie h
 in-sources _ at inner text state target h solid reads k = k
 
-target-solid : (c : Content) (name : Name) (at : At) (inner text : List ℕ) (found : Found) (state target : Target) →
+target-solid : (c : Content) (name : Name) (at : At) (inner text : List ℕ) (found : Found)
+    (state target : Target) →
     Facts c name → is_allowed c name ≡ true → is_transparent name ≡ false → Reads name inner text →
-    TargetAfter (content_inside c name) found (if begins_target name then nowhere else state) target →
+    TargetAfter (content_inside c name) found
+    (if begins_target name then nowhere else state) target →
     TargetAfter c (found_at at name text) state (target_after name inner target)
 target-solid Strings name at inner text found state target facts h solid reads k =
     target-stays Strings name inner found state target facts k refl
@@ -259,12 +297,15 @@ target-solid Childless name at inner text found state target facts h solid reads
 target-solid Sources name at inner text found state target facts h solid reads k =
     let f = facts.in_sources (ap (λ t. not t) solid) in
     in-sources name at inner text state target h solid reads
-    (kept-target (content_inside Sources name) found _ target f.0 k ∙ when_not (begins_target name) nowhere state f.1)
+    (kept-target (content_inside Sources name) found _ target f.0 k
+    ∙ when_not (begins_target name) nowhere state f.1)
 target-solid _ name at inner text found state target facts h solid reads k = tt
 
-pub target-known : (c : Content) (name : Name) (at : At) (inner text : List ℕ) (state target : Target) →
+pub target-known :
+    (c : Content) (name : Name) (at : At) (inner text : List ℕ) (state target : Target) →
     Facts c name → is_allowed c name ≡ true → Reads name inner text →
-    TargetAfter (content_inside c name) at.found (if begins_target name then nowhere else state) target →
+    TargetAfter (content_inside c name) at.found
+    (if begins_target name then nowhere else state) target →
     TargetAfter c (found_at at name text) state (target_after name inner target)
 target-known c SpaceOrTab at inner text state target facts h reads k = k
 target-known c BlockQuotePrefix at inner text state target facts h reads k = k
@@ -273,15 +314,19 @@ target-known c name at inner text state target facts h reads k =
     target-solid c name at inner text at.found state target facts h refl reads k
 
 -- the target that a resource gathers
-target-gathered : (found : Found) (target : Target) → TargetAfter Sources found nowhere target → target ≡ target_in
-    found
+target-gathered : (found : Found) (target : Target) → TargetAfter Sources found nowhere target →
+    target ≡ target_in found
 target-gathered found target k =
-    k ∙ ap (λ t. record { destination = unwrap_or found.destination []; title = t }) (or_else-none found.title)
+    k ∙ ap (λ t. record { destination = unwrap_or found.destination []; title = t })
+    (or_else-none found.title)
 
-in-media : (name : Name) (at : At) (text : List ℕ) (state resource : Option Target) (before target : Target) →
+in-media : (name : Name) (at : At) (text : List ℕ) (state resource : Option Target)
+    (before target : Target) →
     is_allowed AfterLabel name ≡ true → is_transparent name ≡ false →
-    TargetAfter (content_inside AfterLabel name) at.found (if begins_target name then nowhere else before) target →
-    ResourceAfter (content_inside AfterLabel name) at.found (if is_labelled name then None else state) resource →
+    TargetAfter (content_inside AfterLabel name) at.found
+    (if begins_target name then nowhere else before) target →
+    ResourceAfter (content_inside AfterLabel name) at.found
+    (if is_labelled name then None else state) resource →
     resource_after name target resource ≡ or_else (found_at at name text).resource state
 in-media Resource at text state resource before target h solid t k =
     ap (λ x. Some x) (target-gathered at.found target t)
@@ -291,7 +336,8 @@ in-media BlockQuotePrefix at text state resource before target h solid t k = lie
 in-media (Other number) at text state resource before target h solid t k = lie (sym solid)
 in-media _ at text state resource before target h solid t k = lie h
 
-at-label : (name : Name) (at : At) (text : List ℕ) (state resource : Option Target) (target : Target) →
+at-label :
+    (name : Name) (at : At) (text : List ℕ) (state resource : Option Target) (target : Target) →
     is_allowed BeforeLabel name ≡ true → is_transparent name ≡ false → state ≡ None →
     resource_after name target resource ≡ or_else (found_at at name text).resource state
 at-label Label at text state resource target h solid k = sym k
@@ -300,11 +346,15 @@ at-label BlockQuotePrefix at text state resource target h solid k = lie (sym sol
 at-label (Other number) at text state resource target h solid k = lie (sym solid)
 at-label _ at text state resource target h solid k = lie h
 
-resource-solid : (c : Content) (name : Name) (at : At) (text : List ℕ) (state resource : Option Target)
-    (before target : Target) → Facts c name → is_allowed c name ≡ true → is_transparent name ≡ false →
+resource-solid :
+    (c : Content) (name : Name) (at : At) (text : List ℕ) (state resource : Option Target)
+    (before target : Target) → Facts c name → is_allowed c name ≡ true →
+    is_transparent name ≡ false →
     KnowsResource c state →
-    TargetAfter (content_inside c name) at.found (if begins_target name then nowhere else before) target →
-    ResourceAfter (content_inside c name) at.found (if is_labelled name then None else state) resource →
+    TargetAfter (content_inside c name) at.found
+    (if begins_target name then nowhere else before) target →
+    ResourceAfter (content_inside c name) at.found
+    (if is_labelled name then None else state) resource →
     ResourceAfter c (found_at at name text) state (resource_after name target resource)
 resource-solid Strings name at text state resource before target facts h solid knows t k =
     resource-stays Strings name target at.found state resource facts k refl
@@ -318,10 +368,13 @@ resource-solid AfterLabel name at text state resource before target facts h soli
     in-media name at text state resource before target h solid t k
 resource-solid _ name at text state resource before target facts h solid knows t k = tt
 
-pub resource-done : (c : Content) (name : Name) (at : At) (text : List ℕ) (state resource : Option Target)
+pub resource-done :
+    (c : Content) (name : Name) (at : At) (text : List ℕ) (state resource : Option Target)
     (before target : Target) → Facts c name → is_allowed c name ≡ true → KnowsResource c state →
-    TargetAfter (content_inside c name) at.found (if begins_target name then nowhere else before) target →
-    ResourceAfter (content_inside c name) at.found (if is_labelled name then None else state) resource →
+    TargetAfter (content_inside c name) at.found
+    (if begins_target name then nowhere else before) target →
+    ResourceAfter (content_inside c name) at.found
+    (if is_labelled name then None else state) resource →
     ResourceAfter c (found_at at name text) state (resource_after name target resource)
 resource-done c SpaceOrTab at text state resource before target facts h knows t k = k
 resource-done c BlockQuotePrefix at text state resource before target facts h knows t k = k
@@ -329,23 +382,27 @@ resource-done c (Other number) at text state resource before target facts h know
 resource-done c name at text state resource before target facts h knows t k =
     resource-solid c name at text state resource before target facts h refl knows t k
 
-no-resource-past : (c : Content) (resource : Option Target) → KnowsResource (content_past c) resource
+no-resource-past : (c : Content) (resource : Option Target) →
+    KnowsResource (content_past c) resource
 no-resource-past BeforeLabel resource = tt
 no-resource-past _ resource = tt
 
-pub resource-known : (c : Content) (name : Name) (children : Forest) (target : Target) (resource : Option Target) →
+pub resource-known : (c : Content) (name : Name) (children : Forest) (target : Target)
+    (resource : Option Target) →
     KnowsResource (content_after (content_inside c name) children) resource →
     KnowsResource (content_after_node c name children) (resource_after name target resource)
 resource-known c SpaceOrTab children target resource k = k
 resource-known c BlockQuotePrefix children target resource k = k
 resource-known c (Other number) children target resource k = k
-resource-known c name children target resource k = no-resource-past c (resource_after name target resource)
+resource-known c name children target resource k =
+    no-resource-past c (resource_after name target resource)
 
 -- ---- the text of a heading
 
 pub heading-known : (name : Name) (at : At) (waits after : Bool) (inner text heading : List ℕ) →
     (is HeadingSetextText name ≡ true → inner ≡ text) →
-    (is_transparent name ≡ true → after ≡ true → heading ≡ unwrap_or at.found.heading at.before.heading) →
+    (is_transparent name ≡ true → after ≡ true →
+    heading ≡ unwrap_or at.found.heading at.before.heading) →
     (is LineEnding name ≡ true → waits ≡ true → heading ≡ at.before.heading) →
     (if is_transparent name then after else waits_past waits name) ≡ true →
     heading_after name inner heading ≡ unwrap_or (found_at at name text).heading at.before.heading
@@ -358,20 +415,24 @@ heading-known _ at waits after inner text heading own through line h = lie h
 
 -- ---- calls and footnotes
 
-pub calls-known : (name : Name) (identifier : List ℕ) (before own inner : List (List ℕ)) → inner ≡ before ++ own →
-    calls_after name identifier inner ≡ before ++ (own ++ when (is GfmFootnoteCall name) (identifier ∷ []))
+pub calls-known : (name : Name) (identifier : List ℕ) (before own inner : List (List ℕ)) →
+    inner ≡ before ++ own →
+    calls_after name identifier inner
+    ≡ before ++ (own ++ when (is GfmFootnoteCall name) (identifier ∷ []))
 calls-known GfmFootnoteCall identifier before own inner k =
     ap (λ l. l ++ identifier ∷ []) k ∙ append_assoc before own (identifier ∷ [])
 calls-known _ identifier before own inner k = k ∙ ap (λ l. before ++ l) (sym (append-nil own))
 
-pub footnotes-known : (name : Name) (identifier text captured : List ℕ) (before own inner : List Footnote) →
+pub footnotes-known :
+    (name : Name) (identifier text captured : List ℕ) (before own inner : List Footnote) →
     (is GfmFootnoteDefinition name ≡ true → captured ≡ text) → inner ≡ noted_all before own →
     footnotes_after name identifier captured inner ≡ noted_all before (own
     ++ when (is GfmFootnoteDefinition name) (record { identifier = identifier; text = text } ∷ []))
 footnotes-known GfmFootnoteDefinition identifier text captured before own inner same k =
     ap (λ l. noted l (record { identifier = identifier; text = captured })) k
     ∙ sym (noted-append before own (record { identifier = identifier; text = captured } ∷ []))
-    ∙ ap (λ t. noted_all before (own ++ record { identifier = identifier; text = t } ∷ [])) (same refl)
+    ∙ ap (λ t. noted_all before (own ++ record { identifier = identifier; text = t } ∷ []))
+    (same refl)
 footnotes-known _ identifier text captured before own inner same k =
     k ∙ ap (λ l. noted_all before l) (sym (append-nil own))
 
@@ -424,7 +485,8 @@ staying false true = refl
 staying false false = refl
 
 slurps-marked : (name : Name) (left : State) → slurps_after name left ≡ marked name left
-slurps-marked CodeFencedFence left = setting left.around.in_definition (left.fences == 0) left.slurps
+slurps-marked CodeFencedFence left =
+    setting left.around.in_definition (left.fences == 0) left.slurps
 slurps-marked MathFlowFence left = setting left.around.in_definition (left.fences == 0) left.slurps
 slurps-marked HeadingSetextText left = refl
 slurps-marked Frontmatter left = refl
@@ -466,4 +528,5 @@ pub slurps-known : (name : Name) (at : At) (left : State) (inner : Bool) → lef
     slurps_after name (record left { around = seen at.around at.before.columns })
     ≡ (if at.around.in_definition then inner else lets_slurp at name inner)
 slurps-known name at left inner k fence =
-    slurps-marked name (record left { around = seen at.around at.before.columns }) ∙ marked-known name at left inner k fence
+    slurps-marked name (record left { around = seen at.around at.before.columns })
+    ∙ marked-known name at left inner k fence

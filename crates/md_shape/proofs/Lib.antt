@@ -1,4 +1,5 @@
--- The lemmas on documents of the grammar, from patterns to spines to whole documents: what stands where in them.
+-- The lemmas on documents of the grammar, from patterns to spines to whole documents: what
+-- stands where in them.
 pub mod Symbols
 pub mod Admitted
 pub mod Spots

@@ -1,6 +1,7 @@
--- The definitions and footnotes of the meaning are those of the document, in the order of their exits: what references
--- lead to.
-use Rattle.std.proofs.Common.{◌≡◌, ℕ, Bool, true, false, List, [], ◌∷◌, ◌++◌, refl, ap, ◌∙◌, append_assoc}
+-- The definitions and footnotes of the meaning are those of the document, in the order of their
+-- exits: what references lead to.
+use Rattle.std.proofs.Common.{◌≡◌, ℕ, Bool, true, false, List, [], ◌∷◌, ◌++◌, refl, ap, ◌∙◌}
+use Rattle.std.proofs.Common.{append_assoc}
 use Rattle.std.specs.Prelude.{map, if◌then◌else◌, ◌&&◌}
 use Rattle.std.proofs.lemmas.List.{map-append}
 use Rattle.md_base.specs.Tree.{Forest, Empty, Node}
@@ -12,7 +13,8 @@ use Rattle.md_tree.specs.Rules.{place}
 use Rattle.md_meaning.specs.declared.context.Surroundings.{Surroundings}
 use Rattle.md_meaning.specs.Meaning.Around.{inside}
 use Rattle.md_meaning.specs.Meaning.Layout.{layout, when}
-use Rattle.md_meaning.specs.Meaning.At.{Given, Defined, Footnote, At, Before, target_in, identifier_of}
+use Rattle.md_meaning.specs.Meaning.At.{Given, Defined, Footnote, At, Before, target_in}
+use Rattle.md_meaning.specs.Meaning.At.{identifier_of}
 use Rattle.md_meaning.specs.Meaning.Before.{before_children}
 use Rattle.md_meaning.specs.Meaning.Nodes.{Outcome, outcome, node, before_next}
 use Rattle.md_shape.specs.Leads.{defined_in, footnotes_defined_in}
@@ -32,7 +34,8 @@ node_at around before children start end last inner = record {
 
 -- the identifiers of three parts in a row, by those of each
 in_a_row : {A : Type 0} (of : A → List ℕ) (inner own later : List A) (xs ys zs : List (List ℕ)) →
-    map of inner ≡ xs → map of own ≡ ys → map of later ≡ zs → map of ((inner ++ own) ++ later) ≡ xs ++ (ys ++ zs)
+    map of inner ≡ xs → map of own ≡ ys → map of later ≡ zs →
+    map of ((inner ++ own) ++ later) ≡ xs ++ (ys ++ zs)
 in_a_row of inner own later xs ys zs a b c =
     map-append of (inner ++ own) later
     ∙ ap (λ is. is ++ map of later) (map-append of inner own)
@@ -47,15 +50,18 @@ own-one : {A : Type 0} (of : A → List ℕ) (test : Bool) (own : A) →
 own-one of true own = refl
 own-one of false own = refl
 
-pub definitions-listed : (given : Given) (around : Surroundings) (before : Before) (forest : Forest) →
-    map (λ defined. defined.identifier) (outcome given around before forest).definitions ≡ defined_in given.bytes forest
+pub definitions-listed :
+    (given : Given) (around : Surroundings) (before : Before) (forest : Forest) →
+    map (λ defined. defined.identifier) (outcome given around before forest).definitions
+    ≡ defined_in given.bytes forest
 definitions-listed given around before Empty = refl
 definitions-listed given around before (Node name start end children rest) =
     let of : Defined → List ℕ = λ defined. defined.identifier in
     let nested : Surroundings = inside given.options (is_loose children) name around in
     let within : Before = before_children name children before in
     let inner : Outcome = outcome given nested within children in
-    let at : At = node_at around before children start end (around.is_outermost && is_empty rest) inner in
+    let at : At =
+    node_at around before children start end (around.is_outermost && is_empty rest) inner in
     let next : Before = before_next at name (node given at name inner) in
     let identifier = identifier_of given.bytes children in
     let own : Defined = record { identifier = identifier; target = target_in at.found } in
@@ -74,10 +80,12 @@ footnotes-listed given around before (Node name start end children rest) =
     let nested : Surroundings = inside given.options (is_loose children) name around in
     let within : Before = before_children name children before in
     let inner : Outcome = outcome given nested within children in
-    let at : At = node_at around before children start end (around.is_outermost && is_empty rest) inner in
+    let at : At =
+    node_at around before children start end (around.is_outermost && is_empty rest) inner in
     let next : Before = before_next at name (node given at name inner) in
     let identifier = identifier_of given.bytes children in
-    let own : Footnote = record { identifier = identifier; text = layout given.ending inner.pieces } in
+    let own : Footnote =
+    record { identifier = identifier; text = layout given.ending inner.pieces } in
     in_a_row of inner.footnotes (when (is GfmFootnoteDefinition name) (own ∷ []))
     (outcome given around next rest).footnotes (footnotes_defined_in given.bytes children)
     (when (is GfmFootnoteDefinition name) (identifier ∷ [])) (footnotes_defined_in given.bytes rest)

@@ -1,25 +1,30 @@
 -- Footnotes of which the first with each identifier is kept, and that no more is read of them.
-use Rattle.std.proofs.Common.{◌≡◌, ℕ, true, false, not, List, [], ◌∷◌, ◌++◌, length, Option, Some, refl, ap, sym, ◌∙◌, append-nil, bytes_eq, codes}
+use Rattle.std.proofs.Common.{◌≡◌, ℕ, true, false, not, List, [], ◌∷◌, ◌++◌, length, Option, Some}
+use Rattle.std.proofs.Common.{refl, ap, sym, ◌∙◌, append-nil, bytes_eq, codes}
 use Rattle.std.specs.Prelude.{◌==◌, if◌then◌else◌, find}
 use Rattle.std.specs.List.{flat_map}
 use Rattle.std.specs.Option.{option_map_or}
 use Rattle.md_meaning.specs.Meaning.Layout.{Text, Forced, on_own_line, when}
 use Rattle.md_meaning.specs.Meaning.At.{Footnote, Given}
-use Rattle.md_meaning.specs.Meaning.Footnotes.{distinct, item, body, id_of, place_among, count_of, backreferences, section, section_start}
+use Rattle.md_meaning.specs.Meaning.Footnotes.{distinct, item, body, id_of, place_among, count_of}
+use Rattle.md_meaning.specs.Meaning.Footnotes.{backreferences, section, section_start}
 use Rattle.md_meaning.proofs.Identifiers.{same}
 use Rattle.md_shape.specs.Steps.{noted}
 use Rattle.md_shape.specs.Claim.{noted_all}
 
-pub noted-append : (before xs ys : List Footnote) → noted_all before (xs ++ ys) ≡ noted_all (noted_all before xs) ys
+pub noted-append : (before xs ys : List Footnote) →
+    noted_all before (xs ++ ys) ≡ noted_all (noted_all before xs) ys
 noted-append before [] ys = refl
 noted-append before (x ∷ xs) ys = noted-append (noted before x) xs ys
 
 -- the first with an identifier
 abbrev pub first_with : List Footnote → List ℕ → Option Footnote
-first_with footnotes identifier = find (λ footnote. bytes_eq footnote.identifier identifier) footnotes
+first_with footnotes identifier =
+    find (λ footnote. bytes_eq footnote.identifier identifier) footnotes
 
 -- one with another identifier isn't found
-found-beside : (xs : List Footnote) (y : Footnote) (ys : List Footnote) (q : List ℕ) → bytes_eq y.identifier q ≡ false →
+found-beside : (xs : List Footnote) (y : Footnote) (ys : List Footnote) (q : List ℕ) →
+    bytes_eq y.identifier q ≡ false →
     first_with (xs ++ ys) q ≡ first_with (xs ++ y ∷ ys) q
 found-beside [] y ys q h = ap (λ b. if b then Some y else first_with ys q) (sym h)
 found-beside (x ∷ xs) y ys q h =
@@ -35,7 +40,8 @@ found-noted (x ∷ xs) y ys q =
     ≡ (if b then Some x else first_with (xs ++ y ∷ ys) q)) [
       | true ↦ λ e. refl
       | false ↦ λ e.
-          elim (bytes_eq x.identifier y.identifier) as (λ b. bytes_eq x.identifier y.identifier ≡ b →
+          elim (bytes_eq x.identifier y.identifier) as
+          (λ b. bytes_eq x.identifier y.identifier ≡ b →
           first_with ((if b then xs else noted xs y) ++ ys) q ≡ first_with (xs ++ y ∷ ys) q) [
             | true ↦ λ k.
                 found-beside xs y ys q
@@ -44,13 +50,16 @@ found-noted (x ∷ xs) y ys q =
           ] refl
     ] refl
 
-pub found-all : (xs ys : List Footnote) (q : List ℕ) → first_with (noted_all xs ys) q ≡ first_with (xs ++ ys) q
+pub found-all : (xs ys : List Footnote) (q : List ℕ) →
+    first_with (noted_all xs ys) q ≡ first_with (xs ++ ys) q
 found-all xs [] q = ap (λ l. first_with l q) (sym (append-nil xs))
 found-all xs (y ∷ ys) q = found-all (noted xs y) ys q ∙ found-noted xs y ys q
 
 -- the section reads of the footnotes only the first with each identifier
-items-same : (given : Given) (xs ys : List Footnote) → ((q : List ℕ) → first_with xs q ≡ first_with ys q) →
-    (identifiers : List (List ℕ)) → flat_map (item given xs) identifiers ≡ flat_map (item given ys) identifiers
+items-same : (given : Given) (xs ys : List Footnote) →
+    ((q : List ℕ) → first_with xs q ≡ first_with ys q) →
+    (identifiers : List (List ℕ)) →
+    flat_map (item given xs) identifiers ≡ flat_map (item given ys) identifiers
 items-same given xs ys found [] = refl
 items-same given xs ys found (identifier ∷ identifiers) =
     ap (λ ps. item given xs identifier ++ ps) (items-same given xs ys found identifiers)
@@ -59,14 +68,15 @@ items-same given xs ys found (identifier ∷ identifiers) =
     item-same : (q : List ℕ) → item given xs q ≡ item given ys q
     item-same q =
         let number : ℕ = place_among (distinct given.calls) q in
-        ap (λ o. Forced ∷ Text (codes "<li id=\"") ∷ Text (id_of given.options (codes "fn-") q number)
-        ∷ Text (codes "\">") ∷ Forced
-        ∷ (body (option_map_or (λ footnote. footnote.text) o [])
-        (backreferences given.options q number (count_of given.calls q)) ++ on_own_line (codes "</li>"))) (found q)
+        ap (λ o. Forced ∷ Text (codes "<li id=\"")
+        ∷ Text (id_of given.options (codes "fn-") q number) ∷ Text (codes "\">") ∷ Forced
+        ∷ (body (option_map_or (λ footnote. footnote.text) o []) (backreferences given.options q
+        number (count_of given.calls q)) ++ on_own_line (codes "</li>"))) (found q)
 
 pub section-noted : (given : Given) (footnotes : List Footnote) →
     section given (noted_all [] footnotes) ≡ section given footnotes
 section-noted given footnotes =
     ap (λ ps. when (not (length given.calls == 0)) (section_start given.options
     ++ (ps ++ (Forced ∷ Text (codes "</ol>") ∷ Forced ∷ Text (codes "</section>") ∷ Forced ∷ []))))
-    (items-same given (noted_all [] footnotes) footnotes (λ q. found-all [] footnotes q) (distinct given.calls))
+    (items-same given (noted_all [] footnotes) footnotes (λ q. found-all [] footnotes q)
+    (distinct given.calls))

@@ -1,5 +1,6 @@
 -- What stands after some nodes: the spine, the previous sibling, the alignments, the calls.
-use Rattle.std.proofs.Common.{◌≡◌, Bool, ◌&&◌, [], ◌∷◌, ◌++◌, Option, Some, None, refl, sym, ◌∙◌, append_assoc, append-nil}
+use Rattle.std.proofs.Common.{◌≡◌, Bool, ◌&&◌, [], ◌∷◌, ◌++◌, Option, Some, None, refl, sym, ◌∙◌}
+use Rattle.std.proofs.Common.{append_assoc, append-nil}
 use Rattle.std.specs.Prelude.{if◌then◌else◌, unwrap_or}
 use Rattle.md_base.specs.declared.event.Name.{Name}
 use Rattle.md_base.specs.Tree.{Forest, Empty, Node}
@@ -16,14 +17,16 @@ past-spine given around before Empty = sym (append-nil before.spine)
 past-spine given around before (Node name start end children rest) =
     let last : Bool = around.is_outermost && is_empty rest in
     past-spine given around (next_before given around before last name start end children) rest
-    ∙ append_assoc before.spine (if is_transparent name then spine_names children else name ∷ []) (spine_names rest)
+    ∙ append_assoc before.spine (if is_transparent name then spine_names children else name ∷ [])
+    (spine_names rest)
 
 pub past-columns : (given : Given) (around : Surroundings) (before : Before) (forest : Forest) →
     (before_past given around before forest).columns ≡ before.columns
 past-columns given around before Empty = refl
 past-columns given around before (Node name start end children rest) =
     past-columns given around
-    (next_before given around before (around.is_outermost && is_empty rest) name start end children) rest
+    (next_before given around before (around.is_outermost && is_empty rest) name start end children)
+    rest
 
 after_last : (name : Name) (later before : Option Name) →
     or_else later (Some name) ≡ or_else (Some (unwrap_or later name)) before
@@ -35,11 +38,12 @@ pub past-previous : (given : Given) (around : Surroundings) (before : Before) (f
 past-previous given around before Empty = refl
 past-previous given around before (Node name start end children rest) =
     past-previous given around
-    (next_before given around before (around.is_outermost && is_empty rest) name start end children) rest
-    ∙ after_last name (last_name rest) before.previous
+    (next_before given around before (around.is_outermost && is_empty rest) name start end children)
+    rest ∙ after_last name (last_name rest) before.previous
 
 pub past-calls : (given : Given) (around : Surroundings) (before : Before) (forest : Forest) →
-    (before_past given around before forest).calls ≡ before.calls ++ (outcome given around before forest).calls
+    (before_past given around before forest).calls
+    ≡ before.calls ++ (outcome given around before forest).calls
 past-calls given around before Empty = sym (append-nil before.calls)
 past-calls given around before (Node name start end children rest) =
     let last : Bool = around.is_outermost && is_empty rest in
@@ -52,11 +56,12 @@ pub past-slurps : (given : Given) (around : Surroundings) (before : Before) (for
     (before_past given around before forest).slurps ≡ (outcome given around before forest).slurps
 past-slurps given around before Empty = refl
 past-slurps given around before (Node name start end children rest) =
-    past-slurps given around
-    (next_before given around before (around.is_outermost && is_empty rest) name start end children) rest
+    past-slurps given around (next_before given around before (around.is_outermost && is_empty rest)
+    name start end children) rest
 
 -- of two that are there or not, the last counts
-pub or_else-assoc : {A : Type 0} (one two three : Option A) → or_else (or_else one two) three ≡ or_else one (or_else
+pub or_else-assoc : {A : Type 0} (one two three : Option A) →
+    or_else (or_else one two) three ≡ or_else one (or_else
     two three)
 or_else-assoc None two three = refl
 or_else-assoc (Some one) two three = refl

@@ -1,9 +1,12 @@
 -- Where nothing is printed, called or noted, and where no line ending is slurped anew.
-use Rattle.std.proofs.Common.{◌≡◌, Bool, true, false, not, ◌&&◌, ◌||◌, cond, List, [], ◌∷◌, ◌++◌, refl, ap, sym, subst, ◌∙◌}
+use Rattle.std.proofs.Common.{◌≡◌, Bool, true, false, not, ◌&&◌, ◌||◌, cond, List, [], ◌∷◌, ◌++◌}
+use Rattle.std.proofs.Common.{refl, ap, sym, subst, ◌∙◌}
 use Rattle.std.specs.Prelude.{if◌then◌else◌}
 use Rattle.std.proofs.lemmas.Bool.{and_parts, not-true}
 use Rattle.md_base.specs.declared.event.Name.{Name}
-use Rattle.md_base.specs.declared.event.Name.TheVariants.{LineEnding, SpaceOrTab, BlockQuotePrefix, Other, Definition, GfmFootnoteCall, GfmFootnoteDefinition}
+use Rattle.md_base.specs.declared.event.Name.TheVariants as name_variants
+use name_variants.{LineEnding, SpaceOrTab, BlockQuotePrefix, Other, Definition, GfmFootnoteCall}
+use name_variants.{GfmFootnoteDefinition}
 use Rattle.md_base.specs.declared.event.Point.{Point}
 use Rattle.md_base.proofs.Lies.{lie}
 use Rattle.md_base.specs.Is.{is}
@@ -18,16 +21,19 @@ use Rattle.md_meaning.specs.Meaning.Layout.{when}
 use Rattle.md_meaning.specs.Meaning.At.{Given, Before, identifier_of}
 use Rattle.md_meaning.specs.Meaning.Before.{before_children, lets_slurp}
 use Rattle.md_meaning.specs.Meaning.Nodes.{outcome}
-use Rattle.md_shape.specs.Content.{Content, Nothing, Childless, Fits, content_of, content_inside, content_past, content_after_node}
+use Rattle.md_shape.specs.Content.{Content, Nothing, Childless, Fits, content_of, content_inside}
+use Rattle.md_shape.specs.Content.{content_past, content_after_node}
 use Rattle.md_shape.specs.Claim.{at_node, inner_of, next_before}
 use Rattle.md_shape.proofs.Sides.{is_quiet}
 use Rattle.md_shape.proofs.Standing.{allowed-facts, is_callless, node-same, stays, childless}
 
-abbrev pub here_before : Given → Surroundings → Before → Name → Point → Point → Forest → Forest → Before
+abbrev pub here_before : Given → Surroundings → Before → Name → Point → Point →
+    Forest → Forest → Before
 here_before given around before name start end children rest =
     next_before given around before (around.is_outermost && is_empty rest) name start end children
 
-pub silent : (given : Given) (around : Surroundings) (before : Before) (forest : Forest) → Fits Nothing forest →
+pub silent : (given : Given) (around : Surroundings) (before : Before) (forest : Forest) →
+    Fits Nothing forest →
     (outcome given around before forest).pieces ≡ []
 silent given around before Empty fits = refl
 silent given around before (Node SpaceOrTab start end children rest) fits =
@@ -51,7 +57,8 @@ silent given around before (Node (Other number) start end children rest) fits =
 silent given around before (Node _ start end children rest) fits = lie fits.0
 
 abbrev Says : Given → Surroundings → Before → Content → Name → Forest → Type 0
-Says given around before c name children = Fits (content_inside c name) children → is_quiet name ≡ true →
+Says given around before c name children =
+    Fits (content_inside c name) children → is_quiet name ≡ true →
     (inner_of given around before name children).pieces ≡ []
 
 -- nothing that prints stands there
@@ -75,7 +82,8 @@ bare-silent given around before Childless forest bare fits =
     ap (λ f. (outcome given around before f).pieces) (childless forest fits)
 bare-silent given around before _ forest bare fits = lie bare
 
-pub quiet : (given : Given) (around : Surroundings) (before : Before) (c : Content) (name : Name) (children : Forest) →
+pub quiet : (given : Given) (around : Surroundings) (before : Before) (c : Content) (name : Name)
+    (children : Forest) →
     Says given around before c name children
 quiet given around before c name children fits h =
     let parts = and_parts (is_bare (content_of name)) (not (is_transparent name))
@@ -109,9 +117,11 @@ no_more : {A : Type 0} (a b : List A) (t : Bool) (x : A) → a ≡ [] → t ≡ 
 no_more a b t x h k l =
     ap (λ l. (l ++ when t (x ∷ [])) ++ b) h ∙ ap (λ u. when u (x ∷ []) ++ b) k ∙ l
 
-pub no-calls : (given : Given) (around : Surroundings) (before : Before) (c : Content) (forest : Forest) →
+pub no-calls :
+    (given : Given) (around : Surroundings) (before : Before) (c : Content) (forest : Forest) →
     is_callless c ≡ true → Fits c forest →
-    ((outcome given around before forest).calls ≡ []) × ((outcome given around before forest).footnotes ≡ [])
+    ((outcome given around before forest).calls ≡ [])
+    × ((outcome given around before forest).footnotes ≡ [])
 no-calls given around before c Empty h fits = (refl, refl)
 no-calls given around before c (Node name start end children rest) h fits =
     let facts = (allowed-facts c name fits.0).callless h in
@@ -120,27 +130,34 @@ no-calls given around before c (Node name start end children rest) h fits =
     (before_children name children before) (content_inside c name) children facts.0 fits.1 in
     let later = no-calls given around next (content_after_node c name children) rest
     (node-same is_callless past-callless c name children ∙ h) fits.2 in (
-      no_more (inner_of given around before name children).calls (outcome given around next rest).calls
-          (is GfmFootnoteCall name) (identifier_of given.bytes children) inner.0 (call_is name facts.1) later.0,
-      no_more (inner_of given around before name children).footnotes (outcome given around next rest).footnotes
+      no_more (inner_of given around before name children).calls
+          (outcome given around next rest).calls
+          (is GfmFootnoteCall name) (identifier_of given.bytes children) inner.0
+          (call_is name facts.1) later.0,
+      no_more (inner_of given around before name children).footnotes
+          (outcome given around next rest).footnotes
           (is GfmFootnoteDefinition name) _ inner.1 (footnote_is name facts.2) later.1,
     )
 
 -- ---- in a definition
 
-pub defines-inside : (options : CompileOptions) (loose : Bool) (name : Name) (around : Surroundings) →
+pub defines-inside :
+    (options : CompileOptions) (loose : Bool) (name : Name) (around : Surroundings) →
     around.in_definition ≡ true → (inside options loose name around).in_definition ≡ true
 defines-inside options loose Definition around h = refl
 defines-inside options loose _ around h = h
 
-pub definition-slurps : (given : Given) (around : Surroundings) (before : Before) (forest : Forest) →
+pub definition-slurps :
+    (given : Given) (around : Surroundings) (before : Before) (forest : Forest) →
     around.in_definition ≡ true → (outcome given around before forest).slurps ≡ before.slurps
 definition-slurps given around before Empty h = refl
 definition-slurps given around before (Node name start end children rest) h =
     let last : Bool = around.is_outermost && is_empty rest in
-    definition-slurps given around (next_before given around before last name start end children) rest h
+    definition-slurps given around
+    (next_before given around before last name start end children) rest h
     ∙ (ap (λ b. if b then (inner_of given around before name children).slurps
     else lets_slurp (at_node given around before last name start end children) name
     (inner_of given around before name children).slurps) h
     ∙ definition-slurps given (inside given.options (is_loose children) name around)
-    (before_children name children before) children (defines-inside given.options (is_loose children) name around h))
+    (before_children name children before) children
+    (defines-inside given.options (is_loose children) name around h))

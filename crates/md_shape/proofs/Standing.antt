@@ -1,20 +1,27 @@
--- What content tells of the names that may stand in it: computed once for each content, for all names.
+-- What content tells of the names that may stand in it: computed once for each
+-- content, for all names.
 use Rattle.std.proofs.Common.{◌≡◌, Bool, true, false, not, ◌&&◌, refl, ap, ◌∙◌}
 use Rattle.std.specs.Prelude.{if◌then◌else◌}
 use Rattle.std.proofs.lemmas.Bool.{and_parts}
 use Rattle.md_base.specs.declared.event.Name.{Name}
-use Rattle.md_base.specs.declared.event.Name.TheVariants.{SpaceOrTab, BlockQuotePrefix, Other, Data, Label}
+use Rattle.md_base.specs.declared.event.Name.TheVariants.{SpaceOrTab, BlockQuotePrefix, Other, Data}
+use Rattle.md_base.specs.declared.event.Name.TheVariants.{Label}
 use Rattle.md_base.proofs.Lies.{lie}
 use Rattle.md_base.specs.Tree.{Forest, Empty, Node}
-use Rattle.md_base.specs.NameTests.{is_transparent, is_fence, is_chunk, is_call, is_cell, is_footnote_definition}
-use Rattle.md_shape.specs.Content.{Content, Blocks, Spans, Strings, Html, Lines, Fences, BeforeLabel, AfterLabel, Sources, Rows, Cells, Parts, Nothing, Childless, Fits, is_allowed, content_inside, content_past, content_after, content_after_node}
+use Rattle.md_base.specs.NameTests.{is_transparent, is_fence, is_chunk, is_call, is_cell}
+use Rattle.md_base.specs.NameTests.{is_footnote_definition}
+use Rattle.md_shape.specs.Content.{Content, Blocks, Spans, Strings, Html, Lines, Fences}
+use Rattle.md_shape.specs.Content.{BeforeLabel, AfterLabel, Sources, Rows, Cells, Parts, Nothing}
+use Rattle.md_shape.specs.Content.{Childless, Fits, is_allowed, content_inside, content_past}
+use Rattle.md_shape.specs.Content.{content_after, content_after_node}
 use Rattle.md_shape.specs.Steps.{captures, is_row, is_raw, begins_target, is_labelled}
 use Rattle.md_shape.specs.Claim.{is_laid, keeps_cells, keeps_lines, has_marks}
 use Rattle.md_shape.proofs.Sides.{is_set_aside}
 
 -- where a resource or a definition leads is kept, and the resource after a label
 abbrev pub keeps_target : Content → Bool
-keeps_target content = elim content [ Strings ↦ true | Nothing ↦ true | Childless ↦ true | _ ↦ false ]
+keeps_target content =
+    elim content [ Strings ↦ true | Nothing ↦ true | Childless ↦ true | _ ↦ false ]
 
 -- no call and no footnote stands there, at any depth
 abbrev pub is_callless : Content → Bool
@@ -47,19 +54,20 @@ abbrev facts : Content → Name → Bool
 facts c n =
     implies (is_laid c) (not (is_set_aside n))
     && (implies (is_laid c && not (captures n)) (is_laid (content_inside c n))
-    && (implies (keeps_cells c) (keeps_cells (content_inside c n) && (not (is_row n) && not (is_cell n)))
+    && (implies (keeps_cells c)
+    (keeps_cells (content_inside c n) && (not (is_row n) && not (is_cell n)))
     && (implies (keeps_lines c) (keeps_lines (content_inside c n)
     && (not (is_raw n) && (not (is_fence n) && not (is_chunk n))))
-    && (implies (keeps_target c) (keeps_target (content_inside c n)
-    && (not (begins_target n) && (not (is_set_aside n) && (not (is_labelled n) && not (is_label n)))))
+    && (implies (keeps_target c) (keeps_target (content_inside c n) && (not (begins_target n)
+    && (not (is_set_aside n) && (not (is_labelled n) && not (is_label n)))))
     && (implies (is_callless c) (is_callless (content_inside c n)
     && (not (is_call n) && not (is_footnote_definition n)))
-    && (implies (is_fence n) (is_lines c)
-    && (implies (is_lines c && not (is_transparent n)) (keeps_lines (content_inside c n) && not (is_raw n))
+    && (implies (is_fence n) (is_lines c) && (implies (is_lines c && not (is_transparent n))
+    (keeps_lines (content_inside c n) && not (is_raw n))
     && (implies (is_cells c && not (is_transparent n))
     (keeps_cells (content_inside c n) && (not (is_row n) && is_cell n))
-    && (implies (is_sources c && not (is_transparent n)) (keeps_target (content_inside c n) && not (begins_target n))
-    && implies (is_nothing c) (is_transparent n))))))))))
+    && (implies (is_sources c && not (is_transparent n)) (keeps_target (content_inside c n)
+    && not (begins_target n)) && implies (is_nothing c) (is_transparent n))))))))))
 
 blocks : (n : Name) → implies (is_allowed Blocks n) (facts Blocks n) ≡ true
 blocks Data = refl
@@ -137,19 +145,21 @@ falls false h = refl
 pub record Facts (c : Content) (n : Name) : Type 0 where
   pub aside : is_laid c ≡ true → is_set_aside n ≡ false
   pub laid : is_laid c && not (captures n) ≡ true → is_laid (content_inside c n) ≡ true
-  pub cells : keeps_cells c ≡ true → (keeps_cells (content_inside c n) ≡ true) × (is_row n ≡ false) × (is_cell n ≡
-      false)
+  pub cells : keeps_cells c ≡ true →
+      (keeps_cells (content_inside c n) ≡ true) × (is_row n ≡ false) × (is_cell n ≡ false)
   pub lines : keeps_lines c ≡ true → (keeps_lines (content_inside c n) ≡ true) × (is_raw n ≡ false)
       × (is_fence n ≡ false) × (is_chunk n ≡ false)
-  pub target : keeps_target c ≡ true → (keeps_target (content_inside c n) ≡ true) × (begins_target n ≡ false)
+  pub target : keeps_target c ≡ true →
+      (keeps_target (content_inside c n) ≡ true) × (begins_target n ≡ false)
       × (is_set_aside n ≡ false) × (is_labelled n ≡ false) × (is_label n ≡ false)
-  pub callless : is_callless c ≡ true → (is_callless (content_inside c n) ≡ true) × (is_call n ≡ false)
+  pub callless : is_callless c ≡ true →
+      (is_callless (content_inside c n) ≡ true) × (is_call n ≡ false)
       × (is_footnote_definition n ≡ false)
   pub fence : is_fence n ≡ true → is_lines c ≡ true
   pub in_lines : is_lines c && not (is_transparent n) ≡ true →
       (keeps_lines (content_inside c n) ≡ true) × (is_raw n ≡ false)
-  pub in_cells : is_cells c && not (is_transparent n) ≡ true → (keeps_cells (content_inside c n) ≡ true)
-      × (is_row n ≡ false) × (is_cell n ≡ true)
+  pub in_cells : is_cells c && not (is_transparent n) ≡ true →
+      (keeps_cells (content_inside c n) ≡ true) × (is_row n ≡ false) × (is_cell n ≡ true)
   pub in_sources : is_sources c && not (is_transparent n) ≡ true →
       (keeps_target (content_inside c n) ≡ true) × (begins_target n ≡ false)
   pub nothing : is_nothing c ≡ true → is_transparent n ≡ true
@@ -161,21 +171,25 @@ pub allowed-facts : (c : Content) (n : Name) → is_allowed c n ≡ true → Fac
 allowed-facts c n h =
     let f0 = follows (is_allowed c n) (facts c n) (all-facts c n) h in
     let p0 = and_parts (implies (is_laid c) (not (is_set_aside n))) _ f0 in
-    let p1 = and_parts (implies (is_laid c && not (captures n)) (is_laid (content_inside c n))) _ p0.1 in
+    let p1 =
+    and_parts (implies (is_laid c && not (captures n)) (is_laid (content_inside c n))) _ p0.1 in
     let p2 = and_parts (implies (keeps_cells c) (keeps_cells (content_inside c n) && (not (is_row n)
     && not (is_cell n)))) _ p1.1 in
     let p3 = and_parts (implies (keeps_lines c) (keeps_lines (content_inside c n)
     && (not (is_raw n) && (not (is_fence n) && not (is_chunk n))))) _ p2.1 in
     let p4 = and_parts (implies (keeps_target c) (keeps_target (content_inside c n)
-    && (not (begins_target n) && (not (is_set_aside n) && (not (is_labelled n) && not (is_label n)))))) _ p3.1 in
+    && (not (begins_target n)
+    && (not (is_set_aside n) && (not (is_labelled n) && not (is_label n)))))) _ p3.1 in
     let p5 = and_parts (implies (is_callless c) (is_callless (content_inside c n)
     && (not (is_call n) && not (is_footnote_definition n)))) _ p4.1 in
     let p6 = and_parts (implies (is_fence n) (is_lines c)) _ p5.1 in
-    let p7 = and_parts (implies (is_lines c && not (is_transparent n)) (keeps_lines (content_inside c n)
+    let p7 =
+    and_parts (implies (is_lines c && not (is_transparent n)) (keeps_lines (content_inside c n)
     && not (is_raw n))) _ p6.1 in
     let p8 = and_parts (implies (is_cells c && not (is_transparent n))
     (keeps_cells (content_inside c n) && (not (is_row n) && is_cell n))) _ p7.1 in
-    let p9 = and_parts (implies (is_sources c && not (is_transparent n)) (keeps_target (content_inside c n)
+    let p9 =
+    and_parts (implies (is_sources c && not (is_transparent n)) (keeps_target (content_inside c n)
     && not (begins_target n))) (implies (is_nothing c) (is_transparent n)) p8.1 in
     record {
       aside = λ t. falls (is_set_aside n) (follows (is_laid c) (not (is_set_aside n)) p0.0 t);
@@ -186,18 +200,26 @@ allowed-facts c n h =
           let b = two (not (is_row n)) (is_cell n) a.1 in
           (a.0, falls (is_row n) b.0, b.1);
       lines = λ t.
-          let a = and_parts (keeps_lines (content_inside c n)) _ (follows (keeps_lines c) _ p3.0 t) in
+          let a =
+          and_parts (keeps_lines (content_inside c n)) _ (follows (keeps_lines c) _ p3.0 t) in
           let b = and_parts (not (is_raw n)) _ a.1 in
           let d = two (not (is_fence n)) (is_chunk n) b.1 in
           (a.0, falls (is_raw n) b.0, falls (is_fence n) d.0, d.1);
       target = λ t.
-          let a = and_parts (keeps_target (content_inside c n)) _ (follows (keeps_target c) _ p4.0 t) in
+          let a =
+          and_parts (keeps_target (content_inside c n)) _ (follows (keeps_target c) _ p4.0 t) in
           let b = and_parts (not (begins_target n)) _ a.1 in
           let d = and_parts (not (is_set_aside n)) _ b.1 in
-          let e = two (not (is_labelled n)) (is_label n) d.1 in
-          (a.0, falls (begins_target n) b.0, falls (is_set_aside n) d.0, falls (is_labelled n) e.0, e.1);
+          let e = two (not (is_labelled n)) (is_label n) d.1 in (
+            a.0,
+            falls (begins_target n) b.0,
+            falls (is_set_aside n) d.0,
+            falls (is_labelled n) e.0,
+            e.1,
+          );
       callless = λ t.
-          let a = and_parts (is_callless (content_inside c n)) _ (follows (is_callless c) _ p5.0 t) in
+          let a =
+          and_parts (is_callless (content_inside c n)) _ (follows (is_callless c) _ p5.0 t) in
           let b = two (not (is_call n)) (is_footnote_definition n) a.1 in
           (a.0, falls (is_call n) b.0, b.1);
       fence = λ t. follows (is_fence n) (is_lines c) p6.0 t;
@@ -230,7 +252,8 @@ stays content (Node name start end children rest) h =
     ap (λ c. content_after c rest) (one_or_other (is_transparent name) (stays content children h) h)
     ∙ stays content rest h
 
-pub node-stays : (content : Content) (name : Name) (children : Forest) → content_past content ≡ content →
+pub node-stays : (content : Content) (name : Name) (children : Forest) →
+    content_past content ≡ content →
     content_after_node content name children ≡ content
 node-stays content name children h = one_or_other (is_transparent name) (stays content children h) h
 
@@ -244,15 +267,17 @@ pub after-same : (p : Content → Bool) → ((c : Content) → p (content_past c
     (content : Content) (forest : Forest) → p (content_after content forest) ≡ p content
 after-same p past content Empty = refl
 after-same p past content (Node name start end children rest) =
-    after-same p past (if is_transparent name then content_after content children else content_past content) rest
-    ∙ either p (is_transparent name) (content_after content children) (content_past content) (p content)
-    (after-same p past content children) (past content)
+    after-same p past
+    (if is_transparent name then content_after content children else content_past content) rest
+    ∙ either p (is_transparent name) (content_after content children) (content_past content)
+    (p content) (after-same p past content children) (past content)
 
 pub node-same : (p : Content → Bool) → ((c : Content) → p (content_past c) ≡ p c) →
-    (content : Content) (name : Name) (children : Forest) → p (content_after_node content name children) ≡ p content
+    (content : Content) (name : Name) (children : Forest) →
+    p (content_after_node content name children) ≡ p content
 node-same p past content name children =
-    either p (is_transparent name) (content_after content children) (content_past content) (p content)
-    (after-same p past content children) (past content)
+    either p (is_transparent name) (content_after content children) (content_past content)
+    (p content) (after-same p past content children) (past content)
 
 pub past-cells : (c : Content) → keeps_cells (content_past c) ≡ keeps_cells c
 past-cells BeforeLabel = refl

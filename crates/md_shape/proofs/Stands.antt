@@ -1,10 +1,13 @@
--- The nodes on a spine, one after another: what is told of a spine is told of this list, which is easier to go over
--- than the tree (`Leading.antt`).
-use Rattle.std.proofs.Common.{◌≡◌, Bool, true, false, Option, Some, None, List, [], ◌∷◌, ◌++◌, refl, sym, ap, ◌∙◌}
+-- The nodes on a spine, one after another: what is told of a spine is told of this list, which is
+-- easier to go over than the tree (`Leading.antt`).
+use Rattle.std.proofs.Common.{◌≡◌, Bool, true, false, Option, Some, None, List, [], ◌∷◌, ◌++◌, refl}
+use Rattle.std.proofs.Common.{sym, ap, ◌∙◌}
 use Rattle.std.specs.Prelude.{map, if◌then◌else◌}
 use Rattle.std.proofs.lemmas.List.{map-append}
 use Rattle.md_base.specs.declared.event.Name.{Name}
-use Rattle.md_base.specs.declared.event.Name.TheVariants.{BlockQuotePrefix, SpaceOrTab, Other, MdxEsm, MdxFlowExpression, MdxTextExpression, MdxJsxFlowTag, MdxJsxTextTag}
+use Rattle.md_base.specs.declared.event.Name.TheVariants as name_variants
+use name_variants.{BlockQuotePrefix, SpaceOrTab, Other, MdxEsm, MdxFlowExpression}
+use name_variants.{MdxTextExpression, MdxJsxFlowTag, MdxJsxTextTag}
 use Rattle.md_base.specs.declared.event.Point.{Point}
 use Rattle.md_base.specs.declared.event.Position.{Position}
 use Rattle.md_pattern.specs.declared.kinds.Symbol.{Symbol}
@@ -43,8 +46,8 @@ stand_here _ start end children inner = []
 
 abbrev pub stands : Forest → List Stand
 stands Empty = []
-stands (Node name start end children rest) = stand_here (standing_of name) start end children (stands children)
-    ++ stands rest
+stands (Node name start end children rest) =
+    stand_here (standing_of name) start end children (stands children) ++ stands rest
 
 -- their symbols
 abbrev pub seen_of : List Stand → List Symbol
@@ -52,7 +55,8 @@ seen_of nodes = map (λ node. node.seen) nodes
 
 symbols_here : (standing : Standing) (start end : Point) (children : Forest) →
     spine children ≡ seen_of (stands children) →
-    shown standing (spine children) ≡ seen_of (stand_here standing start end children (stands children))
+    shown standing (spine children)
+    ≡ seen_of (stand_here standing start end children (stands children))
 symbols_here Through start end children inner = inner
 symbols_here (Solid symbol usual reading) start end children inner = refl
 symbols_here Space start end children inner = refl
@@ -62,7 +66,8 @@ pub spine-stands : (forest : Forest) → spine forest ≡ seen_of (stands forest
 spine-stands Empty = refl
 spine-stands (Node name start end children rest) =
     let here : List Stand = stand_here (standing_of name) start end children (stands children) in
-    ap (λ symbols. symbols ++ spine rest) (symbols_here (standing_of name) start end children (spine-stands children))
+    ap (λ symbols. symbols ++ spine rest)
+    (symbols_here (standing_of name) start end children (spine-stands children))
     ∙ ap (λ symbols. seen_of here ++ symbols) (spine-stands rest)
     ∙ sym (map-append (λ (node : Stand). node.seen) here (stands rest))
 
@@ -96,7 +101,8 @@ leaves _ = λ found inner there. refl
 -- the target that nodes leave, one after another
 abbrev pub sought : List Stand → Referral → Referral
 sought [] found = found
-sought (node ∷ nodes) found = sought nodes (target_by node.seen found (target_of node.children Missing)
+sought (node ∷ nodes) found =
+    sought nodes (target_by node.seen found (target_of node.children Missing)
     (place node.start node.end))
 
 sought-append : (nodes others : List Stand) (found : Referral) →
@@ -105,7 +111,8 @@ sought-append [] others found = refl
 sought-append (node ∷ nodes) others found = sought-append nodes others
     (target_by node.seen found (target_of node.children Missing) (place node.start node.end))
 
-target_here : (standing : Standing) (start end : Point) (children : Forest) (found : Referral) → Leaves standing →
+target_here : (standing : Standing) (start end : Point) (children : Forest) (found : Referral) →
+    Leaves standing →
     target_of children found ≡ sought (stands children) found →
     target_after standing found (target_of children) (place start end)
     ≡ sought (stand_here standing start end children (stands children)) found
@@ -115,7 +122,8 @@ target_here (Solid symbol usual reading) start end children found leaves inner =
 target_here Space start end children found leaves inner = refl
 target_here Mdx start end children found leaves inner = refl
 
-pub target-stands : (forest : Forest) (found : Referral) → target_of forest found ≡ sought (stands forest) found
+pub target-stands : (forest : Forest) (found : Referral) →
+    target_of forest found ≡ sought (stands forest) found
 target-stands Empty found = refl
 target-stands (Node name start end children rest) found =
     let here : List Stand = stand_here (standing_of name) start end children (stands children) in
@@ -129,7 +137,8 @@ module _ {A : Type 0} (of_symbols : Symbol → Bool) (of_names : Name →
   -- what is told of the first node with such a symbol
   abbrev pub first_seen : List Stand → Option A
   first_seen [] = None
-  first_seen (node ∷ nodes) = if of_symbols node.seen then Some (tell node.start node.end node.children)
+  first_seen (node ∷ nodes) =
+      if of_symbols node.seen then Some (tell node.start node.end node.children)
       else first_seen nodes
 
   first_seen-append : (nodes others : List Stand) → or_else (first_seen nodes) (first_seen others)
@@ -146,34 +155,40 @@ module _ {A : Type 0} (of_symbols : Symbol → Bool) (of_names : Name →
       by false here e later = later
 
   abbrev told_here : Bool → Bool → A → Option A → Option A
-  told_here passes through here inside = if passes then Some here else (if through then inside else None)
+  told_here passes through here inside =
+      if passes then Some here else (if through then inside else None)
 
-  first_here : (standing : Standing) (name : Name) (start end : Point) (children : Forest) (around : Role)
+  first_here :
+      (standing : Standing) (name : Name) (start end : Point) (children : Forest) (around : Role)
       (before : Option Symbol) → Told standing name → of_names name ≡ shows of_symbols standing →
       IsStanding standing around before children →
       first_on_spine of_names tell children ≡ first_seen (stands children) →
       told_here (of_names name) (is_transparent name) (tell start end children)
-      (first_on_spine of_names tell children) ≡ first_seen (stand_here standing start end children (stands children))
+      (first_on_spine of_names tell children)
+      ≡ first_seen (stand_here standing start end children (stands children))
   first_here Through name start end children around before says same is inner =
-      ap (λ t. told_here t (is_transparent name) (tell start end children) (first_on_spine of_names tell children)) same
-      ∙ ap (λ t. told_here false t (tell start end children) (first_on_spine of_names tell children)) says ∙ inner
+      ap (λ t. told_here t (is_transparent name) (tell start end children)
+      (first_on_spine of_names tell children)) same ∙ ap (λ t. told_here false t
+      (tell start end children) (first_on_spine of_names tell children)) says ∙ inner
   first_here Space name start end children around before says same is inner =
-      ap (λ t. told_here t (is_transparent name) (tell start end children) (first_on_spine of_names tell children)) same
-      ∙ ap (λ t. told_here false t (tell start end children) (first_on_spine of_names tell children)) says
+      ap (λ t. told_here t (is_transparent name) (tell start end children)
+      (first_on_spine of_names tell children)) same ∙ ap (λ t. told_here false t
+      (tell start end children) (first_on_spine of_names tell children)) says
       ∙ ap (first_on_spine of_names tell) is
   first_here (Solid symbol usual reading) name start end children around before says same is inner =
-      ap (λ t. told_here t (is_transparent name) (tell start end children) (first_on_spine of_names tell children)) same
-      ∙ ap (λ t. told_here (of_symbols symbol) t (tell start end children) (first_on_spine of_names tell children))
-      says.0
+      ap (λ t. told_here t (is_transparent name) (tell start end children)
+      (first_on_spine of_names tell children)) same ∙ ap (λ t. told_here (of_symbols symbol) t
+      (tell start end children) (first_on_spine of_names tell children)) says.0
   first_here Mdx name start end children around before says same is inner = absurd is
 
-  pub first-stands : (forest : Forest) (around : Role) (before : Option Symbol) → AreShaped forest around before →
+  pub first-stands : (forest : Forest) (around : Role) (before : Option Symbol) →
+      AreShaped forest around before →
       first_on_spine of_names tell forest ≡ first_seen (stands forest)
   first-stands Empty around before shaped = refl
   first-stands (Node name start end children rest) around before shaped =
       let here : List Stand = stand_here (standing_of name) start end children (stands children) in
       ap (λ o. or_else o (first_on_spine of_names tell rest))
-      (first_here (standing_of name) name start end children around before (told name) (agree name) shaped.0.1
-      (first-stands children _ _ shaped.1))
+      (first_here (standing_of name) name start end children around before (told name) (agree name)
+      shaped.0.1 (first-stands children _ _ shaped.1))
       ∙ ap (λ o. or_else (first_seen here) o) (first-stands rest _ _ shaped.2)
       ∙ first_seen-append here (stands rest)

@@ -1,10 +1,13 @@
--- What may stand where, said by the symbols of the grammar in place of names, and that both say the same. `told` says
--- of each name what proofs ask of how it stands.
-use Rattle.std.proofs.Common.{◌≡◌, Bool, true, false, ◌&&◌, ◌||◌, if◌then◌else◌, List, [], ◌∷◌, refl}
+-- What may stand where, said by the symbols of the grammar in place of names, and that both say the
+-- same. `told` says of each name what proofs ask of how it stands.
+use Rattle.std.proofs.Common.{◌≡◌, Bool, true, false, ◌&&◌, ◌||◌, if◌then◌else◌, List, [], ◌∷◌}
+use Rattle.std.proofs.Common.{refl}
 use Rattle.std.specs.List.{list_all}
 use Rattle.std.proofs.lemmas.Bool.{and_parts}
 use Rattle.md_base.specs.declared.event.Name.{Name}
-use Rattle.md_base.specs.declared.event.Name.TheVariants.{BlockQuotePrefix, SpaceOrTab, Other, MdxEsm, MdxFlowExpression, MdxTextExpression, MdxJsxFlowTag, MdxJsxTextTag}
+use Rattle.md_base.specs.declared.event.Name.TheVariants as name_variants
+use name_variants.{BlockQuotePrefix, SpaceOrTab, Other, MdxEsm, MdxFlowExpression}
+use name_variants.{MdxTextExpression, MdxJsxFlowTag, MdxJsxTextTag}
 use Rattle.md_pattern.specs.declared.kinds.Symbol.{Symbol}
 use Rattle.md_pattern.specs.declared.kinds.Symbol.TheVariants as symbol
 use Rattle.md_pattern.specs.declared.kinds.Role.{Role}
@@ -16,7 +19,11 @@ use Rattle.md_pattern.specs.declared.kinds.Standing.TheVariants.{Through, Space,
 use Rattle.md_pattern.specs.Standing.{standing_of}
 use Rattle.md_pattern.specs.Pattern.{members, pattern_of}
 use Rattle.md_base.specs.NameTests.{is_transparent}
-use Rattle.md_shape.specs.Built.{Content, Blocks, Spans, Strings, FirstFence, FirstMathFence, Chunks, InfoAndMeta, MetaAlone, Done, Nothing, Sources, is_string, is_span, is_in_media, is_autolink, is_fence, is_code_fence, is_math_fence, is_meta, is_info, is_done, is_line, is_part, is_source, is_ending, may_stand, content_of, content_past}
+use Rattle.md_shape.specs.Built.{Content, Blocks, Spans, Strings, FirstFence, FirstMathFence}
+use Rattle.md_shape.specs.Built.{Chunks, InfoAndMeta, MetaAlone, Done, Nothing, Sources, is_string}
+use Rattle.md_shape.specs.Built.{is_span, is_in_media, is_autolink, is_fence, is_code_fence}
+use Rattle.md_shape.specs.Built.{is_math_fence, is_meta, is_info, is_done, is_line, is_part}
+use Rattle.md_shape.specs.Built.{is_source, is_ending, may_stand, content_of, content_past}
 
 -- what is asked of a name, or of a symbol
 pub record Tests : Type 0 where
@@ -161,7 +168,8 @@ past_by MetaAlone tests = Nothing
 past_by Done tests = Nothing
 past_by content tests = content
 
-pub may_by-names : (content : Content) (name : Name) → may_by content (tests_of name) ≡ may_stand content name
+pub may_by-names : (content : Content) (name : Name) →
+    may_by content (tests_of name) ≡ may_stand content name
 may_by-names Blocks name = refl
 may_by-names Spans name = refl
 may_by-names Strings name = refl
@@ -174,7 +182,8 @@ may_by-names Done name = refl
 may_by-names Nothing name = refl
 may_by-names Sources name = refl
 
-pub past_by-names : (content : Content) (name : Name) → past_by content (tests_of name) ≡ content_past content name
+pub past_by-names : (content : Content) (name : Name) →
+    past_by content (tests_of name) ≡ content_past content name
 past_by-names Blocks name = refl
 past_by-names Spans name = refl
 past_by-names Strings name = refl
@@ -198,7 +207,8 @@ past content symbol = past_by content (tests_for symbol)
 -- the symbols may stand there, one after another
 abbrev pub admits : Bool → Content → List Symbol → Bool
 admits earlier content [] = true
-admits earlier content (symbol ∷ symbols) = may_show earlier content symbol && admits true (past content symbol) symbols
+admits earlier content (symbol ∷ symbols) =
+    may_show earlier content symbol && admits true (past content symbol) symbols
 
 abbrev pub same_content : Content → Content → Bool
 same_content Blocks Blocks = true
@@ -228,7 +238,8 @@ item_admits (Many class) left earlier content =
 -- what fits a pattern may stand there
 abbrev pub pattern_admits : List Item → Bool → Content → Bool
 pattern_admits [] earlier content = true
-pattern_admits (item ∷ items) earlier content = item_admits item (λ b c. pattern_admits items b c) earlier content
+pattern_admits (item ∷ items) earlier content =
+    item_admits item (λ b c. pattern_admits items b c) earlier content
 
 abbrev pub every_content : (Content → Bool) → Bool
 every_content test =
@@ -236,7 +247,8 @@ every_content test =
     && (test FirstMathFence && (test Chunks && (test InfoAndMeta
     && (test MetaAlone && (test Done && (test Nothing && test Sources)))))))))
 
-pub each_content : (test : Content → Bool) → every_content test ≡ true → (content : Content) → test content ≡ true
+pub each_content : (test : Content → Bool) → every_content test ≡ true →
+    (content : Content) → test content ≡ true
 each_content test h content =
     let spans = and_parts (test Blocks) _ h in
     let strings = and_parts (test Spans) _ spans.1 in
@@ -280,11 +292,13 @@ implies false holds = true
 -- wherever a node may stand, what fits the patterns of its roles may stand in it
 abbrev pub holds_patterns : Bool → Name → Symbol → Role → Content → Bool
 holds_patterns earlier name symbol usual content =
-    implies (may_show earlier content symbol) (list_all (λ role. pattern_admits (pattern_of role) false
+    implies (may_show earlier content symbol)
+    (list_all (λ role. pattern_admits (pattern_of role) false
     (content_of name content)) (roles_for earlier usual))
 
 abbrev pub holds_patterns_everywhere : Bool → Name → Symbol → Role → Bool
-holds_patterns_everywhere earlier name symbol usual = every_content (holds_patterns earlier name symbol usual)
+holds_patterns_everywhere earlier name symbol usual =
+    every_content (holds_patterns earlier name symbol usual)
 
 -- what names say, by how they stand
 abbrev pub Told : Standing → Name → Type 0

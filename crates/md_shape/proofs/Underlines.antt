@@ -1,17 +1,21 @@
--- Where underlines stand on the spines of the grammar, and in its documents: a heading that is printed at its
--- underline is printed once.
-use Rattle.std.proofs.Common.{◌≡◌, inl, inr, ℕ, zero, suc, Bool, true, false, ◌&&◌, cond, List, [], ◌∷◌, ◌++◌, refl, sym, ap, subst, ◌∙◌, Option, None}
+-- Where underlines stand on the spines of the grammar, and in its documents: a heading that is
+-- printed at its underline is printed once.
+use Rattle.std.proofs.Common.{◌≡◌, inl, inr, ℕ, zero, suc, Bool, true, false, ◌&&◌, cond, List, []}
+use Rattle.std.proofs.Common.{◌∷◌, ◌++◌, refl, sym, ap, subst, ◌∙◌, Option, None}
 use Rattle.std.specs.Prelude.{replicate}
 use Rattle.std.specs.List.{list_all}
 use Rattle.std.proofs.lemmas.Bool.{and_parts, and_from}
 use Rattle.md_base.proofs.Lies.{lie}
 use Rattle.md_base.specs.declared.event.Name.{Name}
-use Rattle.md_base.specs.declared.event.Name.TheVariants.{HeadingSetextUnderlineSequence, BlockQuotePrefix, SpaceOrTab, Other, MdxEsm, MdxFlowExpression, MdxTextExpression, MdxJsxFlowTag, MdxJsxTextTag}
+use Rattle.md_base.specs.declared.event.Name.TheVariants as name_variants
+use name_variants.{HeadingSetextUnderlineSequence, BlockQuotePrefix, SpaceOrTab, Other, MdxEsm}
+use name_variants.{MdxFlowExpression, MdxTextExpression, MdxJsxFlowTag, MdxJsxTextTag}
 use Rattle.md_base.specs.Tree.{Forest, Empty, Node}
 use Rattle.md_base.specs.NameTests.{is_transparent}
 use Rattle.md_base.specs.Children.{spine_names}
 use Rattle.md_pattern.specs.declared.kinds.Symbol.{Symbol}
-use Rattle.md_pattern.specs.declared.kinds.Symbol.TheVariants.{ReferenceMarker, SetextText, SetextUnderline, LineEnding}
+use Rattle.md_pattern.specs.declared.kinds.Symbol.TheVariants.{ReferenceMarker, SetextText}
+use Rattle.md_pattern.specs.declared.kinds.Symbol.TheVariants.{SetextUnderline, LineEnding}
 use Rattle.md_pattern.specs.declared.kinds.Role.{Role}
 use Rattle.md_pattern.specs.declared.kinds.Role.TheVariants as role
 use Rattle.md_pattern.specs.Standing.{standing_of}
@@ -66,7 +70,8 @@ no_underline : Symbol → Bool
 no_underline SetextUnderline = false
 no_underline _ = true
 
-tail-underlined : (first : Symbol) (tail others : List Symbol) → IsTail first tail → no_underline first ≡ true →
+tail-underlined : (first : Symbol) (tail others : List Symbol) → IsTail first tail →
+    no_underline first ≡ true →
     ((waits : Bool) → underlined waits others ≡ true) → (waits : Bool) →
     underlined waits (first ∷ tail ++ others) ≡ true
 unfolding no_underline
@@ -80,9 +85,11 @@ tail-underlined SetextText tail others is may h waits = subst (λ t. underlined 
 tail-underlined SetextUnderline tail others is may h waits = lie may
 tail-underlined LineEnding tail others is may h waits = subst (λ t. underlined waits (t ++ others)
     ≡ true) (sym is) (h waits)
-tail-underlined first tail others is may h waits = subst (λ t. underlined false (t ++ others) ≡ true) (sym is) (h false)
+tail-underlined first tail others is may h waits =
+    subst (λ t. underlined false (t ++ others) ≡ true) (sym is) (h false)
 
-grouped-underlined : (firsts spine : List Symbol) → IsGrouped firsts spine → list_all no_underline firsts ≡ true →
+grouped-underlined : (firsts spine : List Symbol) → IsGrouped firsts spine →
+    list_all no_underline firsts ≡ true →
     (waits : Bool) → underlined waits spine ≡ true
 grouped-underlined [] spine g h waits = subst (λ s. underlined waits s ≡ true) (sym g) refl
 grouped-underlined (first ∷ firsts) spine g h waits =
@@ -102,7 +109,8 @@ matches-underlined r spine m waits = grouped-underlined m.0 spine m.1
     (fits-all no_underline (pattern_of r) m.0 m.2 (role-no_underline r)) waits
 
 -- a heading waits after a node as after what it shows
-node-waits : (name : Name) (children : Forest) (around : Role) (before : Option Symbol) (waits : Bool) →
+node-waits :
+    (name : Name) (children : Forest) (around : Role) (before : Option Symbol) (waits : Bool) →
     IsStanding (standing_of name) around before children →
     waits_after waits children ≡ waits_after_symbols waits (spine children)
     → cond (is_transparent name) (waits_after waits children) (waits_past waits name)
@@ -119,12 +127,15 @@ node-waits _ children around before waits is same = refl
 
 -- and after some nodes as after their spine
 same-waits : (forest : Forest) (around : Role) (before : Option Symbol) (waits : Bool) →
-    AreShaped forest around before → waits_after waits forest ≡ waits_after_symbols waits (spine forest)
+    AreShaped forest around before →
+    waits_after waits forest ≡ waits_after_symbols waits (spine forest)
 same-waits Empty around before waits all = refl
 same-waits (Node name start end children rest) around before waits all =
-    let here = node-waits name children around before waits all.0.1 (same-waits children _ _ waits all.1) in
+    let here =
+    node-waits name children around before waits all.0.1 (same-waits children _ _ waits all.1) in
     ap (λ b. waits_after b rest) here
-    ∙ same-waits rest _ _ (waits_after_symbols waits (shown (standing_of name) (spine children))) all.2
+    ∙ same-waits rest _ _
+    (waits_after_symbols waits (shown (standing_of name) (spine children))) all.2
     ∙ sym (waits-append waits (shown (standing_of name) (spine children)) (spine rest))
 
 -- where two lists in a row are empty, each is
@@ -133,9 +144,12 @@ both_none [] ys h = (refl, h)
 both_none (x ∷ xs) ys h = absurd (cc h)
 
 -- on an empty spine there are no names
-own_names : (standing : Standing) (name : Name) (children : Forest) (around : Role) (before : Option Symbol) →
-    Told standing name → IsStanding standing around before children → (spine children ≡ [] → spine_names children ≡ [])
-    → shown standing (spine children) ≡ [] → cond (is_transparent name) (spine_names children) (name ∷ []) ≡ []
+own_names : (standing : Standing) (name : Name) (children : Forest) (around : Role)
+    (before : Option Symbol) →
+    Told standing name → IsStanding standing around before children →
+    (spine children ≡ [] → spine_names children ≡ [])
+    → shown standing (spine children) ≡ [] →
+    cond (is_transparent name) (spine_names children) (name ∷ []) ≡ []
 own_names Through name children around before told is below h =
     ap (λ b. cond b (spine_names children) (name ∷ [])) told ∙ below h
 own_names Space name children around before told is below h =
@@ -143,7 +157,8 @@ own_names Space name children around before told is below h =
 own_names (Solid symbol usual reading) name children around before told is below h = absurd (cc h)
 own_names Mdx name children around before told is below h = absurd is
 
-no-names : (forest : Forest) (around : Role) (before : Option Symbol) → AreShaped forest around before →
+no-names : (forest : Forest) (around : Role) (before : Option Symbol) →
+    AreShaped forest around before →
     spine forest ≡ [] → spine_names forest ≡ []
 no-names Empty around before all h = refl
 no-names (Node name start end children rest) around before all h =
@@ -156,20 +171,26 @@ no-names (Node name start end children rest) around before all h =
 empty-spine : (spine : List Symbol) → Matches role.Empty spine → spine ≡ []
 empty-spine spine m = by m.0 m.2 m.1
   where
-    by : (firsts : List Symbol) → Fits (pattern_of role.Empty) firsts → IsGrouped firsts spine → spine ≡ []
+    by : (firsts : List Symbol) → Fits (pattern_of role.Empty) firsts →
+        IsGrouped firsts spine → spine ≡ []
     by [] fit is = is
     by (first ∷ firsts) fit is = absurd (cc fit)
 
-awaited : (name : Name) (children : Forest) (around inner : Role) (before first : Option Symbol) (waits : Bool) →
+awaited : (name : Name) (children : Forest) (around inner : Role)
+    (before first : Option Symbol) (waits : Bool) →
     IsStanding (standing_of name) around before children → AreShaped children inner first →
     underlined waits (shown (standing_of name) (spine children)) ≡ true → is_underline name ≡ true
     → (waits ≡ true) × (spine_names children ≡ [])
-awaited HeadingSetextUnderlineSequence children around inner before first waits is all h underline =
-    ((and_parts waits true h).0, no-names children inner first all (empty-spine (spine children) is))
+awaited HeadingSetextUnderlineSequence children around inner before first waits
+    is all h underline = (
+      (and_parts waits true h).0,
+      no-names children inner first all (empty-spine (spine children) is),
+    )
 awaited _ children around inner before first waits is all h underline = lie underline
 
 -- the spine below a node
-below-underlined : (standing : Standing) (name : Name) (children : Forest) (around : Role) (before : Option Symbol)
+below-underlined :
+    (standing : Standing) (name : Name) (children : Forest) (around : Role) (before : Option Symbol)
     (waits : Bool) → Told standing name → IsStanding standing around before children →
     underlined waits (shown standing (spine children)) ≡ true →
     underlined (cond (is_transparent name) waits false) (spine children) ≡ true
@@ -184,15 +205,19 @@ below-underlined Mdx name children around before waits told is h = absurd is
 
 -- nodes whose spine has its underlines where headings wait have them so at any depth
 nodes-underlined : (forest : Forest) (around : Role) (before : Option Symbol) (waits : Bool) →
-    AreShaped forest around before → underlined waits (spine forest) ≡ true → IsUnderlined waits forest
+    AreShaped forest around before → underlined waits (spine forest) ≡ true →
+    IsUnderlined waits forest
 nodes-underlined Empty around before waits all h = tt
 nodes-underlined (Node name start end children rest) around before waits all h =
     let parts = underlined-split waits (shown (standing_of name) (spine children)) (spine rest) h in
-    let here = node-waits name children around before waits all.0.1 (same-waits children _ _ waits all.1) in (
+    let here =
+    node-waits name children around before waits all.0.1 (same-waits children _ _ waits all.1) in (
       awaited name children around _ before _ waits all.0.1 all.1 parts.0,
       nodes-underlined children _ _ (cond (is_transparent name) waits false) all.1
-          (below-underlined (standing_of name) name children around before waits (told name) all.0.1 parts.0),
-      nodes-underlined rest _ _ (cond (is_transparent name) (waits_after waits children) (waits_past waits name)) all.2
+          (below-underlined (standing_of name) name children around before waits
+          (told name) all.0.1 parts.0),
+      nodes-underlined rest _ _
+          (cond (is_transparent name) (waits_after waits children) (waits_past waits name)) all.2
           (subst (λ b. underlined b (spine rest) ≡ true) (sym here) parts.1),
     )
 

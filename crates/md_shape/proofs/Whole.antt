@@ -1,5 +1,6 @@
 -- The steps over a whole document: over its events, and what they print.
-use Rattle.std.proofs.Common.{◌≡◌, ℕ, zero, suc, ◌+◌, Bool, true, false, ◌&&◌, List, [], ◌∷◌, ◌++◌, length, refl, ap, sym, ◌∙◌, append_assoc, append-nil}
+use Rattle.std.proofs.Common.{◌≡◌, ℕ, zero, suc, ◌+◌, Bool, true, false, ◌&&◌, List, [], ◌∷◌, ◌++◌}
+use Rattle.std.proofs.Common.{length, refl, ap, sym, ◌∙◌, append_assoc, append-nil}
 use Rattle.std.specs.Prelude.{if◌then◌else◌}
 use Rattle.std.proofs.lemmas.List.{length-append}
 use Rattle.md_base.specs.declared.event.Event.{Event}
@@ -17,9 +18,11 @@ use Rattle.md_meaning.specs.Meaning.Before.{before_children, nothing_before}
 use Rattle.md_meaning.specs.Meaning.Nodes.{outcome}
 use Rattle.md_shape.proofs.Underlines.{grammatical-underlined}
 use Rattle.md_shape.specs.Content.{Blocks}
-use Rattle.md_shape.specs.Steps.{State, Told, told_of, entered, exited, passed, is_passed, over, beginning}
+use Rattle.md_shape.specs.Steps.{State, Told, told_of, entered, exited, passed, is_passed, over}
+use Rattle.md_shape.specs.Steps.{beginning}
 use Rattle.md_shape.specs.Claim.{Done, noted_all, next_before}
-use Rattle.md_shape.specs.Run.{Noticed, noticed, run, defined, stepped, passes, given_alone, printed}
+use Rattle.md_shape.specs.Run.{Noticed, noticed, run, defined, stepped, passes, given_alone}
+use Rattle.md_shape.specs.Run.{printed}
 use Rattle.md_text.specs.declared.options.CompileOptions.{CompileOptions}
 use Rattle.md_meaning.specs.Meaning.{ending_at, meaning}
 use Rattle.md_meaning.specs.Meaning.Finds.{first_ending}
@@ -42,14 +45,16 @@ noticed-length bytes outermost (Node name start end children rest) =
       inside = suc (length (flatten children));
     }
     in
-    ap (λ n. suc n) (length-append (noticed bytes false children) (here ∷ noticed bytes outermost rest)
-    ∙ ap (λ n. n + suc (length (noticed bytes outermost rest))) (noticed-length bytes false children)
+    ap (λ n. suc n)
+    (length-append (noticed bytes false children) (here ∷ noticed bytes outermost rest)
+    ∙ ap (λ n. n + suc (length (noticed bytes outermost rest)))
+    (noticed-length bytes false children)
     ∙ ap (λ n. length (flatten children) + suc n) (noticed-length bytes outermost rest)
     ∙ sym (length-append (flatten children) (exiting name end ∷ flatten rest)))
 
 -- events that are passed over
-run-passes : (given : Given) (events : List Event) (seen : List Noticed) (tail : List Event) (more : List Noticed)
-    (state : State) → length seen ≡ length events →
+run-passes : (given : Given) (events : List Event) (seen : List Noticed) (tail : List Event)
+    (more : List Noticed) (state : State) → length seen ≡ length events →
     run given (length events) (events ++ tail) (seen ++ more) state ≡ run given 0 tail more state
 run-passes given [] [] tail more state same = refl
 run-passes given [] (one ∷ seen) tail more state same = cc
@@ -57,7 +62,8 @@ run-passes given (event ∷ events) [] tail more state same = cc
 run-passes given (event ∷ events) (one ∷ seen) tail more state same =
     run-passes given events seen tail more state cc
 
-run-over : (given : Given) (outermost : Bool) (forest : Forest) (tail : List Event) (more : List Noticed)
+run-over :
+    (given : Given) (outermost : Bool) (forest : Forest) (tail : List Event) (more : List Noticed)
     (state : State) →
     run given 0 (flatten forest ++ tail) (noticed given.bytes outermost forest ++ more) state
     ≡ run given 0 tail more (over given outermost forest state)
@@ -74,30 +80,33 @@ run-over given outermost (Node name start end children rest) tail more state =
     ≡ run given 0 tail more (over given outermost rest (if b then passed state else done))) [
       | true ↦
           ap (λ es. run given (suc (length (flatten children))) es
-          ((noticed given.bytes false children ++ here ∷ noticed given.bytes outermost rest) ++ more) (passed state))
+          ((noticed given.bytes false children ++ here ∷ noticed given.bytes outermost rest)
+          ++ more) (passed state))
           (append_assoc (flatten children) (exiting name end ∷ flatten rest) tail
           ∙ sym (append_assoc (flatten children) (exiting name end ∷ []) (flatten rest ++ tail)))
           ∙ ap (λ ts. run given (suc (length (flatten children)))
           ((flatten children ++ exiting name end ∷ []) ++ (flatten rest ++ tail)) ts (passed state))
-          (append_assoc (noticed given.bytes false children) (here ∷ noticed given.bytes outermost rest) more
-          ∙ sym (append_assoc (noticed given.bytes false children) (here ∷ []) (noticed given.bytes outermost rest
-          ++ more)))
-          ∙ ap (λ n. run given n ((flatten children ++ exiting name end ∷ []) ++ (flatten rest ++ tail))
-          ((noticed given.bytes false children ++ here ∷ []) ++ (noticed given.bytes outermost rest ++ more))
+          (append_assoc (noticed given.bytes false children)
+          (here ∷ noticed given.bytes outermost rest) more ∙ sym (append_assoc (noticed given.bytes
+          false children) (here ∷ []) (noticed given.bytes outermost rest ++ more)))
+          ∙ ap (λ n. run given n ((flatten children ++ exiting name end ∷ [])
+          ++ (flatten rest ++ tail)) ((noticed given.bytes false children ++ here ∷ [])
+          ++ (noticed given.bytes outermost rest ++ more))
           (passed state)) (sym (one_more (flatten children) (exiting name end)))
-          ∙ run-passes given (flatten children ++ exiting name end ∷ []) (noticed given.bytes false children ++ here ∷
-          [])
+          ∙ run-passes given (flatten children ++ exiting name end ∷ [])
+          (noticed given.bytes false children ++ here ∷ [])
           (flatten rest ++ tail) (noticed given.bytes outermost rest ++ more) (passed state)
-          (one_more (noticed given.bytes false children) here ∙ ap (λ n. suc n) (noticed-length given.bytes false
-          children)
+          (one_more (noticed given.bytes false children) here
+          ∙ ap (λ n. suc n) (noticed-length given.bytes false children)
           ∙ sym (one_more (flatten children) (exiting name end)))
           ∙ run-over given outermost rest tail more (passed state)
       | false ↦
           ap (λ es. run given 0 es
-          ((noticed given.bytes false children ++ here ∷ noticed given.bytes outermost rest) ++ more) begun)
-          (append_assoc (flatten children) (exiting name end ∷ flatten rest) tail)
-          ∙ ap (λ ts. run given 0 (flatten children ++ exiting name end ∷ (flatten rest ++ tail)) ts begun)
-          (append_assoc (noticed given.bytes false children) (here ∷ noticed given.bytes outermost rest) more)
+          ((noticed given.bytes false children ++ here ∷ noticed given.bytes outermost rest)
+          ++ more) begun) (append_assoc (flatten children) (exiting name end ∷ flatten rest) tail)
+          ∙ ap (λ ts. run given 0 (flatten children ++ exiting name end ∷ (flatten rest ++ tail)) ts
+          begun) (append_assoc (noticed given.bytes false children)
+          (here ∷ noticed given.bytes outermost rest) more)
           ∙ run-over given false children (exiting name end ∷ (flatten rest ++ tail))
           (here ∷ (noticed given.bytes outermost rest ++ more)) begun
           ∙ run-over given outermost rest tail more done
@@ -111,34 +120,41 @@ run-over given outermost (Node name start end children rest) tail more state =
 
 abbrev Says : Given → Forest → Type 0
 Says given document =
-    let after : State = run given 0 (flatten document) (noticed given.bytes true document) beginning in
+    let after : State =
+    run given 0 (flatten document) (noticed given.bytes true document) beginning in
     (after.text ≡ layout given.ending (outcome given outermost nothing_before document).pieces)
     × (after.calls ≡ (outcome given outermost nothing_before document).calls)
     × (after.footnotes ≡ noted_all [] (outcome given outermost nothing_before document).footnotes)
 
-pub prints-meant : (given : Given) (document : Forest) → IsGrammatical given.bytes given.names document →
+pub prints-meant : (given : Given) (document : Forest) →
+    IsGrammatical given.bytes given.names document →
     given.calls ≡ (outcome given outermost nothing_before document).calls → Says given document
 prints-meant given document grammatical calls =
     let ran : run given 0 (flatten document) (noticed given.bytes true document) beginning
     ≡ over given true document beginning =
-    ap (λ es. run given 0 es (noticed given.bytes true document) beginning) (sym (append-nil (flatten document)))
-    ∙ ap (λ ts. run given 0 (flatten document ++ []) ts beginning) (sym (append-nil (noticed given.bytes true
-    document)))
+    ap (λ es. run given 0 es (noticed given.bytes true document) beginning)
+    (sym (append-nil (flatten document)))
+    ∙ ap (λ ts. run given 0 (flatten document ++ []) ts beginning)
+    (sym (append-nil (noticed given.bytes true document)))
     ∙ run-over given true document [] [] beginning in
-    let done : Done given Blocks false outermost nothing_before document beginning (over given true document
+    let done : Done given Blocks false outermost nothing_before document beginning
+    (over given true document
     beginning) =
-    nodes given Blocks false outermost nothing_before document beginning (shaped-fits document grammatical.shape)
-    (grammatical-underlined given.bytes given.names document grammatical) begins
+    nodes given Blocks false outermost nothing_before document beginning (shaped-fits document
+    grammatical.shape) (grammatical-underlined given.bytes given.names document grammatical) begins
     ([], calls ∙ sym (append-nil (outcome given outermost nothing_before document).calls)) in (
       ap (λ (s : State). s.text) ran ∙ done.text refl,
-      ap (λ (s : State). s.calls) ran ∙ done.knows.calls ∙ past-calls given outermost nothing_before document,
+      ap (λ (s : State). s.calls) ran ∙ done.knows.calls
+          ∙ past-calls given outermost nothing_before document,
       ap (λ (s : State). s.footnotes) ran ∙ done.footnotes,
     )
 
-pub defines-meant : (given : Given) (document : Forest) → IsGrammatical given.bytes given.names document →
+pub defines-meant : (given : Given) (document : Forest) →
+    IsGrammatical given.bytes given.names document →
     (outcome given outermost nothing_before document).definitions ≡ defined given document
 defines-meant given document grammatical =
-    defined-known given outermost nothing_before Blocks false document (shaped-fits document grammatical.shape)
+    defined-known given outermost nothing_before Blocks false document
+    (shaped-fits document grammatical.shape)
     (grammatical-underlined given.bytes given.names document grammatical) (λ b. (refl, refl))
 
 -- ---- the whole text
@@ -155,26 +171,26 @@ calls-in : (given : Given) (around : Surroundings) (before : Before) (forest : F
 calls-in given around before Empty = refl
 calls-in given around before (Node name start end children rest) =
     ap (λ l. (l ++ when (is GfmFootnoteCall name) (identifier_of given.bytes children ∷ []))
-    ++ (outcome given around (next_before given around before (around.is_outermost && is_empty rest) name start end
-    children) rest).calls)
-    (calls-in given (inside given.options (is_loose children) name around) (before_children name children before)
-    children)
-    ∙ ap (λ l. (calls_in given.bytes children ++ when (is GfmFootnoteCall name) (identifier_of given.bytes children ∷
-    []))
-    ++ l)
-    (calls-in given around (next_before given around before (around.is_outermost && is_empty rest) name start end
-    children)
+    ++ (outcome given around (next_before given around before (around.is_outermost && is_empty rest)
+    name start end children) rest).calls)
+    (calls-in given (inside given.options (is_loose children) name around)
+    (before_children name children before) children) ∙ ap (λ l. (calls_in given.bytes children
+    ++ when (is GfmFootnoteCall name) (identifier_of given.bytes children ∷ []))
+    ++ l) (calls-in given around
+    (next_before given around before (around.is_outermost && is_empty rest) name start end children)
     rest)
 
 -- no step reads the calls of the document
-over-same : (given : Given) (calls : List (List ℕ)) (outermost : Bool) (forest : Forest) (state : State) →
+over-same :
+    (given : Given) (calls : List (List ℕ)) (outermost : Bool) (forest : Forest) (state : State) →
     over (record given { calls = calls }) outermost forest state ≡ over given outermost forest state
 over-same given calls outermost Empty state = refl
 over-same given calls outermost (Node name start end children rest) state =
     let told : Told = told_of given.bytes (outermost && is_empty rest) children start end in
-    over-same given calls outermost rest (if is_passed name then passed state
-    else exited given told name (over (record given { calls = calls }) false children (entered given told name state)))
-    ∙ ap (λ s. over given outermost rest (if is_passed name then passed state else exited given told name s))
+    over-same given calls outermost rest (if is_passed name then passed state else exited given told
+    name (over (record given { calls = calls }) false children (entered given told name state)))
+    ∙ ap (λ s. over given outermost rest
+    (if is_passed name then passed state else exited given told name s))
     (over-same given calls false children (entered given told name state))
 
 defined-same : (given : Given) (calls : List (List ℕ)) (forest : Forest) →
@@ -184,56 +200,69 @@ defined-same given calls (Node name start end children rest) =
     ap (λ s. (if is_passed name then record {
       identifier = identifier_of given.bytes children;
       target = s.target;
-    } ∷ [] else defined (record given { calls = calls }) children) ++ defined (record given { calls = calls }) rest)
-    (over-same given calls false children (entered given (told_of given.bytes false children start end) Definition
-    beginning))
+    } ∷ [] else defined (record given { calls = calls }) children)
+    ++ defined (record given { calls = calls }) rest) (over-same given calls false children
+    (entered given (told_of given.bytes false children start end) Definition beginning))
     ∙ ap (λ l. (if is_passed name then record {
       identifier = identifier_of given.bytes children;
-      target = (over given false children (entered given (told_of given.bytes false children start end) Definition
-          beginning)).target;
-    } ∷ [] else l) ++ defined (record given { calls = calls }) rest) (defined-same given calls children)
+      target = (over given false children (entered given
+          (told_of given.bytes false children start end) Definition beginning)).target;
+    } ∷ []
+    else l) ++ defined (record given { calls = calls }) rest) (defined-same given calls children)
     ∙ ap (λ l. (if is_passed name then record {
       identifier = identifier_of given.bytes children;
-      target = (over given false children (entered given (told_of given.bytes false children start end) Definition
-          beginning)).target;
+      target = (over given false children (entered given
+          (told_of given.bytes false children start end) Definition beginning)).target;
     } ∷ [] else defined given children) ++ l) (defined-same given calls rest)
 
-run-same : (given : Given) (calls : List (List ℕ)) (left : ℕ) (events : List Event) (seen : List Noticed)
-    (state : State) → run (record given { calls = calls }) left events seen state ≡ run given left events seen state
+run-same : (given : Given) (calls : List (List ℕ)) (left : ℕ)
+    (events : List Event) (seen : List Noticed) (state : State) →
+    run (record given { calls = calls }) left events seen state ≡ run given left events seen state
 run-same given calls left [] seen state = refl
 run-same given calls left (event ∷ events) [] state = refl
-run-same given calls (suc left) (event ∷ events) (one ∷ seen) state = run-same given calls left events seen state
+run-same given calls (suc left) (event ∷ events) (one ∷ seen) state =
+    run-same given calls left events seen state
 run-same given calls zero (event ∷ events) (one ∷ seen) state =
     run-same given calls (passes event one.inside) events seen (stepped given event one.told state)
 
-pub printed-meant : (options : CompileOptions) (names : List (List ℕ × List ℕ)) (bytes : List ℕ) (document : Forest) →
-    IsGrammatical bytes names document → printed options names bytes document ≡ meaning options names bytes document
+pub printed-meant : (options : CompileOptions) (names : List (List ℕ × List ℕ)) (bytes : List ℕ)
+    (document : Forest) →
+    IsGrammatical bytes names document →
+    printed options names bytes document ≡ meaning options names bytes document
 printed-meant options names bytes document grammatical =
     let ending = ending_at options bytes (first_ending document) in
     let alone : Given = given_alone options names bytes ending in
     let calls : List (List ℕ) = (outcome alone outermost nothing_before document).calls in
     let called : Given = record alone { calls = calls } in
     let mine : Given = record alone { definitions = defined alone document } in
-    let given : Given = record called { definitions = (outcome called outermost nothing_before document).definitions }
+    let given : Given =
+    record called { definitions = (outcome called outermost nothing_before document).definitions }
     in
-    let counted : (g : Given) → g.bytes ≡ bytes → calls ≡ (outcome g outermost nothing_before document).calls =
+    let counted : (g : Given) → g.bytes ≡ bytes →
+    calls ≡ (outcome g outermost nothing_before document).calls =
     λ g e. calls-in alone outermost nothing_before document ∙ ap (λ b. calls_in b document) (sym e)
     ∙ sym (calls-in g outermost nothing_before document) in
-    let defines : (outcome called outermost nothing_before document).definitions ≡ defined alone document =
+    let defines : (outcome called outermost nothing_before document).definitions
+    ≡ defined alone document =
     defines-meant called document grammatical ∙ defined-same alone calls document in
-    let after : Given → State = λ g. run g 0 (flatten document) (noticed bytes true document) beginning in
+    let after : Given → State =
+    λ g. run g 0 (flatten document) (noticed bytes true document) beginning in
     let says : Says given document = prints-meant given document grammatical (counted given refl) in
     let same : after mine ≡ after given =
     sym (run-same mine calls 0 (flatten document) (noticed bytes true document) beginning)
     ∙ ap (λ ds. after (record called { definitions = ds })) (sym defines) in
     ap (λ s. laid_after ending s.text (section (record mine { calls = s.calls }) s.footnotes)) same
-    ∙ ap (λ t. laid_after ending t (section (record mine { calls = (after given).calls }) (after given).footnotes))
-    says.0
-    ∙ ap (λ cs. laid_after ending (layout ending (outcome given outermost nothing_before document).pieces)
-    (section (record mine { calls = cs }) (after given).footnotes)) (says.1 ∙ sym (counted given refl))
-    ∙ ap (λ fs. laid_after ending (layout ending (outcome given outermost nothing_before document).pieces)
+    ∙ ap (λ t. laid_after ending t
+    (section (record mine { calls = (after given).calls }) (after given).footnotes)) says.0
+    ∙ ap (λ cs. laid_after ending
+    (layout ending (outcome given outermost nothing_before document).pieces)
+    (section (record mine { calls = cs }) (after given).footnotes))
+    (says.1 ∙ sym (counted given refl))
+    ∙ ap (λ fs. laid_after ending
+    (layout ending (outcome given outermost nothing_before document).pieces)
     (section (record mine { calls = calls }) fs)) says.2
-    ∙ ap (λ ps. laid_after ending (layout ending (outcome given outermost nothing_before document).pieces) ps)
+    ∙ ap (λ ps. laid_after ending
+    (layout ending (outcome given outermost nothing_before document).pieces) ps)
     (section-noted given (outcome given outermost nothing_before document).footnotes)
     ∙ sym (laid-append ending [] (outcome given outermost nothing_before document).pieces
     (section given (outcome given outermost nothing_before document).footnotes))

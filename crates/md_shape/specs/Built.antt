@@ -1,10 +1,26 @@
--- What may stand where in a document, by names and a few texts. Only proofs speak of it: each document of the grammar
--- is built so.
-use Rattle.std.specs.Prelude.{ℕ, ◌≤◌, Bool, true, false, ◌&&◌, ◌||◌, nat_le, if◌then◌else◌, IsTrue, List}
+-- What may stand where in a document, by names and a few texts. Only proofs speak of it: each
+-- document of the grammar is built so.
+use Rattle.std.specs.Prelude.{ℕ, ◌≤◌, Bool, true, false, ◌&&◌, ◌||◌, nat_le, if◌then◌else◌, IsTrue}
+use Rattle.std.specs.Prelude.{List}
 use Rattle.std.specs.Option.{option_map_or}
 use Rattle.std.specs.List.{list_all, list_any}
 use Rattle.md_base.specs.declared.event.Name.{Name}
-use Rattle.md_base.specs.declared.event.Name.TheVariants.{LineEnding, BlankLineEnding, Data, CharacterEscapeValue, CharacterReferenceMarker, CharacterReferenceMarkerNumeric, CharacterReferenceMarkerHexadecimal, CharacterReferenceValue, CodeText, CodeTextData, MathText, MathTextData, HtmlText, HtmlTextData, Emphasis, Strong, GfmStrikethrough, Link, Image, Label, LabelText, Resource, ResourceDestinationString, ResourceTitleString, ReferenceString, GfmFootnoteCall, AutolinkEmail, AutolinkProtocol, GfmAutolinkLiteralEmail, GfmAutolinkLiteralMailto, GfmAutolinkLiteralProtocol, GfmAutolinkLiteralWww, GfmAutolinkLiteralXmpp, HardBreakEscape, HardBreakTrailing, GfmTaskListItemCheck, GfmTaskListItemValueChecked, CodeFenced, CodeFencedFence, CodeFencedFenceInfo, CodeFencedFenceMeta, CodeFlowChunk, MathFlow, MathFlowFence, MathFlowFenceMeta, MathFlowChunk, DefinitionLabelString, DefinitionDestinationString, DefinitionTitleString, GfmFootnoteDefinitionLabelString, GfmFootnoteDefinitionPrefix, Definition, HeadingAtx, HeadingAtxSequence, ListOrdered}
+use Rattle.md_base.specs.declared.event.Name.TheVariants as name_variants
+use name_variants.{LineEnding, BlankLineEnding, Data, CharacterEscapeValue}
+use name_variants.{CharacterReferenceMarker, CharacterReferenceMarkerNumeric}
+use name_variants.{CharacterReferenceMarkerHexadecimal, CharacterReferenceValue, CodeText}
+use name_variants.{CodeTextData, MathText, MathTextData, HtmlText, HtmlTextData, Emphasis, Strong}
+use name_variants.{GfmStrikethrough, Link, Image, Label, LabelText, Resource}
+use name_variants.{ResourceDestinationString, ResourceTitleString, ReferenceString, GfmFootnoteCall}
+use name_variants.{AutolinkEmail, AutolinkProtocol, GfmAutolinkLiteralEmail}
+use name_variants.{GfmAutolinkLiteralMailto, GfmAutolinkLiteralProtocol, GfmAutolinkLiteralWww}
+use name_variants.{GfmAutolinkLiteralXmpp, HardBreakEscape, HardBreakTrailing, GfmTaskListItemCheck}
+use name_variants.{GfmTaskListItemValueChecked, CodeFenced, CodeFencedFence, CodeFencedFenceInfo}
+use name_variants.{CodeFencedFenceMeta, CodeFlowChunk, MathFlow, MathFlowFence, MathFlowFenceMeta}
+use name_variants.{MathFlowChunk, DefinitionLabelString, DefinitionDestinationString}
+use name_variants.{DefinitionTitleString, GfmFootnoteDefinitionLabelString}
+use name_variants.{GfmFootnoteDefinitionPrefix, Definition, HeadingAtx, HeadingAtxSequence}
+use name_variants.{ListOrdered}
 use Rattle.md_base.specs.declared.event.Point.{Point}
 use Rattle.md_text.specs.Laws.{is_line_ends}
 use Rattle.md_base.specs.Place.{fits}
@@ -15,9 +31,10 @@ use Rattle.md_tree.specs.Rules.{place, columns}
 use Rattle.md_meaning.specs.Meaning.At.{text_in}
 use Rattle.md_meaning.specs.Meaning.Finds.{first_named, number_in_list}
 
--- what may stand somewhere: blocks and all that prints whole elements; spans; strings; the first fence of code, or
--- of math, and what follows it; in a first fence what it says of the code, or the rest of that; in a task whether it
--- is done; nothing; where links and footnotes lead and what they are called
+-- what may stand somewhere: blocks and all that prints whole elements; spans; strings; the first
+-- fence of code, or of math, and what follows it; in a first fence what it says of the code, or
+-- the rest of that; in a task whether it is done; nothing; where links and footnotes lead and
+-- what they are called
 pub data Content : Type 0 where
   Blocks : Content
   Spans : Content
@@ -118,8 +135,8 @@ is_part CodeFencedFenceInfo = true
 is_part GfmTaskListItemValueChecked = true
 is_part _ = false
 
--- where links and footnotes lead and what they are called: strings that stand in a resource or a definition alone,
--- whose text isn't printed
+-- where links and footnotes lead and what they are called: strings that stand in a resource or a
+-- definition alone, whose text isn't printed
 abbrev pub is_source : Name → Bool
 is_source DefinitionLabelString = true
 is_source DefinitionDestinationString = true
@@ -199,7 +216,8 @@ content_past content name = content
 abbrev pub content_after : Content → Forest → Content
 content_after content Empty = content
 content_after content (Node name start end children rest) =
-    content_after (if is_transparent name then content_after content children else content_past content name) rest
+    content_after (if is_transparent name then content_after content children
+    else content_past content name) rest
 
 abbrev pub content_after_node : Content → Name → Forest → Content
 content_after_node content name children =
@@ -211,18 +229,21 @@ is_digit byte = nat_le 48 byte && nat_le byte 57
 
 -- how long a heading's first mark is
 abbrev pub rank_in : Forest → ℕ
-rank_in children = option_map_or (λ place. columns place.start place.end) (first_named HeadingAtxSequence children) 0
+rank_in children = option_map_or (λ place. columns place.start place.end)
+    (first_named HeadingAtxSequence children) 0
 
--- what else is asked of a node: the text of a line ending is one; a heading's rank is 1 to 6; a list's number has
--- only digits; a raw flow has a fence
+-- what else is asked of a node: the text of a line ending is one; a heading's rank is 1 to 6; a
+-- list's number has only digits; a raw flow has a fence
 abbrev pub IsFit : List ℕ → Name → Point → Point → Forest → Type 0
 IsFit bytes LineEnding start end children = IsTrue (is_line_ends (text_in bytes (place start end)))
-IsFit bytes BlankLineEnding start end children = IsTrue (is_line_ends (text_in bytes (place start end)))
+IsFit bytes BlankLineEnding start end children =
+    IsTrue (is_line_ends (text_in bytes (place start end)))
 IsFit bytes HeadingAtx start end children = (1 ≤ rank_in children) × (rank_in children ≤ 6)
     × IsTrue (option_map_or (λ place. fits bytes place.start place.end)
     (first_named HeadingAtxSequence children) true)
 IsFit bytes ListOrdered start end children =
-    IsTrue (option_map_or (λ place. list_all is_digit (text_in bytes place)) (number_in_list children) true)
+    IsTrue (option_map_or (λ place. list_all is_digit (text_in bytes place))
+    (number_in_list children) true)
 IsFit bytes CodeFenced start end children = IsTrue (list_any is_fence (spine_names children))
 IsFit bytes MathFlow start end children = IsTrue (list_any is_fence (spine_names children))
 IsFit bytes _ start end children = Unit {0}

@@ -1,5 +1,7 @@
--- What is claimed of the steps: what a state knows before some nodes, and what is so after them. Proofs alone use it.
-use Rattle.std.specs.Prelude.{◌≡◌, ℕ, ◌-◌, Bool, true, false, ◌&&◌, List, [], ◌∷◌, ◌++◌, Option, None, count_by, unwrap_or, length, slice_get}
+-- What is claimed of the steps: what a state knows before some nodes, and what is so after them.
+-- Proofs alone use it.
+use Rattle.std.specs.Prelude.{◌≡◌, ℕ, ◌-◌, Bool, true, false, ◌&&◌, List, [], ◌∷◌, ◌++◌, Option}
+use Rattle.std.specs.Prelude.{None, count_by, unwrap_or, length, slice_get}
 use Rattle.std.specs.Option.{option_map_or}
 use Rattle.std.specs.List.{list_any}
 use Rattle.md_base.specs.declared.event.AlignKind.{AlignKind}
@@ -22,7 +24,8 @@ use Rattle.md_meaning.specs.Meaning.Spans.{marker}
 use Rattle.md_meaning.specs.Meaning.Nodes.{Outcome, node, outcome, before_next}
 use Rattle.md_shape.specs.Underlined.{waits_after}
 use Rattle.md_shape.specs.Steps.{State, Around, noted}
-use Rattle.md_shape.specs.Content.{Content, Blocks, Strings, Lines, BeforeLabel, AfterLabel, Sources, Rows, Cells, Nothing, Childless, content_after}
+use Rattle.md_shape.specs.Content.{Content, Blocks, Strings, Lines, BeforeLabel, AfterLabel}
+use Rattle.md_shape.specs.Content.{Sources, Rows, Cells, Nothing, Childless, content_after}
 
 -- what the printer keeps of a node's surroundings
 abbrev pub seen : Surroundings → List AlignKind → Around
@@ -73,8 +76,8 @@ KnowsResource BeforeLabel resource = resource ≡ None
 KnowsResource _ resource = Unit {0}
 
 -- a state knows what stands before nodes, of which an underline may be the next or not
-pub record Knows (content : Content) (waits : Bool) (around : Surroundings) (before : Before) (state : State) :
-    Type 0 where
+pub record Knows (content : Content) (waits : Bool) (around : Surroundings) (before : Before)
+    (state : State) : Type 0 where
   pub sees : state.around ≡ seen around before.columns
   pub slurps : state.slurps ≡ before.slurps
   pub ended : KnowsEnded content before.previous state.ended
@@ -117,7 +120,8 @@ noted_all before (footnote ∷ footnotes) = noted_all (noted before footnote) fo
 
 abbrev pub inner_of : Given → Surroundings → Before → Name → Forest → Outcome
 inner_of given around before name children =
-    outcome given (inside given.options (is_loose children) name around) (before_children name children before) children
+    outcome given (inside given.options (is_loose children) name around)
+    (before_children name children before) children
 
 abbrev pub at_node : Given → Surroundings → Before → Bool → Name → Point → Point → Forest → At
 at_node given around before last name start end children = record {
@@ -136,7 +140,8 @@ node_of given around before last name start end children =
     (inner_of given around before name children)
 
 -- what stands before its next sibling
-abbrev pub next_before : Given → Surroundings → Before → Bool → Name → Point → Point → Forest → Before
+abbrev pub next_before : Given → Surroundings → Before → Bool → Name → Point →
+    Point → Forest → Before
 next_before given around before last name start end children =
     before_next (at_node given around before last name start end children) name
     (node_of given around before last name start end children)
@@ -145,29 +150,32 @@ next_before given around before last name start end children =
 abbrev pub before_past : Given → Surroundings → Before → Forest → Before
 before_past given around before Empty = before
 before_past given around before (Node name start end children rest) =
-    before_past given around
-    (next_before given around before (around.is_outermost && is_empty rest) name start end children) rest
+    before_past given around (next_before given around before (around.is_outermost && is_empty rest)
+    name start end children) rest
 
 -- all calls of the document are those before some nodes, theirs, and later ones
 abbrev pub Continues : Given → List (List ℕ) → List (List ℕ) → Type 0
 Continues given before calls = (later : List (List ℕ)) × (given.calls ≡ (before ++ calls) ++ later)
 
--- what is so after some nodes: their pieces are laid out, what is around is as before, what stands before the next is
--- known, and what their content can't change is as before
-pub record Done (given : Given) (content : Content) (waits : Bool) (around : Surroundings) (before : Before)
-    (forest : Forest) (state done : State) : Type 0 where
+-- what is so after some nodes: their pieces are laid out, what is around is as before, what stands
+-- before the next is known, and what their content can't change is as before
+pub record Done (given : Given) (content : Content) (waits : Bool) (around : Surroundings)
+    (before : Before) (forest : Forest) (state done : State) : Type 0 where
   pub text : is_laid content ≡ true →
       done.text ≡ laid_after given.ending state.text (outcome given around before forest).pieces
   pub below : done.below ≡ state.below
   pub arounds : done.arounds ≡ state.arounds
   pub knows :
-      Knows (content_after content forest) (waits_after waits forest) around (before_past given around before forest)
-      done
+      Knows (content_after content forest) (waits_after waits forest) around
+      (before_past given around before forest) done
   pub cells : keeps_cells content ≡ true → done.cells ≡ state.cells
   pub fences : keeps_lines content ≡ true → done.fences ≡ state.fences
   pub chunk : keeps_lines content ≡ true → done.has_chunk ≡ state.has_chunk
   pub marker : has_marks content ≡ false → done.marker ≡ state.marker
   pub heading : has_marks content ≡ false → done.heading ≡ state.heading
-  pub target : TargetAfter content (outcome given around before forest).found state.target done.target
-  pub resource : ResourceAfter content (outcome given around before forest).found state.resource done.resource
-  pub footnotes : done.footnotes ≡ noted_all state.footnotes (outcome given around before forest).footnotes
+  pub target : TargetAfter content (outcome given around before forest).found
+      state.target done.target
+  pub resource : ResourceAfter content (outcome given around before forest).found
+      state.resource done.resource
+  pub footnotes :
+      done.footnotes ≡ noted_all state.footnotes (outcome given around before forest).footnotes

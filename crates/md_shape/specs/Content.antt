@@ -1,13 +1,35 @@
--- What may stand where, by names: the part of the grammar on which the printer relies. Only proofs speak of it.
+-- What may stand where, by names: the part of the grammar on which the printer relies. Only
+-- proofs speak of it.
 use Rattle.std.specs.Prelude.{◌≡◌, Bool, true, false, ◌||◌, not, ◌&&◌, if◌then◌else◌}
 use Rattle.md_base.specs.declared.event.Name.{Name}
-use Rattle.md_base.specs.declared.event.Name.TheVariants.{AutolinkEmail, AutolinkProtocol, GfmAutolinkLiteralEmail, GfmAutolinkLiteralMailto, GfmAutolinkLiteralProtocol, GfmAutolinkLiteralWww, GfmAutolinkLiteralXmpp, LineEnding, BlankLineEnding, BlockQuote, ListOrdered, ListUnordered, ListItem, ListItemPrefix, ListItemValue, ListItemMarker, GfmFootnoteDefinition, GfmFootnoteDefinitionPrefix, GfmFootnoteDefinitionLabelString, Data, CharacterEscapeValue, CharacterReferenceMarker, CharacterReferenceMarkerNumeric, CharacterReferenceMarkerHexadecimal, CharacterReferenceValue, CodeIndented, CodeFenced, CodeFencedFence, CodeFencedFenceInfo, CodeFencedFenceMeta, CodeFlowChunk, MathFlow, MathFlowFence, MathFlowFenceMeta, MathFlowChunk, CodeText, CodeTextData, MathText, MathTextData, HtmlFlow, HtmlFlowData, HtmlText, HtmlTextData, Definition, DefinitionLabelString, DefinitionDestinationString, DefinitionTitleString, Link, Image, Label, LabelText, Resource, ResourceDestinationString, ResourceTitleString, ReferenceString, GfmFootnoteCall, HeadingAtx, HeadingAtxSequence, HeadingAtxText, HeadingSetextText, HeadingSetextUnderlineSequence, GfmTable, GfmTableHead, GfmTableBody, GfmTableRow, GfmTableCell, GfmTableDelimiterRow, GfmTableDelimiterCellValue, GfmTableDelimiterMarker, Emphasis, Strong, GfmStrikethrough, GfmTaskListItemCheck, GfmTaskListItemValueChecked, HardBreakEscape, HardBreakTrailing, Paragraph, ThematicBreak, Frontmatter}
+use Rattle.md_base.specs.declared.event.Name.TheVariants as name_variants
+use name_variants.{AutolinkEmail, AutolinkProtocol, GfmAutolinkLiteralEmail}
+use name_variants.{GfmAutolinkLiteralMailto, GfmAutolinkLiteralProtocol, GfmAutolinkLiteralWww}
+use name_variants.{GfmAutolinkLiteralXmpp, LineEnding, BlankLineEnding, BlockQuote, ListOrdered}
+use name_variants.{ListUnordered, ListItem, ListItemPrefix, ListItemValue, ListItemMarker}
+use name_variants.{GfmFootnoteDefinition, GfmFootnoteDefinitionPrefix}
+use name_variants.{GfmFootnoteDefinitionLabelString, Data, CharacterEscapeValue}
+use name_variants.{CharacterReferenceMarker, CharacterReferenceMarkerNumeric}
+use name_variants.{CharacterReferenceMarkerHexadecimal, CharacterReferenceValue, CodeIndented}
+use name_variants.{CodeFenced, CodeFencedFence, CodeFencedFenceInfo, CodeFencedFenceMeta}
+use name_variants.{CodeFlowChunk, MathFlow, MathFlowFence, MathFlowFenceMeta, MathFlowChunk}
+use name_variants.{CodeText, CodeTextData, MathText, MathTextData, HtmlFlow, HtmlFlowData, HtmlText}
+use name_variants.{HtmlTextData, Definition, DefinitionLabelString, DefinitionDestinationString}
+use name_variants.{DefinitionTitleString, Link, Image, Label, LabelText, Resource}
+use name_variants.{ResourceDestinationString, ResourceTitleString, ReferenceString, GfmFootnoteCall}
+use name_variants.{HeadingAtx, HeadingAtxSequence, HeadingAtxText, HeadingSetextText}
+use name_variants.{HeadingSetextUnderlineSequence, GfmTable, GfmTableHead, GfmTableBody}
+use name_variants.{GfmTableRow, GfmTableCell, GfmTableDelimiterRow, GfmTableDelimiterCellValue}
+use name_variants.{GfmTableDelimiterMarker, Emphasis, Strong, GfmStrikethrough}
+use name_variants.{GfmTaskListItemCheck, GfmTaskListItemValueChecked, HardBreakEscape}
+use name_variants.{HardBreakTrailing, Paragraph, ThematicBreak, Frontmatter}
 use Rattle.md_base.specs.Tree.{Forest, Empty, Node}
 use Rattle.md_base.specs.NameTests.{is_transparent}
 
--- what stands somewhere: blocks, and spans between them; spans; strings; lines of HTML; lines of code, and fences; what
--- a fence says; a label, and what comes after it; where something leads and what it is called; rows; cells; parts of
--- headings, items, tasks and delimiter rows; only what is looked through; nothing at all
+-- what stands somewhere: blocks, and spans between them; spans; strings; lines of HTML; lines of
+-- code, and fences; what a fence says; a label, and what comes after it; where something leads and
+-- what it is called; rows; cells; parts of headings, items, tasks and delimiter rows; only what is
+-- looked through; nothing at all
 pub data Content : Type 0 where
   Blocks : Content
   Spans : Content
@@ -92,8 +114,13 @@ abbrev pub is_code_data : Name → Bool
 is_code_data name = elim name [ CodeTextData ↦ true | MathTextData ↦ true | _ ↦ false ]
 
 abbrev pub is_html : Name → Bool
-is_html name =
-    elim name [ LineEnding ↦ true | BlankLineEnding ↦ true | HtmlFlowData ↦ true | HtmlTextData ↦ true | _ ↦ false ]
+is_html name = elim name [
+  | LineEnding ↦ true
+  | BlankLineEnding ↦ true
+  | HtmlFlowData ↦ true
+  | HtmlTextData ↦ true
+  | _ ↦ false
+]
 
 abbrev pub is_line : Name → Bool
 is_line name = elim name [
@@ -107,8 +134,12 @@ is_line name = elim name [
 ]
 
 abbrev pub is_said_by_fence : Name → Bool
-is_said_by_fence name =
-    elim name [ CodeFencedFenceInfo ↦ true | CodeFencedFenceMeta ↦ true | MathFlowFenceMeta ↦ true | _ ↦ false ]
+is_said_by_fence name = elim name [
+  | CodeFencedFenceInfo ↦ true
+  | CodeFencedFenceMeta ↦ true
+  | MathFlowFenceMeta ↦ true
+  | _ ↦ false
+]
 
 abbrev pub is_label : Name → Bool
 is_label name = elim name [ Label ↦ true | _ ↦ false ]
@@ -241,7 +272,8 @@ content_past content = elim content [ BeforeLabel ↦ AfterLabel | other ↦ oth
 abbrev pub content_after : Content → Forest → Content
 content_after content Empty = content
 content_after content (Node name start end children rest) =
-    content_after (if is_transparent name then content_after content children else content_past content) rest
+    content_after (if is_transparent name then content_after content children
+    else content_past content) rest
 
 abbrev pub content_after_node : Content → Name → Forest → Content
 content_after_node content name children =
@@ -249,7 +281,8 @@ content_after_node content name children =
 
 -- a name may stand there
 abbrev pub is_allowed : Content → Name → Bool
-is_allowed content name = not (is_childless content) && (is_transparent name || may_stand content name)
+is_allowed content name =
+    not (is_childless content) && (is_transparent name || may_stand content name)
 
 -- some nodes stand where they may
 abbrev pub Fits : Content → Forest → Type 0

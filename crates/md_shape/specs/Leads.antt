@@ -1,7 +1,12 @@
--- By what nodes of a document refer to one another, and that what the meaning reads of a document is there.
-use Rattle.std.specs.Prelude.{◌≡◌, ℕ, ◌⊎◌, ◌-◌, List, [], ◌∷◌, ◌++◌, Option, Some, None, is_some, IsTrue, Contains, length, slice_get, suc, if◌then◌else◌, bytes_eq, option_map, option_and_then}
+-- By what nodes of a document refer to one another, and that what the meaning reads of a
+-- document is there.
+use Rattle.std.specs.Prelude.{◌≡◌, ℕ, ◌⊎◌, ◌-◌, List, [], ◌∷◌, ◌++◌, Option, Some, None, is_some}
+use Rattle.std.specs.Prelude.{IsTrue, Contains, length, slice_get, suc, if◌then◌else◌, bytes_eq}
+use Rattle.std.specs.Prelude.{option_map, option_and_then}
 use Rattle.md_base.specs.declared.event.Name.{Name}
-use Rattle.md_base.specs.declared.event.Name.TheVariants.{Link, Image, Definition, GfmFootnoteCall, GfmFootnoteDefinition, CharacterReferenceValue}
+use Rattle.md_base.specs.declared.event.Name.TheVariants as name_variants
+use name_variants.{Link, Image, Definition, GfmFootnoteCall, GfmFootnoteDefinition}
+use name_variants.{CharacterReferenceValue}
 use Rattle.md_base.specs.declared.event.Point.{Point}
 use Rattle.md_base.specs.declared.event.Position.{Position}
 use Rattle.md_base.specs.Place.{text_between, label_between, serialized_between}
@@ -32,8 +37,8 @@ Everywhere holds (Node name start end children rest) =
 -- a node whose text is read has one, also with the spaces of tabs that are cut at its ends
 abbrev pub HasItsText : List ℕ → Name → Point → Point → Forest → Type 0
 HasItsText bytes name start end children =
-    IsTrue (is_text_name name)
-    → IsTrue (is_some (text_between bytes start end)) × IsTrue (is_some (serialized_between bytes start end))
+    IsTrue (is_text_name name) → IsTrue (is_some (text_between bytes start end))
+    × IsTrue (is_some (serialized_between bytes start end))
 
 -- a claim holds of each node, at any depth, after the names on its spine
 abbrev pub EverywhereAfter : (List Name → Name → Point → Point → Forest → Type 0) → List Name →
@@ -69,11 +74,13 @@ HasResource children = target_of children Missing ≡ Resource
 abbrev pub IsLabelled : Option Position → Forest → Type 0
 IsLabelled label children = target_of children Missing ≡ label_target label
 
--- a link or an image refers by its resource, else by the label that the printer finds; a call, a definition and a
--- footnote definition by theirs
+-- a link or an image refers by its resource, else by the label that the printer finds; a call, a
+-- definition and a footnote definition by theirs
 abbrev pub RefersAlike : Name → Point → Point → Forest → Type 0
-RefersAlike Link start end children = HasResource children ⊎ IsLabelled (referring_in children) children
-RefersAlike Image start end children = HasResource children ⊎ IsLabelled (referring_in children) children
+RefersAlike Link start end children =
+    HasResource children ⊎ IsLabelled (referring_in children) children
+RefersAlike Image start end children =
+    HasResource children ⊎ IsLabelled (referring_in children) children
 RefersAlike GfmFootnoteCall start end children = IsLabelled (label_in_node children) children
 RefersAlike Definition start end children = IsLabelled (defined_label children) children
 RefersAlike GfmFootnoteDefinition start end children = IsLabelled (footnote_label children) children
@@ -91,9 +98,11 @@ abbrev pub footnotes_defined_in : List ℕ → Forest → List (List ℕ)
 footnotes_defined_in bytes Empty = []
 footnotes_defined_in bytes (Node name start end children rest) =
     footnotes_defined_in bytes children
-    ++ (when (is GfmFootnoteDefinition name) (identifier_of bytes children ∷ []) ++ footnotes_defined_in bytes rest)
+    ++ (when (is GfmFootnoteDefinition name) (identifier_of bytes children ∷ [])
+    ++ footnotes_defined_in bytes rest)
 
--- a link or an image without a resource refers to a definition of the document, a call to a footnote definition
+-- a link or an image without a resource refers to a definition of the document, a call to a
+-- footnote definition
 abbrev pub LeadsSomewhere : List ℕ → Forest → Name → Point → Point → Forest → Type 0
 LeadsSomewhere bytes document Link start end children =
     HasResource children ⊎ Contains (defined_in bytes document) (identifier_of bytes children)
@@ -107,7 +116,8 @@ LeadsSomewhere bytes document _ start end children = Unit {0}
 abbrev pub first_of : List (List ℕ) → List ℕ → Option ℕ
 first_of [] wanted = None
 first_of (identifier ∷ others) wanted =
-    if bytes_eq identifier wanted then Some 0 else option_map (λ place. suc place) (first_of others wanted)
+    if bytes_eq identifier wanted then Some 0
+    else option_map (λ place. suc place) (first_of others wanted)
 
 -- the check and the meaning mean one definition, or footnote definition, by a label
 abbrev pub LeadsAlike : List ℕ → Forest → Name → Point → Point → Forest → Type 0

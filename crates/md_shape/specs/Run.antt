@@ -1,5 +1,6 @@
 -- The steps over a document: over its events, and over its definitions ahead of all others.
-use Rattle.std.specs.Prelude.{ℕ, zero, suc, Bool, true, false, ◌&&◌, if◌then◌else◌, List, [], ◌∷◌, ◌++◌, length}
+use Rattle.std.specs.Prelude.{ℕ, zero, suc, Bool, true, false, ◌&&◌, if◌then◌else◌, List, [], ◌∷◌}
+use Rattle.std.specs.Prelude.{◌++◌, length}
 use Rattle.md_base.specs.declared.event.Name.TheVariants.{Definition}
 use Rattle.md_base.specs.declared.event.Kind.TheVariants.{Enter, Exit}
 use Rattle.md_base.specs.declared.event.Event.{Event}
@@ -11,7 +12,8 @@ use Rattle.md_meaning.specs.Meaning.Finds.{first_ending}
 use Rattle.md_meaning.specs.Meaning.Footnotes.{section}
 use Rattle.md_meaning.specs.Meaning.Layout.{laid_after}
 use Rattle.md_text.specs.declared.options.CompileOptions.{CompileOptions}
-use Rattle.md_shape.specs.Steps.{State, Told, told_of, entered, exited, passed, is_passed, over, beginning}
+use Rattle.md_shape.specs.Steps.{State, Told, told_of, entered, exited, passed, is_passed, over}
+use Rattle.md_shape.specs.Steps.{beginning}
 
 -- what was found of a node, and how many events come after its entry up to its exit
 pub record Noticed : Type 0 where
@@ -37,7 +39,8 @@ stepped given event told state = elim event.kind [
 
 -- how many events are passed over after one
 abbrev pub passes : Event → ℕ → ℕ
-passes event inside = elim event.kind [ Enter ↦ if is_passed event.name then inside else 0 | Exit ↦ 0 ]
+passes event inside =
+    elim event.kind [ Enter ↦ if is_passed event.name then inside else 0 | Exit ↦ 0 ]
 
 -- the events one after another, after so many that are passed over
 abbrev pub run : Given → ℕ → List Event → List Noticed → State → State
@@ -53,14 +56,20 @@ defined given Empty = []
 defined given (Node name start end children rest) =
     (if is_passed name then record {
       identifier = identifier_of given.bytes children;
-      target = (over given false children (entered given (told_of given.bytes false children start end) Definition
-          beginning)).target;
+      target = (over given false children (entered given
+          (told_of given.bytes false children start end) Definition beginning)).target;
     } ∷ [] else defined given children) ++ defined given rest
 
 -- what is given to the nodes of a document, before its definitions are known
 abbrev pub given_alone : CompileOptions → List (List ℕ × List ℕ) → List ℕ → List ℕ → Given
-given_alone options names bytes ending =
-    record { bytes = bytes; names = names; options = options; ending = ending; calls = []; definitions = [] }
+given_alone options names bytes ending = record {
+  bytes = bytes;
+  names = names;
+  options = options;
+  ending = ending;
+  calls = [];
+  definitions = [];
+}
 
 -- the steps over a document, after those over its definitions; then the section of its footnotes
 abbrev pub printed : CompileOptions → List (List ℕ × List ℕ) → List ℕ → Forest → List ℕ
@@ -68,4 +77,5 @@ printed options names bytes document =
     let alone = given_alone options names bytes (ending_at options bytes (first_ending document)) in
     let given = record alone { definitions = defined alone document } in
     let after = run given 0 (flatten document) (noticed bytes true document) beginning in
-    laid_after given.ending after.text (section (record given { calls = after.calls }) after.footnotes)
+    laid_after given.ending after.text
+    (section (record given { calls = after.calls }) after.footnotes)

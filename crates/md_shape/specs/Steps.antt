@@ -1,11 +1,29 @@
--- What the printer does at each event: one text with the captured ones in it, and of the open nodes only what changes.
-use Rattle.std.specs.Prelude.{ℕ, ◌+◌, suc, Bool, true, false, not, ◌&&◌, ◌||◌, ◌==◌, if◌then◌else◌, List, [], ◌∷◌, ◌++◌, Option, Some, None, slice_get, drop, codes, unwrap_or, bytes_eq}
+-- What the printer does at each event: one text with the captured ones in it, and of the open nodes
+-- only what changes.
+use Rattle.std.specs.Prelude.{ℕ, ◌+◌, suc, Bool, true, false, not, ◌&&◌, ◌||◌, ◌==◌, if◌then◌else◌}
+use Rattle.std.specs.Prelude.{List, [], ◌∷◌, ◌++◌, Option, Some, None, slice_get, drop, codes}
+use Rattle.std.specs.Prelude.{unwrap_or, bytes_eq}
 use Rattle.std.specs.Option.{option_map_or}
 use Rattle.std.specs.List.{flat_map}
 use Rattle.std.specs.Fmt.{decimal}
 use Rattle.md_base.specs.declared.event.AlignKind.{AlignKind}
 use Rattle.md_base.specs.declared.event.Name.{Name}
-use Rattle.md_base.specs.declared.event.Name.TheVariants.{AutolinkEmail, AutolinkProtocol, GfmAutolinkLiteralEmail, GfmAutolinkLiteralMailto, GfmAutolinkLiteralProtocol, GfmAutolinkLiteralWww, GfmAutolinkLiteralXmpp, LineEnding, BlankLineEnding, BlockQuote, ListOrdered, ListUnordered, ListItem, ListItemPrefix, GfmFootnoteDefinition, GfmFootnoteDefinitionPrefix, Data, CharacterEscapeValue, CharacterReferenceValue, CodeIndented, CodeFenced, CodeFencedFence, CodeFencedFenceInfo, CodeFencedFenceMeta, CodeFlowChunk, MathFlow, MathFlowFence, MathFlowFenceMeta, MathFlowChunk, CodeText, CodeTextData, MathText, MathTextData, HtmlFlow, HtmlFlowData, HtmlText, HtmlTextData, Definition, DefinitionDestinationString, DefinitionTitleString, Link, Image, Label, Resource, ResourceDestinationString, ResourceTitleString, ReferenceString, GfmFootnoteCall, HeadingAtx, HeadingSetextText, HeadingSetextUnderlineSequence, GfmTable, GfmTableHead, GfmTableBody, GfmTableRow, GfmTableCell, GfmTableDelimiterRow, Emphasis, Strong, GfmStrikethrough, GfmTaskListItemCheck, GfmTaskListItemValueChecked, HardBreakEscape, HardBreakTrailing, Paragraph, ThematicBreak, Frontmatter}
+use Rattle.md_base.specs.declared.event.Name.TheVariants as name_variants
+use name_variants.{AutolinkEmail, AutolinkProtocol, GfmAutolinkLiteralEmail}
+use name_variants.{GfmAutolinkLiteralMailto, GfmAutolinkLiteralProtocol, GfmAutolinkLiteralWww}
+use name_variants.{GfmAutolinkLiteralXmpp, LineEnding, BlankLineEnding, BlockQuote, ListOrdered}
+use name_variants.{ListUnordered, ListItem, ListItemPrefix, GfmFootnoteDefinition}
+use name_variants.{GfmFootnoteDefinitionPrefix, Data, CharacterEscapeValue, CharacterReferenceValue}
+use name_variants.{CodeIndented, CodeFenced, CodeFencedFence, CodeFencedFenceInfo}
+use name_variants.{CodeFencedFenceMeta, CodeFlowChunk, MathFlow, MathFlowFence, MathFlowFenceMeta}
+use name_variants.{MathFlowChunk, CodeText, CodeTextData, MathText, MathTextData, HtmlFlow}
+use name_variants.{HtmlFlowData, HtmlText, HtmlTextData, Definition, DefinitionDestinationString}
+use name_variants.{DefinitionTitleString, Link, Image, Label, Resource, ResourceDestinationString}
+use name_variants.{ResourceTitleString, ReferenceString, GfmFootnoteCall, HeadingAtx}
+use name_variants.{HeadingSetextText, HeadingSetextUnderlineSequence, GfmTable, GfmTableHead}
+use name_variants.{GfmTableBody, GfmTableRow, GfmTableCell, GfmTableDelimiterRow, Emphasis, Strong}
+use name_variants.{GfmStrikethrough, GfmTaskListItemCheck, GfmTaskListItemValueChecked}
+use name_variants.{HardBreakEscape, HardBreakTrailing, Paragraph, ThematicBreak, Frontmatter}
 use Rattle.md_base.specs.declared.event.Point.{Point}
 use Rattle.md_base.specs.declared.event.Position.{Position}
 use Rattle.md_base.specs.Tree.{Forest, Empty, Node}
@@ -20,8 +38,10 @@ use Rattle.md_text.specs.declared.options.CompileOptions.{CompileOptions}
 use Rattle.md_text.specs.Encode.{encoded}
 use Rattle.md_text.specs.Filter.{tag_filtered}
 use Rattle.md_tree.specs.Rules.{place, columns}
-use Rattle.md_meaning.specs.Meaning.Layout.{Piece, Text, Needed, Forced, laid_after, said, on_own_line, when}
-use Rattle.md_meaning.specs.Meaning.At.{Target, Footnote, Given, nothing_found, target_in, text_in, identifier_of}
+use Rattle.md_meaning.specs.Meaning.Layout.{Piece, Text, Needed, Forced, laid_after, said}
+use Rattle.md_meaning.specs.Meaning.Layout.{on_own_line, when}
+use Rattle.md_meaning.specs.Meaning.At.{Target, Footnote, Given, nothing_found, target_in, text_in}
+use Rattle.md_meaning.specs.Meaning.At.{identifier_of}
 use Rattle.md_meaning.specs.Meaning.Finds.{first_named, number_in_list}
 use Rattle.md_meaning.specs.Meaning.Spans.{is_at, marker, task_start, trimmed, without_escapes}
 use Rattle.md_meaning.specs.Meaning.Blocks.{heading_tag, without_zeros}
@@ -43,10 +63,11 @@ pub record Around : Type 0 where
   pub is_escaping : Bool
   pub columns : List AlignKind
 
--- the text since the innermost capture, and those before it; the surroundings, and those to come back to; whether the
--- next line ending is slurped; the node that ended right before; the mark of a reference; the fences and whether there
--- is a chunk of the code so far; the text of the latest heading; the cells of the row so far; where the resource or the
--- definition leads so far, and where the resource after the latest label leads; the calls so far, and the first
+-- the text since the innermost capture, and those before it; the surroundings, and those to come
+-- back to; whether the next line ending is slurped; the node that ended right before; the mark
+-- of a reference; the fences and whether there is a chunk of the code so far; the text of the
+-- latest heading; the cells of the row so far; where the resource or the definition leads so
+-- far, and where the resource after the latest label leads; the calls so far, and the first
 -- footnote with each identifier
 pub record State : Type 0 where
   pub text : List ℕ
@@ -65,9 +86,10 @@ pub record State : Type 0 where
   pub calls : List (List ℕ)
   pub footnotes : List Footnote
 
--- what the check found of a node, at both of its events: whether it is loose, as a list, and its number; its columns,
--- as a table; its last child that contributes, as an item; how long its first mark is, as a heading; by what it refers
--- or is referred to; its place; whether nothing follows it in the document
+-- what the check found of a node, at both of its events: whether it is loose, as a list, and its
+-- number; its columns, as a table; its last child that contributes, as an item; how long its first
+-- mark is, as a heading; by what it refers or is referred to; its place; whether nothing follows
+-- it in the document
 pub record Told : Type 0 where
   pub loose : Bool
   pub number : Option Position
@@ -84,7 +106,8 @@ told_of bytes last children start end = record {
   number = number_in_list children;
   columns = alignments children;
   contributing = last_contributing children;
-  rank = option_map_or (λ mark. columns mark.start mark.end) (first_named HeadingAtxSequence children) 0;
+  rank = option_map_or (λ mark. columns mark.start mark.end)
+      (first_named HeadingAtxSequence children) 0;
   identifier = identifier_of bytes children;
   place = place start end;
   last = last;
@@ -178,7 +201,8 @@ captures name = elim name [
 abbrev pub list_opening : Given → Told → List Piece
 list_opening given told =
     let number = without_zeros (option_map_or (text_in given.bytes) told.number (codes "1")) in
-    when (not (bytes_eq number (codes "1"))) (Text (codes " start=\"") ∷ Text number ∷ Text (codes "\"") ∷ [])
+    when (not (bytes_eq number (codes "1")))
+    (Text (codes " start=\"") ∷ Text number ∷ Text (codes "\"") ∷ [])
 
 abbrev pub cell_opening : Bool → AlignKind → List Piece
 cell_opening in_head kind = on_own_line (if in_head then codes "<th" else codes "<td")
@@ -194,7 +218,8 @@ opens given around cells told Paragraph = when (not around.is_tight) (on_own_lin
 opens given around cells told HeadingAtx = on_own_line (heading_tag (codes "<h") told.rank)
 opens given around cells told CodeIndented = on_own_line (codes "<pre><code>")
 opens given around cells told CodeFenced = on_own_line (codes "<pre><code")
-opens given around cells told MathFlow = on_own_line (codes "<pre><code class=\"language-math math-display\"")
+opens given around cells told MathFlow =
+    on_own_line (codes "<pre><code class=\"language-math math-display\"")
 opens given around cells told CodeFencedFenceInfo = said (codes " class=\"language-")
 opens given around cells told CodeText = when (not around.in_image) (said (codes "<code>"))
 opens given around cells told MathText =
@@ -220,7 +245,8 @@ shown left text = said (encoded left.around.is_escaping text)
 
 abbrev pub line_closing : Given → State → Told → List Piece
 line_closing given left told = if left.around.in_code then said (codes " ")
-    else (if not left.around.in_definition && left.slurps || option_map_or is_definition left.ended false then []
+    else (if not left.around.in_definition && left.slurps
+    || option_map_or is_definition left.ended false then []
     else said (text_in given.bytes told.place))
 
 abbrev pub item_ends_in_line : State → Told → Bool
@@ -232,14 +258,16 @@ code_closing left = when left.has_chunk (Needed ∷ []) ++ said (codes "</code><
 
 abbrev pub fenced_closing : State → Option Name → List Piece
 fenced_closing left ended =
-    when ((left.fences == 1) && left.around.is_contained && not (option_map_or is_fence ended false)) (Forced ∷ [])
+    when ((left.fences == 1) && left.around.is_contained
+    && not (option_map_or is_fence ended false)) (Forced ∷ [])
     ++ (code_closing left ++ when (left.fences == 1) (Needed ∷ []))
 
 abbrev pub underline_rank : Given → Told → ℕ
 underline_rank given told = if is_at 45 given.bytes told.place.start.index then 2 else 1
 
 abbrev pub code_text_closing : State → List ℕ → List Piece
-code_text_closing left inner = Text (trimmed (if left.around.in_table then without_escapes inner else inner))
+code_text_closing left inner =
+    Text (trimmed (if left.around.in_table then without_escapes inner else inner))
     ∷ when (not left.around.in_image) (said (codes "</code>"))
 
 abbrev pub html_text : Given → Told → List ℕ
@@ -254,7 +282,8 @@ abbrev pub autolink_closing : Given → Told → Bool → List ℕ → List Piec
 autolink_closing given told plain prefix =
     let text = text_in given.bytes told.place in
     if plain then said (encoded true text)
-    else anchor given.options (record { destination = prefix ++ text; title = None }) (encoded true text)
+    else anchor given.options (record { destination = prefix ++ text; title = None })
+    (encoded true text)
 
 abbrev pub cell_closing : Bool → List ℕ → List Piece
 cell_closing in_head text = Text text ∷ Text (if in_head then codes "</th>" else codes "</td>") ∷ []
@@ -266,17 +295,20 @@ call_pieces options calls identifier =
     Text (codes "<sup><a href=\"#")
     ∷ Text (id_of options (codes "fn-") identifier number) ∷ Text (codes "\" id=\"")
     ∷ Text (call_id options identifier number (suc (count_of calls identifier)))
-    ∷ Text (codes "\" data-footnote-ref=\"\" aria-describedby=\"footnote-label\">") ∷ Text (decimal number)
+    ∷ Text (codes "\" data-footnote-ref=\"\" aria-describedby=\"footnote-label\">")
+    ∷ Text (decimal number)
     ∷ Text (codes "</a></sup>") ∷ []
 
 abbrev pub call_closing : Given → State → Told → List Piece
 call_closing given left told =
     when (not left.around.in_image) (call_pieces given.options left.calls told.identifier)
 
--- in a state that is back to what is around the node: `inner` is its captured text, `ended` its last child
+-- in a state that is back to what is around the node: `inner` is its captured text,
+-- `ended` its last child
 abbrev pub closes : Given → State → Option Name → Told → List ℕ → Name → List Piece
 closes given left ended told inner Data = shown left (text_in given.bytes told.place)
-closes given left ended told inner CharacterEscapeValue = shown left (text_in given.bytes told.place)
+closes given left ended told inner CharacterEscapeValue =
+    shown left (text_in given.bytes told.place)
 closes given left ended told inner CodeTextData = shown left (text_in given.bytes told.place)
 closes given left ended told inner MathTextData = shown left (text_in given.bytes told.place)
 closes given left ended told inner CharacterReferenceValue =
@@ -292,7 +324,8 @@ closes given left ended told inner Paragraph = when (not left.around.is_tight) (
 closes given left ended told inner HeadingAtx = said (heading_tag (codes "</h") told.rank)
 closes given left ended told inner HeadingSetextUnderlineSequence =
     let rank = underline_rank given told in
-    on_own_line (heading_tag (codes "<h") rank) ++ (said left.heading ++ said (heading_tag (codes "</h") rank))
+    on_own_line (heading_tag (codes "<h") rank)
+    ++ (said left.heading ++ said (heading_tag (codes "</h") rank))
 closes given left ended told inner CodeIndented = code_closing left
 closes given left ended told inner CodeFenced = fenced_closing left ended
 closes given left ended told inner MathFlow = fenced_closing left ended
@@ -300,20 +333,27 @@ closes given left ended told inner CodeFencedFence = when (left.fences == 0) (sa
 closes given left ended told inner MathFlowFence = when (left.fences == 0) (said (codes ">"))
 closes given left ended told inner CodeFencedFenceInfo = said (codes "\"")
 closes given left ended told inner CodeFlowChunk =
-    said (encoded true (unwrap_or (serialized_between given.bytes told.place.start told.place.end) []))
+    said (encoded true
+    (unwrap_or (serialized_between given.bytes told.place.start told.place.end) []))
 closes given left ended told inner MathFlowChunk =
-    said (encoded true (unwrap_or (serialized_between given.bytes told.place.start told.place.end) []))
+    said (encoded true
+    (unwrap_or (serialized_between given.bytes told.place.start told.place.end) []))
 closes given left ended told inner CodeText = code_text_closing left inner
 closes given left ended told inner MathText = code_text_closing left inner
 closes given left ended told inner HtmlFlowData = shown left (html_text given told)
 closes given left ended told inner HtmlTextData = shown left (html_text given told)
 closes given left ended told inner Emphasis = when (not left.around.in_image) (said (codes "</em>"))
-closes given left ended told inner Strong = when (not left.around.in_image) (said (codes "</strong>"))
-closes given left ended told inner GfmStrikethrough = when (not left.around.in_image) (said (codes "</del>"))
-closes given left ended told inner HardBreakEscape = when (not left.around.in_image) (said (codes "<br />"))
-closes given left ended told inner HardBreakTrailing = when (not left.around.in_image) (said (codes "<br />"))
+closes given left ended told inner Strong =
+    when (not left.around.in_image) (said (codes "</strong>"))
+closes given left ended told inner GfmStrikethrough =
+    when (not left.around.in_image) (said (codes "</del>"))
+closes given left ended told inner HardBreakEscape =
+    when (not left.around.in_image) (said (codes "<br />"))
+closes given left ended told inner HardBreakTrailing =
+    when (not left.around.in_image) (said (codes "<br />"))
 closes given left ended told inner ThematicBreak = on_own_line (codes "<hr />")
-closes given left ended told inner GfmTaskListItemCheck = when (not left.around.in_image) (said (codes "/>"))
+closes given left ended told inner GfmTaskListItemCheck =
+    when (not left.around.in_image) (said (codes "/>"))
 closes given left ended told inner GfmTaskListItemValueChecked =
     when (not left.around.in_image) (said (codes "checked=\"\" "))
 closes given left ended told inner Link = if left.around.in_image then said inner
@@ -322,7 +362,8 @@ closes given left ended told inner Image = if left.around.in_image then said inn
     else picture given.options (leads given left told) inner
 closes given left ended told inner AutolinkEmail =
     autolink_closing given told left.around.in_image (codes "mailto:")
-closes given left ended told inner AutolinkProtocol = autolink_closing given told left.around.in_image []
+closes given left ended told inner AutolinkProtocol =
+    autolink_closing given told left.around.in_image []
 closes given left ended told inner GfmAutolinkLiteralEmail =
     autolink_closing given told (left.around.in_image || left.around.in_link) (codes "mailto:")
 closes given left ended told inner GfmAutolinkLiteralWww =
@@ -337,9 +378,11 @@ closes given left ended told inner GfmTable = on_own_line (codes "</table>")
 closes given left ended told inner GfmTableHead = on_own_line (codes "</thead>")
 closes given left ended told inner GfmTableBody = on_own_line (codes "</tbody>")
 closes given left ended told inner GfmTableRow =
-    flat_map (cell_of left.around.in_head []) (drop left.cells left.around.columns) ++ on_own_line (codes "</tr>")
+    flat_map (cell_of left.around.in_head []) (drop left.cells left.around.columns)
+    ++ on_own_line (codes "</tr>")
 closes given left ended told inner GfmTableCell =
-    option_map_or (λ kind. cell_closing left.around.in_head inner) (slice_get left.around.columns left.cells) []
+    option_map_or (λ kind. cell_closing left.around.in_head inner)
+    (slice_get left.around.columns left.cells) []
 closes given left ended told inner GfmFootnoteCall = call_closing given left told
 closes given left ended told inner _ = []
 
@@ -348,7 +391,8 @@ closes given left ended told inner _ = []
 -- outside definitions: after a node the next line ending is slurped, or not any more
 abbrev pub slurps_after : Name → State → Bool
 slurps_after name left =
-    let outside : Bool → Bool = λ slurps. if left.around.in_definition then left.slurps else slurps in
+    let outside : Bool → Bool =
+    λ slurps. if left.around.in_definition then left.slurps else slurps in
     elim name [
       | CodeFencedFence ↦ outside ((left.fences == 0) || left.slurps)
       | MathFlowFence ↦ outside ((left.fences == 0) || left.slurps)
@@ -397,7 +441,8 @@ target_after name inner target = elim name [
 ]
 
 abbrev pub resource_after : Name → Target → Option Target → Option Target
-resource_after name target resource = elim name [ Label ↦ None | Resource ↦ Some target | _ ↦ resource ]
+resource_after name target resource =
+    elim name [ Label ↦ None | Resource ↦ Some target | _ ↦ resource ]
 
 abbrev pub cells_after : Name → ℕ → ℕ
 cells_after name cells = elim name [ GfmTableCell ↦ cells + 1 | _ ↦ cells ]
@@ -406,13 +451,15 @@ abbrev pub heading_after : Name → List ℕ → List ℕ → List ℕ
 heading_after name inner heading = elim name [ HeadingSetextText ↦ inner | _ ↦ heading ]
 
 abbrev pub calls_after : Name → List ℕ → List (List ℕ) → List (List ℕ)
-calls_after name identifier calls = elim name [ GfmFootnoteCall ↦ calls ++ identifier ∷ [] | _ ↦ calls ]
+calls_after name identifier calls =
+    elim name [ GfmFootnoteCall ↦ calls ++ identifier ∷ [] | _ ↦ calls ]
 
 -- a footnote more, unless one with its identifier is there
 abbrev pub noted : List Footnote → Footnote → List Footnote
 noted [] footnote = footnote ∷ []
 noted (first ∷ others) footnote =
-    first ∷ (if bytes_eq first.identifier footnote.identifier then others else noted others footnote)
+    first
+    ∷ (if bytes_eq first.identifier footnote.identifier then others else noted others footnote)
 
 abbrev pub footnotes_after : Name → List ℕ → List ℕ → List Footnote → List Footnote
 footnotes_after name identifier inner footnotes = elim name [
@@ -423,7 +470,8 @@ footnotes_after name identifier inner footnotes = elim name [
 -- a node is entered
 abbrev pub entered : Given → Told → Name → State → State
 entered given told name state =
-    let opened = laid_after given.ending state.text (opens given state.around state.cells told name) in
+    let opened =
+    laid_after given.ending state.text (opens given state.around state.cells told name) in
     record {
       text = if captures name then [] else opened;
       below = if captures name then opened ∷ state.below else state.below;

@@ -1,8 +1,9 @@
--- Where the underlines of headings stand that come after their texts. Only proofs speak of it: each document of the
--- grammar is so.
+-- Where the underlines of headings stand that come after their texts. Only proofs speak of it: each
+-- document of the grammar is so.
 use Rattle.std.specs.Prelude.{◌≡◌, Bool, true, false, if◌then◌else◌, []}
 use Rattle.md_base.specs.declared.event.Name.{Name}
-use Rattle.md_base.specs.declared.event.Name.TheVariants.{LineEnding, HeadingSetextText, HeadingSetextUnderlineSequence}
+use Rattle.md_base.specs.declared.event.Name.TheVariants.{LineEnding, HeadingSetextText}
+use Rattle.md_base.specs.declared.event.Name.TheVariants.{HeadingSetextUnderlineSequence}
 use Rattle.md_base.specs.Tree.{Forest, Empty, Node}
 use Rattle.md_base.specs.NameTests.{is_transparent}
 use Rattle.md_base.specs.Children.{spine_names}
@@ -19,12 +20,15 @@ waits_past waits name = elim name [ HeadingSetextText ↦ true | LineEnding ↦ 
 abbrev pub waits_after : Bool → Forest → Bool
 waits_after waits Empty = waits
 waits_after waits (Node name start end children rest) =
-    waits_after (if is_transparent name then waits_after waits children else waits_past waits name) rest
+    waits_after (if is_transparent name then waits_after waits children else waits_past waits name)
+    rest
 
--- an underline stands only where a heading waits for it, and nothing stands in it but what is looked through
+-- an underline stands only where a heading waits for it, and nothing stands in it but what
+-- is looked through
 abbrev pub IsUnderlined : Bool → Forest → Type 0
 IsUnderlined waits Empty = Unit {0}
 IsUnderlined waits (Node name start end children rest) =
     (is_underline name ≡ true → (waits ≡ true) × (spine_names children ≡ []))
     × IsUnderlined (if is_transparent name then waits else false) children
-    × IsUnderlined (if is_transparent name then waits_after waits children else waits_past waits name) rest
+    × IsUnderlined (if is_transparent name then waits_after waits children
+    else waits_past waits name) rest

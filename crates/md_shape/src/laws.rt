@@ -11,7 +11,9 @@ ghost use Rattle.md_meaning.specs.Meaning.{meaning};
 ghost use Rattle.md_shape.specs.Built.{Blocks, IsBuilt};
 ghost use Rattle.md_shape.specs.Underlined.{IsUnderlined};
 ghost use Rattle.md_shape.specs.Run.{printed};
-ghost use Rattle.md_shape.specs.Leads.{Everywhere, EverywhereAfter, HasItsText, HasItsLabel, Decodes, RefersAlike, LeadsSomewhere, LeadsAlike, first_of, found_at, defined_in, footnotes_defined_in};
+ghost use Rattle.md_shape.specs.Leads.{Everywhere, EverywhereAfter, HasItsText, HasItsLabel};
+ghost use Rattle.md_shape.specs.Leads.{Decodes, RefersAlike, LeadsSomewhere, LeadsAlike, first_of};
+ghost use Rattle.md_shape.specs.Leads.{found_at, defined_in, footnotes_defined_in};
 
 /// Each document of the grammar is built of what may stand where it is, beginning with blocks.
 pub fn grammatical_documents_are_built()
@@ -19,15 +21,15 @@ pub fn grammatical_documents_are_built()
         → IsGrammatical bytes names forest → IsBuilt bytes Blocks forest }
 {}
 
-/// In a document of the grammar each underline stands after the text of its heading, with nothing printed between, and
-/// nothing stands in it.
+/// In a document of the grammar each underline stands after the text of its heading, with nothing
+/// printed between, and nothing stands in it.
 pub fn underlines_stand_after_headings()
     ensures { (bytes : List ℕ) (names : List (List ℕ × List ℕ)) (forest : Forest)
         → IsGrammatical bytes names forest → IsUnderlined false forest }
 {}
 
-/// In a document of the grammar each text and each label that the meaning reads is there, and each reference stands for
-/// a text.
+/// In a document of the grammar each text and each label that the meaning reads is there, and each
+/// reference stands for a text.
 pub fn texts_are_there()
     ensures texts { (bytes : List ℕ) (names : List (List ℕ × List ℕ)) (document : Forest)
         → IsGrammatical bytes names document → Everywhere (HasItsText bytes) document }
@@ -37,15 +39,16 @@ pub fn texts_are_there()
         → IsGrammatical bytes names document → EverywhereAfter (Decodes bytes names) [] document }
 {}
 
-/// The label by which a node refers, or is referred to, to the grammar and to the meaning, is the one that the printer
-/// finds ahead.
+/// The label by which a node refers, or is referred to, to the grammar and to the meaning, is the
+/// one that the printer finds ahead.
 pub fn printer_finds_the_labels()
     ensures { (bytes : List ℕ) (names : List (List ℕ × List ℕ)) (document : Forest)
         → IsGrammatical bytes names document → Everywhere RefersAlike document }
 {}
 
-/// In a document of the grammar each link and each image without a resource refers to a definition of the document, and
-/// each footnote call to a footnote definition; and these are the ones that the meaning looks up.
+/// In a document of the grammar each link and each image without a resource refers to a definition
+/// of the document, and each footnote call to a footnote definition; and these are the ones that
+/// the meaning looks up.
 pub fn references_lead_somewhere()
     ensures found { (bytes : List ℕ) (names : List (List ℕ × List ℕ)) (document : Forest)
         → IsGrammatical bytes names document → Everywhere (LeadsSomewhere bytes document) document }
@@ -53,21 +56,26 @@ pub fn references_lead_somewhere()
         → IsGrammatical bytes names document → Everywhere (LeadsAlike bytes document) document }
     ensures first { (definitions : List Defined) (identifier : List ℕ)
         → find (λ defined. bytes_eq defined.identifier identifier) definitions
-        ≡ found_at definitions (first_of (map (λ defined. defined.identifier) definitions) identifier) }
+        ≡ found_at definitions
+        (first_of (map (λ defined. defined.identifier) definitions) identifier) }
     ensures first_footnote { (footnotes : List Footnote) (identifier : List ℕ)
-        → find (λ footnote. bytes_eq footnote.identifier identifier) footnotes
-        ≡ found_at footnotes (first_of (map (λ footnote. footnote.identifier) footnotes) identifier) }
-    ensures definitions { (given : Given) (around : Surroundings) (before : Before) (document : Forest)
+        → find (λ footnote. bytes_eq footnote.identifier identifier) footnotes ≡ found_at footnotes
+        (first_of (map (λ footnote. footnote.identifier) footnotes) identifier) }
+    ensures definitions { (given : Given) (around : Surroundings)
+        (before : Before) (document : Forest)
         → map (λ defined. defined.identifier) (outcome given around before document).definitions
         ≡ defined_in given.bytes document }
-    ensures footnotes { (given : Given) (around : Surroundings) (before : Before) (document : Forest)
+    ensures footnotes { (given : Given) (around : Surroundings)
+        (before : Before) (document : Forest)
         → map (λ footnote. footnote.identifier) (outcome given around before document).footnotes
         ≡ footnotes_defined_in given.bytes document }
 {}
 
-/// The steps over the events of a document of the grammar, after those over its definitions, print its meaning.
+/// The steps over the events of a document of the grammar, after those over its definitions,
+/// print its meaning.
 pub fn steps_print_what_is_meant()
-    ensures { (options : CompileOptions) (names : List (List ℕ × List ℕ)) (bytes : List ℕ) (document : Forest)
+    ensures { (options : CompileOptions) (names : List (List ℕ × List ℕ))
+        (bytes : List ℕ) (document : Forest)
         → IsGrammatical bytes names document
         → printed options names bytes document ≡ meaning options names bytes document }
 {}

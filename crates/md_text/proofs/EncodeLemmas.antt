@@ -1,5 +1,8 @@
 -- Escaping, by bytes and by characters, and at one byte that doesn't stay.
-use Rattle.std.proofs.Common.{◌≡◌, ◌≢◌, ℕ, ◌+◌, ◌<◌, ◌≤◌, Bool, true, false, ◌&&◌, eqb, List, [], ◌∷◌, ◌++◌, length, get_or, take, drop, refl, sym, ap, ◌∙◌, subst, encode_utf8, encode_utf8_all, arith, ne_eqb, append-nil, add-one, drop-cons, inl, inr, IsUtf8}
+use Rattle.std.proofs.Common.{◌≡◌, ◌≢◌, ℕ, ◌+◌, ◌<◌, ◌≤◌, Bool, true, false, ◌&&◌, eqb, List, []}
+use Rattle.std.proofs.Common.{◌∷◌, ◌++◌, length, get_or, take, drop, refl, sym, ap, ◌∙◌, subst}
+use Rattle.std.proofs.Common.{encode_utf8, encode_utf8_all, arith, ne_eqb, append-nil, add-one}
+use Rattle.std.proofs.Common.{drop-cons, inl, inr, IsUtf8}
 use Rattle.std.proofs.lemmas.List.{take-append-drop}
 use Rattle.std.specs.List.{flat_map}
 use Rattle.std.specs.Str.{chars}
@@ -10,12 +13,14 @@ use Rattle.md_text.specs.Encode.{encoded, encoded_byte, encoded_character}
 use Rattle.md_text.proofs.HighBytes.{AllHigh, encode_utf8-high}
 
 -- escaping a text piece by piece
-pub encoded-append : (html : Bool) (x y : List ℕ) → encoded html (x ++ y) ≡ encoded html x ++ encoded html y
+pub encoded-append : (html : Bool) (x y : List ℕ) →
+    encoded html (x ++ y) ≡ encoded html x ++ encoded html y
 encoded-append html x y = flat_map-append (encoded_byte html) x y
 
 -- a character that none of the five tests picks out stays
 pub encoded_byte-plain : (html : Bool) (b : ℕ) → eqb b 0 ≡ false → (html && eqb b 38) ≡ false →
-    (html && eqb b 34) ≡ false → (html && eqb b 60) ≡ false → (html && eqb b 62) ≡ false → encoded_byte html b ≡ b ∷ []
+    (html && eqb b 34) ≡ false → (html && eqb b 60) ≡ false → (html && eqb b 62) ≡ false →
+    encoded_byte html b ≡ b ∷ []
 encoded_byte-plain html b e0 e1 e2 e3 e4 = simp (e0, e1, e2, e3, e4)
 
 pub and_false : (b : Bool) → (b && false) ≡ false
@@ -28,7 +33,8 @@ not_high html b n h l = ap (λ t. html && t) (ne_eqb b n (λ e. omega arith)) �
 pub encoded_byte-high : (html : Bool) (b : ℕ) → 128 ≤ b → encoded_byte html b ≡ b ∷ []
 encoded_byte-high html b h =
     encoded_byte-plain html b (ne_eqb b 0 (λ e. omega arith)) (not_high html b 38 h (omega arith))
-    (not_high html b 34 h (omega arith)) (not_high html b 60 h (omega arith)) (not_high html b 62 h (omega arith))
+    (not_high html b 34 h (omega arith)) (not_high html b 60 h (omega arith))
+    (not_high html b 62 h (omega arith))
 
 pub encoded-high : (html : Bool) (bs : List ℕ) → AllHigh bs → encoded html bs ≡ bs
 encoded-high html [] h = refl
@@ -40,8 +46,8 @@ pub encoded-plain : (html : Bool) (c : ℕ) → eqb c 0 ≡ false → (html && e
     (html && eqb c 34) ≡ false → (html && eqb c 60) ≡ false → (html && eqb c 62) ≡ false →
     encoded html (encode_utf8 c) ≡ encode_utf8 c
 encoded-plain html c e0 e1 e2 e3 e4 = elim (cases_lt c 128) [
-  | inl low ↦ subst (λ x. encoded html x ≡ x) (sym (encode_ascii c low)) (append-nil (encoded_byte html c)
-      ∙ encoded_byte-plain html c e0 e1 e2 e3 e4)
+  | inl low ↦ subst (λ x. encoded html x ≡ x) (sym (encode_ascii c low))
+      (append-nil (encoded_byte html c) ∙ encoded_byte-plain html c e0 e1 e2 e3 e4)
   | inr high ↦ encoded-high html (encode_utf8 c) (encode_utf8-high c high)
 ]
 
@@ -61,7 +67,10 @@ by_special P p0 p38 p34 p60 p62 other c =
                       elim (cases_eq c 60) [
                         | inl e ↦ subst P (sym e) p60
                         | inr n60 ↦
-                            elim (cases_eq c 62) [ inl e ↦ subst P (sym e) p62 | inr n62 ↦ other c n0 n38 n34 n60 n62 ]
+                            elim (cases_eq c 62) [
+                              | inl e ↦ subst P (sym e) p62
+                              | inr n62 ↦ other c n0 n38 n34 n60 n62
+                            ]
                       ]
                 ]
           ]
@@ -84,18 +93,20 @@ encoded-other html c n0 n38 n34 n60 n62 =
     let e60 = not_special html c 60 n60 in
     let e62 = not_special html c 62 n62 in
     encoded-plain html c e0 e38 e34 e60 e62
-    ∙ sym (ap encode_utf8_all (encoded_character-plain html c e0 e38 e34 e60 e62) ∙ append-nil (encode_utf8 c))
+    ∙ sym (ap encode_utf8_all (encoded_character-plain html c e0 e38 e34 e60 e62)
+    ∙ append-nil (encode_utf8 c))
 
 -- a character by its bytes
 pub encoded-encode_utf8 : (html : Bool) (c : ℕ) → encoded html (encode_utf8 c)
     ≡ encode_utf8_all (encoded_character html c)
 unfolding lib.Utf8.encode
 encoded-encode_utf8 true c =
-    by_special (λ c. encoded true (encode_utf8 c) ≡ encode_utf8_all (encoded_character true c)) refl refl refl refl
+    by_special (λ c. encoded true (encode_utf8 c) ≡ encode_utf8_all (encoded_character true c)) refl
+    refl refl refl
     refl (encoded-other true) c
 encoded-encode_utf8 false c =
-    by_special (λ c. encoded false (encode_utf8 c) ≡ encode_utf8_all (encoded_character false c)) refl refl refl refl
-    refl (encoded-other false) c
+    by_special (λ c. encoded false (encode_utf8 c) ≡ encode_utf8_all (encoded_character false c))
+    refl refl refl refl refl (encoded-other false) c
 
 pub encoded-encodes : (html : Bool) (cs : List ℕ) → encoded html (encode_utf8_all cs)
     ≡ encode_utf8_all (flat_map (encoded_character html) cs)
@@ -109,14 +120,17 @@ encoded-encodes html (c ∷ cs) =
 -- a text by its characters
 pub encoded-chars : (html : Bool) (text : List ℕ) → IsUtf8 text →
     encoded html text ≡ encode_utf8_all (flat_map (encoded_character html) (chars text))
-encoded-chars html text utf8 = ap (encoded html) (sym (encodes-chars text utf8)) ∙ encoded-encodes html (chars text)
+encoded-chars html text utf8 =
+    ap (encoded html) (sym (encodes-chars text utf8)) ∙ encoded-encodes html (chars text)
 
 -- a text at one of its bytes
 split : (bs : List ℕ) (i : ℕ) → i < length bs → take i bs ++ get_or bs i 0 ∷ drop (i + 1) bs ≡ bs
-split bs i h = ap (λ rest. take i bs ++ rest) (rw (add-one, ← drop-cons bs i 0) refl) ∙ take-append-drop i bs
+split bs i h =
+    ap (λ rest. take i bs ++ rest) (rw (add-one, ← drop-cons bs i 0) refl) ∙ take-append-drop i bs
 
 -- escaped, where what comes before the byte stays
-pub encoded-at : (html : Bool) (bs other : List ℕ) (i : ℕ) → i < length bs → encoded html (take i bs) ≡ take i bs →
+pub encoded-at : (html : Bool) (bs other : List ℕ) (i : ℕ) → i < length bs →
+    encoded html (take i bs) ≡ take i bs →
     encoded_byte html (get_or bs i 0) ≡ other →
     take i bs ++ (other ++ encoded html (drop (i + 1) bs)) ≡ encoded html bs
 encoded-at html bs other i h plain same =

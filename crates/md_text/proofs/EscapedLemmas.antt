@@ -1,20 +1,25 @@
--- Escaped texts: joined, cut and with a byte taken out. So a text that is printed in parts is a text of the HTML
--- grammar.
-use Rattle.std.proofs.Common.{◌≡◌, ℕ, ◌==◌, Bool, true, false, not, ◌||◌, cond, eqb, List, [], ◌∷◌, ◌++◌, refl, sym, ◌∙◌, inl, inr, codes, Some, None}
+-- Escaped texts: joined, cut and with a byte taken out. So a text that is printed in parts is a
+-- text of the HTML grammar.
+use Rattle.std.proofs.Common.{◌≡◌, ℕ, ◌==◌, Bool, true, false, not, ◌||◌, cond, eqb, List, [], ◌∷◌}
+use Rattle.std.proofs.Common.{◌++◌, refl, sym, ◌∙◌, inl, inr, codes, Some, None}
 use Rattle.std.specs.Prelude.{if◌then◌else◌, is_some}
 use Rattle.std.specs.List.{list_all}
-use Rattle.std.proofs.lemmas.Bool.{and_parts, and_from, or_cases, or_left, or_right, cond_both, not-true, both_ways}
-use Rattle.md_text.specs.References.{is_escaped, is_escaped_byte, reference_before, begins_with, outside_references}
+use Rattle.std.proofs.lemmas.Bool.{and_parts, and_from, or_cases, or_left, or_right, cond_both}
+use Rattle.std.proofs.lemmas.Bool.{not-true, both_ways}
+use Rattle.md_text.specs.References.{is_escaped, is_escaped_byte, reference_before, begins_with}
+use Rattle.md_text.specs.References.{outside_references}
 use Rattle.md_text.specs.Url.{sanitized, sanitized_with, normalized_url, has_permitted_protocol}
 use Rattle.md_text.proofs.EncodeLaws.{is_escaped-encoded}
 
 -- a text that begins so still does when more follows
-begins-append : (start text more : List ℕ) → begins_with start text ≡ true → begins_with start (text ++ more) ≡ true
+begins-append : (start text more : List ℕ) → begins_with start text ≡ true →
+    begins_with start (text ++ more) ≡ true
 begins-append [] text more h = refl
 begins-append (s ∷ start) [] more h = cc
 begins-append (s ∷ start) (b ∷ text) more h =
     let parts = and_parts (eqb s b) (begins_with start text) h in
-    and_from (eqb s b) (begins_with start (text ++ more)) parts.0 (begins-append start text more parts.1)
+    and_from (eqb s b) (begins_with start (text ++ more)) parts.0
+    (begins-append start text more parts.1)
 
 -- a `&` begins a reference before these bytes
 abbrev pub completes_reference : List ℕ → Bool
@@ -25,8 +30,8 @@ pub completes-any : (rest : List ℕ) → completes_reference rest
     ≡ (begins_with (codes "amp;") rest || begins_with (codes "quot;") rest
     || begins_with (codes "lt;") rest || begins_with (codes "gt;") rest)
 completes-any rest =
-    by (begins_with (codes "amp;") rest) (begins_with (codes "quot;") rest) (begins_with (codes "lt;") rest)
-    (begins_with (codes "gt;") rest)
+    by (begins_with (codes "amp;") rest) (begins_with (codes "quot;") rest)
+    (begins_with (codes "lt;") rest) (begins_with (codes "gt;") rest)
   where
     by : (amp quot lt gt : Bool) → is_some {T = List ℕ × ℕ} (if amp then Some (codes "amp;", 38)
         else (if quot then Some (codes "quot;", 34) else (if lt then Some (codes "lt;", 60)
@@ -37,27 +42,32 @@ completes-any rest =
     by false false false true = refl
     by false false false false = refl
 
-or_keeps : (a b c d : Bool) → (a ≡ true → c ≡ true) → (b ≡ true → d ≡ true) → (a || b) ≡ true → (c || d) ≡ true
-or_keeps a b c d f g h = elim (or_cases a b h) [ inl x ↦ or_left c d (f x) | inr y ↦ or_right c d (g y) ]
+or_keeps : (a b c d : Bool) → (a ≡ true → c ≡ true) → (b ≡ true → d ≡ true) →
+    (a || b) ≡ true → (c || d) ≡ true
+or_keeps a b c d f g h =
+    elim (or_cases a b h) [ inl x ↦ or_left c d (f x) | inr y ↦ or_right c d (g y) ]
 
-completes-append : (rest more : List ℕ) → completes_reference rest ≡ true → completes_reference (rest ++ more) ≡ true
+completes-append : (rest more : List ℕ) → completes_reference rest ≡ true →
+    completes_reference (rest ++ more) ≡ true
 completes-append rest more h =
     let on = λ (start : List ℕ). begins-append start rest more in
     completes-any (rest ++ more)
-    ∙ or_keeps _ _ _ _ (or_keeps _ _ _ _ (or_keeps _ _ _ _ (on (codes "amp;")) (on (codes "quot;"))) (on (codes "lt;")))
-    (on (codes "gt;")) (sym (completes-any rest) ∙ h)
+    ∙ or_keeps _ _ _ _ (or_keeps _ _ _ _ (or_keeps _ _ _ _ (on (codes "amp;")) (on (codes "quot;")))
+    (on (codes "lt;"))) (on (codes "gt;")) (sym (completes-any rest) ∙ h)
 
 escaped_byte-append : (b : ℕ) (rest more : List ℕ) → is_escaped_byte b rest ≡ true →
     is_escaped_byte b (rest ++ more) ≡ true
 escaped_byte-append b rest more h = by ((b == 0) || (b == 60) || (b == 62) || (b == 34)) (b == 38) h
   where
-    by : (special and : Bool) → cond special false (cond and (completes_reference rest) true) ≡ true →
+    by : (special and : Bool) →
+        cond special false (cond and (completes_reference rest) true) ≡ true →
         cond special false (cond and (completes_reference (rest ++ more)) true) ≡ true
     by true and h = h
     by false true h = completes-append rest more h
     by false false h = refl
 
-pub escaped-append : (x y : List ℕ) → is_escaped x ≡ true → is_escaped y ≡ true → is_escaped (x ++ y) ≡ true
+pub escaped-append : (x y : List ℕ) → is_escaped x ≡ true → is_escaped y ≡ true →
+    is_escaped (x ++ y) ≡ true
 escaped-append [] y hx hy = hy
 escaped-append (b ∷ x) y hx hy =
     let parts = and_parts (is_escaped_byte b x) (is_escaped x) hx in
@@ -79,7 +89,8 @@ begins-without b (s ∷ start) [] more out h =
 begins-without b (s ∷ start) (c ∷ text) more out h =
     let parts = and_parts (eqb s c) (begins_with start (text ++ (b ∷ more))) h in
     and_from (eqb s c) (begins_with start (text ++ more)) parts.0
-    (begins-without b start text more (and_parts (not (eqb s b)) (list_all (λ c. not (c == b)) start) out).1 parts.1)
+    (begins-without b start text more
+    (and_parts (not (eqb s b)) (list_all (λ c. not (c == b)) start) out).1 parts.1)
 
 all_front : (b : ℕ) (x y : List ℕ) → list_all (λ c. not (c == b)) (x ++ y) ≡ true →
     (list_all (λ c. not (c == b)) x ≡ true) × (list_all (λ c. not (c == b)) y ≡ true)
@@ -97,16 +108,18 @@ completes-without b text more out h =
     let quot = all_front b (codes "quot;") (codes "lt;gt;") amp.1 in
     let lt = all_front b (codes "lt;") (codes "gt;") quot.1 in
     completes-any (text ++ more)
-    ∙ or_keeps _ _ _ _ (or_keeps _ _ _ _ (or_keeps _ _ _ _
-    (begins-without b (codes "amp;") text more amp.0) (begins-without b (codes "quot;") text more quot.0))
+    ∙ or_keeps _ _ _ _ (or_keeps _ _ _ _ (or_keeps _ _ _ _ (begins-without b (codes "amp;") text
+    more amp.0) (begins-without b (codes "quot;") text more quot.0))
     (begins-without b (codes "lt;") text more lt.0)) (begins-without b (codes "gt;") text more lt.1)
     (sym (completes-any (text ++ (b ∷ more))) ∙ h)
 
 escaped_byte-without : (b c : ℕ) (text more : List ℕ) → outside_references b ≡ true →
     is_escaped_byte c (text ++ (b ∷ more)) ≡ true → is_escaped_byte c (text ++ more) ≡ true
-escaped_byte-without b c text more out h = by ((c == 0) || (c == 60) || (c == 62) || (c == 34)) (c == 38) h
+escaped_byte-without b c text more out h =
+    by ((c == 0) || (c == 60) || (c == 62) || (c == 34)) (c == 38) h
   where
-    by : (special and : Bool) → cond special false (cond and (completes_reference (text ++ (b ∷ more))) true) ≡ true →
+    by : (special and : Bool) →
+        cond special false (cond and (completes_reference (text ++ (b ∷ more))) true) ≡ true →
         cond special false (cond and (completes_reference (text ++ more)) true) ≡ true
     by true and h = h
     by false true h = completes-without b text more out h
@@ -117,7 +130,8 @@ pub escaped-without : (b : ℕ) (text more : List ℕ) → outside_references b 
     is_escaped (text ++ (b ∷ more)) ≡ true → is_escaped (text ++ more) ≡ true
 escaped-without b [] more out h = escaped-tail b more h
 escaped-without b (c ∷ text) more out h =
-    let parts = and_parts (is_escaped_byte c (text ++ (b ∷ more))) (is_escaped (text ++ (b ∷ more))) h in
+    let parts =
+    and_parts (is_escaped_byte c (text ++ (b ∷ more))) (is_escaped (text ++ (b ∷ more))) h in
     and_from (is_escaped_byte c (text ++ more)) (is_escaped (text ++ more))
     (escaped_byte-without b c text more out parts.0) (escaped-without b text more out parts.1)
 
@@ -125,7 +139,8 @@ escaped-without b (c ∷ text) more out h =
 pub sanitized-escaped : (x : List ℕ) → is_escaped (sanitized x) ≡ true
 sanitized-escaped x = is_escaped-encoded (normalized_url x)
 
-pub sanitized_with-escaped : (protocols : List (List ℕ)) (x : List ℕ) → is_escaped (sanitized_with protocols x) ≡ true
+pub sanitized_with-escaped : (protocols : List (List ℕ)) (x : List ℕ) →
+    is_escaped (sanitized_with protocols x) ≡ true
 sanitized_with-escaped protocols x =
     cond_both (has_permitted_protocol protocols (sanitized x)) (sanitized x) [] (λ v. is_escaped v
     ≡ true) (λ _. sanitized-escaped x) (λ _. refl)

@@ -1,5 +1,7 @@
 -- The tag filter, from one `<` to the next.
-use Rattle.std.proofs.Common.{◌≡◌, ◌≢◌, ℕ, ◌+◌, ◌<◌, ◌≤◌, Bool, true, false, ◌&&◌, cond, eqb, List, [], ◌∷◌, ◌++◌, length, get_or, take, drop, refl, sym, ap, ◌∙◌, subst, arith, ne_eqb, zero, suc, add-one, drop-cons, append_assoc, codes}
+use Rattle.std.proofs.Common.{◌≡◌, ◌≢◌, ℕ, ◌+◌, ◌<◌, ◌≤◌, Bool, true, false, ◌&&◌, cond, eqb, List}
+use Rattle.std.proofs.Common.{[], ◌∷◌, ◌++◌, length, get_or, take, drop, refl, sym, ap, ◌∙◌, subst}
+use Rattle.std.proofs.Common.{arith, ne_eqb, zero, suc, add-one, drop-cons, append_assoc, codes}
 use Rattle.std.proofs.lemmas.Bool.{eqb-true, eqb-false, not-true, not-false}
 use Rattle.std.proofs.lemmas.List.{take_more, get_or-drop, length-drop}
 use Rattle.std.proofs.lemmas.List.Sums.{prefix_len_stops}
@@ -9,10 +11,12 @@ use Rattle.md_text.specs.Kept.{opens_no_tag}
 
 -- a byte that isn't `<` stays
 pub filtered_byte-other : (b : ℕ) (rest : List ℕ) → b ≢ 60 → filtered_byte b rest ≡ b ∷ []
-filtered_byte-other b rest ne = ap (λ t. cond (t && begins_disarmed_name (past_slash rest)) (codes "&lt;") (b ∷ []))
+filtered_byte-other b rest ne =
+    ap (λ t. cond (t && begins_disarmed_name (past_slash rest)) (codes "&lt;") (b ∷ []))
     (ne_eqb b 60 ne)
 
-pub tag_filtered-other : (b : ℕ) (rest : List ℕ) → b ≢ 60 → tag_filtered (b ∷ rest) ≡ b ∷ tag_filtered rest
+pub tag_filtered-other : (b : ℕ) (rest : List ℕ) → b ≢ 60 →
+    tag_filtered (b ∷ rest) ≡ b ∷ tag_filtered rest
 tag_filtered-other b rest ne = ap (λ x. x ++ tag_filtered rest) (filtered_byte-other b rest ne)
 
 -- the front of a text that holds no `<`
@@ -28,7 +32,8 @@ filtered-front (suc m) (b ∷ bs) le = by_first (opens_no_tag b) refl (filtered-
     by_first true e rest =
         let whole : prefix_len opens_no_tag (b ∷ bs) ≡ 1 + prefix_len opens_no_tag bs =
         ap (λ t. cond t (1 + prefix_len opens_no_tag bs) 0) e in
-        ap (λ x. b ∷ x) (rest (omega arith)) ∙ sym (tag_filtered-other b bs (eqb-false b 60 (not-true (eqb b 60) e)))
+        ap (λ x. b ∷ x) (rest (omega arith))
+        ∙ sym (tag_filtered-other b bs (eqb-false b 60 (not-true (eqb b 60) e)))
     by_first false e rest =
         let none : prefix_len opens_no_tag (b ∷ bs) ≡ 0 =
         ap (λ t. cond t (1 + prefix_len opens_no_tag bs) 0) e in
@@ -39,10 +44,12 @@ pub filtered-run : (bs : List ℕ) (i m j : ℕ) → j ≡ i + m → m ≤ prefi
     take j bs ++ tag_filtered (drop j bs) ≡ take i bs ++ tag_filtered (drop i bs)
 filtered-run bs zero m j e le =
     let same : m ≡ j = omega arith in
-    subst (λ n. take n bs ++ tag_filtered (drop n bs) ≡ tag_filtered bs) same (filtered-front m bs le)
+    subst (λ n. take n bs ++ tag_filtered (drop n bs) ≡ tag_filtered bs) same
+    (filtered-front m bs le)
 filtered-run bs (suc i) m zero e le = absurd (omega arith)
 filtered-run [] (suc i) m (suc j) e le = refl
-filtered-run (b ∷ bs) (suc i) m (suc j) e le = ap (λ x. b ∷ x) (filtered-run bs i m j (omega arith) le)
+filtered-run (b ∷ bs) (suc i) m (suc j) e le =
+    ap (λ x. b ∷ x) (filtered-run bs i m j (omega arith) le)
 
 -- a text from one of its bytes on
 from : (bs : List ℕ) (i : ℕ) → i < length bs → drop i bs ≡ get_or bs i 0 ∷ drop (i + 1) bs
@@ -68,11 +75,13 @@ filtered-angle bs i h is other =
     ∙ ap (λ t. cond t (codes "&lt;") (60 ∷ []) ++ rest) other))
 
 -- the byte after a run without `<`
-pub angle-at : (bs : List ℕ) (i m j : ℕ) → j ≡ i + m → m ≡ prefix_len opens_no_tag (drop i bs) → j < length bs →
+pub angle-at : (bs : List ℕ) (i m j : ℕ) → j ≡ i + m → m ≡ prefix_len opens_no_tag (drop i bs) →
+    j < length bs →
     get_or bs j 0 ≡ 60
 angle-at bs i m j e is inside =
     let rest = drop i bs in
     let stops = prefix_len_stops opens_no_tag rest 0 (omega (arith, is, length-drop i bs)) in
     let place : i + prefix_len opens_no_tag rest ≡ j = omega (arith, is) in
-    let there = sym (get_or-drop i bs (prefix_len opens_no_tag rest) 0 ∙ ap (λ n. get_or bs n 0) place) in
+    let there =
+    sym (get_or-drop i bs (prefix_len opens_no_tag rest) 0 ∙ ap (λ n. get_or bs n 0) place) in
     there ∙ eqb-true _ 60 (not-false _ stops)

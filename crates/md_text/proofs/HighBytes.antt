@@ -1,5 +1,7 @@
--- The bytes of a character past ASCII are 128 or more, so no definition by bytes mistakes one for an ASCII character.
-use Rattle.std.proofs.Common.{◌≡◌, ℕ, ◌<◌, ◌≤◌, List, [], ◌∷◌, length, get_or, sym, encode_utf8, arith, suc, append-nil, zero-lt-suc, suc-le-suc, inl, inr}
+-- The bytes of a character past ASCII are 128 or more, so no definition by bytes mistakes one for
+-- an ASCII character.
+use Rattle.std.proofs.Common.{◌≡◌, ℕ, ◌<◌, ◌≤◌, List, [], ◌∷◌, length, get_or, sym, encode_utf8}
+use Rattle.std.proofs.Common.{arith, suc, append-nil, zero-lt-suc, suc-le-suc, inl, inr}
 use Rattle.std.proofs.lemmas.Bool.{cases_lt}
 use Rattle.std.proofs.lemmas.Str.{inside_one}
 
@@ -18,7 +20,8 @@ AllHigh-from_places (b ∷ bs) h = (
 high_at : (c k : ℕ) → 128 ≤ c → k < length (encode_utf8 c) → 128 ≤ get_or (encode_utf8 c) k 0
 high_at c k high l = elim (cases_lt (get_or (encode_utf8 c) k 0) 128) [
   | inl low ↦ (let same : c ≡ get_or (encode_utf8 c) k 0 =
-      inside_one c [] (encode_utf8 c) k (sym (append-nil (encode_utf8 c))) l low in absurd (omega arith))
+      inside_one c [] (encode_utf8 c) k (sym (append-nil (encode_utf8 c))) l low in
+      absurd (omega arith))
   | inr done ↦ done
 ]
 

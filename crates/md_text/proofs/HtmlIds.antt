@@ -1,13 +1,18 @@
--- How often an id stands in what a text is read as: in nothing, in tags around a text, in two texts. `md_safe` counts
--- by this that no two ids are equal.
+-- How often an id stands in what a text is read as: in nothing, in tags around a text, in two
+-- texts. `md_safe` counts by this that no two ids are equal.
 use Rattle.std.specs.Prelude.{bytes_eq}
 use Rattle.std.specs.List.{list_all, list_any}
-use Rattle.std.proofs.Common.{◌≡◌, ℕ, suc, ◌+◌, ◌≤◌, Bool, true, false, not, ◌&&◌, ◌||◌, cond, List, [], ◌∷◌, ◌++◌, refl, sym, ap, ap₂, ◌∙◌, subst, arith, append-nil, append_assoc, codes}
+use Rattle.std.proofs.Common.{◌≡◌, ℕ, suc, ◌+◌, ◌≤◌, Bool, true, false, not, ◌&&◌, ◌||◌, cond, List}
+use Rattle.std.proofs.Common.{[], ◌∷◌, ◌++◌, refl, sym, ap, ap₂, ◌∙◌, subst, arith, append-nil}
+use Rattle.std.proofs.Common.{append_assoc, codes}
 use Rattle.std.proofs.lemmas.Bool.{and_parts, and_from}
 use Rattle.std.proofs.lemmas.Slice.Eq.{bytes_eq-Decides}
 use Rattle.md_base.proofs.Lies.{lie}
 use Rattle.md_text.specs.References.{read_back}
-use Rattle.md_text.specs.Html.{Attribute, Forest, Empty, Text, Void, Element, is_forest, is_tag, elements, void_tags, written_attributes, written, opening_tag, closing_tag, IsReading, HasReadingWith, all_attributes, any_attribute}
+use Rattle.md_text.specs.Html.{Attribute, Forest, Empty, Text, Void, Element, is_forest, is_tag}
+use Rattle.md_text.specs.Html.{elements, void_tags, written_attributes, written, opening_tag}
+use Rattle.md_text.specs.Html.{closing_tag, IsReading, HasReadingWith, all_attributes}
+use Rattle.md_text.specs.Html.{any_attribute}
 use Rattle.md_text.specs.Laws.{is_line_ends}
 use Rattle.md_text.specs.Ids.{id_in, ids_in, ids, are_distinct, HasDistinctIds}
 use Rattle.md_text.proofs.HtmlJoin.{text, text_before, joined, after_forest, opening-before}
@@ -19,7 +24,8 @@ abbrev pub occurs : List ℕ → List (List ℕ) → ℕ
 occurs w [] = 0
 occurs w (x ∷ xs) = cond (bytes_eq x w) (suc (occurs w xs)) (occurs w xs)
 
-pub occurs-append : (w : List ℕ) (xs ys : List (List ℕ)) → occurs w (xs ++ ys) ≡ occurs w xs + occurs w ys
+pub occurs-append : (w : List ℕ) (xs ys : List (List ℕ)) →
+    occurs w (xs ++ ys) ≡ occurs w xs + occurs w ys
 occurs-append w [] ys = omega arith
 occurs-append w (x ∷ xs) ys = by (bytes_eq x w) (occurs-append w xs ys)
   where
@@ -45,18 +51,26 @@ none-attribute w a = by (bytes_eq a.name (codes "id"))
     by true h = of (bytes_eq (read_back a.value) w) h
     by false h = refl
 
-pub none-attributes : (w : List ℕ) (attributes : List Attribute) → list_all (is_without w) attributes ≡ true →
+pub none-attributes : (w : List ℕ) (attributes : List Attribute) →
+    list_all (is_without w) attributes ≡ true →
     occurs w (ids_in attributes) ≡ 0
 none-attributes w [] h = refl
 none-attributes w (a ∷ rest) h =
     let parts = and_parts (is_without w a) (list_all (is_without w) rest) h in
-    omega (occurs-append w (id_in a) (ids_in rest), none-attribute w a parts.0, none-attributes w rest parts.1, arith)
+    omega (
+      occurs-append w (id_in a) (ids_in rest),
+      none-attribute w a parts.0,
+      none-attributes w rest parts.1,
+      arith,
+    )
 
-none-forest : (w : List ℕ) (f : Forest) → all_attributes (is_without w) f ≡ true → occurs w (ids f) ≡ 0
+none-forest : (w : List ℕ) (f : Forest) → all_attributes (is_without w) f ≡ true →
+    occurs w (ids f) ≡ 0
 none-forest w Empty h = refl
 none-forest w (Text bytes rest) h = none-forest w rest h
 none-forest w (Void name attributes rest) h =
-    let parts = and_parts (list_all (is_without w) attributes) (all_attributes (is_without w) rest) h in
+    let parts =
+    and_parts (list_all (is_without w) attributes) (all_attributes (is_without w) rest) h in
     omega (
       occurs-append w (ids_in attributes) (ids rest),
       none-attributes w attributes parts.0,
@@ -64,9 +78,11 @@ none-forest w (Void name attributes rest) h =
       arith,
     )
 none-forest w (Element name attributes children rest) h =
-    let parts = and_parts (list_all (is_without w) attributes && all_attributes (is_without w) children)
+    let parts =
+    and_parts (list_all (is_without w) attributes && all_attributes (is_without w) children)
     (all_attributes (is_without w) rest) h in
-    let front = and_parts (list_all (is_without w) attributes) (all_attributes (is_without w) children) parts.0 in
+    let front = and_parts (list_all (is_without w) attributes)
+    (all_attributes (is_without w) children) parts.0 in
     omega (
       occurs-append w (ids_in attributes) (ids children ++ ids rest),
       occurs-append w (ids children) (ids rest),
@@ -90,7 +106,8 @@ counts-plain w x h = record {
 }
 
 pub counts-more : (w : List ℕ) (n m : ℕ) (x : List ℕ) → n ≤ m → Counts w n x → Counts w m x
-counts-more w n m x more h = record { forest = h.forest; reading = h.reading; few = omega (h.few, more, arith) }
+counts-more w n m x more h =
+    record { forest = h.forest; reading = h.reading; few = omega (h.few, more, arith) }
 
 ids-text_before : (bytes : List ℕ) (f : Forest) → ids (text_before bytes f) ≡ ids f
 ids-text_before bytes Empty = refl
@@ -103,7 +120,8 @@ pub ids-joined : (f g : Forest) → ids (joined f g) ≡ ids f ++ ids g
 ids-joined Empty g = refl
 ids-joined (Text bytes rest) g = ids-text_before bytes (joined rest g) ∙ ids-joined rest g
 ids-joined (Void name attributes rest) g =
-    ap (λ x. ids_in attributes ++ x) (ids-joined rest g) ∙ sym (append_assoc (ids_in attributes) (ids rest) (ids g))
+    ap (λ x. ids_in attributes ++ x) (ids-joined rest g)
+    ∙ sym (append_assoc (ids_in attributes) (ids rest) (ids g))
 ids-joined (Element name attributes children rest) g =
     ap (λ x. ids_in attributes ++ (ids children ++ x)) (ids-joined rest g)
     ∙ ap (λ x. ids_in attributes ++ x) (sym (append_assoc (ids children) (ids rest) (ids g)))
@@ -114,7 +132,8 @@ few-joined : (w : List ℕ) (n m : ℕ) (f g : Forest) → occurs w (ids f) ≤ 
 few-joined w n m f g a b =
     omega (ap (occurs w) (ids-joined f g), occurs-append w (ids f) (ids g), a, b, arith)
 
-pub counts-join : (w : List ℕ) (n m : ℕ) (x y : List ℕ) → Counts w n x → Counts w m y → Counts w (n + m) (x ++ y)
+pub counts-join : (w : List ℕ) (n m : ℕ) (x y : List ℕ) → Counts w n x → Counts w m y →
+    Counts w (n + m) (x ++ y)
 counts-join w n m x y a b =
     let both = after_forest any_attribute a.forest b.forest a.reading.in_grammar (all-any a.forest)
     b.reading.in_grammar (all-any b.forest) in
@@ -139,14 +158,16 @@ few-element w n m name attributes f a b =
       arith,
     )
 
-pub counts-element : (w : List ℕ) (n m : ℕ) (name : List ℕ) (attributes : List Attribute) (inside : List ℕ) →
+pub counts-element :
+    (w : List ℕ) (n m : ℕ) (name : List ℕ) (attributes : List Attribute) (inside : List ℕ) →
     is_tag elements name attributes ≡ true → occurs w (ids_in attributes) ≤ m → Counts w n inside
     → Counts w (m + n) (60 ∷ (name ++ (written_attributes attributes
     ++ (62 ∷ (inside ++ (60 ∷ 47 ∷ (name ++ (62 ∷ []))))))))
 counts-element w n m name attributes inside h few within = record {
   forest = Element name attributes within.forest Empty;
   reading = record {
-    in_grammar = and_from _ true (and_from (is_tag elements name attributes) (is_forest within.forest) h
+    in_grammar =
+        and_from _ true (and_from (is_tag elements name attributes) (is_forest within.forest) h
         within.reading.in_grammar) refl;
     written_so = ap (λ x. 60 ∷ (name ++ (written_attributes attributes
         ++ (62 ∷ (x ++ (60 ∷ 47 ∷ (name ++ (62 ∷ [])))))))) within.reading.written_so;
@@ -154,23 +175,30 @@ counts-element w n m name attributes inside h few within = record {
   few = few-element w n m name attributes within.forest few within.few;
 }
 
-pub counts-enclosed : (w : List ℕ) (n m : ℕ) (name : List ℕ) (attributes : List Attribute) (inside : List ℕ) →
+pub counts-enclosed :
+    (w : List ℕ) (n m : ℕ) (name : List ℕ) (attributes : List Attribute) (inside : List ℕ) →
     is_tag elements name attributes ≡ true → occurs w (ids_in attributes) ≤ m → Counts w n inside
     → Counts w (m + n) (opening_tag name attributes ++ inside ++ closing_tag name)
 counts-enclosed w n m name attributes inside h few within =
-    subst (Counts w (m + n)) (sym (append_assoc (opening_tag name attributes) inside (closing_tag name)
+    subst (Counts w (m + n))
+    (sym (append_assoc (opening_tag name attributes) inside (closing_tag name)
     ∙ opening-before name attributes (inside ++ closing_tag name)))
     (counts-element w n m name attributes inside h few within)
 
-counts-void : (w : List ℕ) (name : List ℕ) (attributes : List Attribute) → is_tag void_tags name attributes ≡ true →
+counts-void : (w : List ℕ) (name : List ℕ) (attributes : List Attribute) →
+    is_tag void_tags name attributes ≡ true →
     Counts w (occurs w (ids_in attributes)) (written (Void name attributes Empty))
 counts-void w name attributes h = record {
   forest = Void name attributes Empty;
-  reading = record { in_grammar = and_from (is_tag void_tags name attributes) true h refl; written_so = refl };
+  reading = record {
+    in_grammar = and_from (is_tag void_tags name attributes) true h refl;
+    written_so = refl;
+  };
   few = omega (ap (occurs w) (append-nil (ids_in attributes)), arith);
 }
 
-counts-written : (w : List ℕ) (f : Forest) → is_forest f ≡ true → Counts w (occurs w (ids f)) (written f)
+counts-written : (w : List ℕ) (f : Forest) → is_forest f ≡ true →
+    Counts w (occurs w (ids f)) (written f)
 counts-written w f h = record {
   forest = f;
   reading = record { in_grammar = h; written_so = refl };
@@ -178,16 +206,19 @@ counts-written w f h = record {
 }
 
 -- a text without an id that is inserted adds none
-counts-made : (w x : List ℕ) → HasReadingWith (is_without w) x → IsMade x (λ f y. Counts w (occurs w (ids f)) y)
+counts-made : (w x : List ℕ) → HasReadingWith (is_without w) x →
+    IsMade x (λ f y. Counts w (occurs w (ids f)) y)
 counts-made w x hx = record {
   texts = λ bytes rest y escaped later.
       counts-more w (0 + occurs w (ids rest)) (occurs w (ids rest)) (bytes ++ y) (omega arith)
-      (counts-join w 0 (occurs w (ids rest)) bytes y (counts-plain w bytes (text (is_without w) bytes escaped)) later);
+      (counts-join w 0 (occurs w (ids rest)) bytes y
+      (counts-plain w bytes (text (is_without w) bytes escaped)) later);
   voids = λ name attributes rest y tag later.
-      counts-more w (occurs w (ids_in attributes) + occurs w (ids rest)) (occurs w (ids_in attributes ++ ids rest))
-      (written (Void name attributes Empty) ++ y) (omega (occurs-append w (ids_in attributes) (ids rest), arith))
-      (counts-join w (occurs w (ids_in attributes)) (occurs w (ids rest)) (written (Void name attributes Empty)) y
-      (counts-void w name attributes tag) later);
+      counts-more w (occurs w (ids_in attributes) + occurs w (ids rest))
+      (occurs w (ids_in attributes ++ ids rest)) (written (Void name attributes Empty) ++ y)
+      (omega (occurs-append w (ids_in attributes) (ids rest), arith))
+      (counts-join w (occurs w (ids_in attributes)) (occurs w (ids rest))
+      (written (Void name attributes Empty)) y (counts-void w name attributes tag) later);
   rests = λ name attributes children rest y tag forest later.
       counts-more w (occurs w (ids_in attributes) + occurs w (ids children) + occurs w (ids rest))
       (occurs w (ids_in attributes ++ (ids children ++ ids rest)))
@@ -199,41 +230,44 @@ counts-made w x hx = record {
       ))
       (counts-join w (occurs w (ids_in attributes) + occurs w (ids children)) (occurs w (ids rest))
       (opening_tag name attributes ++ written children ++ closing_tag name) y
-      (counts-enclosed w (occurs w (ids children)) (occurs w (ids_in attributes)) name attributes (written children) tag
-      (omega arith) (counts-written w children forest)) later);
+      (counts-enclosed w (occurs w (ids children)) (occurs w (ids_in attributes)) name attributes
+      (written children) tag (omega arith) (counts-written w children forest)) later);
   insides = λ name attributes children rest tag forest rests.
-      counts-more w (occurs w (ids_in attributes) + (occurs w (ids children) + 0) + occurs w (ids rest))
-      (occurs w (ids_in attributes ++ (ids children ++ ids rest)))
+      counts-more w (occurs w (ids_in attributes) + (occurs w (ids children) + 0)
+      + occurs w (ids rest)) (occurs w (ids_in attributes ++ (ids children ++ ids rest)))
       ((opening_tag name attributes ++ (written children ++ x) ++ closing_tag name) ++ written rest)
       (omega (
         occurs-append w (ids_in attributes) (ids children ++ ids rest),
         occurs-append w (ids children) (ids rest),
         arith,
       ))
-      (counts-join w (occurs w (ids_in attributes) + (occurs w (ids children) + 0)) (occurs w (ids rest))
+      (counts-join w (occurs w (ids_in attributes) + (occurs w (ids children) + 0))
+      (occurs w (ids rest))
       (opening_tag name attributes ++ (written children ++ x) ++ closing_tag name) (written rest)
-      (counts-enclosed w (occurs w (ids children) + 0) (occurs w (ids_in attributes)) name attributes
-      (written children ++ x) tag (omega arith)
-      (counts-join w (occurs w (ids children)) 0 (written children) x (counts-written w children forest)
-      (counts-plain w x hx)))
+      (counts-enclosed w (occurs w (ids children) + 0) (occurs w (ids_in attributes)) name
+      attributes (written children ++ x) tag (omega arith) (counts-join w (occurs w (ids children))
+      0 (written children) x (counts-written w children forest) (counts-plain w x hx)))
       (counts-written w rest rests));
 }
 
-pub counts-takes : (w : List ℕ) (n : ℕ) (before endings inserted : List ℕ) → is_line_ends endings ≡ true →
+pub counts-takes : (w : List ℕ) (n : ℕ) (before endings inserted : List ℕ) →
+    is_line_ends endings ≡ true →
     Counts w n (before ++ codes "</p>" ++ endings) → HasReadingWith (is_without w) inserted
     → Counts w n (before ++ inserted ++ codes "</p>" ++ endings)
 counts-takes w n before endings inserted h counted hx =
-    counts-more w (occurs w (ids counted.forest)) n (before ++ inserted ++ codes "</p>" ++ endings) counted.few
-    (made-before (λ f y. Counts w (occurs w (ids f)) y) before endings inserted h (counts-made w inserted hx)
-    counted.forest counted.reading)
+    counts-more w (occurs w (ids counted.forest)) n (before ++ inserted ++ codes "</p>" ++ endings)
+    counted.few (made-before (λ f y. Counts w (occurs w (ids f)) y) before endings inserted h
+    (counts-made w inserted hx) counted.forest counted.reading)
 
 -- a text that is among some stands there once or more
-occurs-any : (x : List ℕ) (xs : List (List ℕ)) → occurs x xs ≡ 0 → list_any (λ y. bytes_eq y x) xs ≡ false
+occurs-any : (x : List ℕ) (xs : List (List ℕ)) → occurs x xs ≡ 0 →
+    list_any (λ y. bytes_eq y x) xs ≡ false
 occurs-any x [] h = refl
 occurs-any x (y ∷ ys) h = by (bytes_eq y x) (occurs-any x ys) h
   where
     by : (is : Bool) → (occurs x ys ≡ 0 → list_any (λ y. bytes_eq y x) ys ≡ false)
-        → cond is (suc (occurs x ys)) (occurs x ys) ≡ 0 → (is || list_any (λ y. bytes_eq y x) ys) ≡ false
+        → cond is (suc (occurs x ys)) (occurs x ys) ≡ 0 →
+        (is || list_any (λ y. bytes_eq y x) ys) ≡ false
     by true later e = absurd (omega (e, arith))
     by false later e = later e
 
@@ -241,15 +275,17 @@ occurs-any x (y ∷ ys) h = by (bytes_eq y x) (occurs-any x ys) h
 pub distinct-ids : (xs : List (List ℕ)) → ((w : List ℕ) → occurs w xs ≤ 1) → are_distinct xs ≡ true
 distinct-ids [] h = refl
 distinct-ids (x ∷ xs) h =
-    and_from (not (list_any (λ y. bytes_eq y x) xs)) (are_distinct xs)
-    (ap not (occurs-any x xs (omega (first (bytes_eq x x) ((bytes_eq-Decides x x).1 refl) (h x), arith))))
+    and_from (not (list_any (λ y. bytes_eq y x) xs)) (are_distinct xs) (ap not
+    (occurs-any x xs (omega (first (bytes_eq x x) ((bytes_eq-Decides x x).1 refl) (h x), arith))))
     (distinct-ids xs (λ w. later w (bytes_eq x w) (h w)))
   where
-    first : (is : Bool) → is ≡ true → cond is (suc (occurs x xs)) (occurs x xs) ≤ 1 → occurs x xs ≤ 0
+    first : (is : Bool) → is ≡ true → cond is (suc (occurs x xs)) (occurs x xs) ≤ 1 →
+        occurs x xs ≤ 0
     first true e few = omega (few, arith)
     first false e few = lie e
 
-    later : (w : List ℕ) (is : Bool) → cond is (suc (occurs w xs)) (occurs w xs) ≤ 1 → occurs w xs ≤ 1
+    later : (w : List ℕ) (is : Bool) → cond is (suc (occurs w xs)) (occurs w xs) ≤ 1 →
+        occurs w xs ≤ 1
     later w true few = omega (few, arith)
     later w false few = few
 

@@ -1,11 +1,14 @@
--- What has a reading: nothing, a text, tags around what has one, and two such texts joined. All that is printed is put
--- together so.
+-- What has a reading: nothing, a text, tags around what has one, and two such texts joined. All
+-- that is printed is put together so.
 use Rattle.md_base.specs.Identifier.{is_nonempty}
 use Rattle.std.specs.List.{list_all}
-use Rattle.std.proofs.Common.{◌≡◌, ℕ, Bool, true, not, ◌&&◌, List, [], ◌∷◌, ◌++◌, refl, sym, ap, ap₂, ◌∙◌, subst, append-nil, append_assoc}
+use Rattle.std.proofs.Common.{◌≡◌, ℕ, Bool, true, not, ◌&&◌, List, [], ◌∷◌, ◌++◌, refl, sym, ap}
+use Rattle.std.proofs.Common.{ap₂, ◌∙◌, subst, append-nil, append_assoc}
 use Rattle.std.proofs.lemmas.Bool.{and_parts, and_from}
 use Rattle.md_text.specs.References.{is_escaped}
-use Rattle.md_text.specs.Html.{Attribute, Forest, Empty, Text, Void, Element, is_forest, is_tag, begins_with_text, elements, void_tags, written, written_attributes, opening_tag, closing_tag, HasReadingWith, all_attributes}
+use Rattle.md_text.specs.Html.{Attribute, Forest, Empty, Text, Void, Element, is_forest, is_tag}
+use Rattle.md_text.specs.Html.{begins_with_text, elements, void_tags, written, written_attributes}
+use Rattle.md_text.specs.Html.{opening_tag, closing_tag, HasReadingWith, all_attributes}
 use Rattle.md_text.proofs.EscapedLemmas.{escaped-append}
 
 filled-append : (x y : List ℕ) → is_nonempty x ≡ true → is_nonempty (x ++ y) ≡ true
@@ -17,7 +20,8 @@ abbrev pub text_before : List ℕ → Forest → Forest
 text_before bytes Empty = Text bytes Empty
 text_before bytes (Text more rest) = Text (bytes ++ more) rest
 text_before bytes (Void name attributes rest) = Text bytes (Void name attributes rest)
-text_before bytes (Element name attributes children rest) = Text bytes (Element name attributes children rest)
+text_before bytes (Element name attributes children rest) =
+    Text bytes (Element name attributes children rest)
 
 -- one forest after another
 abbrev pub joined : Forest → Forest → Forest
@@ -26,23 +30,26 @@ joined (Text bytes rest) g = text_before bytes (joined rest g)
 joined (Void name attributes rest) g = Void name attributes (joined rest g)
 joined (Element name attributes children rest) g = Element name attributes children (joined rest g)
 
-written-text_before : (bytes : List ℕ) (g : Forest) → written (text_before bytes g) ≡ bytes ++ written g
+written-text_before : (bytes : List ℕ) (g : Forest) →
+    written (text_before bytes g) ≡ bytes ++ written g
 written-text_before bytes Empty = refl
 written-text_before bytes (Text more rest) = append_assoc bytes more (written rest)
 written-text_before bytes (Void name attributes rest) = refl
 written-text_before bytes (Element name attributes children rest) = refl
 
-forest-text_before : (bytes : List ℕ) (g : Forest) → is_nonempty bytes ≡ true → is_escaped bytes ≡ true →
+forest-text_before : (bytes : List ℕ) (g : Forest) → is_nonempty bytes ≡ true →
+    is_escaped bytes ≡ true →
     is_forest g ≡ true → is_forest (text_before bytes g) ≡ true
 forest-text_before bytes Empty f h hg = and_from _ true (and_from _ true
     (and_from (is_nonempty bytes) (is_escaped bytes) f h) refl) refl
 forest-text_before bytes (Text more rest) f h hg =
-    let p = and_parts (is_nonempty more && is_escaped more && not (begins_with_text rest)) (is_forest rest) hg in
+    let p = and_parts (is_nonempty more && is_escaped more && not (begins_with_text rest))
+    (is_forest rest) hg in
     let q = and_parts (is_nonempty more && is_escaped more) (not (begins_with_text rest)) p.0 in
     let r = and_parts (is_nonempty more) (is_escaped more) q.0 in
     and_from _ (is_forest rest) (and_from _ (not (begins_with_text rest))
-    (and_from (is_nonempty (bytes ++ more)) (is_escaped (bytes ++ more)) (filled-append bytes more f)
-    (escaped-append bytes more h r.1)) q.1) p.1
+    (and_from (is_nonempty (bytes ++ more)) (is_escaped (bytes ++ more))
+    (filled-append bytes more f) (escaped-append bytes more h r.1)) q.1) p.1
 forest-text_before bytes (Void name attributes rest) f h hg =
     and_from _ _ (and_from _ true (and_from (is_nonempty bytes) (is_escaped bytes) f h) refl) hg
 forest-text_before bytes (Element name attributes children rest) f h hg =
@@ -58,9 +65,14 @@ all-text_before p bytes (Element name attributes children rest) h = h
 -- ---- the closure facts
 
 pub nothing : (p : Attribute → Bool) → HasReadingWith p []
-nothing p = record { forest = Empty; reading = record { in_grammar = refl; written_so = refl }; passes = refl }
+nothing p = record {
+  forest = Empty;
+  reading = record { in_grammar = refl; written_so = refl };
+  passes = refl;
+}
 
-pub text : (p : Attribute → Bool) (bytes : List ℕ) → is_escaped bytes ≡ true → HasReadingWith p bytes
+pub text : (p : Attribute → Bool) (bytes : List ℕ) → is_escaped bytes ≡ true →
+    HasReadingWith p bytes
 text p [] h = nothing p
 text p (b ∷ bytes) h = record {
   forest = Text (b ∷ bytes) Empty;
@@ -77,11 +89,15 @@ pub void : (p : Attribute → Bool) (name : List ℕ) (attributes : List Attribu
     HasReadingWith p (written (Void name attributes Empty))
 void p name attributes h a = record {
   forest = Void name attributes Empty;
-  reading = record { in_grammar = and_from (is_tag void_tags name attributes) true h refl; written_so = refl };
+  reading = record {
+    in_grammar = and_from (is_tag void_tags name attributes) true h refl;
+    written_so = refl;
+  };
   passes = and_from (list_all p attributes) true a refl;
 }
 
-pub element : (p : Attribute → Bool) (name : List ℕ) (attributes : List Attribute) (inside : List ℕ) →
+pub element :
+    (p : Attribute → Bool) (name : List ℕ) (attributes : List Attribute) (inside : List ℕ) →
     is_tag elements name attributes ≡ true → list_all p attributes ≡ true → HasReadingWith p inside
     → HasReadingWith p (60 ∷ (name ++ (written_attributes attributes
     ++ (62 ∷ (inside ++ (60 ∷ 47 ∷ (name ++ (62 ∷ []))))))))
@@ -93,7 +109,8 @@ element p name attributes inside h a within = record {
     written_so = ap (λ x. 60 ∷ (name ++ (written_attributes attributes
         ++ (62 ∷ (x ++ (60 ∷ 47 ∷ (name ++ (62 ∷ [])))))))) within.reading.written_so;
   };
-  passes = and_from _ true (and_from (list_all p attributes) (all_attributes p within.forest) a within.passes) refl;
+  passes = and_from _ true
+      (and_from (list_all p attributes) (all_attributes p within.forest) a within.passes) refl;
 }
 
 pub opening-before : (name : List ℕ) (attributes : List Attribute) (x : List ℕ) →
@@ -102,21 +119,26 @@ opening-before name attributes x =
     ap (λ x. 60 ∷ x) (append_assoc name (written_attributes attributes ++ (62 ∷ [])) x
     ∙ ap (λ x. name ++ x) (append_assoc (written_attributes attributes) (62 ∷ []) x))
 
-pub enclosed : (p : Attribute → Bool) (name : List ℕ) (attributes : List Attribute) (inside : List ℕ) →
+pub enclosed :
+    (p : Attribute → Bool) (name : List ℕ) (attributes : List Attribute) (inside : List ℕ) →
     is_tag elements name attributes ≡ true → list_all p attributes ≡ true → HasReadingWith p inside
     → HasReadingWith p (opening_tag name attributes ++ inside ++ closing_tag name)
 enclosed p name attributes inside h a within =
-    subst (HasReadingWith p) (sym (append_assoc (opening_tag name attributes) inside (closing_tag name)
-    ∙ opening-before name attributes (inside ++ closing_tag name))) (element p name attributes inside h a within)
+    subst (HasReadingWith p)
+    (sym (append_assoc (opening_tag name attributes) inside (closing_tag name)
+    ∙ opening-before name attributes (inside ++ closing_tag name)))
+    (element p name attributes inside h a within)
 
 -- a forest before what has a reading
-pub after_forest : (p : Attribute → Bool) (f g : Forest) → is_forest f ≡ true → all_attributes p f ≡ true →
+pub after_forest : (p : Attribute → Bool) (f g : Forest) → is_forest f ≡ true →
+    all_attributes p f ≡ true →
     is_forest g ≡ true → all_attributes p g ≡ true
     → (is_forest (joined f g) ≡ true) × (written (joined f g) ≡ written f ++ written g)
     × (all_attributes p (joined f g) ≡ true)
 after_forest p Empty g hf pf hg pg = (hg, refl, pg)
 after_forest p (Text bytes rest) g hf pf hg pg =
-    let a = and_parts (is_nonempty bytes && is_escaped bytes && not (begins_with_text rest)) (is_forest rest) hf in
+    let a = and_parts (is_nonempty bytes && is_escaped bytes && not (begins_with_text rest))
+    (is_forest rest) hf in
     let b = and_parts (is_nonempty bytes && is_escaped bytes) (not (begins_with_text rest)) a.0 in
     let c = and_parts (is_nonempty bytes) (is_escaped bytes) b.0 in
     let on = after_forest p rest g a.1 pf hg pg in (
@@ -138,21 +160,25 @@ after_forest p (Void name attributes rest) g hf pf hg pg =
     )
 after_forest p (Element name attributes children rest) g hf pf hg pg =
     let a = and_parts (is_tag elements name attributes && is_forest children) (is_forest rest) hf in
-    let b = and_parts (list_all p attributes && all_attributes p children) (all_attributes p rest) pf in
+    let b =
+    and_parts (list_all p attributes && all_attributes p children) (all_attributes p rest) pf in
     let on = after_forest p rest g a.1 b.1 hg pg in (
       and_from _ (is_forest (joined rest g)) a.0 on.0,
       ap (λ x. 60 ∷ (name ++ (written_attributes attributes
           ++ (62 ∷ (written children ++ (60 ∷ 47 ∷ (name ++ (62 ∷ x)))))))) on.1
           ∙ sym (ap (λ x. 60 ∷ x) (append_assoc name _ (written g)
           ∙ ap (λ x. name ++ x) (append_assoc (written_attributes attributes) _ (written g)
-          ∙ ap (λ x. written_attributes attributes ++ (62 ∷ x)) (append_assoc (written children) _ (written g)
-          ∙ ap (λ x. written children ++ (60 ∷ 47 ∷ x)) (append_assoc name (62 ∷ written rest) (written g)))))),
+          ∙ ap (λ x. written_attributes attributes ++ (62 ∷ x)) (append_assoc (written children) _
+          (written g) ∙ ap (λ x. written children ++ (60 ∷ 47 ∷ x))
+          (append_assoc name (62 ∷ written rest) (written g)))))),
       and_from _ (all_attributes p (joined rest g)) b.0 on.2,
     )
 
-pub join : (p : Attribute → Bool) (x y : List ℕ) → HasReadingWith p x → HasReadingWith p y → HasReadingWith p (x ++ y)
+pub join : (p : Attribute → Bool) (x y : List ℕ) → HasReadingWith p x → HasReadingWith p y →
+    HasReadingWith p (x ++ y)
 join p x y hx hy =
-    let both = after_forest p hx.forest hy.forest hx.reading.in_grammar hx.passes hy.reading.in_grammar hy.passes in
+    let both = after_forest p hx.forest hy.forest hx.reading.in_grammar hx.passes
+    hy.reading.in_grammar hy.passes in
     record {
       forest = joined hx.forest hy.forest;
       reading = record {

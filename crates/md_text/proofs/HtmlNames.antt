@@ -1,8 +1,10 @@
--- The names of the tables, and where names, values and texts end: by this a reading can't go wrong at a boundary.
+-- The names of the tables, and where names, values and texts end: by this a reading can't go
+-- wrong at a boundary.
 use Rattle.std.specs.Str.{bytes_eq}
 use Rattle.md_base.proofs.Lies.{lie}
 use Rattle.md_base.specs.Identifier.{is_nonempty}
-use Rattle.std.proofs.Common.{◌≡◌, ℕ, ◌==◌, Bool, true, not, ◌&&◌, ◌||◌, List, [], ◌∷◌, refl, sym, ap, subst, inl, inr, ne_eqb}
+use Rattle.std.proofs.Common.{◌≡◌, ℕ, ◌==◌, Bool, true, not, ◌&&◌, ◌||◌, List, [], ◌∷◌, refl, sym}
+use Rattle.std.proofs.Common.{ap, subst, inl, inr, ne_eqb}
 use Rattle.std.specs.List.{list_all, list_any}
 use Rattle.std.specs.Cmp.Lexicographic.{bytes_decides}
 use Rattle.std.proofs.lemmas.Bool.{and_parts, or_cases, and_from, cases_eq}
@@ -26,12 +28,14 @@ no_quote b = not (b == 34)
 -- attributes whose names are names, and whose values end where they are to
 abbrev pub are_tidy : List Attribute → Bool
 are_tidy [] = true
-are_tidy (a ∷ rest) = is_name a.name && (list_all no_quote a.value && (list_all no_angle a.value && are_tidy rest))
+are_tidy (a ∷ rest) =
+    is_name a.name && (list_all no_quote a.value && (list_all no_angle a.value && are_tidy rest))
 
 -- the tables hold only names
 abbrev pub rules_hold_names : List (List ℕ × List (List ℕ)) → Bool
 rules_hold_names [] = true
-rules_hold_names (rule ∷ rules) = is_name rule.0 && (list_all is_name rule.1 && rules_hold_names rules)
+rules_hold_names (rule ∷ rules) =
+    is_name rule.0 && (list_all is_name rule.1 && rules_hold_names rules)
 
 -- what is escaped has none of these
 escaped_byte-angle : (b : ℕ) (rest : List ℕ) → is_escaped_byte b rest ≡ true → no_angle b ≡ true
@@ -50,13 +54,15 @@ pub escaped-angle : (text : List ℕ) → is_escaped text ≡ true → list_all 
 escaped-angle [] e = refl
 escaped-angle (b ∷ rest) e =
     let parts = and_parts (is_escaped_byte b rest) (is_escaped rest) e in
-    and_from (no_angle b) (list_all no_angle rest) (escaped_byte-angle b rest parts.0) (escaped-angle rest parts.1)
+    and_from (no_angle b) (list_all no_angle rest) (escaped_byte-angle b rest parts.0)
+    (escaped-angle rest parts.1)
 
 pub escaped-quote : (text : List ℕ) → is_escaped text ≡ true → list_all no_quote text ≡ true
 escaped-quote [] e = refl
 escaped-quote (b ∷ rest) e =
     let parts = and_parts (is_escaped_byte b rest) (is_escaped rest) e in
-    and_from (no_quote b) (list_all no_quote rest) (escaped_byte-quote b rest parts.0) (escaped-quote rest parts.1)
+    and_from (no_quote b) (list_all no_quote rest) (escaped_byte-quote b rest parts.0)
+    (escaped-quote rest parts.1)
 
 -- a listed name is a name
 listed-name : (listed : List (List ℕ)) (name : List ℕ) → list_all is_name listed ≡ true →
@@ -69,7 +75,8 @@ listed-name (t ∷ ts) name g e =
       | inr later ↦ listed-name ts name parts.1 later
     ]
 
-attributes-tidy : (listed : List (List ℕ)) (attributes : List Attribute) → list_all is_name listed ≡ true →
+attributes-tidy : (listed : List (List ℕ)) (attributes : List Attribute) →
+    list_all is_name listed ≡ true →
     are_attributes listed attributes ≡ true → are_tidy attributes ≡ true
 attributes-tidy listed [] g e = refl
 attributes-tidy listed (a ∷ rest) g e =
@@ -91,18 +98,22 @@ tag-tidy [] name attributes g e = lie e
 tag-tidy (rule ∷ rules) name attributes g e =
     let p = and_parts (is_name rule.0) (list_all is_name rule.1 && rules_hold_names rules) g in
     let q = and_parts (list_all is_name rule.1) (rules_hold_names rules) p.1 in
-    elim (or_cases (bytes_eq rule.0 name && are_attributes rule.1 attributes) (is_tag rules name attributes) e) [
-      | inl this ↦ (let r = and_parts (bytes_eq rule.0 name) (are_attributes rule.1 attributes) this in (
-        subst (λ x. is_name x ≡ true) ((bytes_decides rule.0 name).0 r.0) p.0,
-        attributes-tidy rule.1 attributes q.0 r.1,
-      ))
+    elim (or_cases (bytes_eq rule.0 name && are_attributes rule.1 attributes)
+    (is_tag rules name attributes) e) [
+      | inl this ↦
+          (let r = and_parts (bytes_eq rule.0 name) (are_attributes rule.1 attributes) this in (
+            subst (λ x. is_name x ≡ true) ((bytes_decides rule.0 name).0 r.0) p.0,
+            attributes-tidy rule.1 attributes q.0 r.1,
+          ))
       | inr later ↦ tag-tidy rules name attributes q.1 later
     ]
 
-pub element-tidy : (name : List ℕ) (attributes : List Attribute) → is_tag elements name attributes ≡ true →
+pub element-tidy : (name : List ℕ) (attributes : List Attribute) →
+    is_tag elements name attributes ≡ true →
     (is_name name ≡ true) × (are_tidy attributes ≡ true)
 element-tidy name attributes e = tag-tidy elements name attributes refl e
 
-pub void-tidy : (name : List ℕ) (attributes : List Attribute) → is_tag void_tags name attributes ≡ true →
+pub void-tidy : (name : List ℕ) (attributes : List Attribute) →
+    is_tag void_tags name attributes ≡ true →
     (is_name name ≡ true) × (are_tidy attributes ≡ true)
 void-tidy name attributes e = tag-tidy void_tags name attributes refl e

@@ -1,14 +1,20 @@
--- A paragraph takes an insertion before its end: so the ways back stand in a footnote's last paragraph.
+-- A paragraph takes an insertion before its end: so the ways back stand in a
+-- footnote's last paragraph.
 use Rattle.md_base.proofs.Lies.{lie}
 use Rattle.md_base.specs.Identifier.{is_nonempty}
-use Rattle.std.proofs.Common.{◌≡◌, ◌⊎◌, ℕ, ◌==◌, Bool, true, not, ◌&&◌, ◌||◌, eqb, List, [], ◌∷◌, ◌++◌, refl, sym, ap, ap₂, ◌∙◌, subst, inl, inr, append-nil, append_assoc, codes, eqb-true}
+use Rattle.std.proofs.Common.{◌≡◌, ◌⊎◌, ℕ, ◌==◌, Bool, true, not, ◌&&◌, ◌||◌, eqb, List, [], ◌∷◌}
+use Rattle.std.proofs.Common.{◌++◌, refl, sym, ap, ap₂, ◌∙◌, subst, inl, inr, append-nil}
+use Rattle.std.proofs.Common.{append_assoc, codes, eqb-true}
 use Rattle.std.specs.List.{list_all}
 use Rattle.std.proofs.lemmas.Bool.{and_parts, and_from, or_cases, cases_Bool}
 use Rattle.std.proofs.lemmas.List.Folds.{list_all-append}
 use Rattle.md_text.specs.References.{is_escaped}
 use Rattle.md_text.specs.Laws.{is_line_ends}
-use Rattle.md_text.specs.Html.{Attribute, Forest, Empty, Text, Void, Element, is_forest, is_tag, begins_with_text, elements, void_tags, written, written_attributes, opening_tag, closing_tag, IsReading, HasReadingWith, all_attributes}
-use Rattle.md_text.proofs.HtmlNames.{is_name, is_name_byte, no_angle, no_quote, are_tidy, element-tidy, void-tidy, escaped-angle}
+use Rattle.md_text.specs.Html.{Attribute, Forest, Empty, Text, Void, Element, is_forest, is_tag}
+use Rattle.md_text.specs.Html.{begins_with_text, elements, void_tags, written, written_attributes}
+use Rattle.md_text.specs.Html.{opening_tag, closing_tag, IsReading, HasReadingWith, all_attributes}
+use Rattle.md_text.proofs.HtmlNames.{is_name, is_name_byte, no_angle, no_quote, are_tidy}
+use Rattle.md_text.proofs.HtmlNames.{element-tidy, void-tidy, escaped-angle}
 use Rattle.md_text.proofs.HtmlSplit.{name-not}
 use Rattle.md_text.proofs.HtmlJoin.{text, void, enclosed, join, opening-before}
 
@@ -31,7 +37,8 @@ meet (c ∷ x) y (d ∷ b) z e =
 -- no `<` stands in a text of which each byte is none
 no_angle_inside : (b m : List ℕ) → list_all no_angle (b ++ (60 ∷ m)) ≡ true → ⊥
 no_angle_inside [] m h = lie h
-no_angle_inside (c ∷ b) m h = no_angle_inside b m (and_parts (no_angle c) (list_all no_angle (b ++ (60 ∷ m))) h).1
+no_angle_inside (c ∷ b) m h =
+    no_angle_inside b m (and_parts (no_angle c) (list_all no_angle (b ++ (60 ∷ m))) h).1
 
 name-angle : (name : List ℕ) → list_all is_name_byte name ≡ true → list_all no_angle name ≡ true
 name-angle [] h = refl
@@ -47,16 +54,20 @@ name-angle (b ∷ name) h =
 
 all-append : (x y : List ℕ) → list_all no_angle x ≡ true → list_all no_angle y ≡ true →
     list_all no_angle (x ++ y) ≡ true
-all-append x y hx hy = list_all-append no_angle x y ∙ and_from (list_all no_angle x) (list_all no_angle y) hx hy
+all-append x y hx hy =
+    list_all-append no_angle x y ∙ and_from (list_all no_angle x) (list_all no_angle y) hx hy
 
 attributes-angle : (attributes : List Attribute) → are_tidy attributes ≡ true →
     list_all no_angle (written_attributes attributes) ≡ true
 attributes-angle [] h = refl
 attributes-angle (a ∷ rest) h =
-    let p = and_parts (is_name a.name) (list_all no_quote a.value && (list_all no_angle a.value && are_tidy rest)) h in
-    let q = and_parts (list_all no_quote a.value) (list_all no_angle a.value && are_tidy rest) p.1 in
+    let p = and_parts (is_name a.name)
+    (list_all no_quote a.value && (list_all no_angle a.value && are_tidy rest)) h in
+    let q =
+    and_parts (list_all no_quote a.value) (list_all no_angle a.value && are_tidy rest) p.1 in
     let r = and_parts (list_all no_angle a.value) (are_tidy rest) q.1 in
-    let name = name-angle a.name (and_parts (is_nonempty a.name) (list_all is_name_byte a.name) p.0).1 in
+    let name =
+    name-angle a.name (and_parts (is_nonempty a.name) (list_all is_name_byte a.name) p.0).1 in
     all-append a.name (61 ∷ 34 ∷ (a.value ++ (34 ∷ written_attributes rest))) name
     (all-append a.value (34 ∷ written_attributes rest) r.0 (attributes-angle rest r.1))
 
@@ -69,7 +80,8 @@ tag-angle name attributes more h m =
     (name-angle name (and_parts (is_nonempty name) (list_all is_name_byte name) h.0).1)
     (all-append (written_attributes attributes) more (attributes-angle attributes h.1) m)
 
-first_angle : (inner before m : List ℕ) → list_all no_angle inner ≡ true → 60 ∷ inner ≡ before ++ (60 ∷ m) → before ≡ []
+first_angle : (inner before m : List ℕ) → list_all no_angle inner ≡ true →
+    60 ∷ inner ≡ before ++ (60 ∷ m) → before ≡ []
 first_angle inner [] m h e = refl
 first_angle inner (c ∷ before) m h e =
     let later : inner ≡ before ++ (60 ∷ m) = cc in
@@ -82,7 +94,8 @@ end_before after = 60 ∷ 47 ∷ 112 ∷ 62 ∷ after
 first_of : (d : ℕ) (after m y : List ℕ) → end_before after ≡ (d ∷ m) ++ y → 60 ≡ d
 first_of d after m y e = cc
 
-later_of : (d : ℕ) (after m y : List ℕ) → end_before after ≡ (d ∷ m) ++ y → 47 ∷ 112 ∷ 62 ∷ after ≡ m ++ y
+later_of : (d : ℕ) (after m y : List ℕ) → end_before after ≡ (d ∷ m) ++ y →
+    47 ∷ 112 ∷ 62 ∷ after ≡ m ++ y
 later_of d after m y e = cc
 
 -- the end doesn't begin inside a tag
@@ -95,8 +108,8 @@ not_in_tag name tail before after y d m h angles cut z =
     let empty = first_angle (name ++ tail) before m angles at in
     let whole : 60 ∷ (name ++ tail) ≡ 60 ∷ m = at ∙ ap (λ b. b ++ (60 ∷ m)) empty in
     let rest : name ++ tail ≡ m = cc in
-    name-not 47 name (tail ++ y) (112 ∷ 62 ∷ after) refl h (sym (append_assoc name tail y) ∙ ap (λ x. x ++ y) rest
-    ∙ sym (later_of d after m y z))
+    name-not 47 name (tail ++ y) (112 ∷ 62 ∷ after) refl h
+    (sym (append_assoc name tail y) ∙ ap (λ x. x ++ y) rest ∙ sym (later_of d after m y z))
 
 -- a list of pieces, however it is grouped
 pieces-4 : (o c e r : List ℕ) → (o ++ c ++ e) ++ r ≡ o ++ (c ++ (e ++ r))
@@ -107,7 +120,8 @@ element-before : (name : List ℕ) (attributes : List Attribute) (children rest 
     → written (Element name attributes children rest) ≡ opening_tag name attributes
     ++ (written children ++ (closing_tag name ++ written rest))
 element-before name attributes children rest =
-    ap (λ x. 60 ∷ (name ++ (written_attributes attributes ++ (62 ∷ (written children ++ (60 ∷ 47 ∷ x))))))
+    ap (λ x. 60
+    ∷ (name ++ (written_attributes attributes ++ (62 ∷ (written children ++ (60 ∷ 47 ∷ x))))))
     (sym (append_assoc name (62 ∷ []) (written rest)))
     ∙ sym (opening-before name attributes (written children ++ (closing_tag name ++ written rest)))
 
@@ -117,7 +131,8 @@ void-before : (name : List ℕ) (attributes : List Attribute) (rest : Forest) �
 void-before name attributes rest =
     sym (ap (λ x. 60 ∷ x)
     (append_assoc name (written_attributes attributes ++ (32 ∷ 47 ∷ 62 ∷ [])) (written rest)
-    ∙ ap (λ x. name ++ x) (append_assoc (written_attributes attributes) (32 ∷ 47 ∷ 62 ∷ []) (written rest))))
+    ∙ ap (λ x. name ++ x)
+    (append_assoc (written_attributes attributes) (32 ∷ 47 ∷ 62 ∷ []) (written rest))))
 
 nil_not : (before : List ℕ) (m : List ℕ) → [] ≡ before ++ (60 ∷ m) → ⊥
 nil_not [] m e = cc
@@ -125,7 +140,8 @@ nil_not (b ∷ before) m e = cc
 
 -- what is made of a forest where a text is inserted after the children of one of its elements
 pub record IsMade (x : List ℕ) (made : Forest → List ℕ → Type 0) : Type 0 where
-  pub texts : (bytes : List ℕ) (rest : Forest) (y : List ℕ) → is_escaped bytes ≡ true → made rest y →
+  pub texts : (bytes : List ℕ) (rest : Forest) (y : List ℕ) →
+      is_escaped bytes ≡ true → made rest y →
       made (Text bytes rest) (bytes ++ y)
   pub voids : (name : List ℕ) (attributes : List Attribute) (rest : Forest) (y : List ℕ) →
       is_tag void_tags name attributes ≡ true → made rest y
@@ -139,12 +155,14 @@ pub record IsMade (x : List ℕ) (made : Forest → List ℕ → Type 0) : Type 
       → made (Element name attributes children rest)
       ((opening_tag name attributes ++ (written children ++ x) ++ closing_tag name) ++ written rest)
 
-pub put : (x : List ℕ) (made : Forest → List ℕ → Type 0) → IsMade x made → (f : Forest) (before after : List ℕ) →
+pub put : (x : List ℕ) (made : Forest → List ℕ → Type 0) → IsMade x made →
+    (f : Forest) (before after : List ℕ) →
     is_forest f ≡ true → list_all no_angle after ≡ true
     → written f ≡ before ++ end_before after → made f (before ++ (x ++ end_before after))
 put x made is Empty before after hf angles e = absurd (nil_not before (47 ∷ 112 ∷ 62 ∷ after) e)
 put x made is (Text bytes rest) before after hf angles e =
-    let a = and_parts (is_nonempty bytes && is_escaped bytes && not (begins_with_text rest)) (is_forest rest) hf in
+    let a = and_parts (is_nonempty bytes && is_escaped bytes && not (begins_with_text rest))
+    (is_forest rest) hf in
     let escaped = (and_parts (is_nonempty bytes) (is_escaped bytes)
     (and_parts (is_nonempty bytes && is_escaped bytes) (not (begins_with_text rest)) a.0).0).1 in
     elim (meet bytes (written rest) before (end_before after) e) [
@@ -155,15 +173,18 @@ put x made is (Text bytes rest) before after hf angles e =
       | inr in_text ↦ absurd (no_angle_inside before in_text.1.0
           (subst (λ t. list_all no_angle t ≡ true) (in_text.1.1
           ∙ ap (λ d. before ++ (d ∷ in_text.1.0)) (sym
-          (first_of in_text.0 after in_text.1.0 (written rest) in_text.1.2))) (escaped-angle bytes escaped)))
+          (first_of in_text.0 after in_text.1.0 (written rest) in_text.1.2)))
+          (escaped-angle bytes escaped)))
     ]
 put x made is (Void name attributes rest) before after hf angles e =
     let a = and_parts (is_tag void_tags name attributes) (is_forest rest) hf in
     let tidy = void-tidy name attributes a.0 in
     let tag = written (Void name attributes Empty) in
-    elim (meet tag (written rest) before (end_before after) (sym (void-before name attributes rest) ∙ e)) [
+    elim (meet tag (written rest) before (end_before after)
+    (sym (void-before name attributes rest) ∙ e)) [
       | inl on ↦ (let later = put x made is rest on.0 after a.1 angles on.2 in
-          subst (made (Void name attributes rest)) (sym (append_assoc tag on.0 (x ++ end_before after))
+          subst (made (Void name attributes rest))
+          (sym (append_assoc tag on.0 (x ++ end_before after))
           ∙ ap (λ b. b ++ (x ++ end_before after)) (sym on.1))
           (is.voids name attributes rest (on.0 ++ (x ++ end_before after)) a.0 later))
       | inr in_tag ↦ absurd (not_in_tag name (written_attributes attributes
@@ -180,50 +201,63 @@ put x made is (Element name attributes children rest) before after hf angles e =
     elim (meet open_tag (written children ++ (close_tag ++ written rest)) before z
     (sym (element-before name attributes children rest) ∙ e)) [
       | inr in_tag ↦ absurd (not_in_tag name (written_attributes attributes
-          ++ (62 ∷ [])) before after (written children ++ (close_tag ++ written rest)) in_tag.0 in_tag.1.0 tidy.0
-          (tag-angle name attributes (62 ∷ []) tidy refl) in_tag.1.1 in_tag.1.2)
-      | inl past_open ↦ elim (meet (written children) (close_tag ++ written rest) past_open.0 z past_open.2) [
-        | inr in_children ↦ absurd (no_angle_inside in_children.1.0 (47 ∷ (name ++ (62 ∷ [])) ++ written rest)
-            (subst (λ t. list_all no_angle t ≡ true) (later_of in_children.0 after in_children.1.0 (close_tag
-            ++ written rest) in_children.1.2) angles))
-        | inl past_children ↦ elim (meet close_tag (written rest) past_children.0 z past_children.2) [
-          | inl past_close ↦ (let later = put x made is rest past_close.0 after a.1 angles past_close.2 in
-              let all = is.rests name attributes children rest (past_close.0 ++ (x ++ z)) b.0 b.1 later in
-              let place : before ≡ open_tag ++ written children ++ close_tag ++ past_close.0 =
-              past_open.1 ∙ ap (λ m. open_tag ++ m) (past_children.1 ∙ ap (λ m. written children ++ m) past_close.1)
-              ∙ sym (pieces-4 open_tag (written children) close_tag past_close.0) in
-              subst (made (Element name attributes children rest))
-              (sym (append_assoc (open_tag ++ written children ++ close_tag) past_close.0 (x ++ z))
-              ∙ ap (λ b. b ++ (x ++ z)) (sym place)) all)
-          | inr at_close ↦ (let empty = first_angle (47 ∷ (name ++ (62 ∷ []))) past_children.0 at_close.1.0
-              (tag-close-angle name tidy.0)
-              (at_close.1.1 ∙ ap (λ d. past_children.0 ++ (d ∷ at_close.1.0))
-              (sym (first_of at_close.0 after at_close.1.0 (written rest) at_close.1.2))) in
-              let ends : close_tag ++ written rest ≡ z = past_children.2 ∙ ap (λ m. m ++ z) empty in
-              let place : before ≡ open_tag ++ written children = past_open.1
-              ∙ ap (λ m. open_tag ++ m) (past_children.1 ∙ ap (λ m. written children ++ m) empty
-              ∙ append-nil (written children)) in
-              let all = is.insides name attributes children rest b.0 b.1 a.1 in
-              subst (made (Element name attributes children rest))
-              (append_assoc (open_tag ++ (written children ++ x)) close_tag (written rest)
-              ∙ ap (λ y. (open_tag ++ (written children ++ x)) ++ y) ends
-              ∙ append_assoc open_tag (written children ++ x) z
-              ∙ ap (λ y. open_tag ++ y) (append_assoc (written children) x z)
-              ∙ sym (append_assoc open_tag (written children) (x ++ z))
-              ∙ ap (λ b. b ++ (x ++ z)) (sym place)) all)
-        ]
-      ]
+          ++ (62 ∷ [])) before after (written children ++ (close_tag ++ written rest)) in_tag.0
+          in_tag.1.0 tidy.0 (tag-angle name attributes (62 ∷ []) tidy refl) in_tag.1.1 in_tag.1.2)
+      | inl past_open ↦
+          elim (meet (written children) (close_tag ++ written rest) past_open.0 z past_open.2) [
+            | inr in_children ↦
+                absurd (no_angle_inside in_children.1.0 (47 ∷ (name ++ (62 ∷ [])) ++ written rest)
+                (subst (λ t. list_all no_angle t ≡ true) (later_of in_children.0 after
+                in_children.1.0 (close_tag ++ written rest) in_children.1.2) angles))
+            | inl past_children ↦
+                elim (meet close_tag (written rest) past_children.0 z past_children.2) [
+                  | inl past_close ↦
+                      (let later = put x made is rest past_close.0 after a.1 angles past_close.2 in
+                      let all =
+                      is.rests name attributes children rest
+                      (past_close.0 ++ (x ++ z)) b.0 b.1 later in
+                      let place :
+                      before ≡ open_tag ++ written children ++ close_tag ++ past_close.0 =
+                      past_open.1 ∙ ap (λ m. open_tag ++ m)
+                      (past_children.1 ∙ ap (λ m. written children ++ m) past_close.1)
+                      ∙ sym (pieces-4 open_tag (written children) close_tag past_close.0) in
+                      subst (made (Element name attributes children rest))
+                      (sym (append_assoc (open_tag ++ written children ++ close_tag) past_close.0
+                      (x ++ z)) ∙ ap (λ b. b ++ (x ++ z)) (sym place)) all)
+                  | inr at_close ↦
+                      (let empty = first_angle (47 ∷ (name ++ (62 ∷ []))) past_children.0
+                      at_close.1.0 (tag-close-angle name tidy.0)
+                      (at_close.1.1 ∙ ap (λ d. past_children.0 ++ (d ∷ at_close.1.0))
+                      (sym (first_of at_close.0 after at_close.1.0 (written rest) at_close.1.2))) in
+                      let ends : close_tag ++ written rest ≡ z =
+                      past_children.2 ∙ ap (λ m. m ++ z) empty in
+                      let place : before ≡ open_tag ++ written children = past_open.1
+                      ∙ ap (λ m. open_tag ++ m) (past_children.1
+                      ∙ ap (λ m. written children ++ m) empty ∙ append-nil (written children)) in
+                      let all = is.insides name attributes children rest b.0 b.1 a.1 in
+                      subst (made (Element name attributes children rest))
+                      (append_assoc (open_tag ++ (written children ++ x)) close_tag (written rest)
+                      ∙ ap (λ y. (open_tag ++ (written children ++ x)) ++ y) ends
+                      ∙ append_assoc open_tag (written children ++ x) z
+                      ∙ ap (λ y. open_tag ++ y) (append_assoc (written children) x z)
+                      ∙ sym (append_assoc open_tag (written children) (x ++ z))
+                      ∙ ap (λ b. b ++ (x ++ z)) (sym place)) all)
+                ]
+          ]
     ]
   where
-    tag-close-angle : (name : List ℕ) → is_name name ≡ true → list_all no_angle (47 ∷ (name ++ (62 ∷ []))) ≡ true
+    tag-close-angle : (name : List ℕ) → is_name name ≡ true →
+        list_all no_angle (47 ∷ (name ++ (62 ∷ []))) ≡ true
     tag-close-angle name h = all-append name (62 ∷ []) (name-angle name
         (and_parts (is_nonempty name) (list_all is_name_byte name) h).1) refl
 
-line_ends-angle : (endings : List ℕ) → is_line_ends endings ≡ true → list_all no_angle endings ≡ true
+line_ends-angle : (endings : List ℕ) → is_line_ends endings ≡ true →
+    list_all no_angle endings ≡ true
 line_ends-angle [] h = refl
 line_ends-angle (b ∷ endings) h =
     let parts = and_parts ((b == 13) || (b == 10)) (is_line_ends endings) h in
-    and_from (no_angle b) (list_all no_angle endings) (by b parts.0) (line_ends-angle endings parts.1)
+    and_from (no_angle b) (list_all no_angle endings) (by b parts.0)
+    (line_ends-angle endings parts.1)
   where
     by : (b : ℕ) → ((b == 13) || (b == 10)) ≡ true → no_angle b ≡ true
     by b h = elim (or_cases (b == 13) (b == 10) h) [
@@ -232,7 +266,8 @@ line_ends-angle (b ∷ endings) h =
     ]
 
 -- what is made of a paragraph's text and line endings
-pub made-before : (made : Forest → List ℕ → Type 0) (before endings inserted : List ℕ) → is_line_ends endings ≡ true →
+pub made-before : (made : Forest → List ℕ → Type 0) (before endings inserted : List ℕ) →
+    is_line_ends endings ≡ true →
     IsMade inserted made → (f : Forest) → IsReading (before ++ codes "</p>" ++ endings) f
     → made f (before ++ inserted ++ codes "</p>" ++ endings)
 made-before made before endings inserted h is f reading =
@@ -248,22 +283,28 @@ reading-made p x hx = record {
   texts = λ bytes rest y escaped later passes. join p bytes y (text p bytes escaped) (later passes);
   voids = λ name attributes rest y tag later passes.
       (let parts = and_parts (list_all p attributes) (all_attributes p rest) passes in
-      join p (written (Void name attributes Empty)) y (void p name attributes tag parts.0) (later parts.1));
+      join p (written (Void name attributes Empty)) y
+      (void p name attributes tag parts.0) (later parts.1));
   rests = λ name attributes children rest y tag forest later passes.
-      (let parts = and_parts (list_all p attributes && all_attributes p children) (all_attributes p rest) passes in
+      (let parts = and_parts (list_all p attributes && all_attributes p children)
+      (all_attributes p rest) passes in
       let own = and_parts (list_all p attributes) (all_attributes p children) parts.0 in
       join p (opening_tag name attributes ++ written children ++ closing_tag name) y
-      (enclosed p name attributes (written children) tag own.0 (as_written p children forest own.1)) (later parts.1));
+      (enclosed p name attributes (written children) tag own.0 (as_written p children forest own.1))
+      (later parts.1));
   insides = λ name attributes children rest tag forest rests passes.
-      (let parts = and_parts (list_all p attributes && all_attributes p children) (all_attributes p rest) passes in
+      (let parts = and_parts (list_all p attributes && all_attributes p children)
+      (all_attributes p rest) passes in
       let own = and_parts (list_all p attributes) (all_attributes p children) parts.0 in
-      join p (opening_tag name attributes ++ (written children ++ x) ++ closing_tag name) (written rest)
+      join p (opening_tag name attributes ++ (written children ++ x) ++ closing_tag name)
+      (written rest)
       (enclosed p name attributes (written children ++ x) tag own.0
       (join p (written children) x (as_written p children forest own.1) hx))
       (as_written p rest rests parts.1));
 }
   where
-    as_written : (p : Attribute → Bool) (f : Forest) → is_forest f ≡ true → all_attributes p f ≡ true →
+    as_written : (p : Attribute → Bool) (f : Forest) → is_forest f ≡ true →
+        all_attributes p f ≡ true →
         HasReadingWith p (written f)
     as_written p f h passes = record {
       forest = f;
@@ -271,7 +312,8 @@ reading-made p x hx = record {
       passes = passes;
     }
 
-pub paragraph_takes : (p : Attribute → Bool) (before endings inserted : List ℕ) → is_line_ends endings ≡ true →
+pub paragraph_takes : (p : Attribute → Bool) (before endings inserted : List ℕ) →
+    is_line_ends endings ≡ true →
     HasReadingWith p (before ++ codes "</p>" ++ endings) → HasReadingWith p inserted
     → HasReadingWith p (before ++ inserted ++ codes "</p>" ++ endings)
 paragraph_takes p before endings inserted h hv hx =

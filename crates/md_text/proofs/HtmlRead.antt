@@ -1,17 +1,22 @@
--- A reader of HTML: it guesses a forest, which is a reading where it is one and is written as the text. The cases of
--- texts with a reading, and of those without one, compute by it.
+-- A reader of HTML: it guesses a forest, which is a reading where it is one and is written as the
+-- text. The cases of texts with a reading, and of those without one, compute by it.
 use Rattle.std.specs.Str.{bytes_eq}
 use Rattle.md_base.proofs.Lies.{lie}
 use Rattle.md_base.specs.Identifier.{is_nonempty}
-use Rattle.std.proofs.Common.{◌≡◌, ℕ, ◌+◌, ◌≤◌, ◌==◌, Bool, true, false, ◌&&◌, cond, if◌then◌else◌, List, [], ◌∷◌, ◌++◌, drop, length, refl, sym, ap, ◌∙◌, subst, inl, inr, append-nil, zero, suc, arith, ne_eqb, length-append}
+use Rattle.std.proofs.Common.{◌≡◌, ℕ, ◌+◌, ◌≤◌, ◌==◌, Bool, true, false, ◌&&◌, cond, if◌then◌else◌}
+use Rattle.std.proofs.Common.{List, [], ◌∷◌, ◌++◌, drop, length, refl, sym, ap, ◌∙◌, subst, inl}
+use Rattle.std.proofs.Common.{inr, append-nil, zero, suc, arith, ne_eqb, length-append}
 use Rattle.std.specs.List.{list_all}
 use Rattle.std.proofs.lemmas.Bool.{and_parts, and_from, not-true}
 use Rattle.std.specs.Cmp.Lexicographic.{bytes_decides}
-use Rattle.md_text.specs.Html.{Attribute, Forest, Empty, Text, Void, Element, is_forest, written, written_attributes, IsReading, HasReading, HasReadingWith, all_attributes}
+use Rattle.md_text.specs.Html.{Attribute, Forest, Empty, Text, Void, Element, is_forest, written}
+use Rattle.md_text.specs.Html.{written_attributes, IsReading, HasReading, HasReadingWith}
+use Rattle.md_text.specs.Html.{all_attributes}
 use Rattle.md_text.proofs.HtmlNames.{is_name, is_name_byte, no_angle, no_quote, are_tidy}
 use Rattle.md_text.proofs.HtmlSplit.{stops, EndsAttributes}
 use Rattle.md_text.proofs.HtmlWriting.{attributes_before, forest_before, written-before}
-use Rattle.md_text.proofs.HtmlReading.{IsEnd, text_parts, element_parts, void_parts, after_text, attributes_stop, all-any}
+use Rattle.md_text.proofs.HtmlReading.{IsEnd, text_parts, element_parts, void_parts, after_text}
+use Rattle.md_text.proofs.HtmlReading.{attributes_stop, all-any}
 
 -- something read, and what is left
 pub record Left (X : Type 0) : Type 0 where
@@ -32,7 +37,8 @@ read_run t (b ∷ rest) = if t b then more_run b (read_run t rest) else with_lef
 read_run-at : (t : ℕ → Bool) (x a : List ℕ) → list_all t x ≡ true → stops t a ≡ true →
     read_run t (x ++ a) ≡ with_left x a
 read_run-at t [] [] h s = refl
-read_run-at t [] (b ∷ a) h s = ap (λ c. cond c (more_run b (read_run t a)) (with_left [] (b ∷ a))) (not-true (t b) s)
+read_run-at t [] (b ∷ a) h s =
+    ap (λ c. cond c (more_run b (read_run t a)) (with_left [] (b ∷ a))) (not-true (t b) s)
 read_run-at t (b ∷ x) a h s =
     let p = and_parts (t b) (list_all t x) h in
     ap (λ c. cond c (more_run b (read_run t (x ++ a))) (with_left [] (b ∷ (x ++ a)))) p.0
@@ -43,7 +49,8 @@ read_run-at t (b ∷ x) a h s =
 abbrev add_attribute : List ℕ → List ℕ → Left (List Attribute) → Left (List Attribute)
 add_attribute name value r = with_left (record { name = name; value = value } ∷ r.found) r.left
 
-abbrev past_value : (List ℕ → Left (List Attribute)) → List ℕ → Left (List ℕ) → Left (List Attribute)
+abbrev past_value : (List ℕ → Left (List Attribute)) → List ℕ → Left (List ℕ) →
+    Left (List Attribute)
 past_value go name value = add_attribute name value.found (go (drop 1 value.left))
 
 abbrev past_name : (List ℕ → Left (List Attribute)) → Left (List ℕ) → Left (List Attribute)
@@ -65,8 +72,10 @@ read_attributes (suc n) text = at_attribute (read_attributes n) text
 
 -- ---- forests
 
-abbrev element_from : (List ℕ → Left Forest) → List ℕ → List Attribute → Left Forest → Left Forest → Left Forest
-element_from go name attributes children rest = with_left (Element name attributes children.found rest.found) rest.left
+abbrev element_from : (List ℕ → Left Forest) → List ℕ → List Attribute → Left Forest →
+    Left Forest → Left Forest
+element_from go name attributes children rest =
+    with_left (Element name attributes children.found rest.found) rest.left
 
 abbrev past_children : (List ℕ → Left Forest) → List ℕ → List Attribute → Left Forest → Left Forest
 past_children go name attributes children = element_from go name attributes children
@@ -78,13 +87,15 @@ void_from name attributes rest = with_left (Void name attributes rest.found) res
 abbrev past_attributes : (List ℕ → Left Forest) → List ℕ → List Attribute → List ℕ → Left Forest
 past_attributes go name attributes [] = with_left Empty []
 past_attributes go name attributes (b ∷ rest) =
-    if b == 62 then past_children go name attributes (go rest) else void_from name attributes (go (drop 2 rest))
+    if b == 62 then past_children go name attributes (go rest)
+    else void_from name attributes (go (drop 2 rest))
 
 abbrev with_attributes_read : (List ℕ → Left Forest) → List ℕ → Left (List Attribute) → Left Forest
 with_attributes_read go name attributes = past_attributes go name attributes.found attributes.left
 
 abbrev past_tag_name : (List ℕ → Left Forest) → Left (List ℕ) → Left Forest
-past_tag_name go name = with_attributes_read go name.found (read_attributes (length name.left) name.left)
+past_tag_name go name =
+    with_attributes_read go name.found (read_attributes (length name.left) name.left)
 
 abbrev past_angle : (List ℕ → Left Forest) → List ℕ → Left Forest
 past_angle go [] = with_left Empty (60 ∷ [])
@@ -99,7 +110,8 @@ past_text go bytes = text_from bytes.found (go bytes.left)
 
 abbrev at_node : (List ℕ → Left Forest) → List ℕ → Left Forest
 at_node go [] = with_left Empty []
-at_node go (b ∷ rest) = if b == 60 then past_angle go rest else past_text go (read_run no_angle (b ∷ rest))
+at_node go (b ∷ rest) =
+    if b == 60 then past_angle go rest else past_text go (read_run no_angle (b ∷ rest))
 
 -- at most so deep and long
 abbrev pub read_forest : ℕ → List ℕ → Left Forest
@@ -116,13 +128,14 @@ past_space-name : (go : List ℕ → Left (List Attribute)) (name tail : List �
 past_space-name go [] tail h = lie h
 past_space-name go (b ∷ name) tail h =
     ap (λ c. cond c (with_left [] (32 ∷ b ∷ (name ++ tail)))
-    (past_name go (read_run is_name_byte ((b ∷ name) ++ tail))))
-    (passes_not is_name_byte b 47 refl (and_parts (is_name_byte b) (list_all is_name_byte name) h).0)
+    (past_name go (read_run is_name_byte ((b ∷ name) ++ tail)))) (passes_not is_name_byte b 47 refl
+    (and_parts (is_name_byte b) (list_all is_name_byte name) h).0)
 
 name_bytes : (name : List ℕ) → is_name name ≡ true → list_all is_name_byte name ≡ true
 name_bytes name h = (and_parts (is_nonempty name) (list_all is_name_byte name) h).1
 
-read_attributes-at : (n : ℕ) (x : List Attribute) (r : List ℕ) → are_tidy x ≡ true → EndsAttributes r → length x ≤ n →
+read_attributes-at : (n : ℕ) (x : List Attribute) (r : List ℕ) → are_tidy x ≡ true →
+    EndsAttributes r → length x ≤ n →
     read_attributes n (attributes_before x r) ≡ with_left x r
 read_attributes-at zero [] r h ends l = refl
 read_attributes-at zero (a ∷ x) r h ends l = absurd (omega arith)
@@ -136,9 +149,11 @@ read_attributes-at (suc n) (a ∷ x) r h ends l =
     let later = 34 ∷ attributes_before x r in
     let go = read_attributes n in
     past_space-name go a.name (61 ∷ 34 ∷ (a.value ++ later)) p.0
-    ∙ ap (past_name go) (read_run-at is_name_byte a.name (61 ∷ 34 ∷ (a.value ++ later)) (name_bytes a.name p.0) refl)
+    ∙ ap (past_name go)
+    (read_run-at is_name_byte a.name (61 ∷ 34 ∷ (a.value ++ later)) (name_bytes a.name p.0) refl)
     ∙ ap (past_value go a.name) (read_run-at no_quote a.value later q.0 refl)
-    ∙ ap (add_attribute a.name a.value) (read_attributes-at n x r (and_parts _ (are_tidy x) q.1).1 ends (omega arith))
+    ∙ ap (add_attribute a.name a.value)
+    (read_attributes-at n x r (and_parts _ (are_tidy x) q.1).1 ends (omega arith))
 
 length-attributes : (x : List Attribute) (r : List ℕ) → length x ≤ length (attributes_before x r)
 length-attributes [] r = omega arith
@@ -163,14 +178,16 @@ past_angle-name : (go : List ℕ → Left Forest) (name tail : List ℕ) → is_
 past_angle-name go [] tail h = lie h
 past_angle-name go (b ∷ name) tail h =
     ap (λ c. cond c (with_left Empty (60 ∷ b ∷ (name ++ tail)))
-    (past_tag_name go (read_run is_name_byte ((b ∷ name) ++ tail))))
-    (passes_not is_name_byte b 47 refl (and_parts (is_name_byte b) (list_all is_name_byte name) h).0)
+    (past_tag_name go (read_run is_name_byte ((b ∷ name) ++ tail)))) (passes_not is_name_byte b 47
+    refl (and_parts (is_name_byte b) (list_all is_name_byte name) h).0)
 
 at_node-text : (go : List ℕ → Left Forest) (bytes tail : List ℕ) → is_nonempty bytes ≡ true →
-    list_all no_angle bytes ≡ true → at_node go (bytes ++ tail) ≡ past_text go (read_run no_angle (bytes ++ tail))
+    list_all no_angle bytes ≡ true →
+    at_node go (bytes ++ tail) ≡ past_text go (read_run no_angle (bytes ++ tail))
 at_node-text go [] tail f h = lie f
 at_node-text go (b ∷ bytes) tail f h =
-    ap (λ c. cond c (past_angle go (bytes ++ tail)) (past_text go (read_run no_angle ((b ∷ bytes) ++ tail))))
+    ap (λ c. cond c (past_angle go (bytes ++ tail))
+    (past_text go (read_run no_angle ((b ∷ bytes) ++ tail))))
     (passes_not no_angle b 60 refl (and_parts (no_angle b) (list_all no_angle bytes) h).0)
 
 past_name_bytes : (name tail : List ℕ) → drop (length name) (name ++ tail) ≡ tail
@@ -203,19 +220,22 @@ read_forest-at (suc n) (Text bytes rest) r h ends l =
     let p = text_parts bytes rest h in
     let go = read_forest n in
     at_node-text go bytes (forest_before rest r) p.filled p.angles
-    ∙ ap (past_text go) (read_run-at no_angle bytes (forest_before rest r) p.angles (after_text rest r p.alone ends))
+    ∙ ap (past_text go)
+    (read_run-at no_angle bytes (forest_before rest r) p.angles (after_text rest r p.alone ends))
     ∙ ap (text_from bytes) (read_forest-at n rest r p.later ends (omega arith))
 read_forest-at (suc n) (Void name attributes rest) r h ends l =
     let p = void_parts name attributes rest h in
     let go = read_forest n in
-    tag-at go name attributes (32 ∷ 47 ∷ 62 ∷ forest_before rest r) p.tidy (inr (62 ∷ forest_before rest r, refl))
+    tag-at go name attributes (32 ∷ 47 ∷ 62 ∷ forest_before rest r) p.tidy
+    (inr (62 ∷ forest_before rest r, refl))
     ∙ ap (void_from name attributes) (read_forest-at n rest r p.later ends (omega arith))
 read_forest-at (suc n) (Element name attributes children rest) r h ends l =
     let p = element_parts name attributes children rest h in
     let go = read_forest n in
     let later = forest_before rest r in
     let close = 60 ∷ 47 ∷ (name ++ (62 ∷ later)) in
-    tag-at go name attributes (62 ∷ forest_before children close) p.tidy (inl (forest_before children close, refl))
+    tag-at go name attributes (62 ∷ forest_before children close) p.tidy
+    (inl (forest_before children close, refl))
     ∙ ap (past_children go name attributes) (read_forest-at n children close p.inside
     (inr (name ++ (62 ∷ later), refl)) (omega arith))
     ∙ ap (λ y. element_from go name attributes (with_left children close) (go (drop 1 y)))
@@ -227,7 +247,12 @@ size-written : (f : Forest) → is_forest f ≡ true → size f ≤ suc (length 
 size-written Empty h = omega arith
 size-written (Text bytes rest) h =
     let p = text_parts bytes rest h in
-    omega (arith, size-written rest p.later, length-append bytes (written rest), filled-length bytes p.filled)
+    omega (
+      arith,
+      size-written rest p.later,
+      length-append bytes (written rest),
+      filled-length bytes p.filled,
+    )
   where
     filled-length : (bytes : List ℕ) → is_nonempty bytes ≡ true → 1 ≤ length bytes
     filled-length [] f = lie f
@@ -270,18 +295,24 @@ guessed_reading text h =
     record { in_grammar = p.0; written_so = (bytes_decides (written (guessed text)) text).0 p.1 }
 
 pub readable : (text : List ℕ) → is_readable text ≡ true → HasReading text
-readable text h = record { forest = guessed text; reading = guessed_reading text h; passes = all-any (guessed text) }
+readable text h = record {
+  forest = guessed text;
+  reading = guessed_reading text h;
+  passes = all-any (guessed text);
+}
 
 guessed-is : (text : List ℕ) (f : Forest) → IsReading text f → guessed text ≡ f
 guessed-is text f reading =
-    let whole : forest_before f [] ≡ text = sym (written-before f []) ∙ append-nil (written f) ∙ reading.written_so in
+    let whole : forest_before f [] ≡ text =
+    sym (written-before f []) ∙ append-nil (written f) ∙ reading.written_so in
     let enough : size f ≤ suc (length text) = omega (
       arith,
       size-written f reading.in_grammar,
       ap length reading.written_so,
     ) in
     ap (λ t. (read_forest (suc (length text)) t).found) (sym whole)
-    ∙ ap (λ r. r.found) (read_forest-at (suc (length text)) f [] reading.in_grammar (inl refl) enough)
+    ∙ ap (λ r. r.found)
+    (read_forest-at (suc (length text)) f [] reading.in_grammar (inl refl) enough)
 
 pub reads : (text : List ℕ) → HasReading text → is_readable text ≡ true
 reads text h =
@@ -296,8 +327,10 @@ unreadable text e h = lie (sym e ∙ reads text h)
 -- a text with a reading whose attributes pass, and one with a reading of which an attribute fails
 pub readable_with : (p : Attribute → Bool) (text : List ℕ) → is_readable text ≡ true →
     all_attributes p (guessed text) ≡ true → HasReadingWith p text
-readable_with p text h passes = record { forest = guessed text; reading = guessed_reading text h; passes = passes }
+readable_with p text h passes =
+    record { forest = guessed text; reading = guessed_reading text h; passes = passes }
 
 pub fails_with : (p : Attribute → Bool) (text : List ℕ) → all_attributes p (guessed text) ≡ false →
     HasReadingWith p text → ⊥
-fails_with p text e h = lie (sym e ∙ ap (all_attributes p) (guessed-is text h.forest h.reading) ∙ h.passes)
+fails_with p text e h =
+    lie (sym e ∙ ap (all_attributes p) (guessed-is text h.forest h.reading) ∙ h.passes)

@@ -1,12 +1,17 @@
--- No text has two readings: what is written from a place on says which node comes, and where it ends.
+-- No text has two readings: what is written from a place on says which node comes,
+-- and where it ends.
 use Rattle.md_base.proofs.Lies.{lie}
 use Rattle.md_base.specs.Identifier.{is_nonempty}
-use Rattle.std.proofs.Common.{Bool, ◌≡◌, ◌⊎◌, ℕ, true, not, ◌&&◌, List, [], ◌∷◌, ◌++◌, refl, sym, ap, ◌∙◌, subst, inl, inr, append-nil}
+use Rattle.std.proofs.Common.{Bool, ◌≡◌, ◌⊎◌, ℕ, true, not, ◌&&◌, List, [], ◌∷◌, ◌++◌, refl, sym}
+use Rattle.std.proofs.Common.{ap, ◌∙◌, subst, inl, inr, append-nil}
 use Rattle.std.specs.List.{list_all}
 use Rattle.std.proofs.lemmas.Bool.{and_parts, and_from}
 use Rattle.md_text.specs.References.{is_escaped}
-use Rattle.md_text.specs.Html.{Attribute, Forest, Empty, Text, Void, Element, is_forest, is_tag, begins_with_text, elements, void_tags, written, IsReading, HasReadingWith, HasOneReadingWith, any_attribute, all_attributes}
-use Rattle.md_text.proofs.HtmlNames.{is_name, is_name_byte, no_angle, are_tidy, element-tidy, void-tidy, escaped-angle}
+use Rattle.md_text.specs.Html.{Attribute, Forest, Empty, Text, Void, Element, is_forest, is_tag}
+use Rattle.md_text.specs.Html.{begins_with_text, elements, void_tags, written, IsReading}
+use Rattle.md_text.specs.Html.{HasReadingWith, HasOneReadingWith, any_attribute, all_attributes}
+use Rattle.md_text.proofs.HtmlNames.{is_name, is_name_byte, no_angle, are_tidy, element-tidy}
+use Rattle.md_text.proofs.HtmlNames.{void-tidy, escaped-angle}
 use Rattle.md_text.proofs.HtmlSplit.{stops, split, EndsAttributes, same_attributes, name-not}
 use Rattle.md_text.proofs.HtmlWriting.{attributes_before, forest_before, written-before}
 
@@ -24,18 +29,21 @@ tail_of b c x y e = cc
 tag_not_end : (name tail r : List ℕ) → is_name name ≡ true → IsEnd r → r ≡ 60 ∷ (name ++ tail) → ⊥
 tag_not_end name tail r h ends e = elim ends [
   | inl empty ↦ nil_or 60 (name ++ tail) (sym empty ∙ e)
-  | inr slash ↦ name-not 47 name tail slash.0 refl h (tail_of 60 60 (name ++ tail) (47 ∷ slash.0) (sym e ∙ slash.1))
+  | inr slash ↦ name-not 47 name tail slash.0 refl h
+      (tail_of 60 60 (name ++ tail) (47 ∷ slash.0) (sym e ∙ slash.1))
 ]
 
 -- neither a text nor where a forest ends begins with what the other does
-text_not_tag : (bytes tail more : List ℕ) → is_nonempty bytes ≡ true → list_all no_angle bytes ≡ true →
+text_not_tag : (bytes tail more : List ℕ) → is_nonempty bytes ≡ true →
+    list_all no_angle bytes ≡ true →
     bytes ++ tail ≡ 60 ∷ more → ⊥
 text_not_tag [] tail more f h e = lie f
 text_not_tag (b ∷ bytes) tail more f h e =
     let is : b ≡ 60 = cc in
     lie (ap no_angle (sym is) ∙ (and_parts (no_angle b) (list_all no_angle bytes) h).0)
 
-text_not_end : (bytes tail r : List ℕ) → is_nonempty bytes ≡ true → list_all no_angle bytes ≡ true → IsEnd r →
+text_not_end : (bytes tail r : List ℕ) → is_nonempty bytes ≡ true →
+    list_all no_angle bytes ≡ true → IsEnd r →
     r ≡ bytes ++ tail → ⊥
 text_not_end bytes tail r f h ends e = elim ends [
   | inl empty ↦ filled_nil bytes f (sym e ∙ empty)
@@ -68,11 +76,13 @@ attributes_stop [] r ends = elim ends [
 ]
 attributes_stop (a ∷ rest) r ends = refl
 
-same_tag : (n m : List ℕ) (x y : List Attribute) (r s : List ℕ) → (is_name n ≡ true) × (are_tidy x ≡ true) →
+same_tag : (n m : List ℕ) (x y : List Attribute) (r s : List ℕ) →
+    (is_name n ≡ true) × (are_tidy x ≡ true) →
     (is_name m ≡ true) × (are_tidy y ≡ true) → EndsAttributes r → EndsAttributes s
     → n ++ attributes_before x r ≡ m ++ attributes_before y s → (n ≡ m) × (x ≡ y) × (r ≡ s)
 same_tag n m x y r s hn hm er es e =
-    let names = split is_name_byte n m _ _ (and_parts (is_nonempty n) (list_all is_name_byte n) hn.0).1
+    let names =
+    split is_name_byte n m _ _ (and_parts (is_nonempty n) (list_all is_name_byte n) hn.0).1
     (and_parts (is_nonempty m) (list_all is_name_byte m) hm.0).1 (attributes_stop x r er)
     (attributes_stop y s es) e in
     let attributes = same_attributes x y r s hn.1 hm.1 er es names.1 in
@@ -85,20 +95,24 @@ pub record IsTextNode (bytes : List ℕ) (rest : Forest) : Type 0 where
   pub alone : not (begins_with_text rest) ≡ true
   pub later : is_forest rest ≡ true
 
-pub text_parts : (bytes : List ℕ) (rest : Forest) → is_forest (Text bytes rest) ≡ true → IsTextNode bytes rest
+pub text_parts : (bytes : List ℕ) (rest : Forest) → is_forest (Text bytes rest) ≡ true →
+    IsTextNode bytes rest
 text_parts bytes rest h =
-    let p = and_parts (is_nonempty bytes && is_escaped bytes && not (begins_with_text rest)) (is_forest rest) h in
+    let p = and_parts (is_nonempty bytes && is_escaped bytes && not (begins_with_text rest))
+    (is_forest rest) h in
     let q = and_parts (is_nonempty bytes && is_escaped bytes) (not (begins_with_text rest)) p.0 in
     let r = and_parts (is_nonempty bytes) (is_escaped bytes) q.0 in
     record { filled = r.0; angles = escaped-angle bytes r.1; alone = q.1; later = p.1 }
 
-pub record IsElementNode (name : List ℕ) (attributes : List Attribute) (children rest : Forest) : Type 0 where
+pub record IsElementNode (name : List ℕ) (attributes : List Attribute)
+    (children rest : Forest) : Type 0 where
   pub tidy : (is_name name ≡ true) × (are_tidy attributes ≡ true)
   pub inside : is_forest children ≡ true
   pub later : is_forest rest ≡ true
 
 pub element_parts : (name : List ℕ) (attributes : List Attribute) (children rest : Forest) →
-    is_forest (Element name attributes children rest) ≡ true → IsElementNode name attributes children rest
+    is_forest (Element name attributes children rest) ≡ true →
+    IsElementNode name attributes children rest
 element_parts name attributes children rest h =
     let p = and_parts (is_tag elements name attributes && is_forest children) (is_forest rest) h in
     let q = and_parts (is_tag elements name attributes) (is_forest children) p.0 in
@@ -122,33 +136,40 @@ same : (f g : Forest) (r s : List ℕ) → is_forest f ≡ true → is_forest g 
 same Empty Empty r s hf hg er es e = (refl, e)
 same Empty (Text bytes rest) r s hf hg er es e = (let p = text_parts bytes rest hg in
     absurd (text_not_end bytes (forest_before rest s) r p.filled p.angles er e))
-same Empty (Void name attributes rest) r s hf hg er es e = (let p = void_parts name attributes rest hg in
+same Empty (Void name attributes rest) r s hf hg er es e =
+    (let p = void_parts name attributes rest hg in
     absurd (tag_not_end name _ r p.tidy.0 er e))
 same Empty (Element name attributes children rest) r s hf hg er es e =
-    (let p = element_parts name attributes children rest hg in absurd (tag_not_end name _ r p.tidy.0 er e))
+    (let p = element_parts name attributes children rest hg in
+    absurd (tag_not_end name _ r p.tidy.0 er e))
 same (Text bytes rest) Empty r s hf hg er es e = (let p = text_parts bytes rest hf in
     absurd (text_not_end bytes (forest_before rest r) s p.filled p.angles es (sym e)))
 same (Text bytes rest) (Text bytes' rest') r s hf hg er es e =
     let p = text_parts bytes rest hf in
     let q = text_parts bytes' rest' hg in
-    let parts = split no_angle bytes bytes' (forest_before rest r) (forest_before rest' s) p.angles q.angles
-    (after_text rest r p.alone er) (after_text rest' s q.alone es) e in
+    let parts = split no_angle bytes bytes' (forest_before rest r) (forest_before rest' s) p.angles
+    q.angles (after_text rest r p.alone er) (after_text rest' s q.alone es) e in
     let later = same rest rest' r s p.later q.later er es parts.1 in
     ((λ i. Text (parts.0 i) (later.0 i)), later.1)
-same (Text bytes rest) (Void name attributes rest') r s hf hg er es e = (let p = text_parts bytes rest hf in
+same (Text bytes rest) (Void name attributes rest') r s hf hg er es e =
+    (let p = text_parts bytes rest hf in
     absurd (text_not_tag bytes (forest_before rest r) _ p.filled p.angles e))
 same (Text bytes rest) (Element name attributes children rest') r s hf hg er es e =
-    (let p = text_parts bytes rest hf in absurd (text_not_tag bytes (forest_before rest r) _ p.filled p.angles e))
-same (Void name attributes rest) Empty r s hf hg er es e = (let p = void_parts name attributes rest hf in
+    (let p = text_parts bytes rest hf in
+    absurd (text_not_tag bytes (forest_before rest r) _ p.filled p.angles e))
+same (Void name attributes rest) Empty r s hf hg er es e =
+    (let p = void_parts name attributes rest hf in
     absurd (tag_not_end name _ s p.tidy.0 es (sym e)))
-same (Void name attributes rest) (Text bytes rest') r s hf hg er es e = (let p = text_parts bytes rest' hg in
+same (Void name attributes rest) (Text bytes rest') r s hf hg er es e =
+    (let p = text_parts bytes rest' hg in
     absurd (text_not_tag bytes (forest_before rest' s) _ p.filled p.angles (sym e)))
 same (Void name attributes rest) (Void name' attributes' rest') r s hf hg er es e =
     let p = void_parts name attributes rest hf in
     let q = void_parts name' attributes' rest' hg in
-    let tag = same_tag name name' attributes attributes' (32 ∷ 47 ∷ 62 ∷ forest_before rest r) (32 ∷ 47 ∷ 62
-    ∷ forest_before rest' s) p.tidy q.tidy
-    (inr (62 ∷ forest_before rest r, refl)) (inr (62 ∷ forest_before rest' s, refl)) (tail_of 60 60 _ _ e) in
+    let tag = same_tag name name' attributes attributes' (32 ∷ 47 ∷ 62 ∷ forest_before rest r)
+    (32 ∷ 47 ∷ 62 ∷ forest_before rest' s) p.tidy q.tidy
+    (inr (62 ∷ forest_before rest r, refl)) (inr (62 ∷ forest_before rest' s, refl))
+    (tail_of 60 60 _ _ e) in
     let on : forest_before rest r ≡ forest_before rest' s = cc tag.2 in
     let later = same rest rest' r s p.later q.later er es on in
     ((λ i. Void (tag.0 i) (tag.1 i) (later.0 i)), later.1)
@@ -161,10 +182,11 @@ same (Void name attributes rest) (Element name' attributes' children rest') r s 
     (inr (62 ∷ forest_before rest r, refl)) (inl (inside, refl)) (tail_of 60 60 _ _ e) in
     absurd (slash_angle _ _ tag.2)
 same (Element name attributes children rest) Empty r s hf hg er es e =
-    (let p = element_parts name attributes children rest hf in absurd (tag_not_end name _ s p.tidy.0 es (sym e)))
+    (let p = element_parts name attributes children rest hf in
+    absurd (tag_not_end name _ s p.tidy.0 es (sym e)))
 same (Element name attributes children rest) (Text bytes rest') r s hf hg er es e =
-    (let p = text_parts bytes rest' hg in absurd (text_not_tag bytes (forest_before rest' s) _ p.filled p.angles
-    (sym e)))
+    (let p = text_parts bytes rest' hg in
+    absurd (text_not_tag bytes (forest_before rest' s) _ p.filled p.angles (sym e)))
 same (Element name attributes children rest) (Void name' attributes' rest') r s hf hg er es e =
     let p = element_parts name attributes children rest hf in
     let q = void_parts name' attributes' rest' hg in
@@ -173,7 +195,8 @@ same (Element name attributes children rest) (Void name' attributes' rest') r s 
     ∷ forest_before rest' s) p.tidy q.tidy
     (inl (inside, refl)) (inr (62 ∷ forest_before rest' s, refl)) (tail_of 60 60 _ _ e) in
     absurd (slash_angle _ _ (sym tag.2))
-same (Element name attributes children rest) (Element name' attributes' children' rest') r s hf hg er es e =
+same (Element name attributes children rest) (Element name' attributes' children' rest') r s
+    hf hg er es e =
     let p = element_parts name attributes children rest hf in
     let q = element_parts name' attributes' children' rest' hg in
     let close = name ++ (62 ∷ forest_before rest r) in
@@ -183,9 +206,11 @@ same (Element name attributes children rest) (Element name' attributes' children
     let tag = same_tag name name' attributes attributes' (62 ∷ inside) (62
     ∷ inside') p.tidy q.tidy (inl (inside, refl)) (inl (inside', refl)) (tail_of 60 60 _ _ e) in
     let within = same children children' (60 ∷ 47 ∷ close) (60 ∷ 47
-    ∷ close') p.inside q.inside (inr (close, refl)) (inr (close', refl)) (tail_of 62 62 inside inside' tag.2) in
+    ∷ close') p.inside q.inside (inr (close, refl)) (inr (close', refl))
+    (tail_of 62 62 inside inside' tag.2) in
     let closes : close ≡ close' = tail_of 47 47 close close' (tail_of 60 60 _ _ within.1) in
-    let ends = split is_name_byte name name' (62 ∷ forest_before rest r) (62 ∷ forest_before rest' s)
+    let ends =
+    split is_name_byte name name' (62 ∷ forest_before rest r) (62 ∷ forest_before rest' s)
     (and_parts (is_nonempty name) (list_all is_name_byte name) p.tidy.0).1
     (and_parts (is_nonempty name') (list_all is_name_byte name') q.tidy.0).1 refl refl closes in
     let later = same rest rest' r s p.later q.later er es (tail_of 62 62 _ _ ends.1) in
@@ -197,7 +222,8 @@ one_reading text f g x y =
     (sym (written-before f []) ∙ append-nil (written f) ∙ x.written_so ∙ sym y.written_so
     ∙ sym (append-nil (written g)) ∙ written-before g [])).0
 
-pub only_reading : (p : Attribute → Bool) (text : List ℕ) → HasReadingWith p text → HasOneReadingWith p text
+pub only_reading : (p : Attribute → Bool) (text : List ℕ) → HasReadingWith p text →
+    HasOneReadingWith p text
 only_reading p text h = record {
   forest = h.forest;
   reading = h.reading;
@@ -213,10 +239,10 @@ any_all (a ∷ rest) = any_all rest
 pub all-any : (f : Forest) → all_attributes any_attribute f ≡ true
 all-any Empty = refl
 all-any (Text bytes rest) = all-any rest
-all-any (Void name attributes rest) = and_from (list_all any_attribute attributes) (all_attributes any_attribute rest)
+all-any (Void name attributes rest) =
+    and_from (list_all any_attribute attributes) (all_attributes any_attribute rest)
     (any_all attributes) (all-any rest)
 all-any (Element name attributes children rest) =
     and_from (list_all any_attribute attributes && all_attributes any_attribute children)
-    (all_attributes any_attribute rest)
-    (and_from (list_all any_attribute attributes) (all_attributes any_attribute children) (any_all attributes)
-    (all-any children)) (all-any rest)
+    (all_attributes any_attribute rest) (and_from (list_all any_attribute attributes)
+    (all_attributes any_attribute children) (any_all attributes) (all-any children)) (all-any rest)

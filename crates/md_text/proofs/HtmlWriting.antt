@@ -1,11 +1,13 @@
 -- What is written, with what follows it: one list to compare, in place of a text and a rest.
 use Rattle.std.proofs.Common.{◌≡◌, ℕ, List, [], ◌∷◌, ◌++◌, refl, ap, ◌∙◌, append_assoc}
-use Rattle.md_text.specs.Html.{Attribute, Forest, Empty, Text, Void, Element, written, written_attributes}
+use Rattle.md_text.specs.Html.{Attribute, Forest, Empty, Text, Void, Element, written}
+use Rattle.md_text.specs.Html.{written_attributes}
 
 -- attributes, and what follows them
 abbrev pub attributes_before : List Attribute → List ℕ → List ℕ
 attributes_before [] r = r
-attributes_before (a ∷ rest) r = 32 ∷ (a.name ++ (61 ∷ 34 ∷ (a.value ++ (34 ∷ attributes_before rest r))))
+attributes_before (a ∷ rest) r =
+    32 ∷ (a.name ++ (61 ∷ 34 ∷ (a.value ++ (34 ∷ attributes_before rest r))))
 
 -- a forest, and what follows it
 abbrev pub forest_before : Forest → List ℕ → List ℕ
@@ -28,7 +30,8 @@ written_attributes-before (a ∷ rest) r =
 
 pub written-before : (f : Forest) (r : List ℕ) → written f ++ r ≡ forest_before f r
 written-before Empty r = refl
-written-before (Text bytes rest) r = append_assoc bytes (written rest) r ∙ ap (λ x. bytes ++ x) (written-before rest r)
+written-before (Text bytes rest) r =
+    append_assoc bytes (written rest) r ∙ ap (λ x. bytes ++ x) (written-before rest r)
 written-before (Void name attributes rest) r =
     ap (λ x. 60 ∷ x)
     (append_assoc name (written_attributes attributes ++ (32 ∷ 47 ∷ 62 ∷ written rest)) r
@@ -46,5 +49,5 @@ written-before (Element name attributes children rest) r =
     ∙ ap (λ x. attributes_before attributes (62 ∷ x))
     (append_assoc (written children) close r
     ∙ written-before children (close ++ r)
-    ∙ ap (λ x. forest_before children (60 ∷ 47 ∷ x))
-    (append_assoc name (62 ∷ written rest) r ∙ ap (λ x. name ++ (62 ∷ x)) (written-before rest r)))))
+    ∙ ap (λ x. forest_before children (60 ∷ 47 ∷ x)) (append_assoc name (62 ∷ written rest) r
+    ∙ ap (λ x. name ++ (62 ∷ x)) (written-before rest r)))))

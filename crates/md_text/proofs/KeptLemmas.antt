@@ -1,5 +1,6 @@
 -- Bytes that stay: those before the first that doesn't are themselves, escaped.
-use Rattle.std.proofs.Common.{◌≡◌, ℕ, ◌+◌, ◌<◌, ◌≤◌, inl, inr, Bool, true, false, List, [], ◌∷◌, ◌++◌, length, take, refl, sym, ap, ap₂, subst, ◌∙◌, arith, cond, suc}
+use Rattle.std.proofs.Common.{◌≡◌, ℕ, ◌+◌, ◌<◌, ◌≤◌, inl, inr, Bool, true, false, List, [], ◌∷◌}
+use Rattle.std.proofs.Common.{◌++◌, length, take, refl, sym, ap, ap₂, subst, ◌∙◌, arith, cond, suc}
 use Rattle.std.proofs.lemmas.List.{take_all}
 use Rattle.std.proofs.lemmas.Bool.{cases_lt, both_ways}
 use Rattle.std.specs.Cmp.Lexicographic.{bytes_decides}
@@ -24,7 +25,8 @@ encoded-kept html [] = refl
 encoded-kept html (b ∷ bs) = by_first (is_kept html b) refl (encoded-kept html bs)
   where
     by_first : (t : Bool) → is_kept html b ≡ t →
-        encoded html (take (prefix_len (is_kept html) bs) bs) ≡ take (prefix_len (is_kept html) bs) bs →
+        encoded html (take (prefix_len (is_kept html) bs) bs)
+        ≡ take (prefix_len (is_kept html) bs) bs →
         encoded html (take (cond t (1 + prefix_len (is_kept html) bs) 0) (b ∷ bs))
         ≡ take (cond t (1 + prefix_len (is_kept html) bs) 0) (b ∷ bs)
     by_first true e rest = subst (λ n. encoded html (take n (b ∷ bs)) ≡ take n (b ∷ bs))
@@ -32,7 +34,8 @@ encoded-kept html (b ∷ bs) = by_first (is_kept html b) refl (encoded-kept html
     by_first false e rest = refl
 
 -- all bytes, where each stays
-pub encoded-all_kept : (html : Bool) (bs : List ℕ) → length bs ≤ prefix_len (is_kept html) bs → encoded html bs ≡ bs
+pub encoded-all_kept : (html : Bool) (bs : List ℕ) → length bs ≤ prefix_len (is_kept html) bs →
+    encoded html bs ≡ bs
 encoded-all_kept html bs h =
     let whole = take_all (prefix_len (is_kept html) bs) bs h in
     ap (encoded html) (sym whole) ∙ encoded-kept html bs ∙ whole
@@ -41,5 +44,6 @@ encoded-all_kept html bs h =
 pub changed-ascii : (html : Bool) (b : ℕ) → is_kept html b ≡ false → b < 128
 changed-ascii html b changes = elim (cases_lt b 128) [
   | inl low ↦ low
-  | inr high ↦ absurd (both_ways (is_kept html b) changes (stays-kept html b (encoded_byte-high html b high)))
+  | inr high ↦ absurd (both_ways (is_kept html b) changes
+      (stays-kept html b (encoded_byte-high html b high)))
 ]

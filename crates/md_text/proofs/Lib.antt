@@ -1,5 +1,5 @@
--- The lemmas on URLs, escaping, the tag filter and the HTML that is written. The laws of `src/laws.rt` follow, and
--- `md_safe` reads printed texts back by those on HTML.
+-- The lemmas on URLs, escaping, the tag filter and the HTML that is written. The laws of
+-- `src/laws.rt` follow, and `md_safe` reads printed texts back by those on HTML.
 pub mod HighBytes
 pub mod RunLemmas
 pub mod EncodeLemmas

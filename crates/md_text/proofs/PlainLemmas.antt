@@ -1,14 +1,21 @@
 -- What a URL is made of: runs of plain bytes, percent triples, and bytes that become one.
-use Rattle.std.proofs.Common.{◌≡◌, ◌≢◌, ℕ, ◌+◌, ◌<◌, ◌≤◌, ◌/◌, ◌%◌, Bool, true, false, not, ◌&&◌, cond, eqb, List, [], ◌∷◌, ◌++◌, ◌||◌, length, get_or, take, drop, min, codes, Fits, w8, refl, sym, ap, ap₂, subst, ◌∙◌, arith, append-nil, append_assoc, suc, zero, suc-le-suc, inl, inr, lit<}
+use Rattle.std.proofs.Common.{◌≡◌, ◌≢◌, ℕ, ◌+◌, ◌<◌, ◌≤◌, ◌/◌, ◌%◌, Bool, true, false, not, ◌&&◌}
+use Rattle.std.proofs.Common.{cond, eqb, List, [], ◌∷◌, ◌++◌, ◌||◌, length, get_or, take, drop, min}
+use Rattle.std.proofs.Common.{codes, Fits, w8, refl, sym, ap, ap₂, subst, ◌∙◌, arith, append-nil}
+use Rattle.std.proofs.Common.{append_assoc, suc, zero, suc-le-suc, inl, inr, lit<}
 use Rattle.std.proofs.Math.Seq.{take-add}
 use Rattle.std.proofs.lemmas.List.{length-drop, drop-drop}
-use Rattle.std.proofs.lemmas.List.Elements.{All-nil, All-cons, All-head, All-append, All-from_recursion}
-use Rattle.std.proofs.lemmas.Bool.{cases_Bool, cases_lt, cases_eq, agree_below_at, and_parts, or_parts, or_left, or_right, not-true, eqb-true, eqb-false, both_ways, and_from, ne_eqb}
+use Rattle.std.proofs.lemmas.List.Elements.{All-nil, All-cons, All-head, All-append}
+use Rattle.std.proofs.lemmas.List.Elements.{All-from_recursion}
+use Rattle.std.proofs.lemmas.Bool.{cases_Bool, cases_lt, cases_eq, agree_below_at, and_parts}
+use Rattle.std.proofs.lemmas.Bool.{or_parts, or_left, or_right, not-true, eqb-true, eqb-false}
+use Rattle.std.proofs.lemmas.Bool.{both_ways, and_from, ne_eqb}
 use Rattle.std.proofs.lemmas.Bool.Decides.{nat_tests}
 use Rattle.std.specs.List.{prefix_len}
 use Rattle.md_text.specs.Encode.{encoded, encoded_byte}
 use Rattle.md_text.specs.Kept.{is_kept, is_plain, begins_triple, begins_kept, AreKept, changed_byte}
-use Rattle.md_text.specs.Url.{stays_anywhere, stays, is_triple_byte, completes_triple, hex_digit, percent, normalized_byte, normalized_url, sanitized}
+use Rattle.md_text.specs.Url.{stays_anywhere, stays, is_triple_byte, completes_triple, hex_digit}
+use Rattle.md_text.specs.Url.{percent, normalized_byte, normalized_url, sanitized}
 use Rattle.md_text.proofs.EncodeLemmas.{encoded-append}
 use Rattle.md_text.proofs.KeptLemmas.{kept-stays}
 use Rattle.md_text.specs.Laws.{AreAscii}
@@ -21,14 +28,16 @@ sanitized-first : (b : ℕ) (rest : List ℕ) →
 sanitized-first b rest = encoded-append true (normalized_byte b rest) (normalized_url rest)
 
 -- a byte that stays
-sanitized-stays : (b : ℕ) (rest : List ℕ) → stays b rest ≡ true → b ≢ 38 → sanitized (b ∷ rest) ≡ b ∷ sanitized rest
+sanitized-stays : (b : ℕ) (rest : List ℕ) → stays b rest ≡ true → b ≢ 38 →
+    sanitized (b ∷ rest) ≡ b ∷ sanitized rest
 sanitized-stays b rest s ne =
     sanitized-first b rest
     ∙ ap (λ x. x ++ sanitized rest)
     (ap (λ t. encoded true (cond t (b ∷ []) (percent b))) s ∙ append-nil (encoded_byte true b)
     ∙ encoded_byte-stays b rest s ne)
 
-sanitized-plain : (b : ℕ) (rest : List ℕ) → is_plain b ≡ true → sanitized (b ∷ rest) ≡ b ∷ sanitized rest
+sanitized-plain : (b : ℕ) (rest : List ℕ) → is_plain b ≡ true →
+    sanitized (b ∷ rest) ≡ b ∷ sanitized rest
 sanitized-plain b rest p =
     let parts = and_parts (stays_anywhere b) (not (eqb b 38)) p in
     sanitized-stays b rest (or_left (stays_anywhere b) (eqb b 37 && completes_triple rest) parts.0)
@@ -42,24 +51,29 @@ digit-kept d l = kept-stays true (hex_digit d)
 pub sanitized-percent : (b : ℕ) (rest : List ℕ) → b < 256 → stays b rest ≡ false →
     percent b ++ sanitized rest ≡ sanitized (b ∷ rest)
 sanitized-percent b rest l gone =
-    ap (λ x. 37 ∷ (x ++ sanitized rest))
-    (sym (ap₂ (λ x y. x ++ (y ++ [])) (digit-kept (b / 16) (high_digit b l)) (digit-kept (b % 16) (low_digit b))))
+    ap (λ x. 37 ∷ (x ++ sanitized rest)) (sym (ap₂ (λ x y. x ++ (y ++ []))
+    (digit-kept (b / 16) (high_digit b l)) (digit-kept (b % 16) (low_digit b))))
     ∙ sym (ap (λ t. encoded true (cond t (b ∷ []) (percent b)) ++ sanitized rest) gone)
     ∙ sym (sanitized-first b rest)
 
 -- four bytes that become triples, one after another
-sanitized-four : (a b c d : ℕ) (rest : List ℕ) → 128 ≤ a → 128 ≤ b → 128 ≤ c → 128 ≤ d → a < 256 → b < 256 →
+sanitized-four : (a b c d : ℕ) (rest : List ℕ) → 128 ≤ a → 128 ≤ b → 128 ≤ c →
+    128 ≤ d → a < 256 → b < 256 →
     c < 256 → d < 256 →
-    (percent a ++ (percent b ++ (percent c ++ percent d))) ++ sanitized rest ≡ sanitized (a ∷ b ∷ c ∷ d ∷ rest)
+    (percent a ++ (percent b ++ (percent c ++ percent d))) ++ sanitized rest
+    ≡ sanitized (a ∷ b ∷ c ∷ d ∷ rest)
 sanitized-four a b c d rest ha hb hc hd la lb lc ld =
-    ap (λ x. percent a ++ (percent b ++ (percent c ++ x))) (sanitized-percent d rest ld (stays-high d rest hd))
-    ∙ ap (λ x. percent a ++ (percent b ++ x)) (sanitized-percent c (d ∷ rest) lc (stays-high c (d ∷ rest) hc))
-    ∙ ap (λ x. percent a ++ x) (sanitized-percent b (c ∷ d ∷ rest) lb (stays-high b (c ∷ d ∷ rest) hb))
+    ap (λ x. percent a ++ (percent b ++ (percent c ++ x)))
+    (sanitized-percent d rest ld (stays-high d rest hd)) ∙ ap (λ x. percent a ++ (percent b ++ x))
+    (sanitized-percent c (d ∷ rest) lc (stays-high c (d ∷ rest) hc)) ∙ ap (λ x. percent a ++ x)
+    (sanitized-percent b (c ∷ d ∷ rest) lb (stays-high b (c ∷ d ∷ rest) hb))
     ∙ sanitized-percent a (b ∷ c ∷ d ∷ rest) la (stays-high a (b ∷ c ∷ d ∷ rest) ha)
 
-pub sanitized-four-of : (a : ℕ) (rest : List ℕ) → 3 ≤ length rest → ((k : ℕ) → Fits w8 (get_or rest k 0)) → a < 256 →
+pub sanitized-four-of : (a : ℕ) (rest : List ℕ) → 3 ≤ length rest →
+    ((k : ℕ) → Fits w8 (get_or rest k 0)) → a < 256 →
     128 ≤ a → 128 ≤ get_or rest 0 0 → 128 ≤ get_or rest 1 0 → 128 ≤ get_or rest 2 0 →
-    (percent a ++ (percent (get_or rest 0 0) ++ (percent (get_or rest 1 0) ++ percent (get_or rest 2 0))))
+    (percent a
+    ++ (percent (get_or rest 0 0) ++ (percent (get_or rest 1 0) ++ percent (get_or rest 2 0))))
     ++ sanitized (drop 3 rest) ≡ sanitized (a ∷ rest)
 sanitized-four-of a [] l fits la ha hb hc hd = absurd (omega arith)
 sanitized-four-of a (b ∷ []) l fits la ha hb hc hd = absurd (omega arith)
@@ -82,7 +96,8 @@ kept-plain zero bs le = (omega arith, All-nil IsAsciiByte, refl)
 kept-plain (suc n) [] le = absurd (omega arith)
 kept-plain (suc n) (b ∷ bs) le = by_first (is_plain b) refl (kept-plain n bs)
   where
-    by_first : (t : Bool) → is_plain b ≡ t → (n ≤ prefix_len is_plain bs → AreKept bs n) → AreKept (b ∷ bs) (suc n)
+    by_first : (t : Bool) → is_plain b ≡ t → (n ≤ prefix_len is_plain bs → AreKept bs n) →
+        AreKept (b ∷ bs) (suc n)
     by_first true e rest =
         let whole : prefix_len is_plain (b ∷ bs) ≡ 1 + prefix_len is_plain bs =
         ap (λ t. cond t (1 + prefix_len is_plain bs) 0) e in
@@ -92,7 +107,8 @@ kept-plain (suc n) (b ∷ bs) le = by_first (is_plain b) refl (kept-plain n bs)
           ap (λ x. b ∷ x) kept.2 ∙ sym (sanitized-plain b bs e),
         )
     by_first false e rest =
-        let none : prefix_len is_plain (b ∷ bs) ≡ 0 = ap (λ t. cond t (1 + prefix_len is_plain bs) 0) e in
+        let none : prefix_len is_plain (b ∷ bs) ≡ 0 =
+        ap (λ t. cond t (1 + prefix_len is_plain bs) 0) e in
         absurd (omega arith)
 
 -- a percent triple at the front
@@ -129,7 +145,8 @@ pub kept-join : (bs : List ℕ) (n m : ℕ) → AreKept bs n → AreKept (drop n
 kept-join bs n m front later =
     let both = take-add n m bs in (
       omega (arith, front.0, later.0, length-drop n bs),
-      subst AreAscii (sym both) (All-append IsAsciiByte (take n bs) (take m (drop n bs)) front.1 later.1),
+      subst AreAscii (sym both)
+          (All-append IsAsciiByte (take n bs) (take m (drop n bs)) front.1 later.1),
       ap₂ (λ x y. x ++ sanitized y) both (sym (drop-drop m n bs))
           ∙ append_assoc (take n bs) (take m (drop n bs)) (sanitized (drop m (drop n bs)))
           ∙ ap (λ x. take n bs ++ x) later.2
@@ -152,7 +169,8 @@ kept-ends (b ∷ bs) other = by_first (is_plain b) refl (kept-ends bs) other
         begins_kept (drop (cond t (1 + prefix_len is_plain bs) 0) (b ∷ bs)) ≡ false
     by_first true e rest other =
         subst (λ n. begins_kept (drop n (b ∷ bs)) ≡ false) (next (prefix_len is_plain bs))
-        (rest (subst (λ n. begins_triple (drop n (b ∷ bs)) ≡ false) (sym (next (prefix_len is_plain bs))) other))
+        (rest (subst (λ n. begins_triple (drop n (b ∷ bs)) ≡ false)
+        (sym (next (prefix_len is_plain bs))) other))
     by_first false e rest other = ap₂ (λ x y. x || y) e other
 
 -- a plain byte, and those after it
@@ -187,7 +205,8 @@ sanitized-changed_first (b ∷ rest) long low changes = sanitized-changed b rest
 
 -- triples are ASCII
 pub triple-ascii : (high low : ℕ) → high < 128 → low < 128 → AreAscii (37 ∷ high ∷ low ∷ [])
-triple-ascii high low h l = All-from_recursion IsAsciiByte (37 ∷ high ∷ low ∷ []) (lit< tt, (h, (l, tt)))
+triple-ascii high low h l =
+    All-from_recursion IsAsciiByte (37 ∷ high ∷ low ∷ []) (lit< tt, (h, (l, tt)))
 
 -- the byte at which a text ends that another one is added to
 pub first-added : (before more : List ℕ) → AreAscii more → length before < length (before ++ more) →

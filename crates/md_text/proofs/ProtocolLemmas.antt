@@ -1,15 +1,22 @@
--- Reading references back changes no protocol that is kept: so a link's protocol is the one that was judged.
+-- Reading references back changes no protocol that is kept: so a link's protocol is the one
+-- that was judged.
 use Rattle.std.specs.Prelude.{◌||◌}
 use Rattle.std.specs.Str.{bytes_eq}
-use Rattle.std.proofs.Common.{◌≡◌, ◌≢◌, ℕ, ◌==◌, Bool, true, false, not, ◌&&◌, cond, List, [], ◌∷◌, take, length, Option, Some, None, option_map, refl, sym, ap, ap₂, ◌∙◌, subst, ne_eqb, eqb-true, inl, inr, codes, zero, suc, ◌+◌, ◌<◌, get_or, arith, zero-lt-suc}
+use Rattle.std.proofs.Common.{◌≡◌, ◌≢◌, ℕ, ◌==◌, Bool, true, false, not, ◌&&◌, cond, List, [], ◌∷◌}
+use Rattle.std.proofs.Common.{take, length, Option, Some, None, option_map, refl, sym, ap, ap₂, ◌∙◌}
+use Rattle.std.proofs.Common.{subst, ne_eqb, eqb-true, inl, inr, codes, zero, suc, ◌+◌, ◌<◌, get_or}
+use Rattle.std.proofs.Common.{arith, zero-lt-suc}
 use Rattle.std.specs.List.{list_all, prefix_len}
 use Rattle.std.specs.Option.{option_map_or}
 use Rattle.std.specs.Cmp.Lexicographic.{bytes_decides}
-use Rattle.std.proofs.lemmas.Bool.{cases_eq, cases_Bool, and_parts, or_cases, cond_both, and_from, not-true, both_ways}
+use Rattle.std.proofs.lemmas.Bool.{cases_eq, cases_Bool, and_parts, or_cases, cond_both, and_from}
+use Rattle.std.proofs.lemmas.Bool.{not-true, both_ways}
 use Rattle.md_text.specs.Bytes.{lower, lowered, is_one_of}
 use Rattle.md_text.specs.Kept.{goes_on}
-use Rattle.md_text.specs.References.{read_back, read_back_after, referenced, reference_tail, begins_with}
-use Rattle.md_text.specs.Url.{protocol_of, has_permitted_protocol, sanitized, sanitized_with, link_protocols, image_protocols}
+use Rattle.md_text.specs.References.{read_back, read_back_after, referenced, reference_tail}
+use Rattle.md_text.specs.References.{begins_with}
+use Rattle.md_text.specs.Url.{protocol_of, has_permitted_protocol, sanitized, sanitized_with}
+use Rattle.md_text.specs.Url.{link_protocols, image_protocols}
 use Rattle.md_text.specs.Safe.{is_safe_value}
 use Rattle.md_text.proofs.EncodeLaws.{read_back-other}
 use Rattle.md_base.proofs.Lies.{lie}
@@ -22,10 +29,12 @@ pub protocol_of-goes_on : (b : ℕ) (rest : List ℕ) → goes_on b ≡ true →
     protocol_of (b ∷ rest) ≡ option_map (λ before. b ∷ before) (protocol_of rest)
 protocol_of-goes_on b rest e =
     let parts = and_parts (not (b == 58)) (not (ends_protocol b)) e in
-    ap₂ (λ s t. cond s (Some []) (cond t None (option_map (λ before. b ∷ before) (protocol_of rest))))
+    ap₂ (λ s t. cond s (Some [])
+    (cond t None (option_map (λ before. b ∷ before) (protocol_of rest))))
     (not-true (b == 58) parts.0) (not-true (ends_protocol b) parts.1)
 
-pub protocol_of-colon : (b : ℕ) (rest : List ℕ) → (b == 58) ≡ true → protocol_of (b ∷ rest) ≡ Some []
+pub protocol_of-colon : (b : ℕ) (rest : List ℕ) → (b == 58) ≡ true →
+    protocol_of (b ∷ rest) ≡ Some []
 protocol_of-colon b rest e = ap (λ s. cond s (Some []) (cond (ends_protocol b) None
     (option_map (λ before. b ∷ before) (protocol_of rest)))) e
 
@@ -42,13 +51,15 @@ next : (n : ℕ) → suc n ≡ 1 + n
 next n = omega arith
 
 pub protocol_of-colon_at : (url : List ℕ) → prefix_len goes_on url < length url →
-    (get_or url (prefix_len goes_on url) 0 == 58) ≡ true → protocol_of url ≡ Some (take (prefix_len goes_on url) url)
+    (get_or url (prefix_len goes_on url) 0 == 58) ≡ true →
+    protocol_of url ≡ Some (take (prefix_len goes_on url) url)
 protocol_of-colon_at [] inside colon = absurd (omega arith)
-protocol_of-colon_at (b ∷ rest) inside colon = by_first (goes_on b) refl (protocol_of-colon_at rest) inside colon
+protocol_of-colon_at (b ∷ rest) inside colon =
+    by_first (goes_on b) refl (protocol_of-colon_at rest) inside colon
   where
     by_first : (t : Bool) → goes_on b ≡ t →
-        (prefix_len goes_on rest < length rest → (get_or rest (prefix_len goes_on rest) 0 == 58) ≡ true →
-        protocol_of rest ≡ Some (take (prefix_len goes_on rest) rest)) →
+        (prefix_len goes_on rest < length rest → (get_or rest (prefix_len goes_on rest) 0 == 58)
+        ≡ true → protocol_of rest ≡ Some (take (prefix_len goes_on rest) rest)) →
         cond t (1 + prefix_len goes_on rest) 0 < suc (length rest) →
         (get_or (b ∷ rest) (cond t (1 + prefix_len goes_on rest) 0) 0 == 58) ≡ true →
         protocol_of (b ∷ rest) ≡ Some (take (cond t (1 + prefix_len goes_on rest) 0) (b ∷ rest))
@@ -67,8 +78,8 @@ protocol_of-none_at [] other = refl
 protocol_of-none_at (b ∷ rest) other = by_first (goes_on b) refl (protocol_of-none_at rest) other
   where
     by_first : (t : Bool) → goes_on b ≡ t →
-        ((prefix_len goes_on rest < length rest → (get_or rest (prefix_len goes_on rest) 0 == 58) ≡ false) →
-        protocol_of rest ≡ None) →
+        ((prefix_len goes_on rest < length rest →
+        (get_or rest (prefix_len goes_on rest) 0 == 58) ≡ false) → protocol_of rest ≡ None) →
         (cond t (1 + prefix_len goes_on rest) 0 < suc (length rest) →
         (get_or (b ∷ rest) (cond t (1 + prefix_len goes_on rest) 0) 0 == 58) ≡ false) →
         protocol_of (b ∷ rest) ≡ None
@@ -88,17 +99,22 @@ protocol_of-none_at (b ∷ rest) other = by_first (goes_on b) refl (protocol_of-
 abbrev pub front_goes_on : ℕ → List ℕ → Bool
 front_goes_on n v = list_all goes_on (take n v)
 
-front_from : (s v : List ℕ) → list_all goes_on s ≡ true → begins_with s v ≡ true → front_goes_on (length s) v ≡ true
-front_from s v g e = subst (λ x. list_all goes_on x ≡ true) ((bytes_decides s (take (length s) v)).0 e) g
+front_from : (s v : List ℕ) → list_all goes_on s ≡ true → begins_with s v ≡ true →
+    front_goes_on (length s) v ≡ true
+front_from s v g e =
+    subst (λ x. list_all goes_on x ≡ true) ((bytes_decides s (take (length s) v)).0 e) g
 
--- the rest of a reference has no byte that matters to a protocol, and neither has what it stands for
+-- the rest of a reference has no byte that matters to a protocol, and neither has
+-- what it stands for
 reference-goes_on : (rest : List ℕ) → front_goes_on (reference_tail rest) rest ≡ true
 reference-goes_on rest =
     let P : Option (List ℕ × ℕ) → Type 0 =
     λ found. front_goes_on (option_map_or (λ reference. length reference.0) found 0) rest ≡ true in
-    cond_both (begins_with (codes "amp;") rest) (Some (codes "amp;", 38)) _ P (front_from (codes "amp;") rest refl) (λ _.
-    cond_both (begins_with (codes "quot;") rest) (Some (codes "quot;", 34)) _ P (front_from (codes "quot;") rest refl)
-    (λ _. cond_both (begins_with (codes "lt;") rest) (Some (codes "lt;", 60)) _ P (front_from (codes "lt;") rest refl)
+    cond_both (begins_with (codes "amp;") rest) (Some (codes "amp;", 38)) _ P
+    (front_from (codes "amp;") rest refl) (λ _. cond_both (begins_with (codes "quot;") rest)
+    (Some (codes "quot;", 34)) _ P (front_from (codes "quot;") rest refl)
+    (λ _. cond_both (begins_with (codes "lt;") rest) (Some (codes "lt;", 60)) _ P
+    (front_from (codes "lt;") rest refl)
     (λ _. cond_both (begins_with (codes "gt;") rest) (Some (codes "gt;", 62)) None P
     (front_from (codes "gt;") rest refl) (λ _. refl))))
 
@@ -109,7 +125,8 @@ referenced-goes_on rest =
     cond_both (begins_with (codes "amp;") rest) (Some (codes "amp;", 38)) _ P (λ _. refl) (λ _.
     cond_both (begins_with (codes "quot;") rest) (Some (codes "quot;", 34)) _ P (λ _. refl) (λ _.
     cond_both (begins_with (codes "lt;") rest) (Some (codes "lt;", 60)) _ P (λ _. refl) (λ _.
-    cond_both (begins_with (codes "gt;") rest) (Some (codes "gt;", 62)) None P (λ _. refl) (λ _. refl))))
+    cond_both (begins_with (codes "gt;") rest) (Some (codes "gt;", 62)) None P
+    (λ _. refl) (λ _. refl))))
 
 some_none : (q : List ℕ) → Some q ≡ None → ⊥
 some_none q e = cc
@@ -121,7 +138,8 @@ map_none : (b : ℕ) (o : Option (List ℕ)) → option_map (λ before. b ∷ be
 map_none b None e = refl
 map_none b (Some q) e = cc
 
-map_some : (b : ℕ) (o : Option (List ℕ)) (q : List ℕ) → option_map (λ before. b ∷ before) o ≡ Some q →
+map_some : (b : ℕ) (o : Option (List ℕ)) (q : List ℕ) →
+    option_map (λ before. b ∷ before) o ≡ Some q →
     (p : List ℕ) × (o ≡ Some p) × (q ≡ b ∷ p)
 map_some b None q e = absurd (none_some q e)
 map_some b (Some p) q e = (p, refl, sym (some_part (b ∷ p) q e))
@@ -134,10 +152,11 @@ none_stays : (n : ℕ) (v : List ℕ) → front_goes_on n v ≡ true → protoco
     protocol_of (read_back_after n v) ≡ None
 none_stays n [] f e = refl
 none_stays zero (b ∷ rest) f e = elim (cases_eq b 38) [
-  | inl is ↦ (let tail = map_none 38 (protocol_of rest) (subst (λ b. protocol_of (b ∷ rest) ≡ None) is e) in
+  | inl is ↦ (let tail =
+      map_none 38 (protocol_of rest) (subst (λ b. protocol_of (b ∷ rest) ≡ None) is e) in
       subst (λ b. protocol_of (read_back_after 0 (b ∷ rest)) ≡ None) (sym is)
-      (protocol_of-goes_on (referenced rest) (read_back_after (reference_tail rest) rest) (referenced-goes_on rest)
-      ∙ ap (option_map (λ before. referenced rest ∷ before))
+      (protocol_of-goes_on (referenced rest) (read_back_after (reference_tail rest) rest)
+      (referenced-goes_on rest) ∙ ap (option_map (λ before. referenced rest ∷ before))
       (none_stays (reference_tail rest) rest (reference-goes_on rest) tail)))
   | inr ne ↦ ap protocol_of (read_back-other b rest ne) ∙ (elim (cases_Bool (b == 58)) [
     | inl colon ↦ absurd (some_none [] (sym (protocol_of-colon b rest colon) ∙ e))
@@ -151,7 +170,8 @@ none_stays zero (b ∷ rest) f e = elim (cases_eq b 38) [
 ]
 none_stays (suc n) (b ∷ rest) f e =
     let parts = and_parts (goes_on b) (front_goes_on n rest) f in
-    none_stays n rest parts.1 (map_none b (protocol_of rest) (sym (protocol_of-goes_on b rest parts.0) ∙ e))
+    none_stays n rest parts.1
+    (map_none b (protocol_of rest) (sym (protocol_of-goes_on b rest parts.0) ∙ e))
 
 -- a byte that isn't `&`
 abbrev pub no_and : ℕ → Bool
@@ -161,15 +181,18 @@ no_and-ne : (b : ℕ) → no_and b ≡ true → b ≢ 38
 no_and-ne b e is = lie (sym (ap no_and is) ∙ e)
 
 -- a protocol without `&`, also once references are read back
-some_stays : (v q : List ℕ) → list_all no_and q ≡ true → protocol_of v ≡ Some q → protocol_of (read_back v) ≡ Some q
+some_stays : (v q : List ℕ) → list_all no_and q ≡ true → protocol_of v ≡ Some q →
+    protocol_of (read_back v) ≡ Some q
 some_stays [] q g e = cc
 some_stays (b ∷ rest) q g e = elim (cases_Bool (b == 58)) [
   | inl colon ↦ subst (λ b. protocol_of (b ∷ rest) ≡ Some q →
       protocol_of (read_back (b ∷ rest)) ≡ Some q) (sym (eqb-true b 58 colon)) (λ e. e) e
   | inr on ↦ elim (cases_Bool (ends_protocol b)) [
     | inl ends ↦ absurd (none_some q (sym (protocol_of-end b rest on ends) ∙ e))
-    | inr goes ↦ (let step = map_some b (protocol_of rest) q (sym (protocol_of-goes_on b rest (both b on goes)) ∙ e) in
-        let parts = and_parts (no_and b) (list_all no_and step.0) (subst (λ q. list_all no_and q ≡ true) step.2 g) in
+    | inr goes ↦ (let step =
+        map_some b (protocol_of rest) q (sym (protocol_of-goes_on b rest (both b on goes)) ∙ e) in
+        let parts = and_parts (no_and b) (list_all no_and step.0)
+        (subst (λ q. list_all no_and q ≡ true) step.2 g) in
         ap protocol_of (read_back-other b rest (no_and-ne b parts.0))
         ∙ protocol_of-goes_on b (read_back rest) (both b on goes)
         ∙ ap (option_map (λ before. b ∷ before)) (some_stays rest step.0 parts.1 step.1)
@@ -184,7 +207,8 @@ listed-no_and [] name g e = cc
 listed-no_and (t ∷ ts) name g e =
     let parts = and_parts (list_all no_and t) (list_all (list_all no_and) ts) g in
     elim (or_cases (bytes_eq name t) (is_one_of ts name) e) [
-      | inl same ↦ subst (λ x. list_all no_and x ≡ true) (sym ((bytes_decides name t).0 same)) parts.0
+      | inl same ↦
+          subst (λ x. list_all no_and x ≡ true) (sym ((bytes_decides name t).0 same)) parts.0
       | inr later ↦ listed-no_and ts name parts.1 later
     ]
 
@@ -205,24 +229,28 @@ permitted_by : (protocols : List (List ℕ)) (v : List ℕ) (o : Option (List �
     list_all (list_all no_and) protocols ≡ true → protocol_of v ≡ o →
     option_map_or (λ q. is_one_of protocols (lowered q)) o true ≡ true →
     has_permitted_protocol protocols (read_back v) ≡ true
-permitted_by protocols v None g e h = ap (λ o. option_map_or (λ q. is_one_of protocols (lowered q)) o true)
-    (none_stays 0 v refl e)
+permitted_by protocols v None g e h =
+    ap (λ o. option_map_or (λ q. is_one_of protocols (lowered q)) o true) (none_stays 0 v refl e)
 permitted_by protocols v (Some q) g e h =
     ap (λ o. option_map_or (λ q. is_one_of protocols (lowered q)) o true)
     (some_stays v q (lowered-no_and q (listed-no_and protocols (lowered q) g h)) e) ∙ h
 
-pub permitted-read_back : (protocols : List (List ℕ)) (v : List ℕ) → list_all (list_all no_and) protocols ≡ true →
-    has_permitted_protocol protocols v ≡ true → has_permitted_protocol protocols (read_back v) ≡ true
+pub permitted-read_back : (protocols : List (List ℕ)) (v : List ℕ) →
+    list_all (list_all no_and) protocols ≡ true →
+    has_permitted_protocol protocols v ≡ true →
+    has_permitted_protocol protocols (read_back v) ≡ true
 permitted-read_back protocols v g h = permitted_by protocols v (protocol_of v) g refl h
 
 kept : (protocols : List (List ℕ)) → list_all (list_all no_and) protocols ≡ true → (x : List ℕ) →
     is_safe_value protocols (sanitized_with protocols x) ≡ true
 kept protocols g x =
-    cond_both (has_permitted_protocol protocols (sanitized x)) (sanitized x) [] (λ v. is_safe_value protocols v
+    cond_both (has_permitted_protocol protocols (sanitized x)) (sanitized x) []
+    (λ v. is_safe_value protocols v
     ≡ true) (permitted-read_back protocols (sanitized x) g) (λ _. refl)
 
 pub kept-link : (x : List ℕ) → is_safe_value link_protocols (sanitized_with link_protocols x) ≡ true
 kept-link = kept link_protocols refl
 
-pub kept-image : (x : List ℕ) → is_safe_value image_protocols (sanitized_with image_protocols x) ≡ true
+pub kept-image : (x : List ℕ) →
+    is_safe_value image_protocols (sanitized_with image_protocols x) ≡ true
 kept-image = kept image_protocols refl

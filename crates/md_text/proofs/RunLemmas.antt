@@ -1,5 +1,8 @@
--- Bytes that are looked at together: from the mask of a load to how many of its bytes come before the first that fails.
-use Rattle.std.proofs.Common.{◌≡◌, ℕ, ◌+◌, ◌%◌, ◌^◌, ◌<◌, ◌≤◌, eqb, Bool, true, false, not, cond, List, [], ◌∷◌, map, length, get_or, take, drop, min, Fits, w8, refl, ap, ap₂, ◌∙◌, arith, zero, suc}
+-- Bytes that are looked at together: from the mask of a load to how many of its bytes come before
+-- the first that fails.
+use Rattle.std.proofs.Common.{◌≡◌, ℕ, ◌+◌, ◌%◌, ◌^◌, ◌<◌, ◌≤◌, eqb, Bool, true, false, not, cond}
+use Rattle.std.proofs.Common.{List, [], ◌∷◌, map, length, get_or, take, drop, min, Fits, w8, refl}
+use Rattle.std.proofs.Common.{ap, ap₂, ◌∙◌, arith, zero, suc}
 use Rattle.std.proofs.lemmas.Bool.{agree_below, agree_below_at}
 use Rattle.std.proofs.lemmas.Simd.{map-map, mask_l-mod, length-chunk, chunk-fits, first_set_mask_l}
 use Rattle.std.proofs.lemmas.List.{length-map}
@@ -15,17 +18,20 @@ prefix_len-drop q zero xs le = omega arith
 prefix_len-drop q (suc i) [] le = omega arith
 prefix_len-drop q (suc i) (x ∷ xs) le = by_first (q x) refl (prefix_len-drop q i xs)
   where
-    by_first : (t : Bool) → q x ≡ t → (i ≤ prefix_len q xs → prefix_len q xs ≡ i + prefix_len q (drop i xs)) →
+    by_first : (t : Bool) → q x ≡ t →
+        (i ≤ prefix_len q xs → prefix_len q xs ≡ i + prefix_len q (drop i xs)) →
         prefix_len q (x ∷ xs) ≡ suc i + prefix_len q (drop i xs)
     by_first true e rest =
-        let whole : prefix_len q (x ∷ xs) ≡ 1 + prefix_len q xs = ap (λ b. cond b (1 + prefix_len q xs) 0) e in
+        let whole : prefix_len q (x ∷ xs) ≡ 1 + prefix_len q xs =
+        ap (λ b. cond b (1 + prefix_len q xs) 0) e in
         omega (arith, rest (omega arith))
     by_first false e rest =
         let none : prefix_len q (x ∷ xs) ≡ 0 = ap (λ b. cond b (1 + prefix_len q xs) 0) e in
         omega arith
 
 -- of the first n
-prefix_len-take : (q : ℕ → Bool) (n : ℕ) (xs : List ℕ) → prefix_len q (take n xs) ≡ min n (prefix_len q xs)
+prefix_len-take : (q : ℕ → Bool) (n : ℕ) (xs : List ℕ) →
+    prefix_len q (take n xs) ≡ min n (prefix_len q xs)
 prefix_len-take q zero xs = omega arith
 prefix_len-take q (suc n) [] = omega arith
 prefix_len-take q (suc n) (x ∷ xs) = by_first (q x) (prefix_len-take q n xs)
@@ -36,16 +42,19 @@ prefix_len-take q (suc n) (x ∷ xs) = by_first (q x) (prefix_len-take q n xs)
     by_first false rest = omega arith
 
 -- two tests that agree on bytes
-prefix_len-agree : (p q : ℕ → Bool) → agree_below p q 256 ≡ true → (xs : List ℕ) → Each1 (Fits w8) xs →
+prefix_len-agree : (p q : ℕ → Bool) → agree_below p q 256 ≡ true → (xs : List ℕ) →
+    Each1 (Fits w8) xs →
     prefix_len p xs ≡ prefix_len q xs
 prefix_len-agree p q all [] fits = refl
 prefix_len-agree p q all (x ∷ xs) fits =
-    ap₂ (λ b n. cond b (1 + n) 0) (agree_below_at p q 256 x all fits.0.fits) (prefix_len-agree p q all xs fits.1)
+    ap₂ (λ b n. cond b (1 + n) 0) (agree_below_at p q 256 x all fits.0.fits)
+    (prefix_len-agree p q all xs fits.1)
 
 -- a load of n bytes, of which lane by lane f is computed, whose top bit is set just where q fails
 pub run_is : (q : ℕ → Bool) (d : List ℕ) (i n r : ℕ) (z : List ℕ) → i + n ≤ length d → n ≤ 64 →
     ((k : ℕ) → Fits w8 (get_or d k 0)) →
-    r ≡ cond (eqb (mask_l (map (top 7) z) % 2 ^ 64) 0) n (count_trailing_zeros 64 (mask_l (map (top 7) z) % 2 ^ 64)) →
+    r ≡ cond (eqb (mask_l (map (top 7) z) % 2 ^ 64) 0) n
+    (count_trailing_zeros 64 (mask_l (map (top 7) z) % 2 ^ 64)) →
     (f : ℕ → ℕ) → z ≡ map f (chunk i n d) → agree_below (λ x. not (top 7 (f x))) q 256 ≡ true →
     r ≡ min n (prefix_len q (drop i d))
 run_is q d i n r z room few fits found f lanes all =
@@ -61,7 +70,8 @@ run_is q d i n r z room few fits found f lanes all =
     ∙ prefix_len-take q n (drop i d)
 
 -- a load from a place up to which all pass: it finds where the run ends, or all of it pass
-pub run_ends : (q : ℕ → Bool) (d : List ℕ) (i n r : ℕ) → i ≤ prefix_len q d → r ≡ min n (prefix_len q (drop i d)) →
+pub run_ends : (q : ℕ → Bool) (d : List ℕ) (i n r : ℕ) → i ≤ prefix_len q d →
+    r ≡ min n (prefix_len q (drop i d)) →
     r < n → i + r ≡ prefix_len q d
 run_ends q d i n r seen is short = omega (arith, prefix_len-drop q i d seen)
 
@@ -72,4 +82,5 @@ run_goes_on q d i n r seen is whole = omega (arith, prefix_len-drop q i d seen)
 -- one that reaches to the end
 pub run_at_end : (q : ℕ → Bool) (d : List ℕ) (i n r : ℕ) → i ≤ prefix_len q d → length d ≤ i + n →
     r ≡ min n (prefix_len q (drop i d)) → i + r ≡ prefix_len q d
-run_at_end q d i n r seen reaches is = omega (arith, prefix_len-drop q i d seen, prefix_len-le-length q d)
+run_at_end q d i n r seen reaches is =
+    omega (arith, prefix_len-drop q i d seen, prefix_len-le-length q d)

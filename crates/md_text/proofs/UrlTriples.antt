@@ -1,24 +1,31 @@
 -- Each `%` of a sanitized URL begins a percent triple: the law `percent_begins_a_triple`.
-use Rattle.std.proofs.Common.{◌≡◌, ℕ, ◌==◌, ◌<◌, ◌/◌, ◌%◌, true, false, not, ◌&&◌, ◌||◌, cond, List, [], ◌∷◌, ◌++◌, refl, sym, ap, ◌∙◌, subst, inl, inr}
-use Rattle.std.proofs.lemmas.Bool.{cases_Bool, cases_eq, agree_below_at, or_cases, and_parts, or_left, or_right, and_from, both_ways}
+use Rattle.std.proofs.Common.{◌≡◌, ℕ, ◌==◌, ◌<◌, ◌/◌, ◌%◌, true, false, not, ◌&&◌, ◌||◌, cond, List}
+use Rattle.std.proofs.Common.{[], ◌∷◌, ◌++◌, refl, sym, ap, ◌∙◌, subst, inl, inr}
+use Rattle.std.proofs.lemmas.Bool.{cases_Bool, cases_eq, agree_below_at, or_cases, and_parts}
+use Rattle.std.proofs.lemmas.Bool.{or_left, or_right, and_from, both_ways}
 use Rattle.std.proofs.lemmas.List.Elements.{All-head, All-tail}
 use Rattle.md_text.specs.Encode.{encoded, encoded_byte}
-use Rattle.md_text.specs.Url.{is_triple_byte, stays, stays_anywhere, completes_triple, normalized_url, percent, hex_digit, sanitized}
+use Rattle.md_text.specs.Url.{is_triple_byte, stays, stays_anywhere, completes_triple}
+use Rattle.md_text.specs.Url.{normalized_url, percent, hex_digit, sanitized}
 use Rattle.md_text.specs.Laws.{AreBytes, percents_begin_triples}
 use Rattle.md_text.proofs.UrlLemmas.{encoded_byte-stays}
-use Rattle.md_text.proofs.UrlLaws.{IsUrl, IsByte, AreUrlBytes, normalized-url, url_stays, hex_digit-plain, high_digit, low_digit}
+use Rattle.md_text.proofs.UrlLaws.{IsUrl, IsByte, AreUrlBytes, normalized-url, url_stays}
+use Rattle.md_text.proofs.UrlLaws.{hex_digit-plain, high_digit, low_digit}
 use Rattle.md_text.proofs.UrlTwice.{completes-normalized}
 
 -- a byte that stays anywhere is no `%`
 anywhere_or_not : (b : ℕ) → b < 256 → (not (stays_anywhere b) || not (b == 37)) ≡ true
-anywhere_or_not b l = agree_below_at (λ b. not (stays_anywhere b) || not (b == 37)) (λ b. true) 256 b refl l
+anywhere_or_not b l =
+    agree_below_at (λ b. not (stays_anywhere b) || not (b == 37)) (λ b. true) 256 b refl l
 
 anywhere-begins : (b : ℕ) (rest : List ℕ) → b < 256 → stays_anywhere b ≡ true →
     (not (b == 37) || completes_triple rest) ≡ true
 anywhere-begins b rest l e =
-    or_left (not (b == 37)) (completes_triple rest) (ap (λ t. not t || not (b == 37)) (sym e) ∙ anywhere_or_not b l)
+    or_left (not (b == 37)) (completes_triple rest)
+    (ap (λ t. not t || not (b == 37)) (sym e) ∙ anywhere_or_not b l)
 
-digit-begins : (d : ℕ) (rest : List ℕ) → d < 16 → (not (hex_digit d == 37) || completes_triple rest) ≡ true
+digit-begins : (d : ℕ) (rest : List ℕ) → d < 16 →
+    (not (hex_digit d == 37) || completes_triple rest) ≡ true
 digit-begins d rest l =
     or_left (not (hex_digit d == 37)) (completes_triple rest)
     (agree_below_at (λ d. not (hex_digit d == 37)) (λ d. true) 16 d refl l)
@@ -26,8 +33,10 @@ digit-begins d rest l =
 percents-normalized : (x : List ℕ) → AreBytes x → percents_begin_triples (normalized_url x) ≡ true
 percents-normalized [] h = refl
 percents-normalized (b ∷ rest) h = elim (cases_Bool (stays b rest)) [
-  | inl s ↦ subst (λ t. percents_begin_triples (cond t (b ∷ []) (percent b) ++ normalized_url rest) ≡ true) (sym s)
-      (and_from (not (b == 37) || completes_triple (normalized_url rest)) (percents_begin_triples (normalized_url rest))
+  | inl s ↦ subst (λ t.
+      percents_begin_triples (cond t (b ∷ []) (percent b) ++ normalized_url rest) ≡ true) (sym s)
+      (and_from (not (b == 37) || completes_triple (normalized_url rest))
+      (percents_begin_triples (normalized_url rest))
       (elim (or_cases (stays_anywhere b) ((b == 37) && completes_triple rest) s) [
         | inl anywhere ↦ anywhere-begins b (normalized_url rest) (All-head IsByte b rest h) anywhere
         | inr triple ↦ or_right (not (b == 37)) (completes_triple (normalized_url rest))
@@ -38,12 +47,14 @@ percents-normalized (b ∷ rest) h = elim (cases_Bool (stays b rest)) [
   | inr gone ↦ (let high = high_digit b (All-head IsByte b rest h) in
       let low = low_digit b in
       let later = percents-normalized rest (All-tail IsByte b rest h) in
-      subst (λ t. percents_begin_triples (cond t (b ∷ []) (percent b) ++ normalized_url rest) ≡ true) (sym gone)
+      subst (λ t. percents_begin_triples (cond t (b ∷ []) (percent b) ++ normalized_url rest)
+      ≡ true) (sym gone)
       (and_from (is_triple_byte (hex_digit (b / 16)) && is_triple_byte (hex_digit (b % 16)))
       (percents_begin_triples (hex_digit (b / 16) ∷ hex_digit (b % 16) ∷ normalized_url rest))
       (and_from (is_triple_byte (hex_digit (b / 16))) (is_triple_byte (hex_digit (b % 16)))
       (hex_digit-plain (b / 16) high) (hex_digit-plain (b % 16) low))
-      (and_from (not (hex_digit (b / 16) == 37) || completes_triple (hex_digit (b % 16) ∷ normalized_url rest))
+      (and_from (not (hex_digit (b / 16) == 37)
+      || completes_triple (hex_digit (b % 16) ∷ normalized_url rest))
       (percents_begin_triples (hex_digit (b % 16) ∷ normalized_url rest))
       (digit-begins (b / 16) (hex_digit (b % 16) ∷ normalized_url rest) high)
       (and_from (not (hex_digit (b % 16) == 37) || completes_triple (normalized_url rest))
@@ -56,7 +67,8 @@ triple-encoded : (b : ℕ) → IsUrl b → is_triple_byte b ≡ true → encoded
 triple-encoded b u e = encoded_byte-stays b (48 ∷ 48 ∷ []) (url_stays b u)
     (λ is. both_ways (is_triple_byte 38) refl (subst (λ b. is_triple_byte b ≡ true) is e))
 
-completes-encoded : (y : List ℕ) → AreUrlBytes y → completes_triple y ≡ true → completes_triple (encoded true y) ≡ true
+completes-encoded : (y : List ℕ) → AreUrlBytes y → completes_triple y ≡ true →
+    completes_triple (encoded true y) ≡ true
 completes-encoded [] u e = e
 completes-encoded (a ∷ []) u e = absurd (both_ways false refl e)
 completes-encoded (a ∷ b ∷ rest) u e =
@@ -71,13 +83,16 @@ percents-encoded : (y : List ℕ) → AreUrlBytes y → percents_begin_triples y
     percents_begin_triples (encoded true y) ≡ true
 percents-encoded [] u e = refl
 percents-encoded (b ∷ rest) u e =
-    let parts = and_parts (not (b == 37) || completes_triple rest) (percents_begin_triples rest) e in
+    let parts =
+    and_parts (not (b == 37) || completes_triple rest) (percents_begin_triples rest) e in
     let later = percents-encoded rest (All-tail IsUrl b rest u) parts.1 in
     elim (cases_eq b 38) [
-      | inl is ↦ subst (λ b. percents_begin_triples (encoded_byte true b ++ encoded true rest) ≡ true) (sym is) later
+      | inl is ↦ subst (λ b. percents_begin_triples (encoded_byte true b ++ encoded true rest)
+          ≡ true) (sym is) later
       | inr ne ↦ subst (λ t. percents_begin_triples (t ++ encoded true rest) ≡ true)
           (sym (encoded_byte-stays b (48 ∷ 48 ∷ []) (url_stays b (All-head IsUrl b rest u)) ne))
-          (and_from (not (b == 37) || completes_triple (encoded true rest)) (percents_begin_triples (encoded true rest))
+          (and_from (not (b == 37) || completes_triple (encoded true rest))
+          (percents_begin_triples (encoded true rest))
           (elim (or_cases (not (b == 37)) (completes_triple rest) parts.0) [
             | inl other ↦ or_left (not (b == 37)) (completes_triple (encoded true rest)) other
             | inr completes ↦ or_right (not (b == 37)) (completes_triple (encoded true rest))
@@ -87,4 +102,5 @@ percents-encoded (b ∷ rest) u e =
     ]
 
 pub percents-sanitized : (x : List ℕ) → AreBytes x → percents_begin_triples (sanitized x) ≡ true
-percents-sanitized x h = percents-encoded (normalized_url x) (normalized-url x h) (percents-normalized x h)
+percents-sanitized x h =
+    percents-encoded (normalized_url x) (normalized-url x h) (percents-normalized x h)

@@ -2,7 +2,8 @@
 use Rattle.std.specs.Prelude.{ℕ, Bool, ◌&&◌, ◌==◌, if◌then◌else◌, List, [], ◌∷◌, codes}
 use Rattle.std.specs.List.{flat_map}
 
--- what a byte becomes: NUL is U+FFFD, and `&`, `"`, `<` and `>` are character references where HTML is asked for
+-- what a byte becomes: NUL is U+FFFD, and `&`, `"`, `<` and `>` are character references where
+-- HTML is asked for
 abbrev pub encoded_byte : Bool → ℕ → List ℕ
 encoded_byte html b =
     if b == 0 then 239 ∷ 191 ∷ 189 ∷ []

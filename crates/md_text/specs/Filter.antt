@@ -1,10 +1,12 @@
 -- The tag filter of GitHub flavored Markdown.
-use Rattle.std.specs.Prelude.{ℕ, Bool, true, ◌&&◌, ◌||◌, ◌==◌, if◌then◌else◌, List, [], ◌∷◌, ◌++◌, length, drop, take_while, codes}
+use Rattle.std.specs.Prelude.{ℕ, Bool, true, ◌&&◌, ◌||◌, ◌==◌, if◌then◌else◌, List, [], ◌∷◌, ◌++◌}
+use Rattle.std.specs.Prelude.{length, drop, take_while, codes}
 use Rattle.md_text.specs.Bytes.{is_letter, lowered, is_one_of}
 
 -- the names of the tags that are disarmed
 abbrev pub disarmed_names : List (List ℕ)
-disarmed_names = codes "iframe" ∷ codes "noembed" ∷ codes "noframes" ∷ codes "plaintext" ∷ codes "script"
+disarmed_names =
+    codes "iframe" ∷ codes "noembed" ∷ codes "noframes" ∷ codes "plaintext" ∷ codes "script"
     ∷ codes "style" ∷ codes "textarea" ∷ codes "title" ∷ codes "xmp" ∷ []
 
 -- a text without one `/` that it begins with
@@ -14,7 +16,8 @@ past_slash text = elim text [ [] ↦ [] | b ∷ rest ↦ if b == 47 then rest el
 -- the end, or tab, LF, FF, CR, space, `/` or `>`
 abbrev pub ends_name : List ℕ → Bool
 ends_name [] = true
-ends_name (b ∷ rest) = (b == 9) || (b == 10) || (b == 12) || (b == 13) || (b == 32) || (b == 47) || (b == 62)
+ends_name (b ∷ rest) =
+    (b == 9) || (b == 10) || (b == 12) || (b == 13) || (b == 32) || (b == 47) || (b == 62)
 
 -- the whole run of letters is a name that is disarmed, and it ends where a tag's name ends
 abbrev pub begins_disarmed_name : List ℕ → Bool
@@ -25,8 +28,10 @@ begins_disarmed_name text = is_one_of disarmed_names (lowered (take_while is_let
 abbrev pub tag_filtered : List ℕ → List ℕ
 tag_filtered [] = []
 tag_filtered (b ∷ rest) =
-    (if (b == 60) && begins_disarmed_name (past_slash rest) then codes "&lt;" else b ∷ []) ++ tag_filtered rest
+    (if (b == 60) && begins_disarmed_name (past_slash rest) then codes "&lt;" else b ∷ [])
+    ++ tag_filtered rest
 
 -- what a byte becomes before the bytes that follow it: a word of the lemmas'
 abbrev pub filtered_byte : ℕ → List ℕ → List ℕ
-filtered_byte b rest = if (b == 60) && begins_disarmed_name (past_slash rest) then codes "&lt;" else b ∷ []
+filtered_byte b rest =
+    if (b == 60) && begins_disarmed_name (past_slash rest) then codes "&lt;" else b ∷ []

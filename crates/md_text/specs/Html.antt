@@ -1,7 +1,8 @@
 -- The grammar of the HTML that is written. It knows no events.
 use Rattle.std.specs.Str.{bytes_eq}
 use Rattle.md_base.specs.Identifier.{is_nonempty}
-use Rattle.std.specs.Prelude.{◌≡◌, ℕ, Bool, true, false, not, IsTrue, ◌&&◌, List, [], ◌∷◌, ◌++◌, map, codes}
+use Rattle.std.specs.Prelude.{◌≡◌, ℕ, Bool, true, false, not, IsTrue, ◌&&◌, List, [], ◌∷◌, ◌++◌}
+use Rattle.std.specs.Prelude.{map, codes}
 use Rattle.std.specs.List.{list_any, list_all}
 use Rattle.md_text.specs.Bytes.{is_one_of}
 use Rattle.md_text.specs.References.{is_escaped}
@@ -11,7 +12,8 @@ pub record Attribute : Type 0 where
   pub name : List ℕ
   pub value : List ℕ
 
--- texts, void tags and elements one after another: each has what comes after it, and an element what it holds
+-- texts, void tags and elements one after another: each has what comes after it, and an
+-- element what it holds
 pub data Forest : Type 0 where
   Empty : Forest
   Text : List ℕ → Forest → Forest
@@ -21,9 +23,11 @@ pub data Forest : Type 0 where
 -- a space, the name, `="`, the value and `"`
 abbrev pub written_attributes : List Attribute → List ℕ
 written_attributes [] = []
-written_attributes (a ∷ rest) = 32 ∷ (a.name ++ (61 ∷ 34 ∷ (a.value ++ (34 ∷ written_attributes rest))))
+written_attributes (a ∷ rest) =
+    32 ∷ (a.name ++ (61 ∷ 34 ∷ (a.value ++ (34 ∷ written_attributes rest))))
 
--- a void tag is `<`, name, attributes, ` />`; an element `<`, name, attributes, `>`, what it holds, `</`, name, `>`
+-- a void tag is `<`, name, attributes, ` />`; an element `<`, name, attributes, `>`, what it
+-- holds, `</`, name, `>`
 abbrev pub written : Forest → List ℕ
 written Empty = []
 written (Text bytes rest) = bytes ++ written rest
@@ -42,7 +46,8 @@ closing_tag name = 60 ∷ 47 ∷ (name ++ (62 ∷ []))
 
 -- the elements, each with the names of the attributes that it may have
 abbrev pub elements : List (List ℕ × List (List ℕ))
-elements = map (λ name. (name, [])) (codes "blockquote" ∷ codes "pre" ∷ codes "p" ∷ codes "ul" ∷ codes "em"
+elements =
+    map (λ name. (name, [])) (codes "blockquote" ∷ codes "pre" ∷ codes "p" ∷ codes "ul" ∷ codes "em"
     ∷ codes "strong" ∷ codes "del" ∷ codes "sup" ∷ codes "table" ∷ codes "thead" ∷ codes "tbody"
     ∷ codes "tr"
     ∷ codes "h1" ∷ codes "h3" ∷ codes "h4" ∷ codes "h5" ∷ codes "h6" ∷ [])
@@ -70,18 +75,22 @@ are_attributes listed (a ∷ rest) = is_one_of listed a.name && is_escaped a.val
 
 -- a tag of the table, with attributes that it may have
 abbrev pub is_tag : List (List ℕ × List (List ℕ)) → List ℕ → List Attribute → Bool
-is_tag rules name attributes = list_any (λ rule. bytes_eq rule.0 name && are_attributes rule.1 attributes) rules
+is_tag rules name attributes =
+    list_any (λ rule. bytes_eq rule.0 name && are_attributes rule.1 attributes) rules
 
 -- begins with a text
 abbrev pub begins_with_text : Forest → Bool
 begins_with_text forest = elim forest [ Text bytes rest ↦ true | _ ↦ false ]
 
--- no text is empty or followed by a text, all texts and values are escaped, and all tags are of the tables
+-- no text is empty or followed by a text, all texts and values are escaped, and all tags
+-- are of the tables
 abbrev pub is_forest : Forest → Bool
 is_forest Empty = true
-is_forest (Text bytes rest) = is_nonempty bytes && is_escaped bytes && not (begins_with_text rest) && is_forest rest
+is_forest (Text bytes rest) =
+    is_nonempty bytes && is_escaped bytes && not (begins_with_text rest) && is_forest rest
 is_forest (Void name attributes rest) = is_tag void_tags name attributes && is_forest rest
-is_forest (Element name attributes inner rest) = is_tag elements name attributes && is_forest inner && is_forest rest
+is_forest (Element name attributes inner rest) =
+    is_tag elements name attributes && is_forest inner && is_forest rest
 
 -- each attribute of each tag passes the test
 abbrev pub all_attributes : (Attribute → Bool) → Forest → Bool

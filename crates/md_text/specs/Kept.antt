@@ -1,6 +1,7 @@
 -- Bytes that are written as they are: words of the program's, which no public contract cites.
 use Rattle.std.specs.Str.{bytes_eq}
-use Rattle.std.specs.Prelude.{◌≡◌, ◌≤◌, ℕ, Bool, false, not, ◌&&◌, ◌||◌, ◌==◌, if◌then◌else◌, List, [], ◌∷◌, ◌++◌, length, take, drop, codes}
+use Rattle.std.specs.Prelude.{◌≡◌, ◌≤◌, ℕ, Bool, false, not, ◌&&◌, ◌||◌, ◌==◌, if◌then◌else◌, List}
+use Rattle.std.specs.Prelude.{[], ◌∷◌, ◌++◌, length, take, drop, codes}
 use Rattle.md_text.specs.Encode.{encoded_byte}
 use Rattle.md_text.specs.Laws.{AreAscii}
 use Rattle.md_text.specs.Url.{stays_anywhere, completes_triple, percent, sanitized}
@@ -19,12 +20,14 @@ begins_triple text = elim text [ [] ↦ false | b ∷ rest ↦ (b == 37) && comp
 
 -- a plain byte or a percent triple comes first
 abbrev pub begins_kept : List ℕ → Bool
-begins_kept text = elim text [ [] ↦ false | b ∷ rest ↦ is_plain b || ((b == 37) && completes_triple rest) ]
+begins_kept text =
+    elim text [ [] ↦ false | b ∷ rest ↦ is_plain b || ((b == 37) && completes_triple rest) ]
 
 -- so many bytes at the front of a URL are written as they are
 abbrev pub AreKept : List ℕ → ℕ → Type 0
 AreKept text n =
-    (n ≤ length text) × AreAscii (take n text) × (take n text ++ sanitized (drop n text) ≡ sanitized text)
+    (n ≤ length text) × AreAscii (take n text)
+    × (take n text ++ sanitized (drop n text) ≡ sanitized text)
 
 -- what becomes of a byte of a URL that isn't written as it is
 abbrev pub changed_byte : ℕ → List ℕ

@@ -1,5 +1,6 @@
 -- The words of the laws.
-use Rattle.std.specs.Prelude.{◌≡◌, ℕ, ◌⊎◌, ◌<◌, ◌||◌, ◌==◌, Bool, true, not, ◌&&◌, List, [], ◌∷◌, ◌++◌, All, codes}
+use Rattle.std.specs.Prelude.{◌≡◌, ℕ, ◌⊎◌, ◌<◌, ◌||◌, ◌==◌, Bool, true, not, ◌&&◌, List, [], ◌∷◌}
+use Rattle.std.specs.Prelude.{◌++◌, All, codes}
 use Rattle.std.specs.Str.{bytes_eq}
 use Rattle.md_base.specs.Leaves.{bytes_where}
 use Rattle.md_text.specs.Url.{completes_triple}
@@ -27,7 +28,8 @@ is_line_ends (b ∷ rest) = ((b == 13) || (b == 10)) && is_line_ends rest
 -- each `%` is followed by two hexadecimal digits
 abbrev pub percents_begin_triples : List ℕ → Bool
 percents_begin_triples [] = true
-percents_begin_triples (b ∷ rest) = (not (b == 37) || completes_triple rest) && percents_begin_triples rest
+percents_begin_triples (b ∷ rest) =
+    (not (b == 37) || completes_triple rest) && percents_begin_triples rest
 
 -- the bytes that stay as they are between these texts
 abbrev pub kept_between : (List ℕ → List ℕ) → List ℕ → List ℕ → List ℕ

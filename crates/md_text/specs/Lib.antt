@@ -1,5 +1,5 @@
--- What becomes of a text that goes into HTML, one module for each call; and the grammar of that HTML, with the words
--- of the laws.
+-- What becomes of a text that goes into HTML, one module for each call; and the grammar of that
+-- HTML, with the words of the laws.
 pub mod Bytes
 pub mod LineEnding
 pub mod Defaults

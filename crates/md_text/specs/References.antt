@@ -1,5 +1,6 @@
 -- The four character references that are written, where they stand and what they stand for.
-use Rattle.std.specs.Prelude.{ℕ, suc, zero, Bool, true, false, not, ◌&&◌, ◌||◌, ◌==◌, if◌then◌else◌, nat_eq, List, [], ◌∷◌, length, find, Option, is_some, codes}
+use Rattle.std.specs.Prelude.{ℕ, suc, zero, Bool, true, false, not, ◌&&◌, ◌||◌, ◌==◌, if◌then◌else◌}
+use Rattle.std.specs.Prelude.{nat_eq, List, [], ◌∷◌, length, find, Option, is_some, codes}
 use Rattle.std.specs.Option.{option_map_or}
 use Rattle.std.specs.List.{starts_with, list_all}
 
@@ -15,7 +16,8 @@ references = (codes "amp;", 38) ∷ (codes "quot;", 34) ∷ (codes "lt;", 60) �
 abbrev pub reference_before : List ℕ → Option (List ℕ × ℕ)
 reference_before rest = find (λ reference. begins_with reference.0 rest) references
 
--- how many bytes of what follows a `&` belong to the reference that it begins, none where it begins none
+-- how many bytes of what follows a `&` belong to the reference that it begins, none
+-- where it begins none
 abbrev pub reference_tail : List ℕ → ℕ
 reference_tail rest = option_map_or (λ reference. length reference.0) (reference_before rest) 0
 
@@ -27,7 +29,8 @@ referenced rest = option_map_or (λ reference. reference.1) (reference_before re
 abbrev pub read_back_after : ℕ → List ℕ → List ℕ
 read_back_after skip [] = []
 read_back_after zero (b ∷ rest) =
-    if b == 38 then referenced rest ∷ read_back_after (reference_tail rest) rest else b ∷ read_back_after 0 rest
+    if b == 38 then referenced rest ∷ read_back_after (reference_tail rest) rest
+    else b ∷ read_back_after 0 rest
 read_back_after (suc skip) (b ∷ rest) = read_back_after skip rest
 
 -- a text with its references read back, once

@@ -11,8 +11,10 @@ is_safe_value protocols value = has_permitted_protocol protocols (read_back valu
 
 -- an `href` has no protocol or one that a link may have
 abbrev pub is_safe_link : Attribute → Bool
-is_safe_link a = if bytes_eq a.name (codes "href") then is_safe_value link_protocols a.value else true
+is_safe_link a =
+    if bytes_eq a.name (codes "href") then is_safe_value link_protocols a.value else true
 
 -- a `src` has no protocol or one that an image may have
 abbrev pub is_safe_image : Attribute → Bool
-is_safe_image a = if bytes_eq a.name (codes "src") then is_safe_value image_protocols a.value else true
+is_safe_image a =
+    if bytes_eq a.name (codes "src") then is_safe_value image_protocols a.value else true

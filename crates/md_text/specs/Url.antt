@@ -1,12 +1,14 @@
 -- URLs: what stays of a text, which protocol it has, and which protocols are kept.
-use Rattle.std.specs.Prelude.{ℕ, ◌+◌, ◌/◌, ◌%◌, Bool, true, false, ◌&&◌, ◌||◌, ◌==◌, if◌then◌else◌, nat_lt, List, [], ◌∷◌, ◌++◌, Option, Some, None, option_map, codes}
+use Rattle.std.specs.Prelude.{ℕ, ◌+◌, ◌/◌, ◌%◌, Bool, true, false, ◌&&◌, ◌||◌, ◌==◌, if◌then◌else◌}
+use Rattle.std.specs.Prelude.{nat_lt, List, [], ◌∷◌, ◌++◌, Option, Some, None, option_map, codes}
 use Rattle.std.specs.Option.{option_map_or}
 use Rattle.md_text.specs.Bytes.{is_between, lowered, is_one_of}
 use Rattle.md_text.specs.Encode.{encoded}
 
 -- `!`, `#`, `$`, from `&` to `;`, `=`, from `?` to `Z`, `_`, a lower-case letter, `~`
 abbrev pub stays_anywhere : ℕ → Bool
-stays_anywhere b = (b == 33) || (b == 35) || (b == 36) || is_between 38 59 b || (b == 61) || is_between 63 90 b
+stays_anywhere b =
+    (b == 33) || (b == 35) || (b == 36) || is_between 38 59 b || (b == 61) || is_between 63 90 b
     || (b == 95) || is_between 97 122 b || (b == 126)
 
 -- a byte that a percent triple may have after its `%`: an ASCII hexadecimal digit of either case
@@ -29,7 +31,8 @@ hex_digit d = if nat_lt d 10 then 48 + d else 55 + d
 abbrev pub percent : ℕ → List ℕ
 percent b = 37 ∷ hex_digit (b / 16) ∷ hex_digit (b % 16) ∷ []
 
--- each byte by what it is and what follows it; a character that doesn't stay is written byte by byte
+-- each byte by what it is and what follows it; a character that doesn't stay is
+-- written byte by byte
 abbrev pub normalized_url : List ℕ → List ℕ
 normalized_url [] = []
 normalized_url (b ∷ rest) = (if stays b rest then b ∷ [] else percent b) ++ normalized_url rest
@@ -41,16 +44,18 @@ sanitized text = encoded true (normalized_url text)
 -- what stands before the first colon, where none of `?`, `#`, `/` stands before that
 abbrev pub protocol_of : List ℕ → Option (List ℕ)
 protocol_of [] = None
-protocol_of (b ∷ rest) = if b == 58 then Some []
-    else (if (b == 63) || (b == 35) || (b == 47) then None else option_map (λ before. b ∷ before) (protocol_of rest))
+protocol_of (b ∷ rest) = if b == 58 then Some [] else (if (b == 63) || (b == 35) || (b == 47)
+    then None else option_map (λ before. b ∷ before) (protocol_of rest))
 
 -- no protocol, or one that is in the list once its ASCII letters are lowered
 abbrev pub has_permitted_protocol : List (List ℕ) → List ℕ → Bool
-has_permitted_protocol list url = option_map_or (λ protocol. is_one_of list (lowered protocol)) (protocol_of url) true
+has_permitted_protocol list url =
+    option_map_or (λ protocol. is_one_of list (lowered protocol)) (protocol_of url) true
 
 -- the sanitized URL, or nothing where its protocol isn't permitted
 abbrev pub sanitized_with : List (List ℕ) → List ℕ → List ℕ
-sanitized_with protocols text = if has_permitted_protocol protocols (sanitized text) then sanitized text else []
+sanitized_with protocols text =
+    if has_permitted_protocol protocols (sanitized text) then sanitized text else []
 
 -- what a byte becomes before the bytes that follow it: a word of the program's
 abbrev pub normalized_byte : ℕ → List ℕ → List ℕ

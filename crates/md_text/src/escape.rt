@@ -1,6 +1,8 @@
 //! Escaping of texts that stand in HTML.
 
-ghost use Rattle.std.specs.Prelude.{◌≡◌, ◌+◌, ◌∷◌, ◌++◌, ◌<◌, ◌≤◌, [], false, IfOk, OnOk, is_ok, if◌then◌else◌, length, get_or, take, drop, min, encode_utf8_all};
+ghost use Rattle.std.specs.Prelude.{◌≡◌, ◌+◌, ◌∷◌, ◌++◌, ◌<◌, ◌≤◌, [], false, IfOk, OnOk, is_ok};
+ghost use Rattle.std.specs.Prelude.{if◌then◌else◌, length, get_or, take, drop, min};
+ghost use Rattle.std.specs.Prelude.{encode_utf8_all};
 ghost use Rattle.std.specs.String.{string_bytes};
 ghost use Rattle.std.specs.List.{flat_map, prefix_len};
 ghost use Rattle.std.specs.Str.{chars};
@@ -36,7 +38,8 @@ pub fn encode(alloc: Global, value: &str, encode_html: bool) -> Result<String, A
     Ok(out)
 }
 
-/// Adds a text, made safe to stand in HTML as [`encode`] makes it. Where memory runs out a part of it may be added.
+/// Adds a text, made safe to stand in HTML as [`encode`] makes it. Where memory runs out a part of
+/// it may be added.
 ///
 /// # Errors
 ///
@@ -50,8 +53,10 @@ pub fn encode(alloc: Global, value: &str, encode_html: bool) -> Result<String, A
 /// assert_eq!(out.as_str(), "I &lt;3 🦀");
 /// ```
 pub fn push_encoded(out: &mut String, value: &str, encode_html: bool) -> Result<(), AllocError>
-    ensures added { OnOk result (string_bytes out.new ≡ string_bytes out.old ++ encoded encode_html value.now) }
-    ensures before { take (length (string_bytes out.old)) (string_bytes out.new) ≡ string_bytes out.old }
+    ensures added { OnOk result
+        (string_bytes out.new ≡ string_bytes out.old ++ encoded encode_html value.now) }
+    ensures before { take (length (string_bytes out.old)) (string_bytes out.new)
+        ≡ string_bytes out.old }
 {
     let test = Kept { encode_html };
     let mut rest = value;
@@ -65,8 +70,8 @@ pub fn push_encoded(out: &mut String, value: &str, encode_html: bool) -> Result<
     out.push_str(rest)
 }
 
-/// Adds what stands in place of a byte that doesn't stay. Each text is added by itself, so that its few bytes are
-/// copied as one.
+/// Adds what stands in place of a byte that doesn't stay. Each text is added by itself, so that its
+/// few bytes are copied as one.
 #[inline(always)]
 fn push_replacement(out: &mut String, byte: u8, encode_html: bool) -> Result<(), AllocError>
     requires { is_kept encode_html byte ≡ false }

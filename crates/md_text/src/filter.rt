@@ -1,6 +1,7 @@
 //! The tag filter of GitHub flavored Markdown.
 
-ghost use Rattle.std.specs.Prelude.{◌≡◌, ◌+◌, ◌<◌, ◌≤◌, ◌++◌, IfOk, MatchOption, length, take, drop, slice_index, codes};
+ghost use Rattle.std.specs.Prelude.{◌≡◌, ◌+◌, ◌<◌, ◌≤◌, ◌++◌, IfOk, MatchOption, length, take};
+ghost use Rattle.std.specs.Prelude.{drop, slice_index, codes};
 ghost use Rattle.std.specs.String.{string_bytes};
 ghost use Rattle.std.specs.List.{prefix_len};
 ghost use Rattle.md_text.specs.Bytes.{is_letter};

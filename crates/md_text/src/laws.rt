@@ -4,14 +4,18 @@ pub mod cases;
 pub mod leaves;
 
 ghost use Rattle.std.specs.List.{list_all};
-ghost use Rattle.std.specs.Prelude.{◌≡◌, ◌≢◌, ◌⊎◌, ℕ, [], ◌∷◌, ◌++◌, List, Bool, true, false, codes};
+ghost use Rattle.std.specs.Prelude.{◌≡◌, ◌≢◌, ◌⊎◌, ℕ, [], ◌∷◌, ◌++◌, List, Bool, true, false};
+ghost use Rattle.std.specs.Prelude.{codes};
 ghost use Rattle.std.specs.Prelude.{All, IsTrue, MatchOption};
 ghost use Rattle.md_text.specs.declared.line_ending.LineEnding.{LineEnding};
 ghost use Rattle.md_text.specs.Encode.{encoded};
 ghost use Rattle.md_text.specs.Filter.{tag_filtered};
-ghost use Rattle.md_text.specs.Html.{Attribute, Forest, Empty, Void, IsReading, HasReadingWith, HasOneReadingWith};
-ghost use Rattle.md_text.specs.Html.{is_tag, elements, void_tags, written, opening_tag, closing_tag};
-ghost use Rattle.md_text.specs.Laws.{ChangesOnlyAngles, AreBytes, AreAscii, is_line_ends, percents_begin_triples};
+ghost use Rattle.md_text.specs.Html.{Attribute, Forest, Empty, Void, IsReading, HasReadingWith};
+ghost use Rattle.md_text.specs.Html.{HasOneReadingWith};
+ghost use Rattle.md_text.specs.Html.{is_tag, elements, void_tags, written, opening_tag};
+ghost use Rattle.md_text.specs.Html.{closing_tag};
+ghost use Rattle.md_text.specs.Laws.{ChangesOnlyAngles, AreBytes, AreAscii, is_line_ends};
+ghost use Rattle.md_text.specs.Laws.{percents_begin_triples};
 ghost use Rattle.md_text.specs.LineEnding.{ending_text, ending_of};
 ghost use Rattle.md_text.specs.References.{is_escaped, outside_references, read_back};
 ghost use Rattle.md_text.specs.Safe.{is_safe_value};
@@ -19,7 +23,8 @@ ghost use Rattle.md_text.specs.Url.{sanitized, sanitized_with, link_protocols, i
 
 /// Two texts joined are escaped as each by itself.
 pub fn encode_of_append()
-    ensures { (html : Bool) (x y : List ℕ) → encoded html (x ++ y) ≡ encoded html x ++ encoded html y }
+    ensures { (html : Bool) (x y : List ℕ)
+        → encoded html (x ++ y) ≡ encoded html x ++ encoded html y }
 {}
 
 /// An escaped text, its references read back once, is the text with U+FFFD for each NUL.

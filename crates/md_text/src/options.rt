@@ -18,8 +18,8 @@ pub struct CompileOptions {
     pub gfm_task_list_item_checkable: bool,
     /// Disarm some tags of HTML that is left as it is. That doesn't make such HTML safe.
     pub gfm_tagfilter: bool,
-    /// Make footnotes' ids of their numbers instead of their identifiers, and end each call's id in which one it is.
-    /// Safe: on or off; that no two ids are equal is promised only if it is on.
+    /// Make footnotes' ids of their numbers instead of their identifiers, and end each call's id in
+    /// which one it is. Safe: on or off; that no two ids are equal is promised only if it is on.
     pub gfm_footnote_number_ids: bool,
     /// How lines end where the document has no line ending.
     pub default_line_ending: LineEnding,

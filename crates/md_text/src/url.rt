@@ -36,7 +36,8 @@ pub fn sanitize(alloc: Global, value: &str) -> Result<String, AllocError>
     Ok(url)
 }
 
-/// Adds a URL that may stand in HTML, as [`sanitize`] makes it. Where memory runs out a part of it may be added.
+/// Adds a URL that may stand in HTML, as [`sanitize`] makes it. Where memory runs out a part of
+/// it may be added.
 ///
 /// # Errors
 ///
@@ -98,8 +99,9 @@ pub fn sanitize_with_protocols(
     Ok(url)
 }
 
-/// Adds a URL that may stand in HTML, or nothing where it has a protocol that isn't among `protocols`, as
-/// [`sanitize_with_protocols`] makes it. Where memory runs out a part of it may be added.
+/// Adds a URL that may stand in HTML, or nothing where it has a protocol that isn't among
+/// `protocols`, as [`sanitize_with_protocols`] makes it. Where memory runs out a part of
+/// it may be added.
 ///
 /// # Errors
 ///
@@ -117,15 +119,16 @@ pub fn push_sanitized_with_protocols(
     value: &str,
     protocols: &[&str],
 ) -> Result<(), AllocError>
-    ensures { OnOk result (string_bytes out.new
-        ≡ string_bytes out.old ++ sanitized_with (map (λ protocol. protocol.now) protocols.now) value.now) }
+    ensures { OnOk result (string_bytes out.new ≡ string_bytes out.old
+        ++ sanitized_with (map (λ protocol. protocol.now) protocols.now) value.now) }
 {
     let start = out.len();
     let room = out.capacity();
     push_sanitized(out, value)?;
     if !has_permitted_protocol(&out.as_bytes()[start..], protocols) {
         out.truncate(start);
-        // What isn't added leaves no more room than there was, or than a text has that grows by doubling.
+        // What isn't added leaves no more room than there was, or than a text has that
+        // grows by doubling.
         out.shrink_to(room.max(start.saturating_mul(2)));
     }
     Ok(())

@@ -1,5 +1,6 @@
 -- Where a node lies, by its two events.
-use Rattle.std.proofs.Common.{◌≡◌, ℕ, suc, true, ◌+◌, ◌<◌, ◌==◌, Option, Some, List, [], ◌∷◌, ◌++◌, length, refl, sym, ap, ◌∙◌, subst, arith}
+use Rattle.std.proofs.Common.{◌≡◌, ℕ, suc, true, ◌+◌, ◌<◌, ◌==◌, Option, Some, List, [], ◌∷◌, ◌++◌}
+use Rattle.std.proofs.Common.{length, refl, sym, ap, ◌∙◌, subst, arith}
 use Rattle.std.specs.Prelude.{slice_get, IsSome}
 use Rattle.md_base.specs.declared.event.Event.{Event}
 use Rattle.md_base.specs.declared.event.Name.{Name}
@@ -16,7 +17,8 @@ pub some-there : {A : Type 0} (o : Option A) (x : A) → o ≡ Some x → IsSome
 some-there (Some y) x e = refl
 some-there _ x e = cc
 
-pub start-noticed : (given : Handed) (index : ℕ) (name : Name) (one : Noticed) → EntersAt given.events index name →
+pub start-noticed : (given : Handed) (index : ℕ) (name : Name) (one : Noticed) →
+    EntersAt given.events index name →
     IsNoticedAt given index one → (event : Event) → slice_get given.events index ≡ Some event →
     event.point ≡ one.told.place.start
 start-noticed given index name one enters there event got =
@@ -28,7 +30,8 @@ start-noticed given index name one enters there event got =
     some : {a b : Event} → Some a ≡ Some b → a ≡ b
     some e = cc
 
-pub end-noticed : (given : Handed) (index : ℕ) (name : Name) (one : Noticed) → ExitsAt given.events index name →
+pub end-noticed : (given : Handed) (index : ℕ) (name : Name) (one : Noticed) →
+    ExitsAt given.events index name →
     IsNoticedAt given index one → (event : Event) → slice_get given.events index ≡ Some event →
     event.point ≡ one.told.place.end
 end-noticed given index name one exits there event got =
@@ -40,7 +43,8 @@ end-noticed given index name one exits there event got =
     some : {a b : Event} → Some a ≡ Some b → a ≡ b
     some e = cc
 
-pub last-noticed : (given : Handed) (index : ℕ) (name : Name) (one : Noticed) → ExitsAt given.events index name →
+pub last-noticed : (given : Handed) (index : ℕ) (name : Name) (one : Noticed) →
+    ExitsAt given.events index name →
     IsNoticedAt given index one → (suc index == length given.events) ≡ one.told.last
 last-noticed given index name one exits there =
     let seen : Exited given index name one = exited given index name one exits there in
@@ -55,7 +59,8 @@ pub entry-inside : (given : Handed) (index : ℕ) (name : Name) → EntersAt giv
 entry-inside given index name enters = got_inside given.events index enters.0 enters.1
 
 -- after an entry comes another event, its own exit at the latest
-pub entry-followed : (given : Handed) (document : Forest) → flatten document ≡ given.events → (index : ℕ) (name : Name) →
+pub entry-followed : (given : Handed) (document : Forest) → flatten document ≡ given.events →
+    (index : ℕ) (name : Name) →
     EntersAt given.events index name → index + 1 < length given.events
 entry-followed given document flat index name enters =
     let found = node-entered given document flat index name enters in
@@ -78,7 +83,8 @@ one-more n = omega arith
 
 -- where the event after an entry exits, nothing stands between them
 leaf-exit : (given : Handed) (document : Forest) (name : Name) (entry exit : ℕ) →
-    NodeAt given document name entry exit → (event : Event) → slice_get given.events (suc entry) ≡ Some event →
+    NodeAt given document name entry exit → (event : Event) →
+    slice_get given.events (suc entry) ≡ Some event →
     event.kind ≡ Exit → exit ≡ suc entry
 leaf-exit given document name entry exit node event got exits = by node.children refl
   where
@@ -94,22 +100,27 @@ leaf-exit given document name entry exit node event got exits = by node.children
         let there : slice_get given.events (suc entry) ≡ Some (entering n start) =
         ap (λ es. slice_get es (suc entry)) node.parts
         ∙ ap (λ i. slice_get ((node.before ++ entering name node.start ∷ [])
-        ++ (flatten node.children ++ (exiting name node.end ∷ node.beyond))) (suc i)) (sym node.counted)
+        ++ (flatten node.children ++ (exiting name node.end ∷ node.beyond))) (suc i))
+        (sym node.counted)
         ∙ after-first node.before (flatten node.children ++ (exiting name node.end ∷ node.beyond))
         (entering name node.start)
         ∙ ap (λ cs. slice_get (flatten cs ++ (exiting name node.end ∷ node.beyond)) 0) e in
         different (kinds (entering n start) event (sym there ∙ got) ∙ exits)
 
-pub leaf-exits : (given : Handed) (document : Forest) → flatten document ≡ given.events → (index : ℕ) (name : Name) →
-    EntersAt given.events index name → (event : Event) → slice_get given.events (suc index) ≡ Some event →
+pub leaf-exits : (given : Handed) (document : Forest) → flatten document ≡ given.events →
+    (index : ℕ) (name : Name) →
+    EntersAt given.events index name → (event : Event) →
+    slice_get given.events (suc index) ≡ Some event →
     event.kind ≡ Exit → ExitsAt given.events (suc index) name
 leaf-exits given document flat index name enters event got exits =
     let found = node-entered given document flat index name enters in
     let node : NodeAt given document name index found.0 = found.1 in
-    subst (λ i. ExitsAt given.events i name) (leaf-exit given document name index found.0 node event got exits)
+    subst (λ i. ExitsAt given.events i name)
+    (leaf-exit given document name index found.0 node event got exits)
     (exiting name node.end, node.exits, refl, refl)
 
-pub leaf-noticed : (given : Handed) (index : ℕ) (name : Name) → EntersAt given.events index name → (event : Event) →
+pub leaf-noticed : (given : Handed) (index : ℕ) (name : Name) →
+    EntersAt given.events index name → (event : Event) →
     slice_get given.events (suc index) ≡ Some event → event.kind ≡ Exit → (one : Noticed) →
     IsNoticedAt given index one → IsNoticedAt given (suc index) one
 leaf-noticed given index name enters event got exits one there =
@@ -119,5 +130,6 @@ leaf-noticed given index name enters event got exits one there =
       there.0,
       there.1,
       ap (λ i. slice_get (noticed given.bytes true there.0) i)
-          (sym (leaf-exit given there.0 name index found.0 node event got exits)) ∙ node.at_exit ∙ sym same,
+          (sym (leaf-exit given there.0 name index found.0 node event got exits))
+          ∙ node.at_exit ∙ sym same,
     )

@@ -1,16 +1,20 @@
 -- What is found of a node by its children is what is noticed of it.
-use Rattle.std.proofs.Common.{◌≡◌, ◌⊎◌, inl, inr, ℕ, suc, Bool, true, false, Option, Some, None, List, [], ◌∷◌, ◌++◌, length, refl, sym, ap, ◌∙◌, subst}
+use Rattle.std.proofs.Common.{◌≡◌, ◌⊎◌, inl, inr, ℕ, suc, Bool, true, false, Option, Some, None}
+use Rattle.std.proofs.Common.{List, [], ◌∷◌, ◌++◌, length, refl, sym, ap, ◌∙◌, subst}
 use Rattle.std.specs.Prelude.{slice_get, if◌then◌else◌}
 use Rattle.std.specs.Option.{option_map_or}
 use Rattle.std.proofs.Math.Path.{fun_ext}
 use Rattle.md_base.specs.declared.event.Event.{Event}
 use Rattle.md_base.specs.declared.event.Name.{Name}
-use Rattle.md_base.specs.declared.event.Name.TheVariants.{HeadingAtx, HeadingAtxSequence, ListItem, ListItemPrefix, ListItemValue, ListOrdered, ListUnordered}
+use Rattle.md_base.specs.declared.event.Name.TheVariants as name_variants
+use name_variants.{HeadingAtx, HeadingAtxSequence, ListItem, ListItemPrefix, ListItemValue}
+use name_variants.{ListOrdered, ListUnordered}
 use Rattle.md_base.specs.declared.event.Point.{Point}
 use Rattle.md_base.specs.declared.event.Position.{Position}
 use Rattle.md_base.specs.Children.{or_else, last_contributing}
 use Rattle.md_base.specs.Is.{is}
-use Rattle.md_base.specs.NameTests.{contributes, is_heading_mark, is_item, is_item_prefix, is_item_value}
+use Rattle.md_base.specs.NameTests.{contributes, is_heading_mark, is_item, is_item_prefix}
+use Rattle.md_base.specs.NameTests.{is_item_value}
 use Rattle.md_base.specs.Place.{fits}
 use Rattle.md_base.specs.Tree.{Forest, Empty, Node, flatten, entering, exiting}
 use Rattle.md_pattern.specs.Partners.{index_after, last_contributing_at}
@@ -34,8 +38,8 @@ use Rattle.md_tree.proofs.Placing.{at_entry, after_node, length_events}
 use Rattle.md_told.proofs.Nodes.{NodeAt, node-entered, node-everywhere, same-document}
 
 -- a list of either kind
-pub enters-list : (events : List Event) (index : ℕ) → EntersAt events index ListOrdered ⊎ EntersAt events index
-    ListUnordered → EntersSome events index
+pub enters-list : (events : List Event) (index : ℕ) → EntersAt events index ListOrdered
+    ⊎ EntersAt events index ListUnordered → EntersSome events index
 enters-list events index (inl ordered) = (ListOrdered, ordered)
 enters-list events index (inr unordered) = (ListUnordered, unordered)
 
@@ -57,16 +61,20 @@ value_is : (name : Name) → is_item_value name ≡ is ListItemValue name
 value_is ListItemValue = refl
 value_is _ = refl
 
-pub number-same : (children : Forest) → in_first is_item number_in children ≡ number_in_list children
+pub number-same : (children : Forest) →
+    in_first is_item number_in children ≡ number_in_list children
 number-same children =
     ap (λ test. in_first test number_in children) (fun_ext item_is)
-    ∙ ap (λ test. in_first (is ListItem) (in_first test (first_place is_item_value)) children) (fun_ext prefix_is)
-    ∙ ap (λ test. in_first (is ListItem) (in_first (is ListItemPrefix) (first_place test)) children) (fun_ext value_is)
+    ∙ ap (λ test. in_first (is ListItem) (in_first test (first_place is_item_value)) children)
+    (fun_ext prefix_is)
+    ∙ ap (λ test. in_first (is ListItem) (in_first (is ListItemPrefix) (first_place test)) children)
+    (fun_ext value_is)
 
 -- ---- the rank of a heading
 
 -- the document is one of the grammar
-pub grammatical-there : (given : Handed) (document : Forest) → IsChecked given → flatten document ≡ given.events →
+pub grammatical-there : (given : Handed) (document : Forest) → IsChecked given →
+    flatten document ≡ given.events →
     IsGrammatical given.bytes given.names document
 grammatical-there given document checked flat =
     subst (λ d. IsGrammatical given.bytes given.names d)
@@ -76,18 +84,20 @@ grammatical-there given document checked flat =
 all-fit : (bytes : List ℕ) (names : List (List ℕ × List ℕ)) (document : Forest) →
     IsGrammatical bytes names document → Everywhere (IsFit bytes) document
 all-fit bytes names document grammatical =
-    everywhere bytes names (IsFit bytes)
-    (λ around before name start end children here inside. fit bytes names name around before start end children here
-    inside) document role.Flow None (fine bytes names document role.Flow None grammatical.shape.0 grammatical.rules)
+    everywhere bytes names (IsFit bytes) (λ around before name start end children here inside.
+    fit bytes names name around before start end children here inside) document role.Flow None
+    (fine bytes names document role.Flow None grammatical.shape.0 grammatical.rules)
 
 fitting : (bytes : List ℕ) (found : Option Position) →
     option_map_or (λ at. fits bytes at.start at.end) found true ≡ true →
-    option_map_or (λ at. length_of bytes at) found 0 ≡ option_map_or (λ at. columns at.start at.end) found 0
+    option_map_or (λ at. length_of bytes at) found 0
+    ≡ option_map_or (λ at. columns at.start at.end) found 0
 fitting bytes None lies = refl
 fitting bytes (Some at) lies = ap (λ b. if b then columns at.start at.end else 0) lies
 
 pub rank-found : (given : Handed) (document : Forest) (index exit : ℕ)
-    (node : NodeAt given document HeadingAtx index exit) → IsChecked given → flatten document ≡ given.events →
+    (node : NodeAt given document HeadingAtx index exit) → IsChecked given →
+    flatten document ≡ given.events →
     (found : Option Position) → found ≡ first_place is_heading_mark node.children →
     option_map_or (λ at. length_of given.bytes at) found 0
     ≡ option_map_or (λ at. columns at.start at.end) (first_named HeadingAtxSequence node.children) 0
@@ -106,9 +116,11 @@ abbrev pub Named : List Event → Option ℕ → Option Name → Type 0
 Named events None name = name ≡ None
 Named events (Some index) name = (other : Name) × (name ≡ Some other) × EntersAt events index other
 
-named-else : (events : List Event) (one two : Option ℕ) (name other : Option Name) → Named events one name →
+named-else : (events : List Event) (one two : Option ℕ) (name other : Option Name) →
+    Named events one name →
     Named events two other → Named events (or_else one two) (or_else name other)
-named-else events None two name other a b = subst (λ n. Named events two (or_else n other)) (sym a) b
+named-else events None two name other a b =
+    subst (λ n. Named events two (or_else n other)) (sym a) b
 named-else events (Some index) two name other a b = (a.0, ap (λ n. or_else n other) a.1, a.2)
 
 named-own : (events : List Event) (index : ℕ) (name : Name) (start : Point) (b : Bool) →
@@ -117,7 +129,8 @@ named-own : (events : List Event) (index : ℕ) (name : Name) (start : Point) (b
 named-own events index name start true got = (name, refl, (entering name start, got, refl, refl))
 named-own events index name start false got = refl
 
-named-forest : (events : List Event) (forest : Forest) (index : ℕ) (seen later : List Event) → length seen ≡ index →
+named-forest : (events : List Event) (forest : Forest) (index : ℕ) (seen later : List Event) →
+    length seen ≡ index →
     events ≡ seen ++ (flatten forest ++ later) →
     Named events (last_contributing_at index forest) (last_contributing forest)
 named-forest events Empty index seen later e same = refl
@@ -128,7 +141,8 @@ named-forest events (Node name start end children rest) index seen later e same 
     let inner : List Event = flatten children in
     let one = length_one seen first ∙ ap suc e in
     let inside = length_events children (suc index) (seen ++ first ∷ []) one in
-    named-else events (last_contributing_at (suc exit) rest) (if contributes name then Some index else None)
+    named-else events (last_contributing_at (suc exit) rest)
+    (if contributes name then Some index else None)
     (last_contributing rest) (if contributes name then Some name else None)
     (named-forest events rest (suc exit) (((seen ++ first ∷ []) ++ inner) ++ last ∷ []) later
     (length_one ((seen ++ first ∷ []) ++ inner) last ∙ ap suc inside)
@@ -147,7 +161,8 @@ contributing-named given index name children enters entered =
     let first : Event = entering name node.start in
     subst (λ f. Named given.events (last_contributing_at (suc index) f) (last_contributing f)) same
     (named-forest given.events node.children (suc index) (node.before ++ first ∷ [])
-    (exiting name node.end ∷ node.beyond) (length_one node.before first ∙ ap suc node.counted) node.parts)
+    (exiting name node.end ∷ node.beyond)
+    (length_one node.before first ∙ ap suc node.counted) node.parts)
   where
     some : {a b : Forest} → Some (Some a) ≡ Some (Some b) → a ≡ b
     some e = cc

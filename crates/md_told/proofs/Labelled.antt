@@ -1,9 +1,13 @@
--- By what a node refers to others or is referred to: the label that is read of it, unless it has a resource.
-use Rattle.std.proofs.Common.{◌≡◌, ◌⊎◌, inl, inr, ℕ, zero, suc, ◌<◌, true, false, Option, Some, None, List, [], ◌∷◌, length, refl, sym, ap, ◌∙◌, arith}
-use Rattle.std.specs.Prelude.{if◌then◌else◌, unwrap_or, option_map, is_some, bytes_eq, Contains, get_or}
+-- By what a node refers to others or is referred to: the label that is read of it, unless
+-- it has a resource.
+use Rattle.std.proofs.Common.{◌≡◌, ◌⊎◌, inl, inr, ℕ, zero, suc, ◌<◌, true, false, Option, Some}
+use Rattle.std.proofs.Common.{None, List, [], ◌∷◌, length, refl, sym, ap, ◌∙◌, arith}
+use Rattle.std.specs.Prelude.{if◌then◌else◌, unwrap_or, option_map, is_some, bytes_eq, Contains}
+use Rattle.std.specs.Prelude.{get_or}
 use Rattle.md_base.proofs.Lies.{lie}
 use Rattle.md_base.specs.declared.event.Name.{Name}
-use Rattle.md_base.specs.declared.event.Name.TheVariants.{Link, Image, GfmFootnoteCall, Definition, GfmFootnoteDefinition}
+use Rattle.md_base.specs.declared.event.Name.TheVariants.{Link, Image, GfmFootnoteCall, Definition}
+use Rattle.md_base.specs.declared.event.Name.TheVariants.{GfmFootnoteDefinition}
 use Rattle.md_base.specs.declared.event.Point.{Point}
 use Rattle.md_base.specs.declared.event.Position.{Position}
 use Rattle.md_base.specs.Identifier.{normalized}
@@ -16,7 +20,8 @@ use Rattle.md_meaning.proofs.Identifiers.{itself}
 use Rattle.md_pattern.specs.declared.kinds.Reading.TheVariants as reading
 use Rattle.md_pattern.specs.Standing.{standing_of}
 use Rattle.md_shape.specs.Labels.{label_in_node, referring_in, defined_label, footnote_label}
-use Rattle.md_shape.specs.Leads.{HasResource, IsLabelled, RefersAlike, LeadsSomewhere, LeadsAlike, defined_in, first_of, label_target}
+use Rattle.md_shape.specs.Leads.{HasResource, IsLabelled, RefersAlike, LeadsSomewhere, LeadsAlike}
+use Rattle.md_shape.specs.Leads.{defined_in, first_of, label_target}
 use Rattle.md_shape.proofs.Resolved.{labels-alike}
 use Rattle.md_tree.specs.declared.mention.Referral.{Referral}
 use Rattle.md_tree.specs.declared.mention.Referral.TheVariants.{Missing, Label, Resource}
@@ -36,22 +41,28 @@ use Rattle.md_told.proofs.FoundLemmas.{grammatical-there}
 abbrev pub named : List ℕ → Referral → List ℕ
 named bytes target = elim target [ Label at ↦ unwrap_or (label_identifier bytes at) [] | _ ↦ [] ]
 
-label-known : (bytes : List ℕ) (label : Option Position) (children : Forest) → IsLabelled label children →
+label-known : (bytes : List ℕ) (label : Option Position) (children : Forest) →
+    IsLabelled label children →
     identifier_of bytes children ≡ identifier_at bytes label
 label-known bytes None children alike = ap (named bytes) alike
 label-known bytes (Some there) children alike = ap (named bytes) alike
     ∙ by (label_between bytes there.start there.end)
   where
-    by : (label : Option (List ℕ)) → unwrap_or (option_map normalized label) [] ≡ normalized (unwrap_or label [])
+    by : (label : Option (List ℕ)) →
+        unwrap_or (option_map normalized label) [] ≡ normalized (unwrap_or label [])
     by None = sym normalized-nothing
     by (Some text) = refl
 
 -- ---- a call, a definition, a footnote definition
 
-by-label : (bytes : List ℕ) (name : Name) (start end : Point) (children : Forest) → is_labelled name ≡ true →
-    RefersAlike name start end children → identifier_of bytes children ≡ identifier_at bytes (reads name children)
-by-label bytes GfmFootnoteCall start end children h alike = label-known bytes (label_in_node children) children alike
-by-label bytes Definition start end children h alike = label-known bytes (defined_label children) children alike
+by-label : (bytes : List ℕ) (name : Name) (start end : Point) (children : Forest) →
+    is_labelled name ≡ true →
+    RefersAlike name start end children →
+    identifier_of bytes children ≡ identifier_at bytes (reads name children)
+by-label bytes GfmFootnoteCall start end children h alike =
+    label-known bytes (label_in_node children) children alike
+by-label bytes Definition start end children h alike =
+    label-known bytes (defined_label children) children alike
 by-label bytes GfmFootnoteDefinition start end children h alike =
     label-known bytes (footnote_label children) children alike
 by-label bytes _ start end children h alike = lie h
@@ -62,7 +73,8 @@ pub labelled : (given : Handed) (index : ℕ) (name : Name) (children : Forest) 
 labelled given index name children checked enters entered h =
     let here : Known given index name children = known given index name children enters entered in
     let alike = node-everywhere RefersAlike given here.document name index here.exit here.node
-    (labels-alike given.bytes given.names here.document (grammatical-there given here.document checked here.flat)) in
+    (labels-alike given.bytes given.names here.document
+    (grammatical-there given here.document checked here.flat)) in
     ap (identifier_of given.bytes) (sym here.same)
     ∙ by-label given.bytes name here.node.start here.node.end here.node.children h alike
     ∙ ap (λ f. identifier_at given.bytes (reads name f)) here.same
@@ -76,10 +88,11 @@ first-there [] x there = absurd (none there.0 there.1)
     none : (k : ℕ) → k < 0 → ⊥
     none k h = omega (arith, h)
 first-there (y ∷ ys) x there =
-    elim (bytes_eq y x) as (λ b. bytes_eq y x ≡ b → is_some (if b then Some 0 else option_map (λ place. suc place)
-    (first_of ys x)) ≡ true) [
+    elim (bytes_eq y x) as (λ b. bytes_eq y x ≡ b →
+    is_some (if b then Some 0 else option_map (λ place. suc place) (first_of ys x)) ≡ true) [
       | true ↦ λ same. refl
-      | false ↦ λ differ. later (first_of ys x) (first-there ys x (others there.0 there.1 there.2 differ))
+      | false ↦
+          λ differ. later (first_of ys x) (first-there ys x (others there.0 there.1 there.2 differ))
     ] refl
   where
     later : (o : Option ℕ) → is_some o ≡ true → is_some (option_map (λ place. suc place) o) ≡ true
@@ -89,19 +102,24 @@ first-there (y ∷ ys) x there =
     less : (k n : ℕ) → suc k < suc n → k < n
     less k n h = omega (arith, h)
 
-    others : (k : ℕ) → k < length (y ∷ ys) → get_or (y ∷ ys) k x ≡ x → bytes_eq y x ≡ false → Contains ys x
+    others : (k : ℕ) → k < length (y ∷ ys) → get_or (y ∷ ys) k x ≡ x →
+        bytes_eq y x ≡ false → Contains ys x
     others zero h same differ = lie (sym differ ∙ ap (λ z. bytes_eq z x) same ∙ itself x)
     others (suc k) h same differ = (k, less k (length ys) h, same)
 
 -- it leads to a definition, or nothing identifies it
-medium : (bytes : List ℕ) (document : Forest) (children : Forest) (start end : Point) (name : Name) →
+medium :
+    (bytes : List ℕ) (document : Forest) (children : Forest) (start end : Point) (name : Name) →
     HasResource children ⊎ IsLabelled (referring_in children) children →
     HasResource children ⊎ Contains (defined_in bytes document) (identifier_of bytes children) →
     LeadsAlike bytes document name start end children →
-    None ≡ definition_for bytes (mentions_of document) (mention_of reading.Media (target_of children Missing)) →
+    None ≡ definition_for bytes (mentions_of document)
+    (mention_of reading.Media (target_of children Missing)) →
     identifier_of bytes children ≡ []
-medium bytes document children start end name refers leads alike is =
-    elim refers [ inl resource ↦ ap (named bytes) resource | inr label ↦ by (referring_in children) refl label ]
+medium bytes document children start end name refers leads alike is = elim refers [
+  | inl resource ↦ ap (named bytes) resource
+  | inr label ↦ by (referring_in children) refl label
+]
   where
     led : (place : Position) → target_of children Missing ≡ Label place →
         HasResource children ⊎ Contains (defined_in bytes document) (identifier_of bytes children) →
@@ -112,19 +130,23 @@ medium bytes document children start end name refers leads alike is =
         clash h = cc
     led place e (inr there) =
         lie (ap (λ o. is_some o) (is
-        ∙ ap (λ r. definition_for bytes (mentions_of document) (mention_of reading.Media r)) e ∙ (alike place e).0)
+        ∙ ap (λ r. definition_for bytes (mentions_of document) (mention_of reading.Media r)) e
+        ∙ (alike place e).0)
         ∙ first-there (defined_in bytes document) (identifier_of bytes children) there)
 
-    by : (r : Option Position) → referring_in children ≡ r → target_of children Missing ≡ label_target (referring_in
-        children) → identifier_of bytes children ≡ []
+    by : (r : Option Position) → referring_in children ≡ r → target_of children Missing
+        ≡ label_target (referring_in children) → identifier_of bytes children ≡ []
     by None e label = ap (named bytes) (label ∙ ap label_target e)
     by (Some place) e label = led place (label ∙ ap label_target e) leads
 
-pub media : (bytes : List ℕ) (document : Forest) (children : Forest) (start end : Point) (name : Name) →
+pub media :
+    (bytes : List ℕ) (document : Forest) (children : Forest) (start end : Point) (name : Name) →
     is_of_definitions name ≡ true → RefersAlike name start end children →
-    LeadsSomewhere bytes document name start end children → LeadsAlike bytes document name start end children →
+    LeadsSomewhere bytes document name start end children →
+    LeadsAlike bytes document name start end children →
     None ≡ definition_for bytes (mentions_of document)
-    (mention_of (reading_of (standing_of name)) (target_of children Missing)) → identifier_of bytes children ≡ []
+    (mention_of (reading_of (standing_of name)) (target_of children Missing)) →
+    identifier_of bytes children ≡ []
 media bytes document children start end Link h refers leads alike is =
     medium bytes document children start end Link refers leads alike is
 media bytes document children start end Image h refers leads alike is =

@@ -1,5 +1,6 @@
 -- The definition that the check says is the one that is found by its identifier.
-use Rattle.std.proofs.Common.{◌≡◌, ℕ, suc, Bool, true, false, Option, Some, None, List, [], ◌∷◌, refl, sym, ap, ◌∙◌, subst}
+use Rattle.std.proofs.Common.{◌≡◌, ℕ, suc, Bool, true, false, Option, Some, None, List, [], ◌∷◌}
+use Rattle.std.proofs.Common.{refl, sym, ap, ◌∙◌, subst}
 use Rattle.std.specs.Prelude.{slice_get, if◌then◌else◌, map, option_map, is_some, bytes_eq, IsSome}
 use Rattle.std.specs.Option.{option_map_or}
 use Rattle.std.proofs.lemmas.Option.{slice_get-map}
@@ -12,7 +13,8 @@ use Rattle.md_meaning.specs.Meaning.At.{Defined, Given, identifier_of}
 use Rattle.md_meaning.specs.Meaning.Media.{target_defined}
 use Rattle.md_pattern.specs.Standing.{standing_of}
 use Rattle.md_shape.specs.Built.{Blocks}
-use Rattle.md_shape.specs.Leads.{RefersAlike, LeadsSomewhere, LeadsAlike, defined_in, first_of, found_at}
+use Rattle.md_shape.specs.Leads.{RefersAlike, LeadsSomewhere, LeadsAlike, defined_in, first_of}
+use Rattle.md_shape.specs.Leads.{found_at}
 use Rattle.md_shape.proofs.Alike.{leads-alike, IsFoundByPlace, found-by-place}
 use Rattle.md_shape.proofs.Grammatical.{grammatical-built}
 use Rattle.md_shape.proofs.Resolved.{labels-alike, leads-somewhere}
@@ -29,7 +31,8 @@ use Rattle.md_told.specs.Told.{IsNoticedAt}
 use Rattle.md_told.specs.Definitions.{AreKnown}
 use Rattle.md_told.proofs.FoundLemmas.{grammatical-there}
 use Rattle.md_told.proofs.Labelled.{media}
-use Rattle.md_told.proofs.Nodes.{NodeAt, node-exited, node-everywhere, Exited, exited, same-document}
+use Rattle.md_told.proofs.Nodes.{NodeAt, node-exited, node-everywhere, Exited, exited}
+use Rattle.md_told.proofs.Nodes.{same-document}
 use Rattle.md_told.proofs.Undefined.{built-frees, identifiers-defined}
 
 -- what is found first is there
@@ -38,8 +41,10 @@ first-got : (xs : List (List ℕ)) (x : List ℕ) (place : ℕ) → first_of xs 
 first-got [] x place e = cc
 first-got (y ∷ ys) x place e = by (bytes_eq y x) (first_of ys x) (λ p f. first-got ys x p f) place e
   where
-    by : (b : Bool) (o : Option ℕ) → ((p : ℕ) → o ≡ Some p → is_some (slice_get ys p) ≡ true) → (place : ℕ) →
-        (if b then Some 0 else option_map (λ p. suc p) o) ≡ Some place → is_some (slice_get (y ∷ ys) place) ≡ true
+    by : (b : Bool) (o : Option ℕ) →
+        ((p : ℕ) → o ≡ Some p → is_some (slice_get ys p) ≡ true) → (place : ℕ) →
+        (if b then Some 0 else option_map (λ p. suc p) o) ≡ Some place →
+        is_some (slice_get (y ∷ ys) place) ≡ true
     by true o later place e =
         let none : 0 ≡ place = cc in
         subst (λ p. is_some (slice_get (y ∷ ys) p) ≡ true) none refl
@@ -48,9 +53,11 @@ first-got (y ∷ ys) x place e = by (bytes_eq y x) (first_of ys x) (λ p f. firs
         let more : suc p ≡ place = cc in
         subst (λ n. is_some (slice_get (y ∷ ys) n) ≡ true) more (later p refl)
 
-mapped-there : {A B : Type 0} (f : A → B) (xs : List A) (place : ℕ) → is_some (slice_get (map f xs) place) ≡ true →
+mapped-there : {A B : Type 0} (f : A → B) (xs : List A) (place : ℕ) →
+    is_some (slice_get (map f xs) place) ≡ true →
     IsSome (slice_get xs place)
-mapped-there {A = A} f xs place h = by (slice_get xs place) (sym (ap (λ o. is_some o) (slice_get-map f xs place)) ∙ h)
+mapped-there {A = A} f xs place h =
+    by (slice_get xs place) (sym (ap (λ o. is_some o) (slice_get-map f xs place)) ∙ h)
   where
     by : (o : Option A) → is_some (option_map f o) ≡ true → IsSome o
     by None e = lie e
@@ -59,7 +66,8 @@ mapped-there {A = A} f xs place h = by (slice_get xs place) (sym (ap (λ o. is_s
 -- the label of a link or an image for which a definition is found
 labelled : (bytes : List ℕ) (document : Forest) (name : Name) (target : Referral) (place : ℕ) →
     is_of_definitions name ≡ true →
-    Some place ≡ definition_for bytes (mentions_of document) (mention_of (reading_of (standing_of name)) target) →
+    Some place ≡ definition_for bytes (mentions_of document)
+    (mention_of (reading_of (standing_of name)) target) →
     (label : Position) × (target ≡ Label label)
     × (Some place ≡ definition_for bytes (mentions_of document) (Reference label))
 labelled bytes document Link (Label label) place h e = (label, refl, e)
@@ -71,8 +79,10 @@ labelled bytes document Image Resource place h e = cc
 labelled bytes document _ target place h e = lie h
 
 -- the definitions that are known have the identifiers of the document's
-pub known-in : (given : Handed) (document : Forest) (supply : Given) → IsChecked given → flatten document ≡ given.events →
-    AreKnown given supply → map (λ (d : Defined). d.identifier) supply.definitions ≡ defined_in given.bytes document
+pub known-in : (given : Handed) (document : Forest) (supply : Given) → IsChecked given →
+    flatten document ≡ given.events →
+    AreKnown given supply →
+    map (λ (d : Defined). d.identifier) supply.definitions ≡ defined_in given.bytes document
 known-in given document supply checked flat known =
     let one = same-document known.0 document given.events known.2 flat in
     let grammatical = grammatical-there given known.0 checked known.2 in
@@ -90,8 +100,10 @@ record Led (given : Handed) (index : ℕ) (name : Name) (place : ℕ) (document 
   is : target_of node.children Missing ≡ Label label
   found : Some place ≡ definition_for given.bytes (mentions_of document) (Reference label)
 
-led : (given : Handed) (index : ℕ) (place : ℕ) (exits : ExitsOf is_of_definitions given.events index)
-    (document : Forest) → flatten document ≡ given.events → IsDefinitionFor given index (Some place) →
+led :
+    (given : Handed) (index : ℕ) (place : ℕ) (exits : ExitsOf is_of_definitions given.events index)
+    (document : Forest) → flatten document ≡ given.events →
+    IsDefinitionFor given index (Some place) →
     Led given index exits.0 place document
 led given index place exits document flat definition =
     let name : Name = exits.0 in
@@ -109,21 +121,25 @@ led given index place exits document flat definition =
       found = label.2;
     }
 
-pub led-there : (given : Handed) (index : ℕ) (place : ℕ) (exits : ExitsOf is_of_definitions given.events index) →
-    IsChecked given → IsDefinitionFor given index (Some place) → (supply : Given) → AreKnown given supply →
+pub led-there : (given : Handed) (index : ℕ) (place : ℕ)
+    (exits : ExitsOf is_of_definitions given.events index) →
+    IsChecked given → IsDefinitionFor given index (Some place) → (supply : Given) →
+    AreKnown given supply →
     IsSome (slice_get supply.definitions place)
 led-there given index place exits checked definition supply known =
     let document : Forest = known.0 in
-    let here : Led given index exits.0 place document = led given index place exits document known.2 definition in
+    let here : Led given index exits.0 place document =
+    led given index place exits document known.2 definition in
     let grammatical = grammatical-there given document checked known.2 in
-    let alike = node-everywhere (LeadsAlike given.bytes document) given document exits.0 here.entry index here.node
-    (leads-alike given.bytes given.names document grammatical) in
+    let alike = node-everywhere (LeadsAlike given.bytes document) given document exits.0 here.entry
+    index here.node (leads-alike given.bytes given.names document grammatical) in
     mapped-there (λ (d : Defined). d.identifier) supply.definitions place
     (ap (λ xs. is_some (slice_get xs place)) (known-in given document supply checked known.2 known)
-    ∙ first-got (defined_in given.bytes document) (identifier_of given.bytes here.node.children) place
-    (sym (alike here.label here.is).0 ∙ sym here.found))
+    ∙ first-got (defined_in given.bytes document) (identifier_of given.bytes here.node.children)
+    place (sym (alike here.label here.is).0 ∙ sym here.found))
 
-pub led-target : (given : Handed) (index : ℕ) (place : ℕ) (exits : ExitsOf is_of_definitions given.events index) →
+pub led-target : (given : Handed) (index : ℕ) (place : ℕ)
+    (exits : ExitsOf is_of_definitions given.events index) →
     IsChecked given → IsDefinitionFor given index (Some place) → (one : Noticed) (supply : Given) →
     IsNoticedAt given index one → AreKnown given supply → target_defined supply one.told.identifier
     ≡ option_map_or (λ (d : Defined). d.target) (slice_get supply.definitions place) nowhere
@@ -133,17 +149,18 @@ led-target given index place exits checked definition one supply there known =
     let grammatical = grammatical-there given document checked seen.flat in
     let node : NodeAt given document exits.0 seen.entry index = seen.node in
     let own = mention_of (reading_of (standing_of exits.0)) (target_of node.children Missing) in
-    let label = labelled given.bytes document exits.0 (target_of node.children Missing) place exits.2
-    (definition document own seen.flat node.mentions) in
-    let by_place = node-everywhere (IsFoundByPlace given.bytes document supply.definitions) given document exits.0
-    seen.entry index node (found-by-place given.bytes given.names document supply.definitions grammatical
-    (known-in given document supply checked seen.flat known)) in
+    let label = labelled given.bytes document exits.0 (target_of node.children Missing) place
+    exits.2 (definition document own seen.flat node.mentions) in
+    let by_place = node-everywhere (IsFoundByPlace given.bytes document supply.definitions) given
+    document exits.0 seen.entry index node (found-by-place given.bytes given.names document
+    supply.definitions grammatical (known-in given document supply checked seen.flat known)) in
     ap (λ (n : Noticed). target_defined supply n.told.identifier) seen.is
     ∙ ap (λ o. option_map_or (λ (d : Defined). d.target) o nowhere)
     (by_place label.0 label.1 ∙ ap (found_at supply.definitions) (sym label.2))
 
 pub unled : (given : Handed) (index : ℕ) (exits : ExitsOf is_of_definitions given.events index) →
-    IsChecked given → IsDefinitionFor given index None → (one : Noticed) → IsNoticedAt given index one →
+    IsChecked given → IsDefinitionFor given index None → (one : Noticed) →
+    IsNoticedAt given index one →
     one.told.identifier ≡ []
 unled given index exits checked definition one there =
     let name : Name = exits.0 in
@@ -154,10 +171,10 @@ unled given index exits checked definition one there =
     let own = mention_of (reading_of (standing_of name)) (target_of node.children Missing) in
     let refers = node-everywhere RefersAlike given document name seen.entry index node
     (labels-alike given.bytes given.names document grammatical) in
-    let leads = node-everywhere (LeadsSomewhere given.bytes document) given document name seen.entry index node
-    (leads-somewhere given.bytes given.names document grammatical) in
-    let alike = node-everywhere (LeadsAlike given.bytes document) given document name seen.entry index node
-    (leads-alike given.bytes given.names document grammatical) in
+    let leads = node-everywhere (LeadsSomewhere given.bytes document) given document name seen.entry
+    index node (leads-somewhere given.bytes given.names document grammatical) in
+    let alike = node-everywhere (LeadsAlike given.bytes document) given document name seen.entry
+    index node (leads-alike given.bytes given.names document grammatical) in
     ap (λ (n : Noticed). n.told.identifier) seen.is
     ∙ media given.bytes document node.children node.start node.end name exits.2 refers leads alike
     (definition document own seen.flat node.mentions)

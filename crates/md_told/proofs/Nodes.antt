@@ -1,5 +1,8 @@
--- The node of the event at an index: its events, its children, and what is noticed at both of its events.
-use Rattle.std.proofs.Common.{◌≡◌, ℕ, suc, ◌+◌, ◌≤◌, ◌==◌, Bool, true, false, Option, Some, None, List, [], ◌∷◌, ◌++◌, length, refl, sym, ap, ◌∙◌, subst, append-nil, arith}
+-- The node of the event at an index: its events, its children, and what is noticed at
+-- both of its events.
+use Rattle.std.proofs.Common.{◌≡◌, ℕ, suc, ◌+◌, ◌≤◌, ◌==◌, Bool, true, false, Option, Some, None}
+use Rattle.std.proofs.Common.{List, [], ◌∷◌, ◌++◌, length, refl, sym, ap, ◌∙◌, subst, append-nil}
+use Rattle.std.proofs.Common.{arith}
 use Rattle.std.specs.Prelude.{map, option_map, slice_get, if◌then◌else◌}
 use Rattle.std.proofs.lemmas.Option.{slice_get-map}
 use Rattle.std.proofs.lemmas.List.{length-map, map-append}
@@ -23,13 +26,16 @@ use Rattle.md_shape.specs.Leads.{Everywhere}
 use Rattle.md_shape.specs.Steps.{told_of}
 use Rattle.md_shape.specs.Run.{Noticed, noticed}
 use Rattle.md_told.specs.Told.{IsNoticedAt}
-use Rattle.md_told.proofs.Rows.{Row, rows_of, event_of, noticed_of, children_at, partner_at, mention_at, event-rows, noticed-rows, children-rows, partner-rows, mention-rows, Paired, paired, everywhere-at}
+use Rattle.md_told.proofs.Rows.{Row, rows_of, event_of, noticed_of, children_at, partner_at}
+use Rattle.md_told.proofs.Rows.{mention_at, event-rows, noticed-rows, children-rows, partner-rows}
+use Rattle.md_told.proofs.Rows.{mention-rows, Paired, paired, everywhere-at}
 
 origin : Point
 origin = record { line = 0; column = 0; index = 0; vs = 0 }
 
 -- the events are one document's at most
-pub same-document : (one other : Forest) (events : List Event) → flatten one ≡ events → flatten other ≡ events →
+pub same-document : (one other : Forest) (events : List Event) → flatten one ≡ events →
+    flatten other ≡ events →
     one ≡ other
 same-document one other events e f = flatten_one Paragraph origin one other (e ∙ sym f)
 
@@ -83,12 +89,14 @@ pub record NodeAt (given : Handed) (document : Forest) (name : Name) (entry exit
   })
 
 -- what is got of a list that another is mapped to
-got-mapped : {A B : Type 0} (f : A → B) (xs : List A) (ys : List B) (i : ℕ) (x : A) → map f xs ≡ ys →
+got-mapped : {A B : Type 0} (f : A → B) (xs : List A) (ys : List B) (i : ℕ) (x : A) →
+    map f xs ≡ ys →
     slice_get xs i ≡ Some x → slice_get ys i ≡ Some (f x)
 got-mapped f xs ys i x same got =
     ap (λ zs. slice_get zs i) (sym same) ∙ slice_get-map f xs i ∙ ap (option_map f) got
 
-unmapped : {A B : Type 0} (f : A → B) (xs : List A) (i : ℕ) (y : B) → slice_get (map f xs) i ≡ Some y →
+unmapped : {A B : Type 0} (f : A → B) (xs : List A) (i : ℕ) (y : B) →
+    slice_get (map f xs) i ≡ Some y →
     (x : A) × (slice_get xs i ≡ Some x) × (f x ≡ y)
 unmapped {A = A} f xs i y got = by (slice_get xs i) (sym (slice_get-map f xs i) ∙ got)
   where
@@ -97,7 +105,8 @@ unmapped {A = A} f xs i y got = by (slice_get xs i) (sym (slice_get-map f xs i) 
     by (Some x) e = (x, refl, cc)
 
 -- a list in the parts of a node
-mapped : {A B : Type 0} (f : A → B) (y z : B) (before : List A) (entry : A) (inner : List A) (exit : A)
+mapped :
+    {A B : Type 0} (f : A → B) (y z : B) (before : List A) (entry : A) (inner : List A) (exit : A)
     (beyond : List A) (own : List B) → f entry ≡ y → f exit ≡ z → map f inner ≡ own →
     map f ((before ++ entry ∷ []) ++ (inner ++ (exit ∷ beyond)))
     ≡ (map f before ++ y ∷ []) ++ (own ++ (z ∷ map f beyond))
@@ -124,7 +133,8 @@ module _ (given : Handed) (document : Forest) (flat : flatten document ≡ given
       subst (λ n. Paired rows row n) none
       (paired rows document 0 true [] [] refl refl (sym (append-nil rows)) index row got)
 
-  pub node-of : (row : Row) (index : ℕ) → Paired rows row index → NodeAt given document row.name row.entry row.exit
+  pub node-of : (row : Row) (index : ℕ) → Paired rows row index →
+      NodeAt given document row.name row.entry row.exit
   node-of row index pair =
       let entry : Row = record row { enters = true } in
       let exit : Row = record row { enters = false } in
@@ -135,35 +145,36 @@ module _ (given : Handed) (document : Forest) (flat : flatten document ≡ given
         last = row.last;
         enters = got-mapped event_of rows given.events row.entry entry events-are pair.entry_at;
         exits = got-mapped event_of rows given.events row.exit exit events-are pair.exit_at;
-        at_entry = got-mapped (noticed_of given.bytes) rows (noticed given.bytes true document) row.entry entry
-            (noticed-rows given.bytes document 0 true) pair.entry_at;
-        at_exit = got-mapped (noticed_of given.bytes) rows (noticed given.bytes true document) row.exit exit
-            (noticed-rows given.bytes document 0 true) pair.exit_at;
-        to_exit = got-mapped partner_at rows (partners_of 0 document) row.entry entry (partner-rows document 0 true)
-            pair.entry_at;
-        to_entry = got-mapped partner_at rows (partners_of 0 document) row.exit exit (partner-rows document 0 true)
-            pair.exit_at;
-        inner = got-mapped children_at rows (children_of document) row.entry entry (children-rows document 0 true)
-            pair.entry_at;
-        mentions = got-mapped mention_at rows (mentions_of document) row.exit exit (mention-rows document 0 true)
-            pair.exit_at;
+        at_entry = got-mapped (noticed_of given.bytes) rows (noticed given.bytes true document)
+            row.entry entry (noticed-rows given.bytes document 0 true) pair.entry_at;
+        at_exit = got-mapped (noticed_of given.bytes) rows (noticed given.bytes true document)
+            row.exit exit (noticed-rows given.bytes document 0 true) pair.exit_at;
+        to_exit = got-mapped partner_at rows (partners_of 0 document) row.entry entry
+            (partner-rows document 0 true) pair.entry_at;
+        to_entry = got-mapped partner_at rows (partners_of 0 document) row.exit exit
+            (partner-rows document 0 true) pair.exit_at;
+        inner = got-mapped children_at rows (children_of document) row.entry entry
+            (children-rows document 0 true) pair.entry_at;
+        mentions = got-mapped mention_at rows (mentions_of document) row.exit exit
+            (mention-rows document 0 true) pair.exit_at;
         apart = pair.apart;
-        lasts = ap (λ n. suc row.exit == n) (sym (ap (λ es. length es) events-are) ∙ length-map rows event_of)
-            ∙ pair.lasts;
+        lasts = ap (λ n. suc row.exit == n)
+            (sym (ap (λ es. length es) events-are) ∙ length-map rows event_of) ∙ pair.lasts;
         before = map event_of pair.before;
         beyond = map event_of pair.beyond;
         counted = length-map pair.before event_of ∙ pair.counted;
         parts = sym events-are ∙ ap (map event_of) pair.parts
-            ∙ mapped event_of (entering row.name row.start) (exiting row.name row.end) pair.before entry
-            (rows_of (suc row.entry) false row.children) exit pair.beyond (flatten row.children) refl refl
-            (event-rows row.children (suc row.entry) false);
+            ∙ mapped event_of (entering row.name row.start) (exiting row.name row.end) pair.before
+            entry (rows_of (suc row.entry) false row.children) exit pair.beyond
+            (flatten row.children) refl refl (event-rows row.children (suc row.entry) false);
         seen = map (noticed_of given.bytes) pair.before;
         unseen = map (noticed_of given.bytes) pair.beyond;
         seen_counted = length-map pair.before (noticed_of given.bytes) ∙ pair.counted;
-        seen_parts = sym (noticed-rows given.bytes document 0 true) ∙ ap (map (noticed_of given.bytes)) pair.parts
-            ∙ mapped (noticed_of given.bytes) (noticed_of given.bytes row) (noticed_of given.bytes row) pair.before entry
-            (rows_of (suc row.entry) false row.children) exit pair.beyond (noticed given.bytes false row.children) refl
-            refl (noticed-rows given.bytes row.children (suc row.entry) false);
+        seen_parts = sym (noticed-rows given.bytes document 0 true)
+            ∙ ap (map (noticed_of given.bytes)) pair.parts ∙ mapped (noticed_of given.bytes)
+            (noticed_of given.bytes row) (noticed_of given.bytes row) pair.before entry
+            (rows_of (suc row.entry) false row.children) exit pair.beyond (noticed given.bytes false
+            row.children) refl refl (noticed-rows given.bytes row.children (suc row.entry) false);
         there = pair.entry_at;
       }
 
@@ -186,7 +197,8 @@ module _ (given : Handed) (document : Forest) (flat : flatten document ≡ given
   pub node-entered : (index : ℕ) (name : Name) → EntersAt given.events index name →
       (exit : ℕ) × NodeAt given document name index exit
   node-entered index name enters =
-      let found = unmapped event_of rows index enters.0 (ap (λ es. slice_get es index) events-are ∙ enters.1) in
+      let found =
+      unmapped event_of rows index enters.0 (ap (λ es. slice_get es index) events-are ∙ enters.1) in
       let row : Row = found.0 in
       let pair : Paired rows row index = row-paired index row found.1 in
       let kind : row.enters ≡ true = entered-kind row.enters row.name row.start row.end
@@ -196,14 +208,16 @@ module _ (given : Handed) (document : Forest) (flat : flatten document ≡ given
       ∙ ap (λ (e : Event). e.name) found.2 ∙ enters.3 in (
         row.exit,
         subst (λ n. NodeAt given document n index row.exit) named
-            (subst (λ i. NodeAt given document row.name i row.exit) (sym here) (node-of row index pair)),
+            (subst (λ i. NodeAt given document row.name i row.exit) (sym here)
+            (node-of row index pair)),
       )
 
   -- the node that it exits
   pub node-exited : (index : ℕ) (name : Name) → ExitsAt given.events index name →
       (entry : ℕ) × NodeAt given document name entry index
   node-exited index name exits =
-      let found = unmapped event_of rows index exits.0 (ap (λ es. slice_get es index) events-are ∙ exits.1) in
+      let found =
+      unmapped event_of rows index exits.0 (ap (λ es. slice_get es index) events-are ∙ exits.1) in
       let row : Row = found.0 in
       let pair : Paired rows row index = row-paired index row found.1 in
       let kind : row.enters ≡ false = exited-kind row.enters row.name row.start row.end
@@ -213,7 +227,8 @@ module _ (given : Handed) (document : Forest) (flat : flatten document ≡ given
       ∙ ap (λ (e : Event). e.name) found.2 ∙ exits.3 in (
         row.entry,
         subst (λ n. NodeAt given document n row.entry index) named
-            (subst (λ i. NodeAt given document row.name row.entry i) (sym here) (node-of row index pair)),
+            (subst (λ i. NodeAt given document row.name row.entry i) (sym here)
+            (node-of row index pair)),
       )
 
 -- ---- what is noticed there
@@ -245,7 +260,8 @@ pub record Entered (given : Handed) (index : ℕ) (name : Name) (one : Noticed) 
   pub is : one ≡ noticed_in given document name index exit node
   pub entered : IsEnteredAt given index node.children
 
-pub entered : (given : Handed) (index : ℕ) (name : Name) (one : Noticed) → EntersAt given.events index name →
+pub entered : (given : Handed) (index : ℕ) (name : Name) (one : Noticed) →
+    EntersAt given.events index name →
     IsNoticedAt given index one → Entered given index name one
 entered given index name one enters there =
     let found = node-entered given there.0 there.1 index name enters in
@@ -254,8 +270,8 @@ entered given index name one enters there =
       flat = there.1;
       exit = found.0;
       node = found.1;
-      is = noticed-same given there.0 index one (noticed_in given there.0 name index found.0 found.1) there.1 there
-          found.1.at_entry;
+      is = noticed-same given there.0 index one
+          (noticed_in given there.0 name index found.0 found.1) there.1 there found.1.at_entry;
       entered = (there.0, there.1, found.1.inner);
     }
 
@@ -269,7 +285,8 @@ pub record Exited (given : Handed) (index : ℕ) (name : Name) (one : Noticed) :
   pub entered : IsEnteredAt given entry node.children
   pub enters : EntersAt given.events entry name
 
-pub exited : (given : Handed) (index : ℕ) (name : Name) (one : Noticed) → ExitsAt given.events index name →
+pub exited : (given : Handed) (index : ℕ) (name : Name) (one : Noticed) →
+    ExitsAt given.events index name →
     IsNoticedAt given index one → Exited given index name one
 exited given index name one exits there =
     let found = node-exited given there.0 there.1 index name exits in
@@ -278,8 +295,8 @@ exited given index name one exits there =
       flat = there.1;
       entry = found.0;
       node = found.1;
-      is = noticed-same given there.0 index one (noticed_in given there.0 name found.0 index found.1) there.1 there
-          found.1.at_exit;
+      is = noticed-same given there.0 index one
+          (noticed_in given there.0 name found.0 index found.1) there.1 there found.1.at_exit;
       entered = (there.0, there.1, found.1.inner);
       enters = (entering name found.1.start, found.1.enters, refl, refl);
     }
@@ -288,7 +305,8 @@ exited given index name one exits there =
 pub partner-entered : (given : Handed) (index : ℕ) (name : Name) (partner : Option ℕ) →
     EntersAt given.events index name → IsPartnerAt given index partner →
     (exit : ℕ) × (partner ≡ Some exit) × ExitsAt given.events exit name × (index ≤ exit)
-    × ((one : Noticed) → IsNoticedAt given index one → IsNoticedAt given exit one × (exit ≡ index + one.inside))
+    × ((one : Noticed) → IsNoticedAt given index one →
+    IsNoticedAt given exit one × (exit ≡ index + one.inside))
 partner-entered given index name partner enters there =
     let found = node-entered given there.0 there.1 index name enters in
     let node : NodeAt given there.0 name index found.0 = found.1 in (
@@ -297,8 +315,8 @@ partner-entered given index name partner enters there =
       (exiting name node.end, node.exits, refl, refl),
       before found.0 index (length (flatten node.children)) node.apart,
       λ one at.
-          let is = noticed-same given there.0 index one (noticed_in given there.0 name index found.0 node) there.1 at
-          node.at_entry in (
+          let is = noticed-same given there.0 index one
+          (noticed_in given there.0 name index found.0 node) there.1 at node.at_entry in (
             (there.0, there.1, node.at_exit ∙ ap Some (sym is)),
             node.apart ∙ ap (λ (n : Noticed). index + n.inside) (sym is),
           ),
@@ -318,14 +336,16 @@ partner-exited given index name partner exits there =
       there.2 ∙ node.to_entry,
       (entering name node.start, node.enters, refl, refl),
       λ one at.
-          let is = noticed-same given there.0 index one (noticed_in given there.0 name found.0 index node) there.1 at
-          node.at_exit in
+          let is = noticed-same given there.0 index one
+          (noticed_in given there.0 name found.0 index node) there.1 at node.at_exit in
           (there.0, there.1, node.at_entry ∙ ap Some (sym is)),
     )
 
 -- what holds of each node holds of it
-pub node-everywhere : (holds : Name → Point → Point → Forest → Type 0) (given : Handed) (document : Forest)
-    (name : Name) (entry exit : ℕ) (node : NodeAt given document name entry exit) → Everywhere holds document →
+pub node-everywhere :
+    (holds : Name → Point → Point → Forest → Type 0) (given : Handed) (document : Forest)
+    (name : Name) (entry exit : ℕ) (node : NodeAt given document name entry exit) →
+    Everywhere holds document →
     holds name node.start node.end node.children
 node-everywhere holds given document name entry exit node all =
     everywhere-at holds document 0 true all entry (record {
@@ -347,7 +367,8 @@ pub record Known (given : Handed) (index : ℕ) (name : Name) (children : Forest
   pub node : NodeAt given document name index exit
   pub same : node.children ≡ children
 
-pub known : (given : Handed) (index : ℕ) (name : Name) (children : Forest) → EntersAt given.events index name →
+pub known : (given : Handed) (index : ℕ) (name : Name) (children : Forest) →
+    EntersAt given.events index name →
     IsEnteredAt given index children → Known given index name children
 known given index name children enters entered =
     let found = node-entered given entered.0 entered.1 index name enters in
@@ -364,13 +385,15 @@ known given index name children enters entered =
 
 -- at each event of a node something is noticed
 pub noticed-entered : (given : Handed) (document : Forest) (index : ℕ) (name : Name) →
-    flatten document ≡ given.events → EntersAt given.events index name → (one : Noticed) × IsNoticedAt given index one
+    flatten document ≡ given.events → EntersAt given.events index name →
+    (one : Noticed) × IsNoticedAt given index one
 noticed-entered given document index name flat enters =
     let found = node-entered given document flat index name enters in
     (noticed_in given document name index found.0 found.1, (document, flat, found.1.at_entry))
 
 pub noticed-exited : (given : Handed) (document : Forest) (index : ℕ) (name : Name) →
-    flatten document ≡ given.events → ExitsAt given.events index name → (one : Noticed) × IsNoticedAt given index one
+    flatten document ≡ given.events → ExitsAt given.events index name →
+    (one : Noticed) × IsNoticedAt given index one
 noticed-exited given document index name flat exits =
     let found = node-exited given document flat index name exits in
     (noticed_in given document name found.0 index found.1, (document, flat, found.1.at_exit))

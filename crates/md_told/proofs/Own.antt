@@ -1,5 +1,7 @@
 -- What a document's definitions define, each from its own events.
-use Rattle.std.proofs.Common.{◌≡◌, ℕ, zero, suc, ◌-◌, Bool, true, false, ◌&&◌, not, Some, List, [], ◌∷◌, ◌++◌, length, take, drop, refl, sym, ap, ◌∙◌, subst, append-nil, arith}
+use Rattle.std.proofs.Common.{◌≡◌, ℕ, zero, suc, ◌-◌, Bool, true, false, ◌&&◌, not, Some, List, []}
+use Rattle.std.proofs.Common.{◌∷◌, ◌++◌, length, take, drop, refl, sym, ap, ◌∙◌, subst, append-nil}
+use Rattle.std.proofs.Common.{arith}
 use Rattle.std.specs.Prelude.{slice_get, if◌then◌else◌}
 use Rattle.md_base.specs.declared.event.Name.{Name}
 use Rattle.md_base.specs.declared.event.Name.TheVariants.{Definition}
@@ -33,7 +35,8 @@ picked-append : {A : Type 0} (test : Row → Bool) (of : Row → A) (xs ys : Lis
     picked test of (xs ++ ys) ≡ picked test of xs ++ picked test of ys
 picked-append test of [] ys = refl
 picked-append {A = A} test of (x ∷ xs) ys =
-    by (test x) (of x) (picked test of (xs ++ ys)) (picked test of xs) (picked test of ys) (picked-append test of xs ys)
+    by (test x) (of x) (picked test of (xs ++ ys)) (picked test of xs) (picked test of ys)
+    (picked-append test of xs ys)
   where
     by : (b : Bool) (a : A) (all one two : List A) → all ≡ one ++ two →
         (if b then a ∷ all else all) ≡ (if b then a ∷ one else one) ++ two
@@ -41,8 +44,8 @@ picked-append {A = A} test of (x ∷ xs) ys =
     by false a all one two e = e
 
 -- a place among them is that of one row, whatever is taken of the rows
-record Pick {A B : Type 0} (test : Row → Bool) (one : Row → A) (other : Row → B) (rows : List Row) (place : ℕ) (a : A)
-    : Type 0 where
+record Pick {A B : Type 0} (test : Row → Bool) (one : Row → A) (other : Row → B) (rows : List Row)
+    (place : ℕ) (a : A) : Type 0 where
   row : Row
   at : ℕ
   got : slice_get rows at ≡ Some row
@@ -50,7 +53,8 @@ record Pick {A B : Type 0} (test : Row → Bool) (one : Row → A) (other : Row 
   is : one row ≡ a
   found : slice_get (picked test other rows) place ≡ Some (other row)
 
-pick : {A B : Type 0} (test : Row → Bool) (one : Row → A) (other : Row → B) (rows : List Row) (place : ℕ) (a : A) →
+pick : {A B : Type 0} (test : Row → Bool) (one : Row → A) (other : Row → B) (rows : List Row)
+    (place : ℕ) (a : A) →
     slice_get (picked test one rows) place ≡ Some a → Pick test one other rows place a
 pick test one other [] zero a e = cc
 pick test one other [] (suc place) a e = cc
@@ -80,21 +84,22 @@ pick {A = A} {B = B} test one other (row ∷ rows) place a e =
       got = refl;
       passes = t;
       is = some f;
-      found = ap (λ b. slice_get (if b then other row ∷ picked test other rows else picked test other rows) 0) t;
+      found = ap (λ b.
+          slice_get (if b then other row ∷ picked test other rows else picked test other rows) 0) t;
     }
       where
         some : Some (one row) ≡ Some a → one row ≡ a
         some g = cc
     by true t (suc p) more f =
         later true (suc p) p t
-        (λ found g. ap (λ b. slice_get (if b then other row ∷ picked test other rows else picked test other rows) (suc
-        p)) t ∙ g) (more p f)
+        (λ found g. ap (λ b. slice_get (if b then other row ∷ picked test other rows
+        else picked test other rows) (suc p)) t ∙ g) (more p f)
     by false t p more f =
-        later false p p t
-        (λ found g. ap (λ b. slice_get (if b then other row ∷ picked test other rows else picked test other rows) p) t
-        ∙ g) (more p f)
+        later false p p t (λ found g. ap (λ b. slice_get (if b
+        then other row ∷ picked test other rows else picked test other rows) p) t ∙ g) (more p f)
 
-picked-length : {A B : Type 0} (test : Row → Bool) (one : Row → A) (other : Row → B) (rows : List Row) →
+picked-length :
+    {A B : Type 0} (test : Row → Bool) (one : Row → A) (other : Row → B) (rows : List Row) →
     length (picked test one rows) ≡ length (picked test other rows)
 picked-length test one other [] = refl
 picked-length {A = A} {B = B} test one other (row ∷ rows) =
@@ -114,8 +119,8 @@ defines row = not row.enters && is_passed row.name
 abbrev defined_at : Given → Row → Defined
 defined_at alone row = record {
   identifier = identifier_of alone.bytes row.children;
-  target = (over alone false row.children (entered alone (told_of alone.bytes false row.children row.start row.end)
-      Definition beginning)).target;
+  target = (over alone false row.children (entered alone
+      (told_of alone.bytes false row.children row.start row.end) Definition beginning)).target;
 }
 
 one_first : {A : Type 0} (b : Bool) (x : A) (xs : List A) →
@@ -128,7 +133,8 @@ passed_is Definition = refl
 passed_is _ = refl
 
 entries-picked : (forest : Forest) (index : ℕ) (outermost : Bool) →
-    picked defines (λ (row : Row). row.entry) (rows_of index outermost forest) ≡ definition_entries index forest
+    picked defines (λ (row : Row). row.entry) (rows_of index outermost forest)
+    ≡ definition_entries index forest
 entries-picked Empty index outermost = refl
 entries-picked (Node name start end children rest) index outermost =
     let entry : Row → ℕ = λ row. row.entry in
@@ -137,13 +143,16 @@ entries-picked (Node name start end children rest) index outermost =
     let inner : List Row = rows_of (suc index) false children in
     let after : List Row = rows_of (suc exit) outermost rest in
     picked-append defines entry inner (closing ∷ after)
-    ∙ ap (λ xs. xs ++ picked defines entry (closing ∷ after)) (entries-picked children (suc index) false)
+    ∙ ap (λ xs. xs ++ picked defines entry (closing ∷ after))
+    (entries-picked children (suc index) false)
     ∙ ap (λ xs. definition_entries (suc index) children ++ xs)
     (one_first (is_passed name) index (picked defines entry after)
     ∙ ap (λ b. (if b then index ∷ [] else []) ++ picked defines entry after) (passed_is name)
-    ∙ ap (λ xs. (if is_link_definition name then index ∷ [] else []) ++ xs) (entries-picked rest (suc exit) outermost))
+    ∙ ap (λ xs. (if is_link_definition name then index ∷ [] else []) ++ xs)
+    (entries-picked rest (suc exit) outermost))
 
-none-picked : {A : Type 0} (of : Row → A) (forest : Forest) (index : ℕ) (outermost : Bool) → Free forest →
+none-picked : {A : Type 0} (of : Row → A) (forest : Forest) (index : ℕ) (outermost : Bool) →
+    Free forest →
     picked defines of (rows_of index outermost forest) ≡ []
 none-picked of Empty index outermost free = refl
 none-picked {A = A} of (Node name start end children rest) index outermost free =
@@ -152,18 +161,20 @@ none-picked {A = A} of (Node name start end children rest) index outermost free 
     let inner : List Row = rows_of (suc index) false children in
     let after : List Row = rows_of (suc exit) outermost rest in
     picked-append defines of inner (closing ∷ after)
-    ∙ ap (λ xs. xs ++ picked defines of (closing ∷ after)) (none-picked of children (suc index) false free.1)
+    ∙ ap (λ xs. xs ++ picked defines of (closing ∷ after))
+    (none-picked of children (suc index) false free.1)
     ∙ ap (λ b. if b then of closing ∷ picked defines of after else picked defines of after) free.0
     ∙ none-picked of rest (suc exit) outermost free.2
 
-defined-picked : (alone : Given) (forest : Forest) (index : ℕ) (outermost : Bool) → Everywhere IsFreeInside forest →
+defined-picked : (alone : Given) (forest : Forest) (index : ℕ) (outermost : Bool) →
+    Everywhere IsFreeInside forest →
     picked defines (defined_at alone) (rows_of index outermost forest) ≡ defined alone forest
 defined-picked alone Empty index outermost frees = refl
 defined-picked alone (Node name start end children rest) index outermost frees =
-    picked-append defines (defined_at alone) inner (closing ∷ after)
-    ∙ ap (λ xs. picked defines (defined_at alone) inner ++ (if is_passed name then defined_at alone closing ∷ xs
-    else xs)) (defined-picked alone rest (suc exit) outermost frees.2)
-    ∙ by (is_passed name) refl (λ h. none-picked (defined_at alone) children (suc index) false (frees.0 h))
+    picked-append defines (defined_at alone) inner (closing ∷ after) ∙ ap (λ xs.
+    picked defines (defined_at alone) inner ++ (if is_passed name then defined_at alone closing ∷ xs
+    else xs)) (defined-picked alone rest (suc exit) outermost frees.2) ∙ by (is_passed name) refl
+    (λ h. none-picked (defined_at alone) children (suc index) false (frees.0 h))
     (defined-picked alone children (suc index) false frees.1)
   where
     exit : ℕ
@@ -181,9 +192,11 @@ defined-picked alone (Node name start end children rest) index outermost frees =
     own : Defined
     own = defined_at alone closing
 
-    by : (b : Bool) → is_passed name ≡ b → (is_passed name ≡ true → picked defines (defined_at alone) inner ≡ []) →
+    by : (b : Bool) → is_passed name ≡ b →
+        (is_passed name ≡ true → picked defines (defined_at alone) inner ≡ []) →
         picked defines (defined_at alone) inner ≡ defined alone children →
-        picked defines (defined_at alone) inner ++ (if b then own ∷ defined alone rest else defined alone rest)
+        picked defines (defined_at alone) inner
+        ++ (if b then own ∷ defined alone rest else defined alone rest)
         ≡ (if b then own ∷ [] else defined alone children) ++ defined alone rest
     by true h none same = ap (λ xs. xs ++ own ∷ defined alone rest) (none h)
     by false h none same = ap (λ xs. xs ++ defined alone rest) same
@@ -192,11 +205,13 @@ defined-picked alone (Node name start end children rest) index outermost frees =
 
 drop-past : {A : Type 0} (xs ys : List A) (n : ℕ) → length xs ≡ n → drop n (xs ++ ys) ≡ ys
 drop-past [] ys n e = ap (λ m. drop m ys) (sym e)
-drop-past (x ∷ xs) ys n e = ap (λ m. drop m (x ∷ (xs ++ ys))) (sym e) ∙ drop-past xs ys (length xs) refl
+drop-past (x ∷ xs) ys n e =
+    ap (λ m. drop m (x ∷ (xs ++ ys))) (sym e) ∙ drop-past xs ys (length xs) refl
 
 take-own : {A : Type 0} (xs ys : List A) (n : ℕ) → n ≡ length xs → take n (xs ++ ys) ≡ xs
 take-own [] ys n e = ap (λ m. take m ys) e
-take-own (x ∷ xs) ys n e = ap (λ m. take m (x ∷ (xs ++ ys))) e ∙ ap (λ zs. x ∷ zs) (take-own xs ys (length xs) refl)
+take-own (x ∷ xs) ys n e =
+    ap (λ m. take m (x ∷ (xs ++ ys))) e ∙ ap (λ zs. x ∷ zs) (take-own xs ys (length xs) refl)
 
 within-own : {A : Type 0} (before : List A) (first : A) (inner rest : List A) (index inside : ℕ) →
     length before ≡ index → inside ≡ suc (length inner) →
@@ -209,8 +224,9 @@ within-own before first inner rest index inside e f =
 
 -- ---- each from its own events
 
-own-at : (given : Handed) (document : Forest) (alone : Given) (name : Name) (entry exit : ℕ) (one : Noticed)
-    (node : NodeAt given document name entry exit) → flatten document ≡ given.events → alone.bytes ≡ given.bytes →
+own-at : (given : Handed) (document : Forest) (alone : Given)
+    (name : Name) (entry exit : ℕ) (one : Noticed) (node : NodeAt given document name entry exit) →
+    flatten document ≡ given.events → alone.bytes ≡ given.bytes →
     IsNoticedAt given entry one →
     defined_at alone (record {
       enters = true;
@@ -243,15 +259,17 @@ own-at given document alone name entry exit one node flat same there =
     is = noticed-same given document entry one here flat there node.at_entry
 
     begun : State
-    begun = entered alone (told_of given.bytes node.last node.children node.start node.end) Definition beginning
+    begun = entered alone (told_of given.bytes node.last node.children node.start node.end)
+        Definition beginning
 
     target : Target
     target = (over alone false node.children begun).target
 
     ran : run alone 0 (flatten node.children) (noticed given.bytes false node.children) begun
         ≡ over alone false node.children begun
-    ran = ap (λ bytes. run alone 0 (flatten node.children) (noticed bytes false node.children) begun) (sym same)
-        ∙ ap (λ es. run alone 0 es (noticed alone.bytes false node.children) begun)
+    ran =
+        ap (λ bytes. run alone 0 (flatten node.children) (noticed bytes false node.children) begun)
+        (sym same) ∙ ap (λ es. run alone 0 es (noticed alone.bytes false node.children) begun)
         (sym (append-nil (flatten node.children)))
         ∙ ap (λ ts. run alone 0 (flatten node.children ++ []) ts begun)
         (sym (append-nil (noticed alone.bytes false node.children)))
@@ -262,12 +280,14 @@ own-at given document alone name entry exit one node flat same there =
         ∙ within-own node.before (entering name node.start) (flatten node.children)
         (exiting name node.end ∷ node.beyond) entry here.inside node.counted refl
 
-    seen : within entry here.inside (noticed given.bytes true document) ≡ noticed given.bytes false node.children
-    seen = ap (within entry here.inside) node.seen_parts
-        ∙ within-own node.seen here (noticed given.bytes false node.children) (here ∷ node.unseen) entry here.inside
+    seen : within entry here.inside (noticed given.bytes true document)
+        ≡ noticed given.bytes false node.children
+    seen = ap (within entry here.inside) node.seen_parts ∙ within-own node.seen here
+        (noticed given.bytes false node.children) (here ∷ node.unseen) entry here.inside
         node.seen_counted (ap suc (sym (noticed-length given.bytes false node.children)))
 
-pub own-defined : (given : Handed) (document : Forest) (alone : Given) (index place : ℕ) (one : Noticed) →
+pub own-defined :
+    (given : Handed) (document : Forest) (alone : Given) (index place : ℕ) (one : Noticed) →
     IsChecked given → flatten document ≡ given.events → alone.bytes ≡ given.bytes →
     slice_get (definition_entries 0 document) place ≡ Some index → IsNoticedAt given index one →
     slice_get (defined alone document) place
@@ -279,15 +299,17 @@ own-defined given document alone index place one checked flat same got there =
     (ap (λ xs. slice_get xs place) (entries-picked document 0 true) ∙ got) in
     let row : Row = found.row in
     let pair : Paired rows row found.at = row-paired given document flat found.at row found.got in
-    let node : NodeAt given document row.name row.entry row.exit = node-of given document flat row found.at pair in
-    let frees = built-frees given.bytes Blocks document
-    (grammatical-built given.bytes given.names document (grammatical-there given document checked flat)) in
+    let node : NodeAt given document row.name row.entry row.exit =
+    node-of given document flat row found.at pair in
+    let frees = built-frees given.bytes Blocks document (grammatical-built given.bytes given.names
+    document (grammatical-there given document checked flat)) in
     ap (λ xs. slice_get xs place) (sym (defined-picked alone document 0 true frees))
     ∙ found.found
     ∙ ap (λ r. Some (defined_at alone r)) (some (sym pair.entry_at ∙ node.there))
     ∙ ap Some (own-at given document alone row.name row.entry row.exit one node flat same
     (subst (λ i. IsNoticedAt given i one) (sym found.is) there))
-    ∙ ap (λ i. Some (own_defined alone given.events (noticed given.bytes true document) i one)) found.is
+    ∙ ap (λ i. Some (own_defined alone given.events (noticed given.bytes true document) i one))
+    found.is
   where
     some : {a b : Row} → Some a ≡ Some b → a ≡ b
     some e = cc
@@ -297,8 +319,8 @@ pub own-length : (given : Handed) (document : Forest) (alone : Given) → IsChec
     flatten document ≡ given.events →
     length (defined alone document) ≡ length (definition_entries 0 document)
 own-length given document alone checked flat =
-    let frees = built-frees given.bytes Blocks document
-    (grammatical-built given.bytes given.names document (grammatical-there given document checked flat)) in
+    let frees = built-frees given.bytes Blocks document (grammatical-built given.bytes given.names
+    document (grammatical-there given document checked flat)) in
     ap (λ xs. length xs) (sym (defined-picked alone document 0 true frees))
     ∙ picked-length defines (defined_at alone) (λ (row : Row). row.entry) (rows_of 0 true document)
     ∙ ap (λ xs. length xs) (entries-picked document 0 true)

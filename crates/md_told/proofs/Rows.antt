@@ -1,5 +1,7 @@
 -- The events of a document in rows, each with its node, and where the other event of the node is.
-use Rattle.std.proofs.Common.{◌≡◌, ◌⊎◌, inl, inr, ℕ, zero, suc, ◌+◌, ◌==◌, Bool, true, false, ◌&&◌, Option, Some, None, List, [], ◌∷◌, ◌++◌, length, refl, sym, ap, ◌∙◌, subst, append_assoc, arith, ne_eqb}
+use Rattle.std.proofs.Common.{◌≡◌, ◌⊎◌, inl, inr, ℕ, zero, suc, ◌+◌, ◌==◌, Bool, true, false, ◌&&◌}
+use Rattle.std.proofs.Common.{Option, Some, None, List, [], ◌∷◌, ◌++◌, length, refl, sym, ap, ◌∙◌}
+use Rattle.std.proofs.Common.{subst, append_assoc, arith, ne_eqb}
 use Rattle.std.specs.Prelude.{map, slice_get, if◌then◌else◌}
 use Rattle.std.proofs.lemmas.List.{map-append, length-map, length-append}
 use Rattle.md_base.specs.declared.event.Event.{Event}
@@ -22,8 +24,8 @@ use Rattle.md_shape.specs.Leads.{Everywhere}
 use Rattle.md_shape.specs.Steps.{told_of}
 use Rattle.md_shape.specs.Run.{Noticed, noticed}
 
--- an event of a node: whether it enters it; the node's name, its two ends and its children, whether nothing follows it
--- in the document, and the indices of its two events
+-- an event of a node: whether it enters it; the node's name, its two ends and its children, whether
+-- nothing follows it in the document, and the indices of its two events
 pub record Row : Type 0 where
   pub enters : Bool
   pub name : Name
@@ -46,7 +48,8 @@ row_of enters index last name start end children = record {
   exit = index_after (suc index) children;
 }
 
--- those of some nodes, of which the first is entered at an index, and the last is the document's last or not
+-- those of some nodes, of which the first is entered at an index, and the last is the
+-- document's last or not
 abbrev pub rows_of : ℕ → Bool → Forest → List Row
 rows_of index outermost Empty = []
 rows_of index outermost (Node name start end children rest) =
@@ -59,10 +62,11 @@ rows_of index outermost (Node name start end children rest) =
 
 module _ {A : Type 0} (of_row : Row → A) (column : ℕ → Bool → Forest → List A)
     (at_end : (index : ℕ) (outermost : Bool) → column index outermost Empty ≡ [])
-    (at_node : (index : ℕ) (outermost : Bool) (name : Name) (start end : Point) (children rest : Forest) →
-    column index outermost (Node name start end children rest)
+    (at_node : (index : ℕ) (outermost : Bool) (name : Name) (start end : Point)
+    (children rest : Forest) → column index outermost (Node name start end children rest)
     ≡ of_row (row_of true index (outermost && is_empty rest) name start end children)
-    ∷ (column (suc index) false children ++ of_row (row_of false index (outermost && is_empty rest) name start end
+    ∷ (column (suc index) false children
+    ++ of_row (row_of false index (outermost && is_empty rest) name start end
     children) ∷ column (suc (index_after (suc index) children)) outermost rest)) where
   column_rows : (forest : Forest) (index : ℕ) (outermost : Bool) →
       map of_row (rows_of index outermost forest) ≡ column index outermost forest
@@ -76,7 +80,8 @@ module _ {A : Type 0} (of_row : Row → A) (column : ℕ → Bool → Forest →
       (map-append of_row (rows_of (suc index) false children) (exit ∷ rows_of later outermost rest)
       ∙ ap (λ xs. xs ++ of_row exit ∷ map of_row (rows_of later outermost rest))
       (column_rows children (suc index) false)
-      ∙ ap (λ xs. column (suc index) false children ++ of_row exit ∷ xs) (column_rows rest later outermost))
+      ∙ ap (λ xs. column (suc index) false children ++ of_row exit ∷ xs)
+      (column_rows rest later outermost))
       ∙ sym (at_node index outermost name start end children rest)
 
 abbrev pub event_of : Row → Event
@@ -100,27 +105,31 @@ mention_at row = if row.enters then Nothing
 
 pub event-rows : (document : Forest) (index : ℕ) (outermost : Bool) →
     map event_of (rows_of index outermost document) ≡ flatten document
-event-rows = column_rows event_of (λ index outermost forest. flatten forest) (λ index outermost. refl)
+event-rows =
+    column_rows event_of (λ index outermost forest. flatten forest) (λ index outermost. refl)
     (λ index outermost name start end children rest. refl)
 
 pub noticed-rows : (bytes : List ℕ) (document : Forest) (index : ℕ) (outermost : Bool) →
     map (noticed_of bytes) (rows_of index outermost document) ≡ noticed bytes outermost document
-noticed-rows bytes = column_rows (noticed_of bytes) (λ index outermost forest. noticed bytes outermost forest)
+noticed-rows bytes =
+    column_rows (noticed_of bytes) (λ index outermost forest. noticed bytes outermost forest)
     (λ index outermost. refl) (λ index outermost name start end children rest. refl)
 
 pub children-rows : (document : Forest) (index : ℕ) (outermost : Bool) →
     map children_at (rows_of index outermost document) ≡ children_of document
-children-rows = column_rows children_at (λ index outermost forest. children_of forest) (λ index outermost. refl)
+children-rows =
+    column_rows children_at (λ index outermost forest. children_of forest) (λ index outermost. refl)
     (λ index outermost name start end children rest. refl)
 
 pub partner-rows : (document : Forest) (index : ℕ) (outermost : Bool) →
     map partner_at (rows_of index outermost document) ≡ partners_of index document
-partner-rows = column_rows partner_at (λ index outermost forest. partners_of index forest) (λ index outermost. refl)
-    (λ index outermost name start end children rest. refl)
+partner-rows = column_rows partner_at (λ index outermost forest. partners_of index forest)
+    (λ index outermost. refl) (λ index outermost name start end children rest. refl)
 
 pub mention-rows : (document : Forest) (index : ℕ) (outermost : Bool) →
     map mention_at (rows_of index outermost document) ≡ mentions_of document
-mention-rows = column_rows mention_at (λ index outermost forest. mentions_of forest) (λ index outermost. refl)
+mention-rows =
+    column_rows mention_at (λ index outermost forest. mentions_of forest) (λ index outermost. refl)
     (λ index outermost name start end children rest. refl)
 
 -- ---- where the two rows of a node stand among all
@@ -147,12 +156,14 @@ rows-length forest index outermost =
     sym (length-map (rows_of index outermost forest) event_of)
     ∙ ap (λ es. length es) (event-rows forest index outermost)
 
-pub after-length : (forest : Forest) (index : ℕ) → index_after index forest ≡ index + length (flatten forest)
+pub after-length : (forest : Forest) (index : ℕ) →
+    index_after index forest ≡ index + length (flatten forest)
 after-length Empty index = omega arith
 after-length (Node name start end children rest) index =
     after-length rest (suc (index_after (suc index) children))
-    ∙ sum index (index_after (suc index) children) (length (flatten children)) (length (flatten rest)) _
-    (after-length children (suc index)) (length-append (flatten children) (exiting name end ∷ flatten rest))
+    ∙ sum index (index_after (suc index) children) (length (flatten children))
+    (length (flatten rest)) _ (after-length children (suc index))
+    (length-append (flatten children) (exiting name end ∷ flatten rest))
   where
     sum : (index after own others all : ℕ) → after ≡ suc index + own → all ≡ own + suc others →
         suc after + others ≡ index + suc all
@@ -163,7 +174,8 @@ abbrev Got : {A : Type 0} → List A → A → List A → ℕ → A → Type 0
 Got xs y ys i x = (slice_get xs i ≡ Some x) ⊎ (((i ≡ length xs) × (y ≡ x))
     ⊎ ((j : ℕ) × (i ≡ length xs + suc j) × (slice_get ys j ≡ Some x)))
 
-got-part : {A : Type 0} (xs : List A) (y : A) (ys : List A) (i : ℕ) (x : A) → slice_get (xs ++ y ∷ ys) i ≡ Some x →
+got-part : {A : Type 0} (xs : List A) (y : A) (ys : List A) (i : ℕ) (x : A) →
+    slice_get (xs ++ y ∷ ys) i ≡ Some x →
     Got xs y ys i x
 got-part [] y ys zero x e = inr (inl (refl, cc))
 got-part [] y ys (suc i) x e = inr (inr (i, omega arith, e))
@@ -185,28 +197,31 @@ none-got (suc i) x e = cc
 -- nothing comes after a list's end
 ends : (before after : List Row) (row : Row) (n : ℕ) → length before ≡ n →
     (suc n == length (before ++ row ∷ after)) ≡ is_nil after
-ends before [] row n e = eq (suc n) (length (before ++ row ∷ [])) (sym (length_one before row ∙ ap suc e))
+ends before [] row n e =
+    eq (suc n) (length (before ++ row ∷ [])) (sym (length_one before row ∙ ap suc e))
   where
     eq : (a b : ℕ) → a ≡ b → (a == b) ≡ true
     eq a b e = grind (arith, e)
 ends before (one ∷ after) row n e =
-    ne_eqb (suc n) (length (before ++ row ∷ one ∷ after))
-    (more n (length before) (length after) (length (before ++ row ∷ one ∷ after)) e (length-append before (row ∷ one
-    ∷ after)))
+    ne_eqb (suc n) (length (before ++ row ∷ one ∷ after)) (more n (length before) (length after)
+    (length (before ++ row ∷ one ∷ after)) e (length-append before (row ∷ one ∷ after)))
   where
     more : (n m k l : ℕ) → m ≡ n → l ≡ m + suc (suc k) → suc n ≡ l → ⊥
     more n m k l e f h = omega (arith, e, f, h)
 
-last-nil : (rest : Forest) (index : ℕ) (outermost : Bool) (later : List Row) → is_nil later ≡ outermost →
+last-nil : (rest : Forest) (index : ℕ) (outermost : Bool) (later : List Row) →
+    is_nil later ≡ outermost →
     is_nil (rows_of index outermost rest ++ later) ≡ (outermost && is_empty rest)
 last-nil Empty index true later e = e
 last-nil Empty index false later e = e
 last-nil (Node name start end children rest) index true later e = refl
 last-nil (Node name start end children rest) index false later e = refl
 
-module _ (all : List Row) (name : Name) (start end : Point) (children rest : Forest) (index : ℕ) (outermost : Bool)
+module _ (all : List Row) (name : Name) (start end : Point) (children rest : Forest)
+    (index : ℕ) (outermost : Bool)
     (seen later : List Row) (e : length seen ≡ index) (nil : is_nil later ≡ outermost)
-    (same : all ≡ seen ++ (rows_of index outermost (Node name start end children rest) ++ later)) where
+    (same : all
+    ≡ seen ++ (rows_of index outermost (Node name start end children rest) ++ later)) where
   abbrev last : Bool
   last = outermost && is_empty rest
 
@@ -231,13 +246,15 @@ module _ (all : List Row) (name : Name) (start end : Point) (children rest : For
   inner-seen : length ((seen ++ opening ∷ []) ++ inner) ≡ exit
   inner-seen =
       length-append (seen ++ opening ∷ []) inner ∙ ap (λ n. n + length inner) one-seen
-      ∙ ap (λ n. suc index + n) (rows-length children (suc index) false) ∙ sym (after-length children (suc index))
+      ∙ ap (λ n. suc index + n) (rows-length children (suc index) false)
+      ∙ sym (after-length children (suc index))
 
   inner-there : all ≡ (seen ++ opening ∷ []) ++ (inner ++ (closing ∷ (after ++ later)))
   inner-there = in_node all seen inner after later opening closing same
 
   closing-there : all ≡ ((seen ++ opening ∷ []) ++ inner) ++ (closing ∷ (after ++ later))
-  closing-there = inner-there ∙ sym (append_assoc (seen ++ opening ∷ []) inner (closing ∷ (after ++ later)))
+  closing-there =
+      inner-there ∙ sym (append_assoc (seen ++ opening ∷ []) inner (closing ∷ (after ++ later)))
 
   after-seen : length (((seen ++ opening ∷ []) ++ inner) ++ closing ∷ []) ≡ suc exit
   after-seen = length_one ((seen ++ opening ∷ []) ++ inner) closing ∙ ap suc inner-seen
@@ -249,7 +266,8 @@ module _ (all : List Row) (name : Name) (start end : Point) (children rest : For
       Paired all (row_of b index last name start end children) i
   own-paired b i here = record {
     here = here;
-    entry_at = ap (λ rows. slice_get rows index) (at_entry all seen inner after later opening closing same)
+    entry_at =
+        ap (λ rows. slice_get rows index) (at_entry all seen inner after later opening closing same)
         ∙ get_at seen (inner ++ (closing ∷ (after ++ later))) opening index e;
     exit_at = ap (λ rows. slice_get rows exit) closing-there
         ∙ get_at ((seen ++ opening ∷ []) ++ inner) (after ++ later) closing exit inner-seen;
@@ -266,9 +284,11 @@ module _ (all : List Row) (name : Name) (start end : Point) (children rest : For
       moved : (n m : ℕ) → suc n + m ≡ n + suc m
       moved n m = omega arith
 
-  node-paired : ((i : ℕ) (row : Row) → slice_get inner i ≡ Some row → Paired all row (suc index + i)) →
+  node-paired :
+      ((i : ℕ) (row : Row) → slice_get inner i ≡ Some row → Paired all row (suc index + i)) →
       ((i : ℕ) (row : Row) → slice_get after i ≡ Some row → Paired all row (suc exit + i)) →
-      (i : ℕ) (row : Row) → slice_get (rows_of index outermost (Node name start end children rest)) i ≡ Some row →
+      (i : ℕ) (row : Row) →
+      slice_get (rows_of index outermost (Node name start end children rest)) i ≡ Some row →
       Paired all row (index + i)
   node-paired inside beyond zero row got =
       let first : opening ≡ row = cc in
@@ -294,11 +314,15 @@ module _ (all : List Row) (name : Name) (start end : Point) (children rest : For
       parts (inr (inr h)) =
           subst (λ n. Paired all row n) (past index (length (flatten children)) exit h.0 i
           (after-length children (suc index))
-          (h.1 ∙ ap (λ n. n + suc h.0) (rows-length children (suc index) false))) (beyond h.0 row h.2)
+          (h.1 ∙ ap (λ n. n + suc h.0) (rows-length children (suc index) false)))
+          (beyond h.0 row h.2)
 
-pub paired : (all : List Row) (forest : Forest) (index : ℕ) (outermost : Bool) (seen later : List Row) →
-    length seen ≡ index → is_nil later ≡ outermost → all ≡ seen ++ (rows_of index outermost forest ++ later) →
-    (i : ℕ) (row : Row) → slice_get (rows_of index outermost forest) i ≡ Some row → Paired all row (index + i)
+pub paired :
+    (all : List Row) (forest : Forest) (index : ℕ) (outermost : Bool) (seen later : List Row) →
+    length seen ≡ index → is_nil later ≡ outermost →
+    all ≡ seen ++ (rows_of index outermost forest ++ later) →
+    (i : ℕ) (row : Row) → slice_get (rows_of index outermost forest) i ≡ Some row →
+    Paired all row (index + i)
 paired all Empty index outermost seen later e nil same i row got = absurd (none-got i row got)
 paired all (Node name start end children rest) index outermost seen later e nil same i row got =
     node-paired all name start end children rest index outermost seen later e nil same
@@ -320,23 +344,26 @@ paired all (Node name start end children rest) index outermost seen later e nil 
 
 pub everywhere-at : (holds : Name → Point → Point → Forest → Type 0) (forest : Forest) (index : ℕ)
     (outermost : Bool) → Everywhere holds forest → (i : ℕ) (row : Row) →
-    slice_get (rows_of index outermost forest) i ≡ Some row → holds row.name row.start row.end row.children
+    slice_get (rows_of index outermost forest) i ≡ Some row →
+    holds row.name row.start row.end row.children
 everywhere-at holds Empty index outermost all i row got = absurd (none-got i row got)
 everywhere-at holds (Node name start end children rest) index outermost all zero row got =
     let first : row_of true index (outermost && is_empty rest) name start end children ≡ row = cc in
     subst (λ (r : Row). holds r.name r.start r.end r.children) first all.0
 everywhere-at holds (Node name start end children rest) index outermost all (suc i) row got =
-    parts holds (rows_of (suc index) false children) (row_of false index (outermost && is_empty rest) name start end
+    parts holds (rows_of (suc index) false children)
+    (row_of false index (outermost && is_empty rest) name start end
     children) (rows_of (suc (index_after (suc index) children)) outermost rest) i row
     (everywhere-at holds children (suc index) false all.1) all.0
     (everywhere-at holds rest (suc (index_after (suc index) children)) outermost all.2) got
   where
-    parts : (holds : Name → Point → Point → Forest → Type 0) (inner : List Row) (closing : Row) (after : List Row)
-        (i : ℕ) (row : Row) →
+    parts : (holds : Name → Point → Point → Forest → Type 0) (inner : List Row) (closing : Row)
+        (after : List Row) (i : ℕ) (row : Row) →
         ((j : ℕ) (r : Row) → slice_get inner j ≡ Some r → holds r.name r.start r.end r.children) →
         holds closing.name closing.start closing.end closing.children →
         ((j : ℕ) (r : Row) → slice_get after j ≡ Some r → holds r.name r.start r.end r.children) →
-        slice_get (inner ++ closing ∷ after) i ≡ Some row → holds row.name row.start row.end row.children
+        slice_get (inner ++ closing ∷ after) i ≡ Some row →
+        holds row.name row.start row.end row.children
     parts holds inner closing after i row inside own later got =
         elim (got-part inner closing after i row got) [
           | inl h ↦ inside i row h

@@ -1,5 +1,6 @@
 -- No definition stands in a definition.
-use Rattle.std.proofs.Common.{◌≡◌, ℕ, Bool, true, false, ◌&&◌, ◌||◌, not, List, [], ◌∷◌, ◌++◌, refl, sym, ap, ◌∙◌, subst}
+use Rattle.std.proofs.Common.{◌≡◌, ℕ, Bool, true, false, ◌&&◌, ◌||◌, not, List, [], ◌∷◌, ◌++◌, refl}
+use Rattle.std.proofs.Common.{sym, ap, ◌∙◌, subst}
 use Rattle.std.specs.Prelude.{map, if◌then◌else◌}
 use Rattle.std.proofs.lemmas.List.{map-append}
 use Rattle.md_base.proofs.Lies.{lie}
@@ -11,7 +12,8 @@ use Rattle.md_base.specs.NameTests.{is_transparent}
 use Rattle.md_base.specs.Tree.{Forest, Empty, Node}
 use Rattle.md_meaning.specs.Meaning.At.{Defined, Given, Target, identifier_of}
 use Rattle.md_meaning.specs.Meaning.Layout.{when}
-use Rattle.md_shape.specs.Built.{Content, Sources, Strings, Nothing, IsBuilt, content_inside, content_past, content_after, content_after_node, may_stand}
+use Rattle.md_shape.specs.Built.{Content, Sources, Strings, Nothing, IsBuilt, content_inside}
+use Rattle.md_shape.specs.Built.{content_past, content_after, content_after_node, may_stand}
 use Rattle.md_shape.specs.Leads.{Everywhere, defined_in}
 use Rattle.md_shape.specs.Steps.{is_passed, over, entered, told_of, beginning}
 use Rattle.md_shape.specs.Run.{defined}
@@ -41,7 +43,8 @@ implied true b h k = h
 implied false b h k = lie k
 
 abbrev keeps : Content → Name → Bool
-keeps c n = implies (is_transparent n || may_stand c n) (not (is_passed n) && low (content_inside c n))
+keeps c n =
+    implies (is_transparent n || may_stand c n) (not (is_passed n) && low (content_inside c n))
 
 in_sources : (n : Name) → keeps Sources n ≡ true
 in_sources Data = refl
@@ -74,23 +77,26 @@ pick false c other e = e
 after-low : (c : Content) → low c ≡ true → (forest : Forest) → content_after c forest ≡ c
 after-low c h Empty = refl
 after-low c h (Node name start end children rest) =
-    ap (λ x. content_after (if is_transparent name then x else content_past c name) rest) (after-low c h children)
-    ∙ ap (λ x. content_after x rest) (pick (is_transparent name) c (content_past c name) (past-low c name h))
-    ∙ after-low c h rest
+    ap (λ x. content_after (if is_transparent name then x else content_past c name) rest)
+    (after-low c h children) ∙ ap (λ x. content_after x rest)
+    (pick (is_transparent name) c (content_past c name) (past-low c name h)) ∙ after-low c h rest
 
-node-low : (c : Content) (name : Name) (children : Forest) → low c ≡ true → content_after_node c name children ≡ c
+node-low : (c : Content) (name : Name) (children : Forest) → low c ≡ true →
+    content_after_node c name children ≡ c
 node-low c name children h =
     ap (λ x. if is_transparent name then x else content_past c name) (after-low c h children)
     ∙ pick (is_transparent name) c (content_past c name) (past-low c name h)
 
-built-free : (bytes : List ℕ) (c : Content) (forest : Forest) → low c ≡ true → IsBuilt bytes c forest → Free forest
+built-free : (bytes : List ℕ) (c : Content) (forest : Forest) → low c ≡ true →
+    IsBuilt bytes c forest → Free forest
 built-free bytes c Empty h built = tt
 built-free bytes c (Node name start end children rest) h built =
     let parts = both (is_passed name) (low (content_inside c name))
     (implied (is_transparent name || may_stand c name) _ (keeps-low c name h) built.0) in (
       parts.0,
       built-free bytes (content_inside c name) children parts.1 built.2,
-      built-free bytes c rest h (subst (λ x. IsBuilt bytes x rest) (node-low c name children h) built.3),
+      built-free bytes c rest h
+          (subst (λ x. IsBuilt bytes x rest) (node-low c name children h) built.3),
     )
   where
     both : (a b : Bool) → not a && b ≡ true → (a ≡ false) × (b ≡ true)
@@ -106,7 +112,8 @@ built-frees bytes c (Node name start end children rest) built = (
   built-frees bytes (content_after_node c name children) rest built.3,
 )
   where
-    own : (n : Name) → IsBuilt bytes (content_inside c n) children → is_passed n ≡ true → Free children
+    own : (n : Name) → IsBuilt bytes (content_inside c n) children →
+        is_passed n ≡ true → Free children
     own Definition inner h = built-free bytes Sources children refl inner
     own _ inner h = lie h
 
@@ -119,10 +126,11 @@ passed_is _ = refl
 none-defined : (bytes : List ℕ) (forest : Forest) → Free forest → defined_in bytes forest ≡ []
 none-defined bytes Empty free = refl
 none-defined bytes (Node name start end children rest) free =
-    ap (λ xs. xs ++ (when (is Definition name) (identifier_of bytes children ∷ []) ++ defined_in bytes rest))
+    ap (λ xs. xs
+    ++ (when (is Definition name) (identifier_of bytes children ∷ []) ++ defined_in bytes rest))
     (none-defined bytes children free.1)
-    ∙ ap (λ b. when b (identifier_of bytes children ∷ []) ++ defined_in bytes rest) (sym (passed_is name) ∙ free.0)
-    ∙ none-defined bytes rest free.2
+    ∙ ap (λ b. when b (identifier_of bytes children ∷ []) ++ defined_in bytes rest)
+    (sym (passed_is name) ∙ free.0) ∙ none-defined bytes rest free.2
 
 pub identifiers-defined : (given : Given) (forest : Forest) → Everywhere IsFreeInside forest →
     map (λ (d : Defined). d.identifier) (defined given forest) ≡ defined_in given.bytes forest
@@ -137,16 +145,18 @@ identifiers-defined given (Node name start end children rest) frees =
     of d = d.identifier
 
     target : Target
-    target = (over given false children (entered given (told_of given.bytes false children start end) Definition
-        beginning)).target
+    target = (over given false children
+        (entered given (told_of given.bytes false children start end) Definition beginning)).target
 
     own : List Defined
-    own = if is_passed name then record { identifier = identifier_of given.bytes children; target = target } ∷ []
+    own = if is_passed name
+        then record { identifier = identifier_of given.bytes children; target = target } ∷ []
         else defined given children
 
     by : (a b : Bool) → a ≡ b → (a ≡ true → Free children) →
         map of (defined given children) ≡ defined_in given.bytes children →
-        map of (if a then record { identifier = identifier_of given.bytes children; target = target } ∷ []
+        map of
+        (if a then record { identifier = identifier_of given.bytes children; target = target } ∷ []
         else defined given children) ++ defined_in given.bytes rest
         ≡ defined_in given.bytes children
         ++ (when b (identifier_of given.bytes children ∷ []) ++ defined_in given.bytes rest)

@@ -1,5 +1,7 @@
 -- The first definition whose identifier is empty.
-use Rattle.std.proofs.Common.{◌≡◌, ◌≤◌, ◌<◌, ℕ, zero, suc, ◌+◌, ◌==◌, Bool, true, false, Option, Some, None, List, [], ◌∷◌, length, drop, get_or, refl, sym, ap, ◌∙◌, arith, ne_eqb}
+use Rattle.std.proofs.Common.{◌≡◌, ◌≤◌, ◌<◌, ℕ, zero, suc, ◌+◌, ◌==◌, Bool, true, false, Option}
+use Rattle.std.proofs.Common.{Some, None, List, [], ◌∷◌, length, drop, get_or, refl, sym, ap, ◌∙◌}
+use Rattle.std.proofs.Common.{arith, ne_eqb}
 use Rattle.std.specs.Prelude.{slice_get, if◌then◌else◌, map, option_map, bytes_eq}
 use Rattle.std.specs.List.{All}
 use Rattle.std.specs.Option.{option_map_or}
@@ -43,7 +45,8 @@ skips-none identifiers = by (first_of identifiers [])
     by None = refl
     by (Some n) = ap Some (plus n)
 
-drop-got : {A : Type 0} (xs : List A) (i : ℕ) (x : A) → slice_get xs i ≡ Some x → drop i xs ≡ x ∷ drop (suc i) xs
+drop-got : {A : Type 0} (xs : List A) (i : ℕ) (x : A) → slice_get xs i ≡ Some x →
+    drop i xs ≡ x ∷ drop (suc i) xs
 drop-got [] zero x e = cc
 drop-got [] (suc i) x e = cc
 drop-got (y ∷ xs) zero x e = ap (λ z. z ∷ xs) (some e)
@@ -62,7 +65,8 @@ empty-is : (x : List ℕ) → bytes_eq x [] ≡ (length x == 0)
 empty-is [] = refl
 empty-is (y ∷ x) = sym (ne_eqb (suc (length x)) 0 (λ e. omega (arith, e)))
 
-at-place : (identifiers : List (List ℕ)) (place : ℕ) (x : List ℕ) (b : Bool) → Skips identifiers place →
+at-place : (identifiers : List (List ℕ)) (place : ℕ) (x : List ℕ) (b : Bool) →
+    Skips identifiers place →
     slice_get identifiers place ≡ Some x → b ≡ (length x == 0) →
     first_of identifiers []
     ≡ option_map (λ p. place + p) (if b then Some 0
@@ -71,21 +75,26 @@ at-place identifiers place x b skips got is =
     skips
     ∙ ap (λ xs. option_map (λ p. place + p) (first_of xs [])) (drop-got identifiers place x got)
     ∙ ap (λ t. option_map (λ p. place + p) (if t then Some 0
-    else option_map (λ p. suc p) (first_of (drop (suc place) identifiers) []))) (empty-is x ∙ sym is)
+    else option_map (λ p. suc p) (first_of (drop (suc place) identifiers) [])))
+    (empty-is x ∙ sym is)
 
 -- the first one is found
-pub skips-found : (identifiers : List (List ℕ)) (place : ℕ) (x : List ℕ) (b : Bool) → Skips identifiers place →
-    slice_get identifiers place ≡ Some x → b ≡ (length x == 0) → b ≡ true → Some place ≡ first_of identifiers []
+pub skips-found : (identifiers : List (List ℕ)) (place : ℕ) (x : List ℕ) (b : Bool) →
+    Skips identifiers place →
+    slice_get identifiers place ≡ Some x → b ≡ (length x == 0) → b ≡ true →
+    Some place ≡ first_of identifiers []
 skips-found identifiers place x b skips got is true_is =
     sym (at-place identifiers place x b skips got is
     ∙ ap (λ t. option_map (λ p. place + p) (if t then Some 0
-    else option_map (λ p. suc p) (first_of (drop (suc place) identifiers) []))) true_is ∙ ap Some (none place))
+    else option_map (λ p. suc p) (first_of (drop (suc place) identifiers) []))) true_is
+    ∙ ap Some (none place))
   where
     none : (n : ℕ) → n + 0 ≡ n
     none n = omega arith
 
 -- one more isn't it
-pub skips-next : (identifiers : List (List ℕ)) (place next : ℕ) (x : List ℕ) (b : Bool) → Skips identifiers place →
+pub skips-next : (identifiers : List (List ℕ)) (place next : ℕ) (x : List ℕ) (b : Bool) →
+    Skips identifiers place →
     slice_get identifiers place ≡ Some x → b ≡ (length x == 0) → b ≡ false → next ≡ place + 1 →
     Skips identifiers next
 skips-next identifiers place next x b skips got is false_is more =
@@ -93,7 +102,8 @@ skips-next identifiers place next x b skips got is false_is more =
     ∙ ap (λ t. option_map (λ p. place + p) (if t then Some 0
     else option_map (λ p. suc p) (first_of (drop (suc place) identifiers) []))) false_is
     ∙ shifted (suc place) (after place) (first_of (drop (suc place) identifiers) [])
-    ∙ ap (λ n. option_map (λ p. n + p) (first_of (drop n identifiers) [])) (sym (more ∙ after_one place))
+    ∙ ap (λ n. option_map (λ p. n + p) (first_of (drop n identifiers) []))
+    (sym (more ∙ after_one place))
   where
     after_one : (n : ℕ) → n + 1 ≡ suc n
     after_one n = omega arith
@@ -107,10 +117,12 @@ skips-next identifiers place next x b skips got is false_is more =
     shifted m f (Some p) = ap Some (f p)
 
 -- none is it
-pub skips-all : (identifiers : List (List ℕ)) (place : ℕ) → Skips identifiers place → length identifiers ≤ place →
+pub skips-all : (identifiers : List (List ℕ)) (place : ℕ) → Skips identifiers place →
+    length identifiers ≤ place →
     None ≡ first_of identifiers []
 skips-all identifiers place skips le =
-    sym (skips ∙ ap (λ xs. option_map (λ p. place + p) (first_of xs [])) (drop-past identifiers place le))
+    sym (skips
+    ∙ ap (λ xs. option_map (λ p. place + p) (first_of xs [])) (drop-past identifiers place le))
 
 -- ---- the identifiers of the definitions by their entries
 
@@ -126,9 +138,11 @@ module _ (given : Handed) (document : Forest) (checked : IsChecked given)
     definitions = [];
   }
 
-  identifiers-are : map (λ (d : Defined). d.identifier) (defined alone document) ≡ defined_in given.bytes document
+  identifiers-are : map (λ (d : Defined). d.identifier) (defined alone document)
+      ≡ defined_in given.bytes document
   identifiers-are = identifiers-defined alone document (built-frees given.bytes Blocks document
-      (grammatical-built given.bytes given.names document (grammatical-there given document checked flat)))
+      (grammatical-built given.bytes given.names document
+      (grammatical-there given document checked flat)))
 
   pub identifier-there : (place index : ℕ) (one : Noticed) →
       slice_get (definition_entries 0 document) place ≡ Some index → IsNoticedAt given index one →
@@ -140,18 +154,23 @@ module _ (given : Handed) (document : Forest) (checked : IsChecked given)
       (own-defined given document alone index place one checked flat refl got there)
 
   -- what is said of a definition is said of its identifier
-  pub unnamed-there : (entries : List ℕ) (place other : ℕ) (b : Bool) → AreDefinitions given entries →
+  pub unnamed-there : (entries : List ℕ) (place other : ℕ) (b : Bool) →
+      AreDefinitions given entries →
       All (λ index. EntersAt given.events index Definition) entries → place < length entries →
-      ((one : Noticed) → IsNoticedAt given (get_or entries place other) one → b ≡ (length one.told.identifier == 0)) →
-      (x : List ℕ) × (slice_get (defined_in given.bytes document) place ≡ Some x) × (b ≡ (length x == 0))
+      ((one : Noticed) → IsNoticedAt given (get_or entries place other) one →
+      b ≡ (length one.told.identifier == 0)) →
+      (x : List ℕ) × (slice_get (defined_in given.bytes document) place ≡ Some x)
+      × (b ≡ (length x == 0))
   unnamed-there entries place other b are enter within says =
       let index : ℕ = get_or entries place other in
       let seen = noticed-entered given document index Definition flat (enter place other within) in
       let got : slice_get (definition_entries 0 document) place ≡ Some index =
-      ap (λ xs. slice_get xs place) (sym (are document flat)) ∙ slice_get-get_or entries place other within in
+      ap (λ xs. slice_get xs place) (sym (are document flat))
+      ∙ slice_get-get_or entries place other within in
       (seen.0.told.identifier, identifier-there place index seen.0 got seen.1, says seen.0 seen.1)
 
-  pub identifiers-length : length (defined_in given.bytes document) ≡ length (definition_entries 0 document)
+  pub identifiers-length :
+      length (defined_in given.bytes document) ≡ length (definition_entries 0 document)
   identifiers-length =
       ap (λ xs. length xs) (sym identifiers-are)
       ∙ length-map (defined alone document) (λ (d : Defined). d.identifier)
@@ -161,7 +180,8 @@ module _ (given : Handed) (document : Forest) (checked : IsChecked given)
 
 pub led-unnamed : (given : Handed) (place : Option ℕ) → IsChecked given →
     ((document : Forest) → flatten document ≡ given.events →
-    place ≡ first_of (defined_in given.bytes document) []) → (supply : Given) → AreKnown given supply →
+    place ≡ first_of (defined_in given.bytes document) []) → (supply : Given) →
+    AreKnown given supply →
     target_defined supply []
     ≡ option_map_or (λ (d : Defined). d.target) (found_at supply.definitions place) nowhere
 led-unnamed given place checked is supply known =

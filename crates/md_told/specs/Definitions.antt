@@ -1,5 +1,7 @@
--- What a definition defines, by its own events, and what is known of all of them where a link is looked up.
-use Rattle.std.specs.Prelude.{◌≡◌, ℕ, suc, ◌-◌, Option, option_and_then, List, map, take, drop, slice_get}
+-- What a definition defines, by its own events, and what is known of all of them where a
+-- link is looked up.
+use Rattle.std.specs.Prelude.{◌≡◌, ℕ, suc, ◌-◌, Option, option_and_then, List, map, take, drop}
+use Rattle.std.specs.Prelude.{slice_get}
 use Rattle.std.specs.Option.{option_map_or}
 use Rattle.md_base.specs.declared.event.Event.{Event}
 use Rattle.md_base.specs.declared.event.Name.TheVariants.{Definition}
@@ -15,7 +17,8 @@ use Rattle.md_told.specs.Told.{IsNoticedAt}
 abbrev pub within : {A : Type 0} → ℕ → ℕ → List A → List A
 within index inside xs = take (inside - 1) (drop (suc index) xs)
 
--- what the definition defines that is entered at an index: the steps over the events in it, and no others
+-- what the definition defines that is entered at an index: the steps over the events in
+-- it, and no others
 abbrev pub own_defined : Given → List Event → List Noticed → ℕ → Noticed → Defined
 own_defined given events seen index one = record {
   identifier = one.told.identifier;
@@ -23,11 +26,12 @@ own_defined given events seen index one = record {
       (entered given one.told Definition beginning)).target;
 }
 
--- the definitions that are given have the identifiers of those of the document that the events flatten
+-- the definitions that are given have the identifiers of those of the document that
+-- the events flatten
 abbrev pub AreKnown : Handed → Given → Type 0
 AreKnown handed given =
-    (document : Forest) × (alone : Given) × (flatten document ≡ handed.events) × (alone.bytes ≡ handed.bytes)
-    × (map (λ (d : Defined). d.identifier) given.definitions
+    (document : Forest) × (alone : Given) × (flatten document ≡ handed.events)
+    × (alone.bytes ≡ handed.bytes) × (map (λ (d : Defined). d.identifier) given.definitions
     ≡ map (λ (d : Defined). d.identifier) (defined alone document))
 
 -- which of the definitions a link or an image leads to by its identifier

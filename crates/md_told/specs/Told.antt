@@ -2,7 +2,8 @@
 use Rattle.std.specs.Prelude.{◌≡◌, ℕ, Bool, true, false, List, Some, slice_get, IsTrue}
 use Rattle.md_base.specs.declared.event.Event.{Event}
 use Rattle.md_base.specs.declared.event.Name.{Name}
-use Rattle.md_base.specs.declared.event.Name.TheVariants.{GfmFootnoteCall, Definition, GfmFootnoteDefinition}
+use Rattle.md_base.specs.declared.event.Name.TheVariants.{GfmFootnoteCall, Definition}
+use Rattle.md_base.specs.declared.event.Name.TheVariants.{GfmFootnoteDefinition}
 use Rattle.md_base.specs.Tree.{Forest, flatten}
 use Rattle.md_tree.specs.Grammar.{Handed}
 use Rattle.md_tree.specs.Texts.{EntersAt, ExitsAt}
@@ -24,4 +25,9 @@ EntersOf is events index = (name : Name) × EntersAt events index name × IsTrue
 
 -- a node of this name refers to another, or is referred to, by its label in each document
 abbrev pub is_labelled : Name → Bool
-is_labelled name = elim name [ GfmFootnoteCall ↦ true | Definition ↦ true | GfmFootnoteDefinition ↦ true | _ ↦ false ]
+is_labelled name = elim name [
+  | GfmFootnoteCall ↦ true
+  | Definition ↦ true
+  | GfmFootnoteDefinition ↦ true
+  | _ ↦ false
+]

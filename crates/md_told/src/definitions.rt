@@ -19,8 +19,9 @@ use crate::identifiers::identifier_at;
 use md_tree::Checked;
 use std::alloc::{AllocError, Global};
 
-/// Which of the document's definitions, counted from 0 in the order of their exits, the link or the image leads to that
-/// the event at the index exits; None where it has a resource, and then nothing identifies it.
+/// Which of the document's definitions, counted from 0 in the order of their exits, the link or
+/// the image leads to that the event at the index exits; None where it has a resource, and then
+/// nothing identifies it.
 ///
 /// # Examples
 ///
@@ -32,18 +33,20 @@ fn definition_left_at(checked: &Checked, index: usize) -> Option<usize>
     requires { ExitsOf is_of_definitions checked.now.events index }
     ensures there { IfSome result (λ place. (given : Given) → AreKnown checked.now given
         → IsSome (slice_get given.definitions place)) }
-    ensures target { IfSome result (λ place. (one : Noticed) (given : Given) → IsNoticedAt checked.now index one
+    ensures target { IfSome result
+        (λ place. (one : Noticed) (given : Given) → IsNoticedAt checked.now index one
         → AreKnown checked.now given → target_defined given one.told.identifier
         ≡ option_map_or (λ (d : Defined). d.target) (slice_get given.definitions place) nowhere) }
-    ensures resource { IfNone result ((one : Noticed) → IsNoticedAt checked.now index one → one.told.identifier ≡ []) }
+    ensures resource { IfNone result
+        ((one : Noticed) → IsNoticedAt checked.now index one → one.told.identifier ≡ []) }
 {
     grammatical(checked);
     checked.definition_of(index)
 }
 
-/// Which of the document's definitions, counted from 0 in the order of their exits, is the first with the identifier of
-/// the link or the image that the event at the index exits; that identifier is empty where it has a resource. None where
-/// no definition has it.
+/// Which of the document's definitions, counted from 0 in the order of their exits, is the first
+/// with the identifier of the link or the image that the event at the index exits; that identifier
+/// is empty where it has a resource. None where no definition has it.
 ///
 /// # Errors
 ///

@@ -1,6 +1,7 @@
 //! Where a node lies: its two events, its text, and whether it is the last one.
 
-ghost use Rattle.std.specs.Prelude.{◌≡◌, ◌+◌, ◌<◌, ◌≤◌, [], suc, true, Some, length, slice_get, unwrap_or};
+ghost use Rattle.std.specs.Prelude.{◌≡◌, ◌+◌, ◌<◌, ◌≤◌, [], suc, true, Some, length, slice_get};
+ghost use Rattle.std.specs.Prelude.{unwrap_or};
 ghost use Rattle.md_base.specs.Place.{text_between};
 ghost use Rattle.md_base.specs.declared.event.Event.{Event as AnyEvent};
 ghost use Rattle.md_base.specs.declared.event.Kind.TheVariants as kind;
@@ -95,8 +96,8 @@ pub fn place_left_at(checked: &Checked, index: usize) -> Position
     }
 }
 
-/// The text of the node that the event at the index exits, without the spaces of tabs that are cut at its ends; empty
-/// where its place doesn't fit the bytes, or these aren't UTF-8.
+/// The text of the node that the event at the index exits, without the spaces of tabs that are cut
+/// at its ends; empty where its place doesn't fit the bytes, or these aren't UTF-8.
 ///
 /// # Examples
 ///
@@ -151,8 +152,10 @@ pub fn text_of_leaf<'a>(checked: &Checked<'a>, start: Point, end: Point) -> &'a 
 #[inline(always)]
 pub(crate) fn entry_of(checked: &Checked, index: usize) -> usize
     requires { ExitsSome checked.now.events index }
-    ensures enters { (name : Name) → ExitsAt checked.now.events index name → EntersAt checked.now.events result name }
-    ensures noticed { (one : Noticed) → IsNoticedAt checked.now index one → IsNoticedAt checked.now result one }
+    ensures enters { (name : Name) → ExitsAt checked.now.events index name
+        → EntersAt checked.now.events result name }
+    ensures noticed { (one : Noticed) → IsNoticedAt checked.now index one
+        → IsNoticedAt checked.now result one }
 {
     checked.partner(index).unwrap()
 }
@@ -162,9 +165,12 @@ pub(crate) fn entry_of(checked: &Checked, index: usize) -> usize
 pub(crate) fn exit_of(checked: &Checked, index: usize) -> usize
     requires { EntersSome checked.now.events index }
     ensures later { index ≤ result }
-    ensures exits { (name : Name) → EntersAt checked.now.events index name → ExitsAt checked.now.events result name }
-    ensures noticed { (one : Noticed) → IsNoticedAt checked.now index one → IsNoticedAt checked.now result one }
-    ensures inside { (one : Noticed) → IsNoticedAt checked.now index one → result ≡ index + one.inside }
+    ensures exits { (name : Name) → EntersAt checked.now.events index name
+        → ExitsAt checked.now.events result name }
+    ensures noticed { (one : Noticed) → IsNoticedAt checked.now index one
+        → IsNoticedAt checked.now result one }
+    ensures inside { (one : Noticed) → IsNoticedAt checked.now index one
+        → result ≡ index + one.inside }
 {
     checked.partner(index).unwrap()
 }

@@ -29,7 +29,8 @@ pub fn is_loose_at(checked: &Checked, index: usize) -> bool
     list_loose(checked, index, true)
 }
 
-/// The place of the number of the ordered list that the event at the index enters; None where it has none.
+/// The place of the number of the ordered list that the event at the index enters; None
+/// where it has none.
 ///
 /// # Examples
 ///
@@ -44,7 +45,8 @@ pub fn number_at(checked: &Checked, index: usize) -> Option<Position>
     checked.reads(index)
 }
 
-/// The name of the last child that contributes to the item that the event at the index exits; None where there is none.
+/// The name of the last child that contributes to the item that the event at the index exits; None
+/// where there is none.
 ///
 /// # Examples
 ///
@@ -111,8 +113,8 @@ pub(crate) fn grammatical(checked: &Checked)
     let _events = checked.events();
 }
 
-/// How many bytes a mark has, with the spaces of tabs that are cut at its ends; 0 where its place doesn't fit the
-/// bytes.
+/// How many bytes a mark has, with the spaces of tabs that are cut at its ends; 0 where its place
+/// doesn't fit the bytes.
 fn length_of(bytes: &[u8], position: Position) -> usize
     ensures { result ≡ length_of bytes.now position }
 {

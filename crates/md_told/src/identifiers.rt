@@ -13,8 +13,8 @@ use md_base::{Position, Slice, normalize_identifier};
 use md_tree::Checked;
 use std::alloc::{AllocError, Global};
 
-/// The identifier by which the node that the event at the index enters refers to another, or is referred to: a footnote
-/// call, a definition or a footnote definition.
+/// The identifier by which the node that the event at the index enters refers to another, or is
+/// referred to: a footnote call, a definition or a footnote definition.
 ///
 /// # Errors
 ///
@@ -82,8 +82,8 @@ fn identifier_of(alloc: Global, bytes: &[u8], place: Option<Position>) -> Result
     }
 }
 
-/// The text between the indices of two points, whatever columns they have; empty where they don't fit the bytes, or
-/// these aren't UTF-8.
+/// The text between the indices of two points, whatever columns they have; empty where they don't
+/// fit the bytes, or these aren't UTF-8.
 fn label_of(bytes: &[u8], place: Position) -> &str
     ensures { result.now ≡ given.label_of bytes.now place.start place.end }
 {

@@ -1,5 +1,6 @@
 -- The last contributing child that the pass finds is the one that is defined.
-use Rattle.std.proofs.Common.{◌≡◌, ℕ, suc, Bool, true, false, cond, Option, Some, None, refl, ap, ◌∙◌}
+use Rattle.std.proofs.Common.{◌≡◌, ℕ, suc, Bool, true, false, cond, Option, Some, None, refl, ap}
+use Rattle.std.proofs.Common.{◌∙◌}
 use Rattle.std.specs.Prelude.{unwrap_or}
 use Rattle.md_base.specs.Tree.{Forest, Empty, Node}
 use Rattle.md_base.specs.NameTests.{contributes}
@@ -9,7 +10,8 @@ use Rattle.md_pattern.specs.Facts.{contributing_over}
 use Rattle.md_tree.specs.Found.{index_if}
 
 one_more : (later : Option ℕ) (here : Bool) (index before : ℕ) →
-    unwrap_or later (cond here index before) ≡ unwrap_or (or_else later (cond here (Some index) None)) before
+    unwrap_or later (cond here index before)
+    ≡ unwrap_or (or_else later (cond here (Some index) None)) before
 one_more None true index before = refl
 one_more None false index before = refl
 one_more (Some last) here index before = refl
@@ -30,13 +32,15 @@ there_with None false index e = refl
 there_with (Some last) here index e = e
 
 -- an index that is found after another isn't zero
-there : (forest : Forest) (index : ℕ) → index_if (unwrap_or (last_contributing_at (suc index) forest) 0)
+there : (forest : Forest) (index : ℕ) →
+    index_if (unwrap_or (last_contributing_at (suc index) forest) 0)
     ≡ last_contributing_at (suc index) forest
 there Empty index = refl
 there (Node name start end children rest) index =
-    there_with (last_contributing_at (suc (index_after (suc (suc index)) children)) rest) (contributes name) index
-    (there rest (index_after (suc (suc index)) children))
+    there_with (last_contributing_at (suc (index_after (suc (suc index)) children)) rest)
+    (contributes name) index (there rest (index_after (suc (suc index)) children))
 
 pub contributing-found : (children : Forest) (index : ℕ) →
     index_if (contributing_over (suc index) children 0) ≡ last_contributing_at (suc index) children
-contributing-found children index = ap index_if (contributing-over children (suc index) 0) ∙ there children index
+contributing-found children index =
+    ap index_if (contributing-over children (suc index) 0) ∙ there children index

@@ -1,5 +1,6 @@
 -- The indices of the definitions are those of events that enter one.
-use Rattle.std.proofs.Common.{◌≡◌, ℕ, suc, cond, Some, List, [], ◌∷◌, ◌++◌, length, refl, sym, ap, ◌∙◌, append-nil}
+use Rattle.std.proofs.Common.{◌≡◌, ℕ, suc, cond, Some, List, [], ◌∷◌, ◌++◌, length, refl, sym, ap}
+use Rattle.std.proofs.Common.{◌∙◌, append-nil}
 use Rattle.std.specs.Prelude.{slice_get}
 use Rattle.std.specs.List.{All}
 use Rattle.std.proofs.lemmas.List.Elements.{All-cons, All-append, All-nil}
@@ -43,10 +44,12 @@ all_definitions events (Node name start end children rest) index seen later e sa
     let there : slice_get events index ≡ Some first = ap (λ es. slice_get es index)
     (at_entry events seen inner (flatten rest) later first last same)
     ∙ get_at seen (inner ++ (last ∷ (flatten rest ++ later))) first index e in
-    All-append holds (definition_entries (suc index) children) (own ++ definition_entries (suc exit) rest)
+    All-append holds (definition_entries (suc index) children)
+    (own ++ definition_entries (suc exit) rest)
     (all_definitions events children (suc index) (seen ++ first ∷ []) (last
     ∷ (flatten rest ++ later)) one (in_node events seen inner (flatten rest) later first last same))
-    (All-append holds own (definition_entries (suc exit) rest) (own_definition events index name start there)
+    (All-append holds own (definition_entries (suc exit) rest)
+    (own_definition events index name start there)
     (all_definitions events rest (suc exit) (((seen ++ first ∷ []) ++ inner) ++ last
     ∷ []) later (length_one ((seen ++ first ∷ []) ++ inner) last
     ∙ ap suc inside) (after_node events seen inner (flatten rest) later first last same)))

@@ -1,6 +1,8 @@
--- What follows of a list of events from a node that breaks a rule, and from how a walk ends: something is left open,
--- or a whole document was read. `Checking` needs it for what `check` says.
-use Rattle.std.proofs.Common.{◌≡◌, ◌≢◌, ◌⊎◌, inl, inr, ℕ, zero, suc, Bool, true, false, Option, Some, None, List, [], ◌∷◌, ◌++◌, drop, refl, sym, ap, ◌∙◌, subst, append_assoc}
+-- What follows of a list of events from a node that breaks a rule, and from how a walk ends:
+-- something is left open, or a whole document was read. `Checking` needs it for what `check` says.
+use Rattle.std.proofs.Common.{◌≡◌, ◌≢◌, ◌⊎◌, inl, inr, ℕ, zero, suc, Bool, true, false, Option}
+use Rattle.std.proofs.Common.{Some, None, List, [], ◌∷◌, ◌++◌, drop, refl, sym, ap, ◌∙◌, subst}
+use Rattle.std.proofs.Common.{append_assoc}
 use Rattle.std.specs.List.{list_all}
 use Rattle.md_base.specs.declared.event.Point.{Point}
 use Rattle.md_base.specs.declared.event.Name.{Name}
@@ -23,9 +25,11 @@ use Rattle.md_pattern.specs.Pattern.{pattern_of}
 use Rattle.md_pattern.specs.Shape.{IsShaped, AreShaped, inner_role, inner_before}
 use Rattle.md_tree.specs.Rules.{broken_rule, reading_of, MeetRules, target_of}
 use Rattle.md_tree.specs.Grammar.{Handed, IsGrammatical, IsReadAs, IsChecked}
-use Rattle.md_tree.specs.Refusal.{Level, opening, role_in, before_in, symbol_after, Begins, EndsInGroup, LeaveOpen, EndsBroken}
+use Rattle.md_tree.specs.Refusal.{Level, opening, role_in, before_in, symbol_after, Begins}
+use Rattle.md_tree.specs.Refusal.{EndsInGroup, LeaveOpen, EndsBroken}
 use Rattle.md_pattern.specs.Steps.{is_complete, is_whole, is_optional, items_of, start_of}
-use Rattle.md_tree.specs.Machine.{Reads, Course, Runs, Exits, ExitsWhere, after_exit, entered_on, beginning}
+use Rattle.md_tree.specs.Machine.{Reads, Course, Runs, Exits, ExitsWhere, after_exit, entered_on}
+use Rattle.md_tree.specs.Machine.{beginning}
 use Rattle.md_tree.specs.Walk.{Unbroken, Broken, BreaksWhere, BreaksAtExit}
 use Rattle.md_tree.specs.Mentions.{mentions_of}
 use Rattle.md_tree.proofs.Listing.{listed, mentions_over-listed}
@@ -33,12 +37,15 @@ use Rattle.md_tree.proofs.Greedy.{and_both}
 use Rattle.md_tree.proofs.Groups.{Feeds, EndsInGroup-feeds}
 use Rattle.md_tree.proofs.Trees.{after_nodes, Feeds-context}
 use Rattle.md_tree.proofs.Completing.{IsDone-runs, BeginTree-runs}
-use Rattle.md_tree.proofs.Paths.{path_none, Stands, Stands-context, Reached, Left, Reached-left, Left-closed, Left-inner, Closed, entry_is}
-use Rattle.md_tree.proofs.Verdicts.{Runs-same, Runs-checked, Reached-runs, fine_shaped, fine_meets, fine_path_shaped}
+use Rattle.md_tree.proofs.Paths.{path_none, Stands, Stands-context, Reached, Left, Reached-left}
+use Rattle.md_tree.proofs.Paths.{Left-closed, Left-inner, Closed, entry_is}
+use Rattle.md_tree.proofs.Verdicts.{Runs-same, Runs-checked, Reached-runs, fine_shaped, fine_meets}
+use Rattle.md_tree.proofs.Verdicts.{fine_path_shaped}
 
 -- ---- a node that breaks a rule
 
-exits_broken_where : (bytes : List ℕ) (names : List (List ℕ × List ℕ)) (broken : Rule) (outer : Option Outer)
+exits_broken_where :
+    (bytes : List ℕ) (names : List (List ℕ × List ℕ)) (broken : Rule) (outer : Option Outer)
     (start point : Point) (others : List Open) (course : Course) →
     BreaksWhere bytes names broken outer start point course →
     (next : Course) × ExitsWhere (Broken bytes names broken) outer start point others course next
@@ -46,50 +53,59 @@ exits_broken_where bytes names broken None start point others course breaks = ab
 exits_broken_where bytes names broken (Some outer) start point others course breaks =
     (after_exit outer start point others course, (breaks.0, breaks.1, refl))
 
-exits_broken : (bytes : List ℕ) (names : List (List ℕ × List ℕ)) (broken : Rule) (opens : List Open) (name : Name)
+exits_broken : (bytes : List ℕ) (names : List (List ℕ × List ℕ)) (broken : Rule)
+    (opens : List Open) (name : Name)
     (point : Point) (course : Course) → BreaksAtExit bytes names broken opens name point course →
     (next : Course) × Exits (Broken bytes names broken) opens name point course next
 exits_broken bytes names broken [] name point course breaks = absurd breaks
 exits_broken bytes names broken (open_node ∷ others) name point course breaks =
-    let inside = exits_broken_where bytes names broken open_node.outer open_node.start point others course breaks.1 in
+    let inside = exits_broken_where bytes names broken open_node.outer open_node.start point
+    others course breaks.1 in
     (inside.0, (breaks.0, inside.1))
 
 none_some : {A : Type 0} (x : A) → None ≡ Some x → ⊥
 none_some x e = cc
 
-broken_there : (bytes : List ℕ) (names : List (List ℕ × List ℕ)) (broken : Rule) (standing : Standing) (name : Name)
-    (start end : Point) (children : Forest) (here after base : State) (found inner target : Referral)
+broken_there : (bytes : List ℕ) (names : List (List ℕ × List ℕ)) (broken : Rule)
+    (standing : Standing) (name : Name) (start end : Point) (children : Forest)
+    (here after base : State) (found inner target : Referral)
     (waiting : Option Outer) (course : Course) → entered_on standing here found
     ≡ Some (record { state = base; target = inner; outer = waiting }) →
     BreaksWhere bytes names broken waiting start end course →
     Closed (Broken bytes names broken) standing name start end children here after found target →
-    broken_rule bytes names (reading_of standing) here.role here.before start end (target_of children Missing)
-    ≡ Some broken
-broken_there bytes names broken Through name start end children here after base found inner target waiting course e
-    breaks closed =
+    broken_rule bytes names (reading_of standing) here.role here.before start end
+    (target_of children Missing) ≡ Some broken
+broken_there bytes names broken Through name start end children here after base found inner target
+    waiting course e breaks closed =
     let parts = entry_is (record { state = here; target = found; outer = None }) (record {
       state = base;
       target = inner;
       outer = waiting;
     }) e in
     absurd (subst (λ o. BreaksWhere bytes names broken o start end course) (sym parts.2) breaks)
-broken_there bytes names broken Space name start end children here after base found inner target waiting course e
+broken_there bytes names broken Space name start end children here after base found inner
+    target waiting course e
     breaks closed =
-    let free : Outer = record { state = here; before = here.before; target = found; reading = Free } in
-    let parts = entry_is (record { state = start_of Childless; target = Missing; outer = Some free })
+    let free : Outer =
+    record { state = here; before = here.before; target = found; reading = Free } in
+    let parts =
+    entry_is (record { state = start_of Childless; target = Missing; outer = Some free })
     (record { state = base; target = inner; outer = waiting }) e in
-    absurd (none_some broken (subst (λ o. BreaksWhere bytes names broken o start end course) (sym parts.2) breaks).1)
-broken_there bytes names broken (Solid symbol usual reading) name start end children here after base found inner
+    absurd (none_some broken
+    (subst (λ o. BreaksWhere bytes names broken o start end course) (sym parts.2) breaks).1)
+broken_there bytes names broken (Solid symbol usual reading) name start end children here
+    after base found inner
     target waiting course e breaks closed =
     closed.read
-broken_there bytes names broken Mdx name start end children here after base found inner target waiting course e breaks
-    closed = cc
+broken_there bytes names broken Mdx name start end children here after base found inner target
+    waiting course e breaks closed = cc
 
-events_ended : (a c : List Event) (x y : Event) → (((a ++ x ∷ []) ++ c) ++ y ∷ []) ≡ a ++ (x ∷ c ++ y ∷ [])
+events_ended : (a c : List Event) (x y : Event) →
+    (((a ++ x ∷ []) ++ c) ++ y ∷ []) ≡ a ++ (x ∷ c ++ y ∷ [])
 events_ended a c x y = append_assoc (a ++ x ∷ []) c (y ∷ []) ∙ append_assoc a (x ∷ []) (c ++ y ∷ [])
 
-breaks_left : (bytes : List ℕ) (names : List (List ℕ × List ℕ)) (broken : Rule) (seen : List Event) (name : Name)
-    (point : Point) (course next : Course) → (left : Left (Unbroken bytes names)
+breaks_left : (bytes : List ℕ) (names : List (List ℕ × List ℕ)) (broken : Rule) (seen : List Event)
+    (name : Name) (point : Point) (course next : Course) → (left : Left (Unbroken bytes names)
     (Broken bytes names broken) seen name point course next) →
     BreaksAtExit bytes names broken course.open_nodes name point course →
     BreaksWhere bytes names broken left.open_node.outer left.open_node.start point course
@@ -97,7 +113,8 @@ breaks_left bytes names broken seen name point course next left breaks =
     (subst (λ os. BreaksAtExit bytes names broken os name point course) left.opens_are breaks).1
 
 -- the node that ends breaks the rule
-pub EndsBroken-exit : (bytes : List ℕ) (names : List (List ℕ × List ℕ)) (broken : Rule) (seen : List Event)
+pub EndsBroken-exit :
+    (bytes : List ℕ) (names : List (List ℕ × List ℕ)) (broken : Rule) (seen : List Event)
     (name : Name) (point : Point) (course : Course) → Reached (Unbroken bytes names) seen course →
     BreaksAtExit bytes names broken course.open_nodes name point course →
     EndsBroken bytes names (seen ++ exiting name point ∷ []) broken
@@ -114,14 +131,17 @@ EndsBroken-exit bytes names broken seen name point course reached breaks =
     let role_here = context.0 ∙ outer.0 in
     let before_here = context.1 ∙ ap (λ b. symbol_after b level.before) outer.1 in
     let node = Node level.name level.start point left.nodes Empty in
-    let inner = fine_shaped holds left.nodes (inner_role (standing_of level.name) left.here.role left.here.before)
+    let inner = fine_shaped holds left.nodes
+    (inner_role (standing_of level.name) left.here.role left.here.before)
     (inner_before (standing_of level.name) left.here.before)
     (Left-inner holds ending seen name point course next left) in
-    let shaped_here : AreShaped node left.here.role left.here.before = ((closed.apart, closed.shaped), inner, tt) in
-    let breaks_here = broken_there bytes names broken (standing_of level.name) level.name level.start point left.nodes
-    left.here next.state left.base (target_of level.before left.found) left.inner next.target left.open_node.outer
-    course left.entered_is (subst (λ s. BreaksWhere bytes names broken left.open_node.outer s point course)
-    left.start_is (breaks_left bytes names broken seen name point course next left breaks)) closed in
+    let shaped_here : AreShaped node left.here.role left.here.before =
+    ((closed.apart, closed.shaped), inner, tt) in
+    let breaks_here = broken_there bytes names broken (standing_of level.name) level.name
+    level.start point left.nodes left.here next.state left.base (target_of level.before left.found)
+    left.inner next.target left.open_node.outer course left.entered_is
+    (subst (λ s. BreaksWhere bytes names broken left.open_node.outer s point course) left.start_is
+    (breaks_left bytes names broken seen name point course next left breaks)) closed in
     record {
       path = left.path;
       nodes = level.before;
@@ -134,31 +154,35 @@ EndsBroken-exit bytes names broken seen name point course reached breaks =
           ∙ events_ended (opening left.path ++ flatten level.before) (flatten left.nodes)
           (entering level.name level.start) (exiting level.name point);
       path_shaped = (fine_path_shaped holds (level ∷ left.path) left.path_fine).1;
-      nodes_shaped = fine_shaped holds level.before (role_in left.path) (before_in left.path) left.path_fine.0;
+      nodes_shaped =
+          fine_shaped holds level.before (role_in left.path) (before_in left.path) left.path_fine.0;
       shaped = subst (λ b. AreShaped node (role_in left.path) b) before_here
           (subst (λ r. AreShaped node r left.here.before) role_here shaped_here);
       breaks = subst (λ b. broken_rule bytes names (reading_of (standing_of level.name))
           (role_in left.path) b level.start point (target_of left.nodes Missing)
           ≡ Some broken) before_here (subst (λ r. broken_rule bytes names
-          (reading_of (standing_of level.name)) r left.here.before level.start point (target_of left.nodes Missing)
-          ≡ Some broken) role_here breaks_here);
+          (reading_of (standing_of level.name)) r left.here.before level.start point
+          (target_of left.nodes Missing) ≡ Some broken) role_here breaks_here);
     }
 
 -- ---- the end
 
-begins : (holds : Reads) (events : List Event) (course : Course) → (reached : Reached holds events course) →
+begins : (holds : Reads) (events : List Event) (course : Course) →
+    (reached : Reached holds events course) →
     Begins events reached.path reached.nodes
 begins holds events course reached =
-    let outer = Stands-context reached.path course.open_nodes reached.base reached.found reached.stands in
+    let outer =
+    Stands-context reached.path course.open_nodes reached.base reached.found reached.stands in
     record {
       events_are = reached.events_are;
       path_shaped = fine_path_shaped holds reached.path reached.path_fine;
       nodes_shaped = subst (λ b. AreShaped reached.nodes (role_in reached.path) b) outer.1
-          (subst (λ r. AreShaped reached.nodes r reached.base.before) outer.0
-          (fine_shaped holds reached.nodes reached.base.role reached.base.before reached.nodes_fine));
+          (subst (λ r. AreShaped reached.nodes r reached.base.before) outer.0 (fine_shaped holds
+          reached.nodes reached.base.role reached.base.before reached.nodes_fine));
     }
 
-path_some : (path : List Level) (open_node : Open) (others : List Open) (state : State) (target : Referral) →
+path_some : (path : List Level) (open_node : Open) (others : List Open) (state : State)
+    (target : Referral) →
     Stands path (open_node ∷ others) state target → path ≢ []
 path_some [] open_node others state target stands = absurd stands
 path_some (level ∷ path) open_node others state target stands = λ e. cc
@@ -183,8 +207,10 @@ abbrev IsLeftOpen : List Event → Type 0
 IsLeftOpen events = (path : List Level) × (nodes : Forest) × Begins events path nodes
     × ((path ≢ []) ⊎ ((path ≡ []) × EndsInGroup (spine nodes)))
 
-leaves_group : (holds : Reads) (events : List Event) (course : Course) → (reached : Reached holds events course) →
-    (reached.path ≡ []) → reached.base ≡ start_of Flow → is_complete course.state ≡ false → IsLeftOpen events
+leaves_group : (holds : Reads) (events : List Event) (course : Course) →
+    (reached : Reached holds events course) →
+    (reached.path ≡ []) → reached.base ≡ start_of Flow →
+    is_complete course.state ≡ false → IsLeftOpen events
 leaves_group holds events course reached none base incomplete =
     let feeds = subst (λ s. Feeds s (spine reached.nodes) course.state) base reached.feeds in
     let flow = (Feeds-context (start_of Flow) course.state (spine reached.nodes) feeds).0 in
@@ -195,8 +221,10 @@ leaves_group holds events course reached none base incomplete =
       inr (none, EndsInGroup-feeds Flow (spine reached.nodes) course.state feeds open_group),
     )
 
-leave_open : (holds : Reads) (events : List Event) (course : Course) (opens : List Open) → course.open_nodes ≡ opens →
-    (reached : Reached holds events course) → (course.open_nodes ≡ [] → is_complete course.state ≡ false) →
+leave_open : (holds : Reads) (events : List Event) (course : Course) (opens : List Open) →
+    course.open_nodes ≡ opens →
+    (reached : Reached holds events course) →
+    (course.open_nodes ≡ [] → is_complete course.state ≡ false) →
     IsLeftOpen events
 leave_open holds events course [] e reached undone =
     let none = path_none reached.path reached.base reached.found
@@ -210,11 +238,13 @@ leave_open holds events course (open_node ∷ others) e reached undone = (
       (subst (λ os. Stands reached.path os reached.base reached.found) e reached.stands)),
 )
 
-pub LeaveOpen-undone : (holds : Reads) (events : List Event) (course : Course) → Runs holds events beginning course →
+pub LeaveOpen-undone : (holds : Reads) (events : List Event) (course : Course) →
+    Runs holds events beginning course →
     (course.open_nodes ≡ [] → is_complete course.state ≡ false) → LeaveOpen events
 LeaveOpen-undone holds events course runs undone = (
   BeginTree-runs holds events course runs,
-  leave_open holds events course course.open_nodes refl (Reached-runs holds events course runs) undone,
+  leave_open holds events course course.open_nodes refl
+      (Reached-runs holds events course runs) undone,
 )
 
 true_false : (b : Bool) → b ≡ true → b ≡ false → ⊥
@@ -227,7 +257,8 @@ pub outside-undone : (given : Handed) (course : Course) →
 outside-undone given course runs undone checked =
     let holds = Unbroken given.bytes given.names in
     let document = Runs-checked given checked.0 (IsReadAs.flattened checked.1)
-    (IsGrammatical.shape (IsReadAs.grammatical checked.1)) (IsGrammatical.rules (IsReadAs.grammatical checked.1)) in
+    (IsGrammatical.shape (IsReadAs.grammatical checked.1))
+    (IsGrammatical.rules (IsReadAs.grammatical checked.1)) in
     let same = Runs-same holds holds given.events beginning course
     (after_nodes checked.0 document.0 beginning) runs document.1 in
     true_false (is_complete course.state) (ap (λ (c : Course). is_complete c.state) same

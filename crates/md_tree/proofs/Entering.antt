@@ -1,11 +1,14 @@
--- The events of a document in rows, each with what is found at it, its node's children and place. So what stands at an
--- index of a list is what the tree says of the node that is entered there.
-use Rattle.std.proofs.Common.{◌≡◌, ◌⊎◌, inl, inr, ℕ, zero, suc, ◌+◌, ◌<◌, ◌≤◌, true, cond, Option, Some, None, List, [], ◌∷◌, ◌++◌, length, get_or, refl, sym, ap, ◌∙◌, subst, append_assoc, append-nil, arith}
+-- The events of a document in rows, each with what is found at it, its node's children and place.
+-- So what stands at an index of a list is what the tree says of the node that is entered there.
+use Rattle.std.proofs.Common.{◌≡◌, ◌⊎◌, inl, inr, ℕ, zero, suc, ◌+◌, ◌<◌, ◌≤◌, true, cond, Option}
+use Rattle.std.proofs.Common.{Some, None, List, [], ◌∷◌, ◌++◌, length, get_or, refl, sym, ap, ◌∙◌}
+use Rattle.std.proofs.Common.{subst, append_assoc, append-nil, arith}
 use Rattle.std.specs.Prelude.{map, option_map, slice_get}
 use Rattle.std.specs.List.{All}
 use Rattle.std.proofs.lemmas.List.{get_or-map, map-append, length-map}
 use Rattle.std.proofs.lemmas.List.Elements.{All-cons, All-append, All-nil}
-use Rattle.std.proofs.lemmas.Option.{slice_get_cases, slice_get-get_or, slice_get-map, get_or_from_slice_get}
+use Rattle.std.proofs.lemmas.Option.{slice_get_cases, slice_get-get_or, slice_get-map}
+use Rattle.std.proofs.lemmas.Option.{get_or_from_slice_get}
 use Rattle.md_base.specs.declared.event.AlignKind.{AlignKind}
 use Rattle.md_base.specs.declared.event.Point.{Point}
 use Rattle.md_base.specs.declared.event.Position.{Position}
@@ -22,10 +25,12 @@ use Rattle.md_tree.specs.Texts.{EntersAt, positions_of}
 use Rattle.md_tree.specs.Entered.{children_of, IsEnteredAt, EntersNode}
 use Rattle.md_pattern.specs.Partners.{index_after, partners_of}
 use Rattle.md_pattern.specs.Columns.{tables_of}
-use Rattle.md_pattern.specs.Facts.{partner_alone, tables_with, tables_after, fact_at, facts_of, facts_at, tables_at}
+use Rattle.md_pattern.specs.Facts.{partner_alone, tables_with, tables_after, fact_at, facts_of}
+use Rattle.md_pattern.specs.Facts.{facts_at, tables_at}
 use Rattle.md_pattern.proofs.Passing.{facts-flatten, tables-flatten, length_table, length_tables}
 
--- an event, its index, what is found at it, at an entry the node's children, and at an exit where the node lies
+-- an event, its index, what is found at it, at an entry the node's children, and at an exit
+-- where the node lies
 pub record Row : Type 0 where
   pub event : Event
   pub children : Option Forest
@@ -58,15 +63,18 @@ rows_of index tables (Node name start end children rest) =
     entry_row index tables name (entering name start) children
     ∷ rows_of (suc index) tables children
     ++ exit_row (index_after (suc index) children) index name start end
-    ∷ rows_of (suc (index_after (suc index) children)) (tables_with name (tables_after tables children)) rest
+    ∷ rows_of (suc (index_after (suc index) children))
+    (tables_with name (tables_after tables children)) rest
 
 -- a column of the rows, where it is so of each node
-module _ {A : Type 0} (of_row : Row → A) (column : ℕ → ℕ → Forest → List A) (at_end : (index tables : ℕ) →
+module _ {A : Type 0} (of_row : Row → A) (column : ℕ → ℕ → Forest → List A)
+    (at_end : (index tables : ℕ) →
     column index tables Empty ≡ []) (at_node : (index tables : ℕ) (name : Name) (start end : Point)
     (children rest : Forest) → column index tables (Node name start end children rest)
-    ≡ of_row (entry_row index tables name (entering name start) children)
-    ∷ (column (suc index) tables children ++ of_row (exit_row (index_after (suc index) children) index name start end)
-    ∷ column (suc (index_after (suc index) children)) (tables_with name (tables_after tables children)) rest)) where
+    ≡ of_row (entry_row index tables name (entering name start) children) ∷ (column (suc index)
+    tables children ++ of_row (exit_row (index_after (suc index) children) index name start end)
+    ∷ column (suc (index_after (suc index) children))
+    (tables_with name (tables_after tables children)) rest)) where
   pub column_rows : (forest : Forest) (index tables : ℕ) →
       map of_row (rows_of index tables forest) ≡ column index tables forest
   column_rows Empty index tables = sym (at_end index tables)
@@ -77,22 +85,23 @@ module _ {A : Type 0} (of_row : Row → A) (column : ℕ → ℕ → Forest → 
       let later = suc (index_after (suc index) children) in
       ap (λ xs. entry ∷ xs)
       (map-append of_row (rows_of (suc index) tables children) (exit ∷ rows_of later more rest)
-      ∙ ap (λ xs. xs ++ of_row exit ∷ map of_row (rows_of later more rest)) (column_rows children (suc index) tables)
-      ∙ ap (λ xs. column (suc index) tables children ++ of_row exit ∷ xs) (column_rows rest later more))
+      ∙ ap (λ xs. xs ++ of_row exit ∷ map of_row (rows_of later more rest)) (column_rows children
+      (suc index) tables) ∙ ap (λ xs. column (suc index) tables children ++ of_row exit ∷ xs)
+      (column_rows rest later more))
       ∙ sym (at_node index tables name start end children rest)
 
-pub event_rows : (forest : Forest) (index tables : ℕ) → map (λ (r : Row). r.event) (rows_of index tables forest)
-    ≡ flatten forest
-event_rows = column_rows (λ (r : Row). r.event) (λ index tables forest. flatten forest) (λ index tables. refl)
-    (λ index tables name start end children rest. refl)
+pub event_rows : (forest : Forest) (index tables : ℕ) →
+    map (λ (r : Row). r.event) (rows_of index tables forest) ≡ flatten forest
+event_rows = column_rows (λ (r : Row). r.event) (λ index tables forest. flatten forest)
+    (λ index tables. refl) (λ index tables name start end children rest. refl)
 
-children_rows : (forest : Forest) (index tables : ℕ) → map (λ (r : Row). r.children) (rows_of index tables forest)
-    ≡ children_of forest
+children_rows : (forest : Forest) (index tables : ℕ) →
+    map (λ (r : Row). r.children) (rows_of index tables forest) ≡ children_of forest
 children_rows = column_rows (λ (r : Row). r.children) (λ index tables forest. children_of forest)
     (λ index tables. refl) (λ index tables name start end children rest. refl)
 
-pub fact_rows : (forest : Forest) (index tables : ℕ) → map (λ (r : Row). r.fact) (rows_of index tables forest)
-    ≡ facts_of index tables forest
+pub fact_rows : (forest : Forest) (index tables : ℕ) →
+    map (λ (r : Row). r.fact) (rows_of index tables forest) ≡ facts_of index tables forest
 fact_rows = column_rows (λ (r : Row). r.fact) facts_of (λ index tables. refl)
     (λ index tables name start end children rest. refl)
 
@@ -106,10 +115,12 @@ abbrev pub Numbered : ℕ → List Row → ℕ → Type 0
 Numbered index [] next = index ≡ next
 Numbered index (row ∷ rows) next = (row.index ≡ index) × Numbered (suc index) rows next
 
-numbered_append : (xs ys : List Row) (index middle next : ℕ) → Numbered index xs middle → Numbered middle ys next →
+numbered_append : (xs ys : List Row) (index middle next : ℕ) → Numbered index xs middle →
+    Numbered middle ys next →
     Numbered index (xs ++ ys) next
 numbered_append [] ys index middle next p q = subst (λ n. Numbered n ys next) (sym p) q
-numbered_append (row ∷ xs) ys index middle next p q = (p.0, numbered_append xs ys (suc index) middle next p.1 q)
+numbered_append (row ∷ xs) ys index middle next p q =
+    (p.0, numbered_append xs ys (suc index) middle next p.1 q)
 
 pub numbered_rows : (forest : Forest) (index tables : ℕ) →
     Numbered index (rows_of index tables forest) (index_after index forest)
@@ -118,7 +129,8 @@ numbered_rows (Node name start end children rest) index tables =
     let exit = index_after (suc index) children in (
       refl,
       numbered_append (rows_of (suc index) tables children) (exit_row exit index name start end
-          ∷ rows_of (suc exit) (tables_with name (tables_after tables children)) rest) (suc index) exit
+          ∷ rows_of (suc exit) (tables_with name (tables_after tables children)) rest)
+          (suc index) exit
           (index_after (suc exit) rest)
           (numbered_rows children (suc index) tables) (
             refl,
@@ -126,10 +138,12 @@ numbered_rows (Node name start end children rest) index tables =
           ),
     )
 
-pub numbered_get : (rows : List Row) (index next i : ℕ) (d : Row) → Numbered index rows next → i < length rows →
+pub numbered_get : (rows : List Row) (index next i : ℕ) (d : Row) →
+    Numbered index rows next → i < length rows →
     Row.index (get_or rows i d) ≡ index + i
 numbered_get [] index next i d p inside = absurd (omega arith)
-numbered_get (row ∷ rows) index next zero d p inside = let none : index + 0 ≡ index = omega arith in p.0 ∙ sym none
+numbered_get (row ∷ rows) index next zero d p inside =
+    let none : index + 0 ≡ index = omega arith in p.0 ∙ sym none
 numbered_get (row ∷ rows) index next (suc i) d p inside =
     let one : suc index + i ≡ index + suc i = omega arith in
     let within : i < length rows = omega arith in
@@ -140,25 +154,32 @@ abbrev pub IsFound : List (List AlignKind) → Row → Type 0
 IsFound ended row =
     (children : Forest) → row.children ≡ Some children →
     (tables : ℕ) × (row.fact ≡ fact_at row.index tables row.event.name children)
-    × (is_table row.event.name ≡ true → slice_get ended (tables_after tables children) ≡ Some (alignments children))
+    × (is_table row.event.name ≡ true →
+    slice_get ended (tables_after tables children) ≡ Some (alignments children))
 
-pub get_at : {A : Type 0} (xs ys : List A) (y : A) (n : ℕ) → length xs ≡ n → slice_get (xs ++ y ∷ ys) n ≡ Some y
+pub get_at : {A : Type 0} (xs ys : List A) (y : A) (n : ℕ) → length xs ≡ n →
+    slice_get (xs ++ y ∷ ys) n ≡ Some y
 get_at [] ys y n e = subst (λ i. slice_get (y ∷ ys) i ≡ Some y) e refl
-get_at (x ∷ xs) ys y n e = subst (λ i. slice_get (x ∷ (xs ++ y ∷ ys)) i ≡ Some y) e (get_at xs ys y (length xs) refl)
+get_at (x ∷ xs) ys y n e =
+    subst (λ i. slice_get (x ∷ (xs ++ y ∷ ys)) i ≡ Some y) e (get_at xs ys y (length xs) refl)
 
 table_there : (name : Name) (before later : List (List AlignKind)) (own : List AlignKind) (n : ℕ) →
-    length before ≡ n → is_table name ≡ true → slice_get (before ++ (cond (is_table name) (own ∷ []) [] ++ later)) n
-    ≡ Some own
+    length before ≡ n → is_table name ≡ true →
+    slice_get (before ++ (cond (is_table name) (own ∷ []) [] ++ later)) n ≡ Some own
 table_there name before later own n e is =
-    ap (λ b. slice_get (before ++ (cond b (own ∷ []) [] ++ later)) n) is ∙ get_at before later own n e
+    ap (λ b. slice_get (before ++ (cond b (own ∷ []) [] ++ later)) n) is
+    ∙ get_at before later own n e
 
-entry_found : (ended : List (List AlignKind)) (index tables : ℕ) (name : Name) (start : Point) (children : Forest) →
-    (is_table name ≡ true → slice_get ended (tables_after tables children) ≡ Some (alignments children)) →
+entry_found : (ended : List (List AlignKind)) (index tables : ℕ) (name : Name) (start : Point)
+    (children : Forest) →
+    (is_table name ≡ true →
+    slice_get ended (tables_after tables children) ≡ Some (alignments children)) →
     IsFound ended (entry_row index tables name (entering name start) children)
 entry_found ended index tables name start children there other e =
     let one : children ≡ other = cc in
     subst (λ nodes. (t : ℕ) × (fact_at index tables name children ≡ fact_at index t name nodes)
-    × (is_table name ≡ true → slice_get ended (tables_after t nodes) ≡ Some (alignments nodes))) one (
+    × (is_table name ≡ true → slice_get ended (tables_after t nodes) ≡ Some (alignments nodes)))
+    one (
       tables,
       refl,
       there,
@@ -185,7 +206,8 @@ rows_found ended before later (Node name start end children rest) index tables e
     let is_rest : ended ≡ ((before ++ inner) ++ own) ++ (after_rest ++ later) = is_own
     ∙ sym (append_assoc (before ++ inner) own (after_rest ++ later)) in
     let counted = length_tables children tables before e in
-    let there : is_table name ≡ true → slice_get ended (tables_after tables children) ≡ Some (alignments children) =
+    let there : is_table name ≡ true →
+    slice_get ended (tables_after tables children) ≡ Some (alignments children) =
     λ is. ap (λ ts. slice_get ts (tables_after tables children)) is_own
     ∙ table_there name (before ++ inner) (after_rest ++ later) (alignments children)
     (tables_after tables children) counted is in
@@ -195,8 +217,8 @@ rows_found ended before later (Node name start end children rest) index tables e
     ∷ rows_of (suc exit) more rest) (rows_found ended before (own
     ++ (after_rest ++ later)) children (suc index) tables e is_inside)
     (All-cons (IsFound ended) last (rows_of (suc exit) more rest) last_found
-    (rows_found ended ((before ++ inner) ++ own) later rest (suc exit) more
-    (length_table name (before ++ inner) (alignments children) (tables_after tables children) counted) is_rest)))
+    (rows_found ended ((before ++ inner) ++ own) later rest (suc exit) more (length_table name
+    (before ++ inner) (alignments children) (tables_after tables children) counted) is_rest)))
 
 -- an entry has children
 abbrev HasChildren : Row → Type 0
@@ -211,87 +233,105 @@ rows_have (Node name start end children rest) index tables =
     let last_has : HasChildren last = λ e. cc in
     let later = rows_of (suc exit) (tables_with name (tables_after tables children)) rest in
     All-cons HasChildren entry (rows_of (suc index) tables children ++ last
-    ∷ later) (λ e. (children, refl)) (All-append HasChildren (rows_of (suc index) tables children) (last
+    ∷ later) (λ e. (children, refl))
+    (All-append HasChildren (rows_of (suc index) tables children) (last
     ∷ later) (rows_have children (suc index) tables) (All-cons HasChildren last later last_has
     (rows_have rest (suc exit) (tables_with name (tables_after tables children)))))
 
-pub got_inside : {A : Type 0} (xs : List A) (index : ℕ) (x : A) → slice_get xs index ≡ Some x → index < length xs
+pub got_inside : {A : Type 0} (xs : List A) (index : ℕ) (x : A) →
+    slice_get xs index ≡ Some x → index < length xs
 got_inside {A = A} xs index x e = by_cases (slice_get_cases xs index).1
   where
     by_cases : ((y : A) × (index < length xs) × (slice_get xs index ≡ Some y)
-        × (get_or xs index y ≡ y)) ⊎ ((length xs ≤ index) × (slice_get xs index ≡ None)) → index < length xs
+        × (get_or xs index y ≡ y)) ⊎ ((length xs ≤ index) × (slice_get xs index ≡ None)) →
+        index < length xs
     by_cases (inl here) = here.1
     by_cases (inr past) = let clash : Some x ≡ None = sym e ∙ past.1 in cc
 
 -- what is got at an index of a list that another is mapped to
-pub got_mapped : {A B : Type 0} (f : A → B) (xs : List A) (ys : List B) (index : ℕ) (x : A) (y : B) → map f xs ≡ ys →
+pub got_mapped : {A B : Type 0} (f : A → B) (xs : List A) (ys : List B) (index : ℕ) (x : A)
+    (y : B) → map f xs ≡ ys →
     index < length xs → slice_get ys index ≡ Some y → f (get_or xs index x) ≡ y
 got_mapped f xs ys index x y same inside e =
-    sym (get_or-map f xs index x y inside) ∙ ap (λ zs. get_or zs index y) same ∙ get_or_from_slice_get ys index y y e
+    sym (get_or-map f xs index x y inside) ∙ ap (λ zs. get_or zs index y) same
+    ∙ get_or_from_slice_get ys index y y e
 
-pub mapped_long : {A B : Type 0} (f : A → B) (xs : List A) (ys : List B) → map f xs ≡ ys → length xs ≡ length ys
+pub mapped_long : {A B : Type 0} (f : A → B) (xs : List A) (ys : List B) → map f xs ≡ ys →
+    length xs ≡ length ys
 mapped_long f xs ys same = sym (length-map xs f) ∙ ap length same
 
 -- the partners, wherever the index is
 pub partners_there : (forest : Forest) (events : List Event) (facts : List Fact) (index : ℕ) →
-    flatten forest ≡ events → facts ≡ facts_at events → option_map (λ (f : Fact). f.partner) (slice_get facts index)
+    flatten forest ≡ events → facts ≡ facts_at events →
+    option_map (λ (f : Fact). f.partner) (slice_get facts index)
     ≡ slice_get (partners_of 0 forest) index
 partners_there forest events facts index flattened is =
     sym (slice_get-map (λ (f : Fact). f.partner) facts index)
-    ∙ ap (λ fs. slice_get (map (λ (f : Fact). f.partner) fs) index) (is ∙ facts-flatten forest events flattened)
+    ∙ ap (λ fs. slice_get (map (λ (f : Fact). f.partner) fs) index)
+    (is ∙ facts-flatten forest events flattened)
     ∙ ap (λ ps. slice_get ps index) (partners forest 0 0)
   where
-    partners : (forest : Forest) (index tables : ℕ) → map (λ (f : Fact). f.partner) (facts_of index tables forest)
-        ≡ partners_of index forest
+    partners : (forest : Forest) (index tables : ℕ) →
+        map (λ (f : Fact). f.partner) (facts_of index tables forest) ≡ partners_of index forest
     partners Empty index tables = refl
     partners (Node name start end children rest) index tables =
         let exit = index_after (suc index) children in
         let more = tables_with name (tables_after tables children) in
         ap (λ ps. exit ∷ ps)
-        (map-append (λ (f : Fact). f.partner) (facts_of (suc index) tables children) (partner_alone index
-        ∷ facts_of (suc exit) more rest)
+        (map-append (λ (f : Fact). f.partner) (facts_of (suc index) tables children)
+        (partner_alone index ∷ facts_of (suc exit) more rest)
         ∙ ap (λ ps. ps ++ index ∷ map (λ (f : Fact). f.partner) (facts_of (suc exit) more rest))
         (partners children (suc index) tables)
         ∙ ap (λ ps. partners_of (suc index) children ++ index ∷ ps) (partners rest (suc exit) more))
 
 -- at an index of a document's events
-module _ (given : Handed) (index : ℕ) (name : Name) (enters : EntersAt given.events index name) where
+module _ (given : Handed) (index : ℕ) (name : Name)
+    (enters : EntersAt given.events index name) where
   abbrev pub event : Event
   event = enters.0
 
   abbrev pub past_row : Row
-  past_row = record { event = event; children = None; index = index; fact = partner_alone index; position = None }
+  past_row = record {
+    event = event;
+    children = None;
+    index = index;
+    fact = partner_alone index;
+    position = None;
+  }
 
-  pub inside_rows : (forest : Forest) → flatten forest ≡ given.events → index < length (rows_of 0 0 forest)
+  pub inside_rows : (forest : Forest) → flatten forest ≡ given.events →
+      index < length (rows_of 0 0 forest)
   inside_rows forest flattened =
-      let long = mapped_long (λ (r : Row). r.event) (rows_of 0 0 forest) given.events (event_rows forest 0 0
-      ∙ flattened) in
+      let long = mapped_long (λ (r : Row). r.event) (rows_of 0 0 forest) given.events
+      (event_rows forest 0 0 ∙ flattened) in
       let inside = got_inside given.events index event enters.1 in
       omega arith
 
   pub event_there : (forest : Forest) → flatten forest ≡ given.events →
       Row.event (get_or (rows_of 0 0 forest) index past_row) ≡ event
   event_there forest flattened =
-      got_mapped (λ (r : Row). r.event) (rows_of 0 0 forest) given.events index past_row event (event_rows forest 0 0
-      ∙ flattened) (inside_rows forest flattened) enters.1
+      got_mapped (λ (r : Row). r.event) (rows_of 0 0 forest) given.events index past_row event
+      (event_rows forest 0 0 ∙ flattened) (inside_rows forest flattened) enters.1
 
   pub children_there : (forest : Forest) → flatten forest ≡ given.events → (children : Forest) →
       slice_get (children_of forest) index ≡ Some (Some children) →
       Row.children (get_or (rows_of 0 0 forest) index past_row) ≡ Some children
   children_there forest flattened children got =
-      got_mapped (λ (r : Row). r.children) (rows_of 0 0 forest) (children_of forest) index past_row (Some children)
-      (children_rows forest 0 0) (inside_rows forest flattened) got
+      got_mapped (λ (r : Row). r.children) (rows_of 0 0 forest) (children_of forest) index past_row
+      (Some children) (children_rows forest 0 0) (inside_rows forest flattened) got
 
-  pub EntersNode-entered : (forest : Forest) → flatten forest ≡ given.events → EntersNode given index
+  pub EntersNode-entered : (forest : Forest) → flatten forest ≡ given.events →
+      EntersNode given index
   EntersNode-entered forest flattened =
       let rows = rows_of 0 0 forest in
       let row = get_or rows index past_row in
       let inside = inside_rows forest flattened in
-      let has = rows_have forest 0 0 index past_row inside (ap (λ (e : Event). e.kind) (event_there forest flattened)
-      ∙ enters.2) in
+      let has = rows_have forest 0 0 index past_row inside
+      (ap (λ (e : Event). e.kind) (event_there forest flattened) ∙ enters.2) in
       let got = ap (λ cs. slice_get cs index) (sym (children_rows forest 0 0))
       ∙ slice_get-map (λ (r : Row). r.children) rows index
-      ∙ ap (option_map (λ (r : Row). r.children)) (slice_get-get_or rows index past_row inside) ∙ ap Some has.1 in
+      ∙ ap (option_map (λ (r : Row). r.children)) (slice_get-get_or rows index past_row inside)
+      ∙ ap Some has.1 in
       (has.0, (forest, flattened, got))
 
   -- what is found there
@@ -306,26 +346,30 @@ module _ (given : Handed) (index : ℕ) (name : Name) (enters : EntersAt given.e
       let row = get_or rows index past_row in
       let inside = inside_rows forest entered.1 in
       let ended = tables_at given.events in
-      let is_ended : ended ≡ [] ++ (tables_of forest ++ []) = tables-flatten forest given.events entered.1
-      ∙ sym (append-nil (tables_of forest)) in
-      let name_is : row.event.name ≡ name = ap (λ (e : Event). e.name) (event_there forest entered.1) ∙ enters.3 in
-      let children_are : row.children ≡ Some children = children_there forest entered.1 children entered.2 in
+      let is_ended : ended ≡ [] ++ (tables_of forest ++ []) =
+      tables-flatten forest given.events entered.1 ∙ sym (append-nil (tables_of forest)) in
+      let name_is : row.event.name ≡ name =
+      ap (λ (e : Event). e.name) (event_there forest entered.1) ∙ enters.3 in
+      let children_are : row.children ≡ Some children =
+      children_there forest entered.1 children entered.2 in
       let none : 0 + index ≡ index = omega arith in
       let index_is : row.index ≡ index = numbered_get rows 0 (index_after 0 forest) index past_row
       (numbered_rows forest 0 0) inside ∙ none in
       let fact_is : row.fact ≡ fact = got_mapped (λ (r : Row). r.fact) rows
       (facts_at given.events) index past_row fact (fact_rows forest 0 0
       ∙ sym (facts-flatten forest given.events entered.1)) inside got in
-      let there = rows_found ended [] [] forest 0 0 refl is_ended index past_row inside children children_are in (
+      let there = rows_found ended [] [] forest 0 0 refl is_ended index past_row inside
+      children children_are in (
         there.0,
         sym fact_is ∙ there.1 ∙ ap (λ i. fact_at i there.0 row.event.name children) index_is
             ∙ ap (λ n. fact_at index there.0 n children) name_is,
         λ is. there.2 (ap is_table name_is ∙ is),
       )
 
-  pub facts_at-inside : (forest : Forest) → flatten forest ≡ given.events → index < length (facts_at given.events)
+  pub facts_at-inside : (forest : Forest) → flatten forest ≡ given.events →
+      index < length (facts_at given.events)
   facts_at-inside forest flattened =
-      let long = mapped_long (λ (r : Row). r.fact) (rows_of 0 0 forest) (facts_at given.events) (fact_rows forest 0 0
-      ∙ sym (facts-flatten forest given.events flattened)) in
+      let long = mapped_long (λ (r : Row). r.fact) (rows_of 0 0 forest) (facts_at given.events)
+      (fact_rows forest 0 0 ∙ sym (facts-flatten forest given.events flattened)) in
       let inside = inside_rows forest flattened in
       omega arith

@@ -1,6 +1,8 @@
 -- Of the items of a settled pattern, the first that takes a symbol is the right one.
 use denote.Enum.Bare.{sameb}
-use Rattle.std.proofs.Common.{◌≡◌, ℕ, Bool, true, false, not, ◌&&◌, ◌||◌, cond, if◌then◌else◌, Option, Some, None, List, [], ◌∷◌, ◌++◌, length, refl, sym, ap, subst, arith}
+use Rattle.std.proofs.Common.{◌≡◌, ℕ, Bool, true, false, not, ◌&&◌, ◌||◌, cond, if◌then◌else◌}
+use Rattle.std.proofs.Common.{Option, Some, None, List, [], ◌∷◌, ◌++◌, length, refl, sym, ap, subst}
+use Rattle.std.proofs.Common.{arith}
 use Rattle.std.specs.List.{list_all, list_any}
 use denote.Enum.Bare.{same_true}
 use Rattle.md_pattern.specs.contracts.kinds.Symbol.{the_type}
@@ -34,13 +36,15 @@ is_many _ = false
 abbrev pub apart : Class → Class → Bool
 apart class other = list_all (λ member. not (takes other member)) (members class)
 
--- after an item that may be left out, each later item that takes one of its symbols may be there any number of times
+-- after an item that may be left out, each later item that takes one of its symbols may be there
+-- any number of times
 abbrev pub leaves_order : Item → Item → Bool
 leaves_order item later = is_many later || apart (class_of item) (class_of later)
 
 abbrev pub settled : List Item → Bool
 settled [] = true
-settled (item ∷ items) = (not (is_optional item) || list_all (leaves_order item) items) && settled items
+settled (item ∷ items) =
+    (not (is_optional item) || list_all (leaves_order item) items) && settled items
 
 pub pattern_settled : (role : Role) → settled (pattern_of role) ≡ true
 pattern_settled Flow = refl
@@ -51,8 +55,8 @@ abbrev pub only_many : Symbol → List Item → Bool
 only_many symbol items = list_all (λ item. is_many item || not (takes (class_of item) symbol)) items
 
 not_taken_step : (p : Symbol → Bool) (symbols : List Symbol) (member symbol : Symbol) →
-    (list_any (λ m. sameb the_type m symbol) symbols ≡ true → list_all (λ m. not (p m)) symbols ≡ true →
-    not (p symbol) ≡ true) → (same : Bool) → sameb the_type member symbol ≡ same →
+    (list_any (λ m. sameb the_type m symbol) symbols ≡ true → list_all (λ m. not (p m)) symbols
+    ≡ true → not (p symbol) ≡ true) → (same : Bool) → sameb the_type member symbol ≡ same →
     (same || list_any (λ m. sameb the_type m symbol) symbols) ≡ true →
     (not (p member) && list_all (λ m. not (p m)) symbols) ≡ true → not (p symbol) ≡ true
 not_taken_step p symbols member symbol again true e seen none =
@@ -66,14 +70,19 @@ not_taken : (p : Symbol → Bool) (symbols : List Symbol) (symbol : Symbol) →
     list_all (λ member. not (p member)) symbols ≡ true → not (p symbol) ≡ true
 not_taken p [] symbol seen none = cc
 not_taken p (member ∷ symbols) symbol seen none =
-    not_taken_step p symbols member symbol (not_taken p symbols symbol) (sameb the_type member symbol) refl seen none
+    not_taken_step p symbols member symbol (not_taken p symbols symbol)
+    (sameb the_type member symbol) refl seen none
 
-only_many_here : (class : Class) (item : Item) (symbol : Symbol) → takes class symbol ≡ true → (many : Bool) →
-    (many || apart class (class_of item)) ≡ true → (many || not (takes (class_of item) symbol)) ≡ true
+only_many_here : (class : Class) (item : Item) (symbol : Symbol) →
+    takes class symbol ≡ true → (many : Bool) →
+    (many || apart class (class_of item)) ≡ true →
+    (many || not (takes (class_of item) symbol)) ≡ true
 only_many_here class item symbol taken true e = refl
-only_many_here class item symbol taken false e = not_taken (takes (class_of item)) (members class) symbol taken e
+only_many_here class item symbol taken false e =
+    not_taken (takes (class_of item)) (members class) symbol taken e
 
-only_many_after : (item : Item) (items : List Item) (symbol : Symbol) → takes (class_of item) symbol ≡ true →
+only_many_after : (item : Item) (items : List Item) (symbol : Symbol) →
+    takes (class_of item) symbol ≡ true →
     list_all (leaves_order item) items ≡ true → only_many symbol items ≡ true
 only_many_after item [] symbol taken e = refl
 only_many_after item (later ∷ items) symbol taken e =
@@ -96,7 +105,8 @@ left_after (item ∷ items) symbol =
 
 -- one more symbol
 one_more : (item : Item) (items : List Item) (symbol : Symbol) (symbols : List Symbol) →
-    takes (class_of item) symbol ≡ true → Fits (kept item items) symbols → Fits (item ∷ items) (symbol ∷ symbols)
+    takes (class_of item) symbol ≡ true → Fits (kept item items) symbols →
+    Fits (item ∷ items) (symbol ∷ symbols)
 one_more (Many class) items symbol symbols taken fit = (
   symbol ∷ fit.0,
   fit.1,
@@ -115,7 +125,8 @@ none_optional (Once class) optional = cc
 none_optional (Maybe class) optional = omega arith
 none_optional (Many class) optional = tt
 
-left_out : (item : Item) (items : List Item) (symbols : List Symbol) → is_optional item ≡ true → Fits items symbols →
+left_out : (item : Item) (items : List Item) (symbols : List Symbol) → is_optional item ≡ true →
+    Fits items symbols →
     Fits (item ∷ items) symbols
 left_out item items symbols optional fit =
     ([], symbols, refl, refl, none_optional item optional, fit)
@@ -126,20 +137,24 @@ fits_nothing (item ∷ items) e =
     left_out item items [] (and_left (is_optional item) (list_all is_optional items) e)
     (fits_nothing items (and_right (is_optional item) (list_all is_optional items) e))
 
-fits_back_optional : (item : Item) (items left : List Item) (symbol : Symbol) (symbols : List Symbol) →
+fits_back_optional :
+    (item : Item) (items left : List Item) (symbol : Symbol) (symbols : List Symbol) →
     (left_after items symbol ≡ Some left → Fits items (symbol ∷ symbols)) → (optional : Bool) →
     is_optional item ≡ optional → cond optional (left_after items symbol) None ≡ Some left →
     Fits (item ∷ items) (symbol ∷ symbols)
-fits_back_optional item items left symbol symbols again true o e = left_out item items (symbol ∷ symbols) o (again e)
+fits_back_optional item items left symbol symbols again true o e =
+    left_out item items (symbol ∷ symbols) o (again e)
 fits_back_optional item items left symbol symbols again false o e = cc
 
 some_one : {A : Type 0} (a b : A) → Some a ≡ Some b → a ≡ b
 some_one a b e = cc
 
 fits_back_taken : (item : Item) (items left : List Item) (symbol : Symbol) (symbols : List Symbol) →
-    Fits left symbols → (left_after items symbol ≡ Some left → Fits items (symbol ∷ symbols)) → (taken : Bool) →
+    Fits left symbols → (left_after items symbol ≡ Some left → Fits items (symbol ∷ symbols)) →
+    (taken : Bool) →
     takes (class_of item) symbol ≡ taken → cond taken (Some (kept item items))
-    (cond (is_optional item) (left_after items symbol) None) ≡ Some left → Fits (item ∷ items) (symbol ∷ symbols)
+    (cond (is_optional item) (left_after items symbol) None) ≡ Some left →
+    Fits (item ∷ items) (symbol ∷ symbols)
 fits_back_taken item items left symbol symbols fit again true t e =
     one_more item items symbol symbols t
     (subst (λ l. Fits l symbols) (sym (some_one (kept item items) left e)) fit)
@@ -151,17 +166,21 @@ pub fits_back : (items left : List Item) (symbol : Symbol) (symbols : List Symbo
     left_after items symbol ≡ Some left → Fits left symbols → Fits items (symbol ∷ symbols)
 fits_back [] left symbol symbols e fit = cc
 fits_back (item ∷ items) left symbol symbols e fit =
-    fits_back_taken item items left symbol symbols fit (λ f. fits_back items left symbol symbols f fit)
-    (takes (class_of item) symbol) refl e
+    fits_back_taken item items left symbol symbols fit
+    (λ f. fits_back items left symbol symbols f fit) (takes (class_of item) symbol) refl e
 
-many_taken : (item : Item) (taken : Bool) → taken ≡ true → (is_many item || not taken) ≡ true → (n : ℕ) →
+many_taken : (item : Item) (taken : Bool) → taken ≡ true →
+    (is_many item || not taken) ≡ true → (n : ℕ) →
     IsCount item n
 many_taken (Many class) taken t e n = tt
-many_taken (Once class) taken t e n = absurd (subst (λ b. (false || not b) ≡ true → ⊥) (sym t) (λ f. cc) e)
-many_taken (Maybe class) taken t e n = absurd (subst (λ b. (false || not b) ≡ true → ⊥) (sym t) (λ f. cc) e)
+many_taken (Once class) taken t e n =
+    absurd (subst (λ b. (false || not b) ≡ true → ⊥) (sym t) (λ f. cc) e)
+many_taken (Maybe class) taken t e n =
+    absurd (subst (λ b. (false || not b) ≡ true → ⊥) (sym t) (λ f. cc) e)
 
 -- where each item that takes it may be there any number of times, a first symbol may go
-one_less_own : (item : Item) (items : List Item) (symbol : Symbol) (symbols own others : List Symbol) →
+one_less_own :
+    (item : Item) (items : List Item) (symbol : Symbol) (symbols own others : List Symbol) →
     (is_many item || not (takes (class_of item) symbol)) ≡ true →
     (Fits items (symbol ∷ symbols) → Fits items symbols) → symbol ∷ symbols ≡ own ++ others →
     list_all (takes (class_of item)) own ≡ true → IsCount item (length own) → Fits items others →
@@ -172,7 +191,8 @@ one_less_own item items symbol symbols (first ∷ own) others many again e all c
     let same : first ≡ symbol = cc in
     let rest : symbols ≡ own ++ others = cc in
     let taken : takes (class_of item) symbol ≡ true = subst (λ s. takes (class_of item) s
-    ≡ true) same (and_left (takes (class_of item) first) (list_all (takes (class_of item)) own) all) in (
+    ≡ true) same
+    (and_left (takes (class_of item) first) (list_all (takes (class_of item)) own) all) in (
       own,
       others,
       rest,
@@ -181,7 +201,8 @@ one_less_own item items symbol symbols (first ∷ own) others many again e all c
       fit,
     )
 
-one_less : (items : List Item) (symbol : Symbol) (symbols : List Symbol) → only_many symbol items ≡ true →
+one_less : (items : List Item) (symbol : Symbol) (symbols : List Symbol) →
+    only_many symbol items ≡ true →
     Fits items (symbol ∷ symbols) → Fits items symbols
 one_less [] symbol symbols many fit = cc
 one_less (item ∷ items) symbol symbols many fit =
@@ -190,13 +211,15 @@ one_less (item ∷ items) symbol symbols many fit =
     (one_less items symbol symbols (and_right (is_many item
     || not (takes (class_of item) symbol)) (only_many symbol items) many)) fit.2 fit.3 fit.4 fit.5
 
-no_more : (own others symbols : List Symbol) → length own ≡ 0 → symbols ≡ own ++ others → others ≡ symbols
+no_more : (own others symbols : List Symbol) → length own ≡ 0 →
+    symbols ≡ own ++ others → others ≡ symbols
 no_more [] others symbols e f = sym f
 no_more (x ∷ own) others symbols e f = absurd (omega arith)
 
 -- an item that takes the symbol
 fits_here : (item : Item) (items : List Item) (symbol : Symbol) (symbols own others : List Symbol) →
-    takes (class_of item) symbol ≡ true → settled (item ∷ items) ≡ true → symbol ∷ symbols ≡ own ++ others →
+    takes (class_of item) symbol ≡ true → settled (item ∷ items) ≡ true →
+    symbol ∷ symbols ≡ own ++ others →
     list_all (takes (class_of item)) own ≡ true → IsCount item (length own) → Fits items others →
     Fits (kept item items) symbols
 fits_here (Many class) items symbol symbols [] others taken ok e all count fit = (
@@ -219,14 +242,17 @@ fits_here (Maybe class) items symbol symbols [] others taken ok e all count fit 
 fits_here (Maybe class) items symbol symbols (first ∷ own) others taken ok e all count fit =
     let rest : symbols ≡ own ++ others = cc in
     subst (λ s. Fits items s) (no_more own others symbols (omega arith) rest) fit
-fits_here (Once class) items symbol symbols [] others taken ok e all count fit = absurd (omega arith)
+fits_here (Once class) items symbol symbols [] others taken ok e all count fit =
+    absurd (omega arith)
 fits_here (Once class) items symbol symbols (first ∷ own) others taken ok e all count fit =
     let rest : symbols ≡ own ++ others = cc in
     subst (λ s. Fits items s) (no_more own others symbols (omega arith) rest) fit
 
-settled_kept : (item : Item) (items : List Item) → settled (item ∷ items) ≡ true → settled (kept item items) ≡ true
+settled_kept : (item : Item) (items : List Item) → settled (item ∷ items) ≡ true →
+    settled (kept item items) ≡ true
 settled_kept (Many class) items ok = ok
-settled_kept (Maybe class) items ok = and_right (list_all (leaves_order (Maybe class)) items) (settled items) ok
+settled_kept (Maybe class) items ok =
+    and_right (list_all (leaves_order (Maybe class)) items) (settled items) ok
 settled_kept (Once class) items ok = ok
 
 -- what is left takes the rest
@@ -257,19 +283,23 @@ skips (Many class) items symbol symbols t count on =
       ok = on.ok;
     }
 
-settled_rest : (item : Item) (items : List Item) → settled (item ∷ items) ≡ true → settled items ≡ true
-settled_rest item items ok = and_right (not (is_optional item) || list_all (leaves_order item) items) (settled items) ok
+settled_rest : (item : Item) (items : List Item) → settled (item ∷ items) ≡ true →
+    settled items ≡ true
+settled_rest item items ok =
+    and_right (not (is_optional item) || list_all (leaves_order item) items) (settled items) ok
 
 fits_past : (item : Item) (items : List Item) (symbol : Symbol) (symbols own others : List Symbol) →
     takes (class_of item) symbol ≡ false → symbol ∷ symbols ≡ own ++ others →
     list_all (takes (class_of item)) own ≡ true → IsCount item (length own) → Fits items others →
-    (Fits items (symbol ∷ symbols) → GoesOn items symbol symbols) → GoesOn (item ∷ items) symbol symbols
+    (Fits items (symbol ∷ symbols) → GoesOn items symbol symbols) →
+    GoesOn (item ∷ items) symbol symbols
 fits_past item items symbol symbols [] others t e all count fit again =
     skips item items symbol symbols t count (again (subst (λ s. Fits items s) (sym e) fit))
 fits_past item items symbol symbols (first ∷ own) others t e all count fit again =
     let same : first ≡ symbol = cc in
     let taken : takes (class_of item) symbol ≡ true = subst (λ s. takes (class_of item) s
-    ≡ true) same (and_left (takes (class_of item) first) (list_all (takes (class_of item)) own) all) in
+    ≡ true) same
+    (and_left (takes (class_of item) first) (list_all (takes (class_of item)) own) all) in
     let clash : true ≡ false = cc in cc
 
 fits_on_taken : (item : Item) (items : List Item) (symbol : Symbol) (symbols : List Symbol) →
@@ -280,7 +310,8 @@ fits_on_taken item items symbol symbols ok fit again true t =
     record {
       left = kept item items;
       is_left = subst (λ b. cond b (Some (kept item items))
-          (cond (is_optional item) (left_after items symbol) None) ≡ Some (kept item items)) (sym t) refl;
+          (cond (is_optional item) (left_after items symbol) None) ≡ Some (kept item items)) (sym t)
+          refl;
       fits = fits_here item items symbol symbols fit.0 fit.1 t ok fit.2 fit.3 fit.4 fit.5;
       ok = settled_kept item items ok;
     }
@@ -291,11 +322,12 @@ pub fits_on : (items : List Item) (symbol : Symbol) (symbols : List Symbol) → 
     Fits items (symbol ∷ symbols) → GoesOn items symbol symbols
 fits_on [] symbol symbols ok fit = cc
 fits_on (item ∷ items) symbol symbols ok fit =
-    fits_on_taken item items symbol symbols ok fit (fits_on items symbol symbols (settled_rest item items ok))
-    (takes (class_of item) symbol) refl
+    fits_on_taken item items symbol symbols ok fit
+    (fits_on items symbol symbols (settled_rest item items ok)) (takes (class_of item) symbol) refl
 
 all_out : (item : Item) (items : List Item) (own others : List Symbol) → [] ≡ own ++ others →
-    IsCount item (length own) → Fits items others → (Fits items [] → list_all is_optional items ≡ true) →
+    IsCount item (length own) → Fits items others →
+    (Fits items [] → list_all is_optional items ≡ true) →
     list_all is_optional (item ∷ items) ≡ true
 all_out item items [] others e count fit again =
     and_both (is_optional item) (list_all is_optional items) (optional item count)
@@ -309,4 +341,5 @@ all_out item items (x ∷ own) others e count fit again = cc
 
 pub nothing_fits : (items : List Item) → Fits items [] → list_all is_optional items ≡ true
 nothing_fits [] fit = refl
-nothing_fits (item ∷ items) fit = all_out item items fit.0 fit.1 fit.2 fit.4 fit.5 (nothing_fits items)
+nothing_fits (item ∷ items) fit =
+    all_out item items fit.0 fit.1 fit.2 fit.4 fit.5 (nothing_fits items)

@@ -1,6 +1,8 @@
--- A list of events is the flattening of one tree at most, and each exit of a text or a label has its text there. So
--- what is looked up at an index is so in any tree of the events, and no look-up fails.
-use Rattle.std.proofs.Common.{◌≡◌, ℕ, suc, ◌<◌, Bool, true, Option, Some, None, List, [], ◌∷◌, ◌++◌, length, get_or, refl, sym, ap, ◌∙◌, append_assoc, append-nil, arith}
+-- A list of events is the flattening of one tree at most, and each exit of a text or a label
+-- has its text there. So what is looked up at an index is so in any tree of the events, and
+-- no look-up fails.
+use Rattle.std.proofs.Common.{◌≡◌, ℕ, suc, ◌<◌, Bool, true, Option, Some, None, List, [], ◌∷◌, ◌++◌}
+use Rattle.std.proofs.Common.{length, get_or, refl, sym, ap, ◌∙◌, append_assoc, append-nil, arith}
 use Rattle.std.specs.Prelude.{map, option_map, slice_get, option_copied, IsSome}
 use Rattle.std.specs.Borrow.{Bor}
 use Rattle.std.specs.List.{All}
@@ -33,23 +35,27 @@ use Rattle.md_pattern.specs.Facts.{partner_alone, tables_with, tables_after, fac
 use Rattle.md_tree.specs.Found.{position_from, partner_event, position_ended}
 use Rattle.md_tree.specs.Texts.{ExitsAt, positions_of, has_reading, is_text, is_identifier}
 use Rattle.md_pattern.proofs.Passing.{length_one, facts-flatten}
-use Rattle.md_tree.proofs.Entering.{Row, entry_row, exit_row, rows_of, event_rows, fact_rows, position_rows, get_at, got_inside, got_mapped, mapped_long}
+use Rattle.md_tree.proofs.Entering.{Row, entry_row, exit_row, rows_of, event_rows, fact_rows}
+use Rattle.md_tree.proofs.Entering.{position_rows, get_at, got_inside, got_mapped, mapped_long}
 use Rattle.md_tree.proofs.Placing.{at_entry, in_node, after_node, length_events}
 
 -- ---- a list of events is the flattening of at most one document
 
 event_parts : (one other : Event) → one ≡ other → (one.kind ≡ other.kind) × (one.name ≡ other.name)
     × (one.point ≡ other.point)
-event_parts one other e = (ap (λ (x : Event). x.kind) e, ap (λ (x : Event). x.name) e, ap (λ (x : Event). x.point) e)
+event_parts one other e =
+    (ap (λ (x : Event). x.kind) e, ap (λ (x : Event). x.name) e, ap (λ (x : Event). x.point) e)
 
 list_parts : (x y : Event) (xs ys : List Event) → x ∷ xs ≡ y ∷ ys → (x ≡ y) × (xs ≡ ys)
 list_parts x y xs ys e = let h : x ≡ y = cc in let t : xs ≡ ys = cc in (h, t)
 
-no_entry : (n m : Name) (p q : Point) (xs ys : List Event) → exiting n p ∷ xs ≡ entering m q ∷ ys → ⊥
+no_entry : (n m : Name) (p q : Point) (xs ys : List Event) →
+    exiting n p ∷ xs ≡ entering m q ∷ ys → ⊥
 no_entry n m p q xs ys e = let k = (event_parts (exiting n p) (entering m q)
     (list_parts (exiting n p) (entering m q) xs ys e).0).0 in cc
 
-node_same : (name other : Name) (start begin end stop : Point) (children inner rest more : Forest) → name ≡ other →
+node_same : (name other : Name) (start begin end stop : Point) (children inner rest more : Forest) →
+    name ≡ other →
     start ≡ begin → end ≡ stop → children ≡ inner → rest ≡ more →
     Node name start end children rest ≡ Node other begin stop inner more
 node_same name other start begin end stop children inner rest more a b c d e =
@@ -62,32 +68,39 @@ one_forest : (one other : Forest) (n m : Name) (p q : Point) (xs ys : List Event
     (one ≡ other) × (exiting n p ∷ xs ≡ exiting m q ∷ ys)
 one_forest Empty Empty n m p q xs ys e = (refl, e)
 one_forest Empty (Node name start end children rest) n m p q xs ys e =
-    absurd (no_entry n name p start xs ((flatten children ++ exiting name end ∷ flatten rest) ++ exiting m q ∷ ys) e)
+    absurd (no_entry n name p start xs
+    ((flatten children ++ exiting name end ∷ flatten rest) ++ exiting m q ∷ ys) e)
 one_forest (Node name start end children rest) Empty n m p q xs ys e =
-    absurd (no_entry m name q start ys ((flatten children ++ exiting name end ∷ flatten rest) ++ exiting n p
+    absurd (no_entry m name q start ys
+    ((flatten children ++ exiting name end ∷ flatten rest) ++ exiting n p
     ∷ xs) (sym e))
 one_forest (Node name start end children rest) (Node other begin stop inner more) n m p q xs ys e =
     let first = list_parts (entering name start) (entering other begin)
     ((flatten children ++ exiting name end ∷ flatten rest) ++ exiting n p
     ∷ xs) ((flatten inner ++ exiting other stop ∷ flatten more) ++ exiting m q ∷ ys) e in
     let entry = event_parts (entering name start) (entering other begin) first.0 in
-    let within = one_forest children inner name other end stop (flatten rest ++ exiting n p ∷ xs) (flatten more
-    ++ exiting m q ∷ ys) (sym (append_assoc (flatten children) (exiting name end ∷ flatten rest) (exiting n p ∷ xs))
-    ∙ first.1 ∙ append_assoc (flatten inner) (exiting other stop ∷ flatten more) (exiting m q ∷ ys)) in
-    let second = list_parts (exiting name end) (exiting other stop) (flatten rest ++ exiting n p ∷ xs) (flatten more
-    ++ exiting m q ∷ ys) within.1 in
+    let within = one_forest children inner name other end stop (flatten rest ++ exiting n p ∷ xs)
+    (flatten more ++ exiting m q ∷ ys)
+    (sym (append_assoc (flatten children) (exiting name end ∷ flatten rest) (exiting n p ∷ xs))
+    ∙ first.1
+    ∙ append_assoc (flatten inner) (exiting other stop ∷ flatten more) (exiting m q ∷ ys)) in
+    let second = list_parts (exiting name end) (exiting other stop)
+    (flatten rest ++ exiting n p ∷ xs) (flatten more ++ exiting m q ∷ ys) within.1 in
     let index_after = one_forest rest more n m p q xs ys second.1 in (
       node_same name other start begin end stop children inner rest more entry.1 entry.2
           (event_parts (exiting name end) (exiting other stop) second.0).2 within.0 index_after.0,
       index_after.1,
     )
 
-pub flatten_one : (n : Name) (p : Point) (one other : Forest) → flatten one ≡ flatten other → one ≡ other
-flatten_one n p one other e = (one_forest one other n n p p [] [] (ap (λ es. es ++ exiting n p ∷ []) e)).0
+pub flatten_one : (n : Name) (p : Point) (one other : Forest) →
+    flatten one ≡ flatten other → one ≡ other
+flatten_one n p one other e =
+    (one_forest one other n n p p [] [] (ap (λ es. es ++ exiting n p ∷ []) e)).0
 
 -- ---- rows
 
--- what is known of a row, of names with a reading and a text: at an exit, where the node lies, and the text there
+-- what is known of a row, of names with a reading and a text: at an exit, where the node lies,
+-- and the text there
 abbrev IsEnded : List Event → (Reading → Bool) → (Point → Point → Option (List ℕ)) → Row → Type 0
 IsEnded events is text row =
     row.event.kind ≡ Exit → (position : Position) × (row.position ≡ Some position)
@@ -96,21 +109,27 @@ IsEnded events is text row =
     (found : List ℕ) × (text position.start position.end ≡ Some found))
 
 -- names with the reading have the text, where they break no rule
-abbrev pub HaveText : List ℕ → List (List ℕ × List ℕ) → (Reading → Bool) → (Point → Point → Option (List ℕ)) → Type 0
+abbrev pub HaveText : List ℕ → List (List ℕ × List ℕ) → (Reading → Bool) →
+    (Point → Point → Option (List ℕ)) → Type 0
 HaveText bytes names is text =
-    (standing : Standing) (around : Role) (before : Option Symbol) (start end : Point) (target : Referral) →
+    (standing : Standing) (around : Role) (before : Option Symbol) (start end : Point)
+    (target : Referral) →
     broken_rule bytes names (reading_of standing) around before start end target ≡ None →
     has_reading is standing ≡ true → (found : List ℕ) × (text start end ≡ Some found)
 
-rows_ended : (bytes : List ℕ) (names : List (List ℕ × List ℕ)) (is : Reading → Bool) (text : Point → Point →
-    Option (List ℕ)) → HaveText bytes names is text → (events : List Event) (forest : Forest) (around : Role)
+rows_ended :
+    (bytes : List ℕ) (names : List (List ℕ × List ℕ)) (is : Reading → Bool) (text : Point → Point →
+    Option (List ℕ)) → HaveText bytes names is text →
+    (events : List Event) (forest : Forest) (around : Role)
     (before : Option Symbol) → MeetRules bytes names forest around before →
-    (index tables : ℕ) (seen later : List Event) → length seen ≡ index → events ≡ seen ++ (flatten forest ++ later) →
+    (index tables : ℕ) (seen later : List Event) → length seen ≡ index →
+    events ≡ seen ++ (flatten forest ++ later) →
     All (IsEnded events is text) (rows_of index tables forest)
-rows_ended bytes names is text have events Empty around before meets index tables seen later e same =
+rows_ended bytes names is text have events Empty around before meets index
+    tables seen later e same =
     All-nil (IsEnded events is text)
-rows_ended bytes names is text have events (Node name start end children rest) around before meets index tables seen
-    later e same =
+rows_ended bytes names is text have events (Node name start end children rest) around before meets
+    index tables seen later e same =
     let st = standing_of name in
     let exit = index_after (suc index) children in
     let more = tables_with name (tables_after tables children) in
@@ -134,12 +153,13 @@ rows_ended bytes names is text have events (Node name start end children rest) a
     ) in
     All-cons holds (entry_row index tables name first children) (rows_of (suc index) tables children
     ++ exit_row exit index name start end ∷ rows_after) entry_ended
-    (All-append holds (rows_of (suc index) tables children) (exit_row exit index name start end ∷ rows_after)
+    (All-append holds (rows_of (suc index) tables children)
+    (exit_row exit index name start end ∷ rows_after)
     (rows_ended bytes names is text have events children (inner_role st around before)
     (inner_before st before) meets.1 (suc index) tables (seen ++ first ∷ []) (last
     ∷ (flatten rest ++ later)) one (in_node events seen inner (flatten rest) later first last same))
-    (All-cons holds (exit_row exit index name start end) rows_after exit_ended
-    (rows_ended bytes names is text have events rest around (last_symbol before (shown st (spine children))) meets.2
+    (All-cons holds (exit_row exit index name start end) rows_after exit_ended (rows_ended bytes
+    names is text have events rest around (last_symbol before (shown st (spine children))) meets.2
     (suc exit) more (((seen ++ first ∷ []) ++ inner) ++ last
     ∷ []) later (length_one ((seen ++ first ∷ []) ++ inner) last
     ∙ ap suc inside) (after_node events seen inner (flatten rest) later first last same))))
@@ -155,22 +175,27 @@ text_read : (bytes : List ℕ) (names : List (List ℕ × List ℕ)) (reads : Re
     (before : Option Symbol) (start end : Point) (target : Referral) →
     broken_rule bytes names reads around before start end target ≡ None → is_text reads ≡ true →
     (found : List ℕ) × (text_between bytes start end ≡ Some found)
-text_read bytes names reading.Text around before start end target e is = text_where (text_between bytes start end) _ e
+text_read bytes names reading.Text around before start end target e is =
+    text_where (text_between bytes start end) _ e
 text_read bytes names reading.LineEnding around before start end target e is =
     text_where (text_between bytes start end) _ e
-text_read bytes names reading.Number around before start end target e is = text_where (text_between bytes start end) _ e
-text_read bytes names reading.Value around before start end target e is = text_where (text_between bytes start end) _ e
+text_read bytes names reading.Number around before start end target e is =
+    text_where (text_between bytes start end) _ e
+text_read bytes names reading.Value around before start end target e is =
+    text_where (text_between bytes start end) _ e
 text_read bytes names _ around before start end target e is = cc
 
 label_read : (bytes : List ℕ) (names : List (List ℕ × List ℕ)) (reads : Reading) (around : Role)
     (before : Option Symbol) (start end : Point) (target : Referral) →
-    broken_rule bytes names reads around before start end target ≡ None → is_identifier reads ≡ true →
+    broken_rule bytes names reads around before start end target ≡ None →
+    is_identifier reads ≡ true →
     (found : List ℕ) × (label_between bytes start end ≡ Some found)
 label_read bytes names reading.Identifier around before start end target e is =
     text_where (label_between bytes start end) _ e
 label_read bytes names _ around before start end target e is = cc
 
-pub text_names : (bytes : List ℕ) (names : List (List ℕ × List ℕ)) → HaveText bytes names is_text (text_between bytes)
+pub text_names : (bytes : List ℕ) (names : List (List ℕ × List ℕ)) →
+    HaveText bytes names is_text (text_between bytes)
 text_names bytes names Through around before start end target e is = cc
 text_names bytes names Space around before start end target e is = cc
 text_names bytes names (Solid symbol usual reading) around before start end target e is =
@@ -187,9 +212,10 @@ identifier_names bytes names Mdx around before start end target e is = cc
 
 -- ---- at an index
 
--- what is known of an exit, by what is found at the events: where its node lies, in any document of the events, and
--- the text there
-pub record EndedAt (text : Point → Point → Option (List ℕ)) (given : Handed) (index : ℕ) : Type 0 where
+-- what is known of an exit, by what is found at the events: where its node lies, in any document of
+-- the events, and the text there
+pub record EndedAt (text : Point → Point → Option (List ℕ)) (given : Handed)
+    (index : ℕ) : Type 0 where
   pub position : Position
   pub there : position_ended given.events (facts_at given.events) index ≡ Some position
   pub found : List ℕ
@@ -197,11 +223,13 @@ pub record EndedAt (text : Point → Point → Option (List ℕ)) (given : Hande
   pub position_is : (forest : Forest) (other : Position) → flatten forest ≡ given.events →
       slice_get (positions_of forest) index ≡ Some (Some other) → other ≡ position
 
-one_position : (o : Option Position) (one other : Position) → o ≡ Some one → o ≡ Some other → other ≡ one
+one_position : (o : Option Position) (one other : Position) → o ≡ Some one →
+    o ≡ Some other → other ≡ one
 one_position o one other e f = cc
 
 pub EndedAt-checked : (is : Reading → Bool) (text : Point → Point →
-    Option (List ℕ)) (given : Handed) (index : ℕ) (name : Name) → HaveText given.bytes given.names is text →
+    Option (List ℕ)) (given : Handed) (index : ℕ) (name : Name) →
+    HaveText given.bytes given.names is text →
     IsChecked given → ExitsAt given.events index name → has_reading is (standing_of name) ≡ true →
     EndedAt text given index
 EndedAt-checked is text given index name have checked exits reads =
@@ -224,9 +252,11 @@ EndedAt-checked is text given index name have checked exits reads =
     let long = mapped_long (λ (r : Row). r.event) rows events events_are in
     let in_events = got_inside events index event exits.1 in
     let inside : index < length rows = omega arith in
-    let event_is : row.event ≡ event = got_mapped (λ (r : Row). r.event) rows events index past event events_are
+    let event_is : row.event ≡ event =
+    got_mapped (λ (r : Row). r.event) rows events index past event events_are
     inside exits.1 in
-    let fact_is : slice_get (facts_at events) index ≡ Some row.fact = ap (λ fs. slice_get fs index) (sym facts_are)
+    let fact_is : slice_get (facts_at events) index ≡ Some row.fact =
+    ap (λ fs. slice_get fs index) (sym facts_are)
     ∙ slice_get-map (λ (r : Row). r.fact) rows index ∙ ap (option_map (λ (r : Row). r.fact))
     (slice_get-get_or rows index past inside) in
     let all = rows_ended given.bytes given.names is text have events forest Flow None
@@ -238,24 +268,28 @@ EndedAt-checked is text given index name have checked exits reads =
     record {
       position = here.0;
       there = ap (λ o. position_from (partner_event events o) (slice_get events index)) fact_is
-          ∙ ap (λ o. position_from (slice_get events row.fact.partner) o) (exits.1 ∙ ap Some (sym event_is)) ∙ here.2;
+          ∙ ap (λ o. position_from (slice_get events row.fact.partner) o)
+          (exits.1 ∙ ap Some (sym event_is)) ∙ here.2;
       found = text_here.0;
       is_found = text_here.1;
       position_is = λ other position same positioned.
-          let one : other ≡ forest = flatten_one event.name event.point other forest (same ∙ sym flattened) in
+          let one : other ≡ forest =
+          flatten_one event.name event.point other forest (same ∙ sym flattened) in
           let got = ap (λ f. slice_get (positions_of f) index) (sym one) ∙ positioned in
           one_position row.position here.0 position here.1
-          (got_mapped (λ (r : Row). r.position) rows (positions_of forest) index past (Some position)
-          (position_rows forest 0 0) inside got);
+          (got_mapped (λ (r : Row). r.position) rows (positions_of forest) index past
+          (Some position) (position_rows forest 0 0) inside got);
     }
 
 -- what is read at the place is the text of the node in any document of the events
 pub EndedAt-text : (text : Point → Point → Option (List ℕ)) (given : Handed) (index : ℕ)
     (ended : EndedAt text given index) (result : List ℕ) → Some ended.found ≡ Some result →
     (forest : Forest) (position : Position) → flatten forest ≡ given.events →
-    slice_get (positions_of forest) index ≡ Some (Some position) → text position.start position.end ≡ Some result
+    slice_get (positions_of forest) index ≡ Some (Some position) →
+    text position.start position.end ≡ Some result
 EndedAt-text text given index ended result same forest position flattened got =
-    ap (λ (p : Position). text p.start p.end) (ended.position_is forest position flattened got) ∙ ended.is_found ∙ same
+    ap (λ (p : Position). text p.start p.end) (ended.position_is forest position flattened got)
+    ∙ ended.is_found ∙ same
 
 -- and of what a look-up gives
 pub EndedAt-read : (text : Point → Point → Option (List ℕ)) (given : Handed) (index : ℕ)
@@ -263,8 +297,8 @@ pub EndedAt-read : (text : Point → Point → Option (List ℕ)) (given : Hande
     o ≡ position_ended given.events (facts_at given.events) index → o ≡ Some position →
     text position.start position.end ≡ Some ended.found
 EndedAt-read text given index ended o position is some =
-    ap (λ (p : Position). text p.start p.end) (one_position
-    (position_ended given.events (facts_at given.events) index) ended.position position ended.there (sym is ∙ some))
+    ap (λ (p : Position). text p.start p.end) (one_position (position_ended given.events
+    (facts_at given.events) index) ended.position position ended.there (sym is ∙ some))
     ∙ ended.is_found
 
 pub place_some : (o : Option Position) (x : Position) → o ≡ Some x → IsSome o

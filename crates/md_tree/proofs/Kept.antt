@@ -1,6 +1,7 @@
--- What a `Checked` keeps is what the tree of its events says, at each index of an event. The calls of `Checked` only
--- look something up: what they answer is right by this.
-use Rattle.std.proofs.Common.{◌≡◌, ℕ, ◌<◌, Bool, true, Option, Some, List, length, refl, sym, ap, ◌∙◌, subst}
+-- What a `Checked` keeps is what the tree of its events says, at each index of an event. The calls
+-- of `Checked` only look something up: what they answer is right by this.
+use Rattle.std.proofs.Common.{◌≡◌, ℕ, ◌<◌, Bool, true, Option, Some, List, length, refl, sym, ap}
+use Rattle.std.proofs.Common.{◌∙◌, subst}
 use Rattle.std.specs.Prelude.{map, slice_get}
 use Rattle.std.specs.List.{All}
 use Rattle.std.proofs.lemmas.List.{length-map}
@@ -27,14 +28,18 @@ use Rattle.md_base.specs.declared.event.Kind.TheVariants.{Exit}
 use Rattle.md_tree.specs.declared.mention.Mention.{Mention}
 use Rattle.md_tree.specs.declared.mention.Referral.{Referral}
 use Rattle.md_tree.specs.Rules.{reading_of}
-use Rattle.md_tree.specs.Numbers.{number_for, with_number, facts_with, AreNumbered, ExitsOf, is_of_definitions, is_of_footnotes, definition_for, footnote_for, place_of}
-use Rattle.md_tree.proofs.Numbers.{told-at, got-with, ended-with, length-with, kept-number, number-definition, number-footnote}
+use Rattle.md_tree.specs.Numbers.{number_for, with_number, facts_with, AreNumbered, ExitsOf}
+use Rattle.md_tree.specs.Numbers.{is_of_definitions, is_of_footnotes, definition_for, footnote_for}
+use Rattle.md_tree.specs.Numbers.{place_of}
+use Rattle.md_tree.proofs.Numbers.{told-at, got-with, ended-with, length-with, kept-number}
+use Rattle.md_tree.proofs.Numbers.{number-definition, number-footnote}
 use Rattle.md_tree.proofs.Defining.{definitions-entered}
 use Rattle.md_pattern.proofs.Passing.{definitions-flatten}
 use Rattle.md_tree.proofs.Indexed.{HaveText, EndedAt, EndedAt-checked}
 use Rattle.md_tree.proofs.Entering.{got_inside, EntersNode-entered, found-entered, facts_at-inside}
 
-module _ (inside : Inside) (given : Handed) (index : ℕ) (kept : IsKept inside) (same : handed_of inside ≡ given) where
+module _ (inside : Inside) (given : Handed) (index : ℕ) (kept : IsKept inside)
+    (same : handed_of inside ≡ given) where
   -- the document's nodes
   flattened : flatten kept.0.0 ≡ given.events
   flattened = IsReadAs.flattened kept.0.1 ∙ ap (λ (g : Handed). g.events) same
@@ -47,13 +52,16 @@ module _ (inside : Inside) (given : Handed) (index : ℕ) (kept : IsKept inside)
 
   -- at an entry no number is kept
   entry-got : (name : Name) → EntersAt given.events index name → (fact : Fact) →
-      slice_get inside.facts.items index ≡ Some fact → slice_get (facts_at given.events) index ≡ Some fact
+      slice_get inside.facts.items index ≡ Some fact →
+      slice_get (facts_at given.events) index ≡ Some fact
   entry-got name enters fact got =
       let here = told-at kept.0.0 given.events index enters.0 flattened enters.1 in
-      let kept_here = got-with (number_for given.bytes (mentions_of kept.0.0)) (mentions_of kept.0.0)
+      let kept_here =
+      got-with (number_for given.bytes (mentions_of kept.0.0)) (mentions_of kept.0.0)
       (facts_at given.events) index here.0 here.1 here.2 here.3 in
       here.2
-      ∙ ap (λ m. Some (with_number (number_for given.bytes (mentions_of kept.0.0) m) here.0)) (sym (here.4.0 enters.2))
+      ∙ ap (λ m. Some (with_number (number_for given.bytes (mentions_of kept.0.0) m) here.0))
+      (sym (here.4.0 enters.2))
       ∙ sym kept_here ∙ ap (λ xs. slice_get xs index) (sym facts_are) ∙ got
 
   tables_are : map (λ t. t.items) inside.tables.items ≡ tables_at given.events
@@ -61,11 +69,13 @@ module _ (inside : Inside) (given : Handed) (index : ℕ) (kept : IsKept inside)
 
   pub definitions-kept : AreDefinitions given inside.definitions.items
   definitions-kept forest flattens =
-      kept.3 ∙ ap (λ (g : Handed). definitions_at g.events) same ∙ definitions-flatten forest given.events flattens
+      kept.3 ∙ ap (λ (g : Handed). definitions_at g.events) same
+      ∙ definitions-flatten forest given.events flattens
 
   pub definitions-enter : All (λ i. EntersAt given.events i Definition) inside.definitions.items
   definitions-enter =
-      subst (λ ds. All (λ i. EntersAt given.events i Definition) ds) (sym (definitions-kept kept.0.0 flattened))
+      subst (λ ds. All (λ i. EntersAt given.events i Definition) ds)
+      (sym (definitions-kept kept.0.0 flattened))
       (definitions-entered given.events kept.0.0 flattened)
 
   -- an exit
@@ -93,20 +103,24 @@ module _ (inside : Inside) (given : Handed) (index : ℕ) (kept : IsKept inside)
   pub node-entered : EntersSome given.events index → EntersNode given index
   node-entered enters = EntersNode-entered given index enters.0 enters.1 kept.0.0 flattened
 
-  pub fact-kept : (fact : Fact) → slice_get inside.facts.items index ≡ Some fact → IsFactAt given index fact
+  pub fact-kept : (fact : Fact) → slice_get inside.facts.items index ≡ Some fact →
+      IsFactAt given index fact
   fact-kept fact got name children enters entered =
-      let found = found-entered given index name enters children fact entered (entry-got name enters fact got) in
+      let found = found-entered given index name enters children fact entered
+      (entry-got name enters fact got) in
       (found.0, found.1)
 
   -- a table's columns
   pub columns-kept : EntersAt given.events index GfmTable → (fact : Fact) →
-      slice_get inside.facts.items index ≡ Some fact → (children : Forest) → IsEnteredAt given index children →
+      slice_get inside.facts.items index ≡ Some fact → (children : Forest) →
+      IsEnteredAt given index children →
       slice_get (map (λ t. t.items) inside.tables.items) fact.read_at ≡ Some (alignments children)
   columns-kept enters fact got children entered =
       let found = found-entered given index GfmTable enters children fact entered
       (entry-got GfmTable enters fact got) in
       ap (λ (f : Fact). slice_get (map (λ t. t.items) inside.tables.items) f.read_at) found.1
-      ∙ ap (λ ts. slice_get ts (Fact.read_at (fact_at index found.0 GfmTable children))) tables_are ∙ found.2 refl
+      ∙ ap (λ ts. slice_get ts (Fact.read_at (fact_at index found.0 GfmTable children))) tables_are
+      ∙ found.2 refl
 
   pub columns-inside : EntersAt given.events index GfmTable → (fact : Fact) →
       slice_get inside.facts.items index ≡ Some fact → fact.read_at < length inside.tables.items
@@ -117,15 +131,18 @@ module _ (inside : Inside) (given : Handed) (index : ℕ) (kept : IsKept inside)
       (columns-kept enters fact got node.0 node.1))
 
   -- the number at an exit
-  pub exit-inside : (is : Name → Bool) → ExitsOf is given.events index → index < length inside.facts.items
+  pub exit-inside : (is : Name → Bool) → ExitsOf is given.events index →
+      index < length inside.facts.items
   exit-inside is exits =
       let here = told-at kept.0.0 given.events index exits.1.0 flattened exits.1.1 in
-      got_inside inside.facts.items index (with_number (number_for given.bytes (mentions_of kept.0.0) here.1) here.0)
+      got_inside inside.facts.items index
+      (with_number (number_for given.bytes (mentions_of kept.0.0) here.1) here.0)
       (ap (λ xs. slice_get xs index) facts_are
-      ∙ got-with (number_for given.bytes (mentions_of kept.0.0)) (mentions_of kept.0.0) (facts_at given.events) index
-      here.0 here.1 here.2 here.3)
+      ∙ got-with (number_for given.bytes (mentions_of kept.0.0)) (mentions_of kept.0.0)
+      (facts_at given.events) index here.0 here.1 here.2 here.3)
 
-  number-kept : (event : Event) → slice_get given.events index ≡ Some event → event.kind ≡ Exit → (fact : Fact) →
+  number-kept : (event : Event) → slice_get given.events index ≡ Some event →
+      event.kind ≡ Exit → (fact : Fact) →
       slice_get inside.facts.items index ≡ Some fact → (forest : Forest) (mention : Mention) →
       flatten forest ≡ given.events → slice_get (mentions_of forest) index ≡ Some mention →
       (fact.read_at ≡ number_for given.bytes (mentions_of forest) mention)
@@ -134,12 +151,13 @@ module _ (inside : Inside) (given : Handed) (index : ℕ) (kept : IsKept inside)
       let told = told-at forest given.events index event flattens there in
       let number = number_for given.bytes (mentions_of forest) in
       let one : told.1 ≡ mention = one_some told.1 mention (sym told.3 ∙ here) in
-      let two : with_number (number told.1) told.0 ≡ fact = one_some (with_number (number told.1) told.0) fact
-      (sym (got-with number (mentions_of forest) (facts_at given.events) index told.0 told.1 told.2 told.3)
-      ∙ ap (λ xs. slice_get xs index) (sym (subst (λ g. AreNumbered g inside.facts.items) same kept.1 forest flattens))
-      ∙ got) in
+      let two : with_number (number told.1) told.0 ≡ fact =
+      one_some (with_number (number told.1) told.0) fact (sym (got-with number (mentions_of forest)
+      (facts_at given.events) index told.0 told.1 told.2 told.3) ∙ ap (λ xs. slice_get xs index)
+      (sym (subst (λ g. AreNumbered g inside.facts.items) same kept.1 forest flattens)) ∙ got) in
       let at_exit = told.4.1 exits in (
-        ap (λ (f : Fact). f.read_at) (sym two) ∙ kept-number (number told.1) told.0 at_exit.0 ∙ ap number one,
+        ap (λ (f : Fact). f.read_at) (sym two) ∙ kept-number (number told.1) told.0 at_exit.0
+            ∙ ap number one,
         (at_exit.1.0, sym one ∙ at_exit.1.1),
       )
     where
@@ -152,7 +170,8 @@ module _ (inside : Inside) (given : Handed) (index : ℕ) (kept : IsKept inside)
       place_of fact.read_at ≡ definition_for given.bytes (mentions_of forest) mention
   definition-kept exits fact got forest mention flattens here =
       let all = mentions_of forest in
-      let kept_here = number-kept exits.1.0 exits.1.1 exits.1.2 fact got forest mention flattens here in
+      let kept_here =
+      number-kept exits.1.0 exits.1.1 exits.1.2 fact got forest mention flattens here in
       let reads = reading_of (standing_of exits.0) in
       let is : mention ≡ mention_of reads kept_here.1.0 = kept_here.1.1
       ∙ ap (λ n. mention_of (reading_of (standing_of n)) kept_here.1.0) exits.1.3 in
@@ -166,7 +185,8 @@ module _ (inside : Inside) (given : Handed) (index : ℕ) (kept : IsKept inside)
       place_of fact.read_at ≡ footnote_for given.bytes (mentions_of forest) mention
   footnote-kept exits fact got forest mention flattens here =
       let all = mentions_of forest in
-      let kept_here = number-kept exits.1.0 exits.1.1 exits.1.2 fact got forest mention flattens here in
+      let kept_here =
+      number-kept exits.1.0 exits.1.1 exits.1.2 fact got forest mention flattens here in
       let reads = reading_of (standing_of exits.0) in
       let is : mention ≡ mention_of reads kept_here.1.0 = kept_here.1.1
       ∙ ap (λ n. mention_of (reading_of (standing_of n)) kept_here.1.0) exits.1.3 in

@@ -1,5 +1,6 @@
 -- The two events of a node without children, read at once.
-use Rattle.std.proofs.Common.{◌≡◌, inl, inr, ◌+◌, ℕ, suc, Option, Some, None, take, get_or, refl, sym, ap, subst, ◌∙◌, add-one}
+use Rattle.std.proofs.Common.{◌≡◌, inl, inr, ◌+◌, ℕ, suc, Option, Some, None, take, get_or, refl}
+use Rattle.std.proofs.Common.{sym, ap, subst, ◌∙◌, add-one}
 use Rattle.std.specs.Prelude.{slice_get}
 use Rattle.std.proofs.lemmas.Option.{slice_get_within, get_or_from_slice_get}
 use Rattle.md_base.specs.declared.event.Point.{Point}
@@ -9,7 +10,8 @@ use Rattle.md_base.specs.declared.event.Kind.{Kind}
 use Rattle.md_base.specs.declared.event.Kind.TheVariants.{Enter, Exit}
 use Rattle.md_tree.specs.declared.rule.CompileError.{CompileError}
 use Rattle.md_pattern.specs.Ending.{first_index, ending_after}
-use Rattle.md_pattern.specs.Facts.{PassState, pass_beginning, passed, passed_entry, passed_exit, passed_over}
+use Rattle.md_pattern.specs.Facts.{PassState, pass_beginning, passed, passed_entry, passed_exit}
+use Rattle.md_pattern.specs.Facts.{passed_over}
 use Rattle.md_pattern.proofs.FirstIndex.{first_index-more}
 use Rattle.md_pattern.proofs.Passing.{passed_more}
 use Rattle.md_tree.specs.Grammar.{Handed}
@@ -27,7 +29,8 @@ ending-entry None index event enters =
     subst (λ k. ending_after None index (record event { kind = k }) ≡ None) (sym enters) refl
 
 module _ (given : Handed) (index : ℕ) (entry exit : Event) (leaf : IsLeaf entry exit)
-    (here : slice_get given.events index ≡ Some entry) (after : slice_get given.events (suc index) ≡ Some exit) where
+    (here : slice_get given.events index ≡ Some entry)
+    (after : slice_get given.events (suc index) ≡ Some exit) where
   entry_is : get_or given.events index entry ≡ entry
   entry_is = get_or_from_slice_get given.events index entry entry here
 
@@ -36,15 +39,17 @@ module _ (given : Handed) (index : ℕ) (entry exit : Event) (leaf : IsLeaf entr
 
   -- a claim of the entry, by its parts
   of_entry : (P : Kind → Name → Point → Type 0) → P Enter entry.name (point_at given.events index) →
-      P (Event.kind (get_or given.events index entry)) (Event.name (get_or given.events index entry))
-      (Event.point (get_or given.events index entry))
+      P (Event.kind (get_or given.events index entry))
+      (Event.name (get_or given.events index entry)) (Event.point (get_or given.events index entry))
   of_entry P p =
       subst (λ e. P (Event.kind e) (Event.name e) (Event.point e)) (sym entry_is)
       (subst (λ k. P k entry.name entry.point) (sym (IsLeaf.enters leaf))
       (subst (λ o. P Enter entry.name (point_of o)) here p))
 
-  of_exit : (P : Kind → Name → Point → Type 0) → P Exit entry.name (point_at given.events (suc index)) →
-      P (Event.kind (get_or given.events (suc index) exit)) (Event.name (get_or given.events (suc index) exit))
+  of_exit : (P : Kind → Name → Point → Type 0) →
+      P Exit entry.name (point_at given.events (suc index)) →
+      P (Event.kind (get_or given.events (suc index) exit))
+      (Event.name (get_or given.events (suc index) exit))
       (Event.point (get_or given.events (suc index) exit))
   of_exit P p =
       subst (λ e. P (Event.kind e) (Event.name e) (Event.point e)) (sym exit_is)
@@ -53,43 +58,53 @@ module _ (given : Handed) (index : ℕ) (entry exit : Event) (leaf : IsLeaf entr
       (subst (λ o. P Exit entry.name (point_of o)) after p)))
 
   module _ (from : Course)
-      (runs : Runs (Unbroken given.bytes given.names) (take index given.events) beginning from) where
-    runs_entered : (between : Course) → Enters entry.name (point_at given.events index) from between →
+      (runs : Runs (Unbroken given.bytes given.names) (take index given.events)
+      beginning from) where
+    runs_entered : (between : Course) →
+        Enters entry.name (point_at given.events index) from between →
         Runs (Unbroken given.bytes given.names) (take (suc index) given.events) beginning between
     runs_entered between enters =
         Runs-more (Unbroken given.bytes given.names) given.events index entry from between
-        (slice_get_within given.events index entry here) runs
-        (of_entry (λ kind name point. StepsBy (Unbroken given.bytes given.names) kind name point from between) enters)
+        (slice_get_within given.events index entry here) runs (of_entry (λ kind name point.
+        StepsBy (Unbroken given.bytes given.names) kind name point from between) enters)
 
-    pub Runs-leaf : (to : Course) → Passes (Unbroken given.bytes given.names) entry.name (point_at given.events index)
+    pub Runs-leaf : (to : Course) →
+        Passes (Unbroken given.bytes given.names) entry.name (point_at given.events index)
         (point_at given.events (suc index)) from to →
         Runs (Unbroken given.bytes given.names) (take (suc (suc index)) given.events) beginning to
     Runs-leaf to passes =
         Runs-more (Unbroken given.bytes given.names) given.events (suc index) exit passes.0 to
         (slice_get_within given.events (suc index) exit after) (runs_entered passes.0 passes.1)
-        (of_exit (λ kind name point. StepsBy (Unbroken given.bytes given.names) kind name point passes.0 to) passes.2)
+        (of_exit (λ kind name point. StepsBy (Unbroken given.bytes given.names) kind name point
+        passes.0 to) passes.2)
 
-    pub IsRefusal-leaf : (stopped : CompileError) → IsStopAtLeaf given.bytes given.names index entry.name
-        (point_at given.events index) (point_at given.events (suc index)) from stopped → IsRefusal given stopped
+    pub IsRefusal-leaf : (stopped : CompileError) →
+        IsStopAtLeaf given.bytes given.names index entry.name
+        (point_at given.events index) (point_at given.events (suc index)) from stopped →
+        IsRefusal given stopped
     IsRefusal-leaf stopped (inl stops) =
-        IsRefusal-stopped given index entry from (slice_get_within given.events index entry here) runs stopped
-        (of_entry (λ kind name point. IsStop given.bytes given.names index kind name point from stopped) stops)
+        IsRefusal-stopped given index entry from (slice_get_within given.events index entry here)
+        runs stopped (of_entry (λ kind name point. IsStop given.bytes given.names index kind name
+        point from stopped) stops)
     IsRefusal-leaf stopped (inr stops) =
-        IsRefusal-stopped given (suc index) exit stops.0 (slice_get_within given.events (suc index) exit after)
-        (runs_entered stops.0 stops.1) stopped
-        (of_exit (λ kind name point. IsStop given.bytes given.names (suc index) kind name point stops.0 stopped)
-        stops.2)
+        IsRefusal-stopped given (suc index) exit stops.0
+        (slice_get_within given.events (suc index) exit after)
+        (runs_entered stops.0 stops.1) stopped (of_exit (λ kind name point. IsStop given.bytes
+        given.names (suc index) kind name point stops.0 stopped) stops.2)
 
-  pub passed-leaf_more : (pass next : PassState) → pass ≡ passed_over (take index given.events) pass_beginning →
+  pub passed-leaf_more : (pass next : PassState) →
+      pass ≡ passed_over (take index given.events) pass_beginning →
       next ≡ passed_exit entry.name (passed_entry entry.name pass) →
       next ≡ passed_over (take (suc (suc index)) given.events) pass_beginning
   passed-leaf_more pass next so_far step =
-      let entered : passed_entry entry.name pass ≡ passed_over (take (index + 1) given.events) pass_beginning
-      = passed_more given.events index entry pass pass_beginning (passed_entry entry.name pass)
+      let entered :
+      passed_entry entry.name pass ≡ passed_over (take (index + 1) given.events) pass_beginning =
+      passed_more given.events index entry pass pass_beginning (passed_entry entry.name pass)
       (slice_get_within given.events index entry here) so_far
       (of_entry (λ kind name point. passed_entry entry.name pass ≡ passed kind name pass) refl) in
-      let entered_suc : passed_entry entry.name pass ≡ passed_over (take (suc index) given.events) pass_beginning
-      = entered ∙ ap (λ n. passed_over (take n given.events) pass_beginning) (add-one index) in
+      let entered_suc :
+      passed_entry entry.name pass ≡ passed_over (take (suc index) given.events) pass_beginning =
+      entered ∙ ap (λ n. passed_over (take n given.events) pass_beginning) (add-one index) in
       passed_more given.events (suc index) exit (passed_entry entry.name pass) pass_beginning next
       (slice_get_within given.events (suc index) exit after) entered_suc
       (step ∙ of_exit (λ kind name point. passed_exit entry.name (passed_entry entry.name pass)
@@ -100,10 +115,10 @@ module _ (given : Handed) (index : ℕ) (entry exit : Event) (leaf : IsLeaf entr
       ending_after found (suc index) exit ≡ first_index (take (suc (suc index)) given.events)
   first_index-leaf found so_far =
       let entered : ending_after found index (get_or given.events index entry)
-      ≡ first_index (take (index + 1) given.events)
-      = first_index-more given.events index entry found (slice_get_within given.events index entry here) so_far in
-      let kept : found ≡ first_index (take (suc index) given.events)
-      = sym (ap (ending_after found index) entry_is ∙ ending-entry found index entry (IsLeaf.enters leaf))
+      ≡ first_index (take (index + 1) given.events) = first_index-more given.events index entry
+      found (slice_get_within given.events index entry here) so_far in
+      let kept : found ≡ first_index (take (suc index) given.events) = sym
+      (ap (ending_after found index) entry_is ∙ ending-entry found index entry (IsLeaf.enters leaf))
       ∙ entered ∙ ap (λ n. first_index (take n given.events)) (add-one index) in
       sym (ap (ending_after found (suc index)) exit_is)
       ∙ first_index-more given.events (suc index) exit found

@@ -1,5 +1,6 @@
 -- A node without children, which is entered and exited at once.
-use Rattle.std.proofs.Common.{◌≡◌, ◌⊎◌, inl, inr, true, false, ℕ, suc, Option, Some, None, List, ◌∷◌, refl, sym, ap, subst, ◌∙◌}
+use Rattle.std.proofs.Common.{◌≡◌, ◌⊎◌, inl, inr, true, false, ℕ, suc, Option, Some, None, List}
+use Rattle.std.proofs.Common.{◌∷◌, refl, sym, ap, subst, ◌∙◌}
 use Rattle.std.specs.Prelude.{MatchOption}
 use Rattle.md_base.specs.declared.event.Point.{Point}
 use Rattle.md_base.specs.declared.event.Name.{Name}
@@ -26,7 +27,8 @@ use Rattle.md_tree.specs.Rules.{place, target_at, broken_rule}
 use Rattle.md_tree.specs.declared.mention.Mention.TheVariants.{Nothing}
 use Rattle.md_tree.specs.Mentions.{mention_of, mentions_with}
 use Rattle.md_pattern.specs.Steps.{start_of, may_hold, advance, is_complete}
-use Rattle.md_tree.specs.Machine.{Reads, Outer, Entry, Course, entered, after_entry, after_through, after_exit, Enters, ExitsWhere}
+use Rattle.md_tree.specs.Machine.{Reads, Outer, Entry, Course, entered, after_entry, after_through}
+use Rattle.md_tree.specs.Machine.{after_exit, Enters, ExitsWhere}
 use Rattle.md_tree.specs.Walk.{Passes, Unbroken, IsStopAtLeaf, IsStopInside}
 use Rattle.md_tree.proofs.Breaks.{IsStop-inside, IsStopInside-same, StopsInside-broken}
 
@@ -41,16 +43,20 @@ inside entry from = record {
 }
 
 -- where the children of a node begin, by how its name stands
-module _ (name : Name) (state : State) (target : Referral) (holds : may_hold state.role ≡ true) where
+module _ (name : Name) (state : State) (target : Referral)
+    (holds : may_hold state.role ≡ true) where
   pub entered-through : standing_of name ≡ Through →
-      entered (standing_of name) state target ≡ Some (record { state = state; target = target; outer = None })
+      entered (standing_of name) state target
+      ≡ Some (record { state = state; target = target; outer = None })
   entered-through stands = rw (stands, holds) refl
 
-  pub entered-space : standing_of name ≡ Space → entered (standing_of name) state target ≡ Some (record {
-    state = start_of role.Childless;
-    target = Missing;
-    outer = Some (record { state = state; before = state.before; target = target; reading = Free });
-  })
+  pub entered-space : standing_of name ≡ Space →
+      entered (standing_of name) state target ≡ Some (record {
+        state = start_of role.Childless;
+        target = Missing;
+        outer =
+            Some (record { state = state; before = state.before; target = target; reading = Free });
+      })
   entered-space stands = rw (stands, holds) refl
 
   pub entered-solid : (symbol : Symbol) (usual : Role) (reading : Reading) (next : State) →
@@ -58,7 +64,8 @@ module _ (name : Name) (state : State) (target : Referral) (holds : may_hold sta
       entered (standing_of name) state target ≡ Some (record {
         state = start_of (role_for state.role state.before usual);
         target = Missing;
-        outer = Some (record { state = next; before = state.before; target = target; reading = reading });
+        outer = Some
+            (record { state = next; before = state.before; target = target; reading = reading });
       })
   entered-solid symbol usual reading next stands moves = rw (stands, holds, moves) refl
 
@@ -66,8 +73,8 @@ module _ (name : Name) (start end : Point) (from : Course) (entry : Entry)
     (stands : entered (standing_of name) from.state from.target ≡ Some entry) where
   enters : Enters name start from (after_entry entry name start from)
   enters =
-      subst (λ o. MatchOption o ⊥ (λ e. after_entry entry name start from ≡ after_entry e name start from)) (sym stands)
-      refl
+      subst (λ o. MatchOption o ⊥
+      (λ e. after_entry entry name start from ≡ after_entry e name start from)) (sym stands) refl
 
   pub Passes-through : (holds : Reads) (to : Course) → entry.outer ≡ None →
       to ≡ after_through from.open_nodes (inside entry from) → Passes holds name start end from to
@@ -76,7 +83,8 @@ module _ (name : Name) (start end : Point) (from : Course) (entry : Entry)
     enters,
     (
       refl,
-      subst (λ o. ExitsWhere holds o start end from.open_nodes (after_entry entry name start from) to) (sym through)
+      subst (λ o. ExitsWhere holds o start end from.open_nodes
+          (after_entry entry name start from) to) (sym through)
           same,
     ),
   )
@@ -89,12 +97,14 @@ module _ (name : Name) (start end : Point) (from : Course) (entry : Entry)
     enters,
     (
       refl,
-      subst (λ o. ExitsWhere holds o start end from.open_nodes (after_entry entry name start from) to) (sym outer_is)
+      subst (λ o. ExitsWhere holds o start end from.open_nodes
+          (after_entry entry name start from) to) (sym outer_is)
           exits,
     ),
   )
 
-  pub IsStopAtLeaf-exit : (bytes : List ℕ) (names : List (List ℕ × List ℕ)) (index : ℕ) (refusal : CompileError)
+  pub IsStopAtLeaf-exit :
+      (bytes : List ℕ) (names : List (List ℕ × List ℕ)) (index : ℕ) (refusal : CompileError)
       (outer : Outer) → entry.outer ≡ Some outer →
       IsStopInside bytes names (suc index) outer (place start end) (inside entry from) refusal →
       IsStopAtLeaf bytes names index name start end from refusal
@@ -105,13 +115,15 @@ module _ (name : Name) (start end : Point) (from : Course) (entry : Entry)
         IsStop-inside bytes names (suc index) refusal from.open_nodes
             (record { name = name; start = start; outer = entry.outer }) outer name end
             (after_entry entry name start from) refl refl outer_is
-            (IsStopInside-same bytes names (suc index) refusal outer (place start end) entry.state entry.target
-            from.open_nodes (record { name = name; start = start; outer = entry.outer } ∷ from.open_nodes)
+            (IsStopInside-same bytes names (suc index) refusal outer (place start end) entry.state
+            entry.target from.open_nodes
+            (record { name = name; start = start; outer = entry.outer } ∷ from.open_nodes)
             (suc from.count) from.mentions stops),
       )
 
 -- a node without children that stands on no spine
-pub passes-over : (bytes : List ℕ) (names : List (List ℕ × List ℕ)) (name : Name) (start end : Point) (from : Course) →
+pub passes-over : (bytes : List ℕ) (names : List (List ℕ × List ℕ)) (name : Name)
+    (start end : Point) (from : Course) →
     may_hold from.state.role ≡ true → (standing_of name ≡ Through) ⊎ (standing_of name ≡ Space) →
     Passes (Unbroken bytes names) name start end from (record from { count = suc (suc from.count) })
 passes-over bytes names name start end from holds (inl through) =
@@ -126,11 +138,14 @@ no-mention reads.Media = refl
 no-mention _ = refl
 
 -- a node without children that stands on the spine
-module _ (name : Name) (symbol : Symbol) (usual : Role) (reading : Reading) (next : State) (start end : Point)
-    (from : Course) (holds : may_hold from.state.role ≡ true) (stands : standing_of name ≡ Solid symbol usual reading)
+module _ (name : Name) (symbol : Symbol) (usual : Role) (reading : Reading)
+    (next : State) (start end : Point)
+    (from : Course) (holds : may_hold from.state.role ≡ true)
+    (stands : standing_of name ≡ Solid symbol usual reading)
     (moves : advance from.state symbol ≡ Some next) where
   abbrev outer : Outer
-  outer = record { state = next; before = from.state.before; target = from.target; reading = reading }
+  outer =
+      record { state = next; before = from.state.before; target = from.target; reading = reading }
 
   abbrev inner : State
   inner = start_of (role_for from.state.role from.state.before usual)
@@ -147,51 +162,60 @@ module _ (name : Name) (symbol : Symbol) (usual : Role) (reading : Reading) (nex
 
   exits-so : after ≡ after_exit outer start end from.open_nodes (inside begins from)
   exits-so =
-      ap (λ m. record after { mentions = mentions_with (suc from.count) m from.mentions }) (sym (no-mention reading))
+      ap (λ m. record after { mentions = mentions_with (suc from.count) m from.mentions })
+      (sym (no-mention reading))
 
-  pub Passes-solid : (bytes : List ℕ) (names : List (List ℕ × List ℕ)) (target : Referral) → is_complete inner ≡ true →
+  pub Passes-solid : (bytes : List ℕ) (names : List (List ℕ × List ℕ)) (target : Referral) →
+      is_complete inner ≡ true →
       broken_rule bytes names reading next.role from.state.before start end Missing ≡ None →
       target ≡ target_at reading from.target Missing (place start end) →
       Passes (Unbroken bytes names) name start end from
       (record from { state = next; target = target; count = suc (suc from.count) })
   Passes-solid bytes names target complete sound target_is =
       Passes-exit name start end from begins
-      (entered-solid name from.state from.target holds symbol usual reading next stands moves) (Unbroken bytes names)
-      outer _ refl (
+      (entered-solid name from.state from.target holds symbol usual reading next stands moves)
+      (Unbroken bytes names) outer _ refl (
         complete,
         sound,
         ap (λ t. record after { target = t }) target_is ∙ exits-so,
       )
 
-  stops-so : (bytes : List ℕ) (names : List (List ℕ × List ℕ)) (index : ℕ) (refusal : CompileError) →
+  stops-so : (bytes : List ℕ) (names : List (List ℕ × List ℕ)) (index : ℕ)
+      (refusal : CompileError) →
       IsStopInside bytes names (suc index) outer (place start end) (inside begins from) refusal →
       IsStopAtLeaf bytes names index name start end from refusal
   stops-so bytes names index refusal =
       IsStopAtLeaf-exit name start end from begins
-      (entered-solid name from.state from.target holds symbol usual reading next stands moves) bytes names index refusal
-      outer refl
+      (entered-solid name from.state from.target holds symbol usual reading next stands moves) bytes
+      names index refusal outer refl
 
-  pub IsStopAtLeaf-open : (bytes : List ℕ) (names : List (List ℕ × List ℕ)) (index : ℕ) → is_complete inner ≡ false →
+  pub IsStopAtLeaf-open : (bytes : List ℕ) (names : List (List ℕ × List ℕ)) (index : ℕ) →
+      is_complete inner ≡ false →
       IsStopAtLeaf bytes names index name start end from (error.Event (suc index) rule.Order)
   IsStopAtLeaf-open bytes names index unfinished =
       stops-so bytes names index (error.Event (suc index) rule.Order) (refl, unfinished)
 
-  pub IsStopAtLeaf-broken : (bytes : List ℕ) (names : List (List ℕ × List ℕ)) (index : ℕ) (broken : Rule) →
+  pub IsStopAtLeaf-broken :
+      (bytes : List ℕ) (names : List (List ℕ × List ℕ)) (index : ℕ) (broken : Rule) →
       is_complete inner ≡ true →
       broken_rule bytes names reading next.role from.state.before start end Missing ≡ Some broken →
       IsStopAtLeaf bytes names index name start end from (error.Event (suc index) broken)
   IsStopAtLeaf-broken bytes names index broken complete breaks =
-      stops-so bytes names index (error.Event (suc index) broken)
-      (refl, StopsInside-broken bytes names broken outer start end (inside begins from) complete breaks)
+      stops-so bytes names index (error.Event (suc index) broken) (
+        refl,
+        StopsInside-broken bytes names broken outer start end (inside begins from) complete breaks,
+      )
 
 -- ---- a table has children
 
-pub no-table-over : (name : Name) → (standing_of name ≡ Through) ⊎ (standing_of name ≡ Space) → is_table name ≡ false
+pub no-table-over : (name : Name) → (standing_of name ≡ Through) ⊎ (standing_of name ≡ Space) →
+    is_table name ≡ false
 no-table-over GfmTable (inl through) = cc
 no-table-over GfmTable (inr space) = cc
 no-table-over _ stands = refl
 
-pub no-table-solid : (name : Name) (symbol : Symbol) (usual : Role) (reading : Reading) (around : Role)
+pub no-table-solid :
+    (name : Name) (symbol : Symbol) (usual : Role) (reading : Reading) (around : Role)
     (before : Option Symbol) → standing_of name ≡ Solid symbol usual reading →
     is_complete (start_of (role_for around before usual)) ≡ true → is_table name ≡ false
 no-table-solid GfmTable symbol usual reading around before stands complete =

@@ -1,41 +1,48 @@
--- What a walk keeps of the mentions is all but those of nothing, each with the index of its event. So what is resolved
--- among those kept is resolved among all, as the grammar asks.
-use Rattle.std.proofs.Common.{◌≡◌, ℕ, zero, suc, ◌+◌, Some, List, [], ◌∷◌, ◌++◌, refl, sym, ap, ◌∙◌, subst, append_assoc, append-nil, arith}
+-- What a walk keeps of the mentions is all but those of nothing, each with the index of its event.
+-- So what is resolved among those kept is resolved among all, as the grammar asks.
+use Rattle.std.proofs.Common.{◌≡◌, ℕ, zero, suc, ◌+◌, Some, List, [], ◌∷◌, ◌++◌, refl, sym, ap, ◌∙◌}
+use Rattle.std.proofs.Common.{subst, append_assoc, append-nil, arith}
 use Rattle.std.specs.Prelude.{slice_get}
 use Rattle.std.specs.List.{All, Contains}
 use Rattle.std.proofs.lemmas.List.Elements.{All-cons, All-nil, All-head, All-tail}
 use Rattle.md_tree.specs.declared.mention.Mention.{Mention}
-use Rattle.md_tree.specs.declared.mention.Mention.TheVariants.{Nothing, Reference, Call, Definition, FootnoteDefinition}
+use Rattle.md_tree.specs.declared.mention.Mention.TheVariants.{Nothing, Reference, Call, Definition}
+use Rattle.md_tree.specs.declared.mention.Mention.TheVariants.{FootnoteDefinition}
 use Rattle.md_tree.specs.declared.mention.Mentioned.{Mentioned}
 use Rattle.md_tree.specs.declared.mention.Referral.TheVariants.{Missing}
 use Rattle.md_base.specs.Tree.{Forest, Empty, Node}
 use Rattle.md_pattern.specs.Standing.{standing_of}
 use Rattle.md_tree.specs.Rules.{reading_of, target_of}
 use Rattle.md_pattern.specs.Partners.{index_after}
-use Rattle.md_tree.specs.Mentions.{mention_of, mentions_of, mentions_with, mentions_among, identifier_at, defined, footnoted, IsResolved}
+use Rattle.md_tree.specs.Mentions.{mention_of, mentions_of, mentions_with, mentions_among}
+use Rattle.md_tree.specs.Mentions.{identifier_at, defined, footnoted, IsResolved}
 use Rattle.md_tree.proofs.Trees.{mentions_over}
 
 -- those of these mentions that are of something, where the first is of the event at an index
 abbrev pub listed : ℕ → List Mention → List Mentioned
 listed index [] = []
 listed index (Nothing ∷ mentions) = listed (suc index) mentions
-listed index (mention ∷ mentions) = record { index = index; mention = mention } ∷ listed (suc index) mentions
+listed index (mention ∷ mentions) =
+    record { index = index; mention = mention } ∷ listed (suc index) mentions
 
 with_listed : (mention : Mention) (index : ℕ) (before : List Mentioned) (later : List Mention) →
-    mentions_with index mention before ++ listed (suc index) later ≡ before ++ listed index (mention ∷ later)
+    mentions_with index mention before ++ listed (suc index) later
+    ≡ before ++ listed index (mention ∷ later)
 with_listed Nothing index before later = refl
 with_listed (Reference label) index before later = append_assoc before (record {
   index = index;
   mention = Reference label;
 } ∷ []) (listed (suc index) later)
-with_listed (Call label) index before later = append_assoc before (record { index = index; mention = Call label }
+with_listed (Call label) index before later =
+    append_assoc before (record { index = index; mention = Call label }
     ∷ []) (listed (suc index) later)
 with_listed (Definition label) index before later = append_assoc before (record {
   index = index;
   mention = Definition label;
 } ∷ []) (listed (suc index) later)
 with_listed (FootnoteDefinition label) index before later =
-    append_assoc before (record { index = index; mention = FootnoteDefinition label } ∷ []) (listed (suc index) later)
+    append_assoc before (record { index = index; mention = FootnoteDefinition label } ∷ [])
+    (listed (suc index) later)
 
 over_listed : (forest : Forest) (index : ℕ) (before : List Mentioned) (later : List Mention) →
     mentions_over index forest before ++ listed (index_after index forest) later ≡ before
@@ -53,7 +60,8 @@ over_listed (Node name start end children rest) index before later =
     (sym (append_assoc (mentions_of children) (mention ∷ mentions_of rest) later))
 
 -- a document's mentions
-pub mentions_over-listed : (forest : Forest) → mentions_over 0 forest [] ≡ listed 0 (mentions_of forest)
+pub mentions_over-listed : (forest : Forest) →
+    mentions_over 0 forest [] ≡ listed 0 (mentions_of forest)
 mentions_over-listed forest =
     sym (append-nil (mentions_over 0 forest [])) ∙ over_listed forest 0 [] []
     ∙ ap (listed 0) (append-nil (mentions_of forest))
@@ -67,7 +75,8 @@ defined_listed bytes (Definition label ∷ mentions) index =
 defined_listed bytes (Nothing ∷ mentions) index = defined_listed bytes mentions (suc index)
 defined_listed bytes (Reference label ∷ mentions) index = defined_listed bytes mentions (suc index)
 defined_listed bytes (Call label ∷ mentions) index = defined_listed bytes mentions (suc index)
-defined_listed bytes (FootnoteDefinition label ∷ mentions) index = defined_listed bytes mentions (suc index)
+defined_listed bytes (FootnoteDefinition label ∷ mentions) index =
+    defined_listed bytes mentions (suc index)
 
 pub footnoted_listed : (bytes : List ℕ) (mentions : List Mention) (index : ℕ) →
     footnoted bytes (mentions_among (listed index mentions)) ≡ footnoted bytes mentions
@@ -75,22 +84,27 @@ footnoted_listed bytes [] index = refl
 footnoted_listed bytes (FootnoteDefinition label ∷ mentions) index =
     ap (λ others. identifier_at bytes label ∷ others) (footnoted_listed bytes mentions (suc index))
 footnoted_listed bytes (Nothing ∷ mentions) index = footnoted_listed bytes mentions (suc index)
-footnoted_listed bytes (Reference label ∷ mentions) index = footnoted_listed bytes mentions (suc index)
+footnoted_listed bytes (Reference label ∷ mentions) index =
+    footnoted_listed bytes mentions (suc index)
 footnoted_listed bytes (Call label ∷ mentions) index = footnoted_listed bytes mentions (suc index)
-footnoted_listed bytes (Definition label ∷ mentions) index = footnoted_listed bytes mentions (suc index)
+footnoted_listed bytes (Definition label ∷ mentions) index =
+    footnoted_listed bytes mentions (suc index)
 
 resolved_same : (bytes : List ℕ) (some others : List Mention) (mention : Mention) →
     defined bytes some ≡ defined bytes others → footnoted bytes some ≡ footnoted bytes others →
     IsResolved bytes some mention → IsResolved bytes others mention
-resolved_same bytes some others (Reference label) d f is = subst (λ xs. Contains xs (identifier_at bytes label)) d is
-resolved_same bytes some others (Call label) d f is = subst (λ xs. Contains xs (identifier_at bytes label)) f is
+resolved_same bytes some others (Reference label) d f is =
+    subst (λ xs. Contains xs (identifier_at bytes label)) d is
+resolved_same bytes some others (Call label) d f is =
+    subst (λ xs. Contains xs (identifier_at bytes label)) f is
 resolved_same bytes some others _ d f is = tt
 
 pub resolved-listed : (bytes : List ℕ) (mentions : List Mention) (mention : Mention) →
-    IsResolved bytes mentions mention → IsResolved bytes (mentions_among (listed 0 mentions)) mention
+    IsResolved bytes mentions mention →
+    IsResolved bytes (mentions_among (listed 0 mentions)) mention
 resolved-listed bytes mentions mention =
-    resolved_same bytes mentions (mentions_among (listed 0 mentions)) mention (sym (defined_listed bytes mentions 0))
-    (sym (footnoted_listed bytes mentions 0))
+    resolved_same bytes mentions (mentions_among (listed 0 mentions)) mention
+    (sym (defined_listed bytes mentions 0)) (sym (footnoted_listed bytes mentions 0))
 
 -- what holds of nothing and of each in the list holds of each
 all_listed : (P : Mention → Type 0) → P Nothing → (mentions : List Mention) (index : ℕ) →
@@ -116,12 +130,14 @@ all_listed P none (FootnoteDefinition label ∷ mentions) index all =
     (all_listed P none mentions (suc index) (All-tail P (FootnoteDefinition label) later all))
 
 pub all-resolved : (bytes : List ℕ) (mentions : List Mention) →
-    All (IsResolved bytes (mentions_among (listed 0 mentions))) (mentions_among (listed 0 mentions)) →
+    All (IsResolved bytes (mentions_among (listed 0 mentions)))
+    (mentions_among (listed 0 mentions)) →
     All (IsResolved bytes mentions) mentions
 all-resolved bytes mentions all =
     let some = mentions_among (listed 0 mentions) in
     λ index d inside.
-    resolved_same bytes some mentions _ (defined_listed bytes mentions 0) (footnoted_listed bytes mentions 0)
+    resolved_same bytes some mentions _ (defined_listed bytes mentions 0)
+    (footnoted_listed bytes mentions 0)
     (all_listed (IsResolved bytes some) tt mentions 0 all index d inside)
 
 -- what stands in the list is what the event at its index mentions
@@ -131,7 +147,8 @@ record GotListed (mentions : List Mention) (index : ℕ) (one : Mentioned) : Typ
   got : slice_get mentions at ≡ Some one.mention
 
 got_first : (mention : Mention) (mentions : List Mention) (index : ℕ) (one : Mentioned) →
-    Some (record { index = index; mention = mention }) ≡ Some one → GotListed (mention ∷ mentions) index one
+    Some (record { index = index; mention = mention }) ≡ Some one →
+    GotListed (mention ∷ mentions) index one
 got_first mention mentions index one e =
     let same : record { index = index; mention = mention } ≡ one = cc in
     let none : index + 0 ≡ index = omega arith in
@@ -149,11 +166,14 @@ got_later mention mentions index one got =
     record { at = suc at; index_is = got.index_is ∙ next; got = got.got }
 
 got_cons : (mention : Mention) (mentions : List Mention) (index at : ℕ) (one : Mentioned) →
-    ((k : ℕ) → slice_get (listed (suc index) mentions) k ≡ Some one → GotListed mentions (suc index) one) →
-    slice_get (record { index = index; mention = mention } ∷ listed (suc index) mentions) at ≡ Some one →
+    ((k : ℕ) → slice_get (listed (suc index) mentions) k ≡ Some one →
+    GotListed mentions (suc index) one) →
+    slice_get (record { index = index; mention = mention } ∷ listed (suc index) mentions) at
+    ≡ Some one →
     GotListed (mention ∷ mentions) index one
 got_cons mention mentions index zero one later e = got_first mention mentions index one e
-got_cons mention mentions index (suc at) one later e = got_later mention mentions index one (later at e)
+got_cons mention mentions index (suc at) one later e =
+    got_later mention mentions index one (later at e)
 
 got_listed : (mentions : List Mention) (index at : ℕ) (one : Mentioned) →
     slice_get (listed index mentions) at ≡ Some one → GotListed mentions index one
@@ -161,15 +181,19 @@ got_listed [] index at one e = cc
 got_listed (Nothing ∷ mentions) index at one e = got_later Nothing mentions index one
     (got_listed mentions (suc index) at one e)
 got_listed (Reference label ∷ mentions) index at one e =
-    got_cons (Reference label) mentions index at one (λ k f. got_listed mentions (suc index) k one f) e
+    got_cons (Reference label) mentions index at one
+    (λ k f. got_listed mentions (suc index) k one f) e
 got_listed (Call label ∷ mentions) index at one e = got_cons (Call label) mentions index at one
     (λ k f. got_listed mentions (suc index) k one f) e
 got_listed (Definition label ∷ mentions) index at one e =
-    got_cons (Definition label) mentions index at one (λ k f. got_listed mentions (suc index) k one f) e
+    got_cons (Definition label) mentions index at one
+    (λ k f. got_listed mentions (suc index) k one f) e
 got_listed (FootnoteDefinition label ∷ mentions) index at one e =
-    got_cons (FootnoteDefinition label) mentions index at one (λ k f. got_listed mentions (suc index) k one f) e
+    got_cons (FootnoteDefinition label) mentions index at one
+    (λ k f. got_listed mentions (suc index) k one f) e
 
-pub got-listed : (mentions : List Mention) (at : ℕ) (one : Mentioned) → slice_get (listed 0 mentions) at ≡ Some one →
+pub got-listed : (mentions : List Mention) (at : ℕ) (one : Mentioned) →
+    slice_get (listed 0 mentions) at ≡ Some one →
     slice_get mentions one.index ≡ Some one.mention
 got-listed mentions at one e =
     let got = got_listed mentions 0 at one e in

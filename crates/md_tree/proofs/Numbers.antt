@@ -1,24 +1,34 @@
--- What is kept of a document's events: what is found at them, with a number at each exit of a mention.
-use Rattle.std.proofs.Common.{◌≡◌, ℕ, zero, suc, ◌≤◌, true, false, Option, Some, None, List, [], ◌∷◌, ◌++◌, length, refl, sym, ap, ◌∙◌, subst, append_assoc, append-nil, arith}
+-- What is kept of a document's events: what is found at them, with a number at each
+-- exit of a mention.
+use Rattle.std.proofs.Common.{◌≡◌, ℕ, zero, suc, ◌≤◌, true, false, Option, Some, None, List, []}
+use Rattle.std.proofs.Common.{◌∷◌, ◌++◌, length, refl, sym, ap, ◌∙◌, subst, append_assoc}
+use Rattle.std.proofs.Common.{append-nil, arith}
 use Rattle.std.specs.Prelude.{map, slice_get, option_map}
 use Rattle.md_base.specs.declared.event.Name.{Name}
-use Rattle.md_base.specs.declared.event.Name.TheVariants.{Link, Image, GfmFootnoteCall, GfmFootnoteDefinition}
+use Rattle.md_base.specs.declared.event.Name.TheVariants.{Link, Image, GfmFootnoteCall}
+use Rattle.md_base.specs.declared.event.Name.TheVariants.{GfmFootnoteDefinition}
 use Rattle.md_base.specs.declared.event.Kind.TheVariants.{Enter, Exit}
 use Rattle.md_base.specs.declared.event.Event.{Event}
 use Rattle.md_pattern.specs.declared.facts.Fact.{Fact}
 use Rattle.md_pattern.specs.Partners.{index_after}
-use Rattle.md_pattern.specs.Facts.{facts_at, facts_of, fact_at, partner_alone, tables_with, tables_after}
+use Rattle.md_pattern.specs.Facts.{facts_at, facts_of, fact_at, partner_alone, tables_with}
+use Rattle.md_pattern.specs.Facts.{tables_after}
 use Rattle.md_pattern.proofs.Passing.{facts-flatten}
 use Rattle.md_pattern.specs.Standing.{standing_of}
 use Rattle.md_base.specs.Tree.{Forest, Empty, Node, flatten, entering, exiting}
 use Rattle.md_tree.specs.declared.mention.Referral.{Referral}
 use Rattle.md_tree.specs.declared.mention.Referral.TheVariants.{Missing, Resource, Label}
 use Rattle.md_tree.specs.declared.mention.Mention.{Mention}
-use Rattle.md_tree.specs.declared.mention.Mention.TheVariants.{Nothing, Reference, Call, Definition, FootnoteDefinition}
+use Rattle.md_tree.specs.declared.mention.Mention.TheVariants.{Nothing, Reference, Call, Definition}
+use Rattle.md_tree.specs.declared.mention.Mention.TheVariants.{FootnoteDefinition}
 use Rattle.md_tree.specs.Rules.{reading_of, target_of}
-use Rattle.md_tree.specs.Found.{position_from, partner_event, position_there, position_at, position_ended}
+use Rattle.md_tree.specs.Found.{position_from, partner_event, position_there, position_at}
+use Rattle.md_tree.specs.Found.{position_ended}
 use Rattle.md_tree.specs.Mentions.{mention_of, mentions_of, mentions_among, identifier_at}
-use Rattle.md_tree.specs.Numbers.{which, number_of, with_number, put_number, numbered, footnote_number, leading_number, all_numbered, number_for, facts_with, place_of, definition_for, footnote_for, is_of_definitions, is_of_footnotes}
+use Rattle.md_tree.specs.Numbers.{which, number_of, with_number, put_number, numbered}
+use Rattle.md_tree.specs.Numbers.{footnote_number, leading_number, all_numbered, number_for}
+use Rattle.md_tree.specs.Numbers.{facts_with, place_of, definition_for, footnote_for}
+use Rattle.md_tree.specs.Numbers.{is_of_definitions, is_of_footnotes}
 use Rattle.md_tree.proofs.Listing.{listed, defined_listed, footnoted_listed}
 use Rattle.md_tree.proofs.Numbering.{put-none, put-past}
 
@@ -30,7 +40,8 @@ module _ (number : Mention → ℕ) (none : number Nothing ≡ 0) where
       numbered number (listed index (mention ∷ mentions)) facts
       ≡ numbered number (listed (suc index) mentions) (put_number index (number mention) facts)
   one_listed Nothing mentions index facts =
-      ap (λ fs. numbered number (listed (suc index) mentions) fs) (sym (put-none facts index (number Nothing) none))
+      ap (λ fs. numbered number (listed (suc index) mentions) fs)
+      (sym (put-none facts index (number Nothing) none))
   one_listed (Reference label) mentions index facts = refl
   one_listed (Call label) mentions index facts = refl
   one_listed (Definition label) mentions index facts = refl
@@ -42,7 +53,8 @@ module _ (number : Mention → ℕ) (none : number Nothing ≡ 0) where
   past_listed (mention ∷ mentions) index facts past =
       let more : length facts ≤ suc index = omega (arith, past) in
       one_listed mention mentions index facts
-      ∙ ap (λ fs. numbered number (listed (suc index) mentions) fs) (put-past facts index (number mention) past)
+      ∙ ap (λ fs. numbered number (listed (suc index) mentions) fs)
+      (put-past facts index (number mention) past)
       ∙ past_listed mentions (suc index) facts more
 
   put_after : (before facts : List Fact) (n index : ℕ) → length before ≡ index →
@@ -52,8 +64,10 @@ module _ (number : Mention → ℕ) (none : number Nothing ≡ 0) where
       ap (λ i. put_number i n (fact ∷ (before ++ facts))) (sym e)
       ∙ ap (λ fs. fact ∷ fs) (put_after before facts n (length before) refl)
 
-  all_listed : (mentions : List Mention) (index : ℕ) (before facts : List Fact) → length before ≡ index →
-      numbered number (listed index mentions) (before ++ facts) ≡ before ++ facts_with (map number mentions) facts
+  all_listed : (mentions : List Mention) (index : ℕ) (before facts : List Fact) →
+      length before ≡ index →
+      numbered number (listed index mentions) (before ++ facts)
+      ≡ before ++ facts_with (map number mentions) facts
   all_listed [] index before facts e = refl
   all_listed (mention ∷ mentions) index before [] e =
       ap (λ fs. numbered number (listed index (mention ∷ mentions)) fs) (append-nil before)
@@ -64,7 +78,8 @@ module _ (number : Mention → ℕ) (none : number Nothing ≡ 0) where
   all_listed (mention ∷ mentions) index before (fact ∷ facts) e =
       let here = with_number (number mention) fact in
       one_listed mention mentions index (before ++ fact ∷ facts)
-      ∙ ap (λ fs. numbered number (listed (suc index) mentions) fs) (put_after before (fact ∷ facts) (number mention)
+      ∙ ap (λ fs. numbered number (listed (suc index) mentions) fs)
+      (put_after before (fact ∷ facts) (number mention)
       index e ∙ sym (append_assoc before (here ∷ []) facts))
       ∙ all_listed mentions (suc index) (before ++ here ∷ []) facts (longer before here index e)
       ∙ append_assoc before (here ∷ []) (facts_with (map number mentions) facts)
@@ -75,13 +90,16 @@ module _ (number : Mention → ℕ) (none : number Nothing ≡ 0) where
 
 -- two kinds of numbers, of which a mention has one at most
 module _ (two three all : Mention → ℕ) (joined : (mention : Mention) (fact : Fact) →
-    with_number (three mention) (with_number (two mention) fact) ≡ with_number (all mention) fact) where
+    with_number (three mention) (with_number (two mention) fact)
+    ≡ with_number (all mention) fact) where
   joined_all : (mentions : List Mention) (facts : List Fact) →
-      facts_with (map three mentions) (facts_with (map two mentions) facts) ≡ facts_with (map all mentions) facts
+      facts_with (map three mentions) (facts_with (map two mentions) facts)
+      ≡ facts_with (map all mentions) facts
   joined_all [] facts = refl
   joined_all (mention ∷ mentions) [] = refl
   joined_all (mention ∷ mentions) (fact ∷ facts) =
-      ap (λ f. f ∷ facts_with (map three mentions) (facts_with (map two mentions) facts)) (joined mention fact)
+      ap (λ f. f ∷ facts_with (map three mentions) (facts_with (map two mentions) facts))
+      (joined mention fact)
       ∙ ap (λ fs. with_number (all mention) fact ∷ fs) (joined_all mentions facts)
 
 pub all_numbered-listed : (bytes : List ℕ) (mentions : List Mention) (facts : List Fact) →
@@ -101,7 +119,8 @@ all_numbered-listed bytes mentions facts =
         ≡ with_number (number_for bytes mentions mention) fact
     joined Nothing fact = refl
     joined (Reference label) fact =
-        ap (λ ds. with_number (number_of (which ds (identifier_at bytes label))) fact) (defined_listed bytes mentions 0)
+        ap (λ ds. with_number (number_of (which ds (identifier_at bytes label))) fact)
+        (defined_listed bytes mentions 0)
     joined (Definition label) fact = refl
     joined (Call label) fact =
         ap (λ ds. with_number (number_of (which ds (identifier_at bytes label))) fact)
@@ -124,8 +143,9 @@ partner-with (number ∷ numbers) [] index = refl
 partner-with (number ∷ numbers) (fact ∷ facts) zero = ap Some (partner_with number fact)
 partner-with (number ∷ numbers) (fact ∷ facts) (suc index) = partner-with numbers facts index
 
-by_partner : (events : List Event) (one other : Option Fact) → option_map (λ (f : Fact). f.partner) one
-    ≡ option_map (λ (f : Fact). f.partner) other → partner_event events one ≡ partner_event events other
+by_partner : (events : List Event) (one other : Option Fact) →
+    option_map (λ (f : Fact). f.partner) one ≡ option_map (λ (f : Fact). f.partner) other →
+    partner_event events one ≡ partner_event events other
 by_partner events None None e = refl
 by_partner events None (Some other) e = cc
 by_partner events (Some one) None e = cc
@@ -135,28 +155,32 @@ by_partner events (Some one) (Some other) e = let same : one.partner ≡ other.p
 pub ended-with : (events : List Event) (numbers : List ℕ) (facts : List Fact) (index : ℕ) →
     position_ended events (facts_with numbers facts) index ≡ position_ended events facts index
 ended-with events numbers facts index =
-    ap (λ o. position_from o (slice_get events index)) (by_partner events (slice_get (facts_with numbers facts) index)
+    ap (λ o. position_from o (slice_get events index))
+    (by_partner events (slice_get (facts_with numbers facts) index)
     (slice_get facts index) (partner-with numbers facts index))
 
 pub there-with : (events : List Event) (numbers : List ℕ) (facts : List Fact) (index : ℕ) →
     position_there events (facts_with numbers facts) index ≡ position_there events facts index
 there-with events numbers facts index =
     ap (λ o. position_from (slice_get events index) o) (by_partner events
-    (slice_get (facts_with numbers facts) index) (slice_get facts index) (partner-with numbers facts index))
+    (slice_get (facts_with numbers facts) index) (slice_get facts index)
+    (partner-with numbers facts index))
 
 pub at-with : (events : List Event) (numbers : List ℕ) (facts : List Fact) (index : ℕ) →
     position_at events (facts_with numbers facts) index ≡ position_at events facts index
 at-with events numbers facts zero = refl
 at-with events numbers facts (suc index) = there-with events numbers facts (suc index)
 
-pub length-with : (numbers : List ℕ) (facts : List Fact) → length (facts_with numbers facts) ≡ length facts
+pub length-with : (numbers : List ℕ) (facts : List Fact) →
+    length (facts_with numbers facts) ≡ length facts
 length-with [] facts = refl
 length-with (number ∷ numbers) [] = refl
 length-with (number ∷ numbers) (fact ∷ facts) = ap suc (length-with numbers facts)
 
 -- ---- events, facts and mentions of a document, one beside another
 
--- an entry mentions nothing; an exit mentions what its name does, and nothing but the partner is found at it
+-- an entry mentions nothing; an exit mentions what its name does, and nothing but the
+-- partner is found at it
 abbrev pub IsTold : Event → Fact → Mention → Type 0
 IsTold event fact mention =
     (event.kind ≡ Enter → mention ≡ Nothing)
@@ -165,19 +189,23 @@ IsTold event fact mention =
 
 abbrev Told : List Event → List Fact → List Mention → Type 0
 Told [] [] [] = Unit {0}
-Told (event ∷ events) (fact ∷ facts) (mention ∷ mentions) = IsTold event fact mention × Told events facts mentions
+Told (event ∷ events) (fact ∷ facts) (mention ∷ mentions) =
+    IsTold event fact mention × Told events facts mentions
 Told _ _ _ = ⊥
 
-told_append : (xs ys : List Event) (fs gs : List Fact) (ms ns : List Mention) → Told xs fs ms → Told ys gs ns →
+told_append : (xs ys : List Event) (fs gs : List Fact) (ms ns : List Mention) →
+    Told xs fs ms → Told ys gs ns →
     Told (xs ++ ys) (fs ++ gs) (ms ++ ns)
 told_append [] ys [] gs [] ns one two = two
-told_append (x ∷ xs) ys (f ∷ fs) gs (m ∷ ms) ns one two = (one.0, told_append xs ys fs gs ms ns one.1 two)
+told_append (x ∷ xs) ys (f ∷ fs) gs (m ∷ ms) ns one two =
+    (one.0, told_append xs ys fs gs ms ns one.1 two)
 told_append [] ys [] gs (m ∷ ms) ns one two = absurd one
 told_append [] ys (f ∷ fs) gs ms ns one two = absurd one
 told_append (x ∷ xs) ys [] gs ms ns one two = absurd one
 told_append (x ∷ xs) ys (f ∷ fs) gs [] ns one two = absurd one
 
-told : (forest : Forest) (index tables : ℕ) → Told (flatten forest) (facts_of index tables forest) (mentions_of forest)
+told : (forest : Forest) (index tables : ℕ) →
+    Told (flatten forest) (facts_of index tables forest) (mentions_of forest)
 told Empty index tables = tt
 told (Node name start end children rest) index tables =
     let exit = index_after (suc index) children in
@@ -188,9 +216,11 @@ told (Node name start end children rest) index tables =
     (mention_of (reading_of (standing_of name)) (target_of children Missing)) =
     (λ e. cc, λ e. (refl, (target_of children Missing, refl))) in (
       entry_told,
-      told_append (flatten children) (exiting name end ∷ flatten rest) (facts_of (suc index) tables children)
+      told_append (flatten children) (exiting name end ∷ flatten rest)
+          (facts_of (suc index) tables children)
           (partner_alone index ∷ facts_of (suc exit) more rest) (mentions_of children)
-          (mention_of (reading_of (standing_of name)) (target_of children Missing) ∷ mentions_of rest)
+          (mention_of (reading_of (standing_of name)) (target_of children Missing)
+          ∷ mentions_of rest)
           (told children (suc index) tables) (exit_told, told rest (suc exit) more),
     )
 
@@ -200,8 +230,10 @@ ToldAt events facts mentions index event =
     (fact : Fact) × (mention : Mention) × (slice_get facts index ≡ Some fact)
     × (slice_get mentions index ≡ Some mention) × IsTold event fact mention
 
-told_at : (events : List Event) (facts : List Fact) (mentions : List Mention) (index : ℕ) (event : Event) →
-    Told events facts mentions → slice_get events index ≡ Some event → ToldAt events facts mentions index event
+told_at : (events : List Event) (facts : List Fact) (mentions : List Mention)
+    (index : ℕ) (event : Event) →
+    Told events facts mentions → slice_get events index ≡ Some event →
+    ToldAt events facts mentions index event
 told_at [] facts mentions index event all e = cc
 told_at (x ∷ events) (f ∷ facts) (m ∷ mentions) zero event all e =
     let same : x ≡ event = cc in
@@ -211,30 +243,36 @@ told_at (x ∷ events) (f ∷ facts) (m ∷ mentions) (suc index) event all e =
 told_at (x ∷ events) [] mentions index event all e = absurd all
 told_at (x ∷ events) (f ∷ facts) [] index event all e = absurd all
 
-pub told-at : (forest : Forest) (events : List Event) (index : ℕ) (event : Event) → flatten forest ≡ events →
-    slice_get events index ≡ Some event → ToldAt events (facts_at events) (mentions_of forest) index event
+pub told-at : (forest : Forest) (events : List Event) (index : ℕ) (event : Event) →
+    flatten forest ≡ events →
+    slice_get events index ≡ Some event →
+    ToldAt events (facts_at events) (mentions_of forest) index event
 told-at forest events index event flattened here =
     told_at events (facts_at events) (mentions_of forest) index event
     (subst (λ es. Told es (facts_at events) (mentions_of forest)) flattened
-    (subst (λ fs. Told (flatten forest) fs (mentions_of forest)) (sym (facts-flatten forest events flattened))
-    (told forest 0 0))) here
+    (subst (λ fs. Told (flatten forest) fs (mentions_of forest))
+    (sym (facts-flatten forest events flattened)) (told forest 0 0))) here
 
 -- what is kept at an index
-pub got-with : (number : Mention → ℕ) (mentions : List Mention) (facts : List Fact) (index : ℕ) (fact : Fact)
-    (mention : Mention) → slice_get facts index ≡ Some fact → slice_get mentions index ≡ Some mention →
-    slice_get (facts_with (map number mentions) facts) index ≡ Some (with_number (number mention) fact)
+pub got-with : (number : Mention → ℕ) (mentions : List Mention) (facts : List Fact) (index : ℕ)
+    (fact : Fact) (mention : Mention) → slice_get facts index ≡ Some fact →
+    slice_get mentions index ≡ Some mention →
+    slice_get (facts_with (map number mentions) facts) index
+    ≡ Some (with_number (number mention) fact)
 got-with number [] facts index fact mention f m = cc
 got-with number (n ∷ mentions) [] index fact mention f m = cc
 got-with number (n ∷ mentions) (g ∷ facts) zero fact mention f m =
     let one : g ≡ fact = cc in
     let two : n ≡ mention = cc in
-    ap (λ x. Some (with_number (number x) g)) two ∙ ap (λ x. Some (with_number (number mention) x)) one
+    ap (λ x. Some (with_number (number x) g)) two
+    ∙ ap (λ x. Some (with_number (number mention) x)) one
 got-with number (n ∷ mentions) (g ∷ facts) (suc index) fact mention f m =
     got-with number mentions facts index fact mention f m
 
 -- ---- what a number stands for
 
-pub kept-number : (number : ℕ) (fact : Fact) → fact.read_at ≡ 0 → Fact.read_at (with_number number fact) ≡ number
+pub kept-number : (number : ℕ) (fact : Fact) → fact.read_at ≡ 0 →
+    Fact.read_at (with_number number fact) ≡ number
 kept-number zero fact none = none
 kept-number (suc place) fact none = refl
 
@@ -245,13 +283,15 @@ place-number (Some place) = refl
 lie : false ≡ true → ⊥
 lie h = cc
 
-pub number-definition : (bytes : List ℕ) (mentions : List Mention) (name : Name) (target : Referral) →
+pub number-definition :
+    (bytes : List ℕ) (mentions : List Mention) (name : Name) (target : Referral) →
     is_of_definitions name ≡ true →
     place_of (number_for bytes mentions (mention_of (reading_of (standing_of name)) target))
     ≡ definition_for bytes mentions (mention_of (reading_of (standing_of name)) target)
 number-definition bytes mentions Link Missing is = refl
 number-definition bytes mentions Link Resource is = refl
-number-definition bytes mentions Link (Label label) is = place-number (definition_for bytes mentions (Reference label))
+number-definition bytes mentions Link (Label label) is =
+    place-number (definition_for bytes mentions (Reference label))
 number-definition bytes mentions Image Missing is = refl
 number-definition bytes mentions Image Resource is = refl
 number-definition bytes mentions Image (Label label) is =

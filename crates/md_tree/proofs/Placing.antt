@@ -1,6 +1,7 @@
--- Each node of a document is where its entry and the entry's partner say. So a look-up by index finds the place that
--- the tree has: `reads` of `Checked` goes by it.
-use Rattle.std.proofs.Common.{◌≡◌, ℕ, suc, ◌+◌, Some, List, [], ◌∷◌, ◌++◌, length, get_or, refl, sym, ap, ◌∙◌, subst, append_assoc, append-nil, arith}
+-- Each node of a document is where its entry and the entry's partner say. So a look-up by index
+-- finds the place that the tree has: `reads` of `Checked` goes by it.
+use Rattle.std.proofs.Common.{◌≡◌, ℕ, suc, ◌+◌, Some, List, [], ◌∷◌, ◌++◌, length, get_or, refl}
+use Rattle.std.proofs.Common.{sym, ap, ◌∙◌, subst, append_assoc, append-nil, arith}
 use Rattle.std.specs.Prelude.{slice_get}
 use Rattle.std.specs.List.{All}
 use Rattle.std.proofs.lemmas.List.Elements.{All-cons, All-append, All-nil}
@@ -14,10 +15,12 @@ use Rattle.md_tree.specs.Grammar.{Handed}
 use Rattle.md_tree.specs.Texts.{EntersAt}
 use Rattle.md_tree.specs.Entered.{IsEnteredAt}
 use Rattle.md_pattern.specs.Partners.{index_after}
-use Rattle.md_pattern.specs.Facts.{partner_alone, tables_with, tables_after, fact_at, facts_of, facts_at}
+use Rattle.md_pattern.specs.Facts.{partner_alone, tables_with, tables_after, fact_at, facts_of}
+use Rattle.md_pattern.specs.Facts.{facts_at}
 use Rattle.md_tree.specs.Found.{position_from, partner_event, position_there, position_at}
 use Rattle.md_pattern.proofs.Passing.{length_one, length_facts, regrouped, facts-flatten}
-use Rattle.md_tree.proofs.Entering.{Row, entry_row, exit_row, rows_of, get_at, numbered_rows, numbered_get, past_row, inside_rows, children_there}
+use Rattle.md_tree.proofs.Entering.{Row, entry_row, exit_row, rows_of, get_at, numbered_rows}
+use Rattle.md_tree.proofs.Entering.{numbered_get, past_row, inside_rows, children_there}
 use Rattle.md_tree.proofs.Searching.{AllAt}
 
 -- a list with a node's part in it, split at the entry, after it, at the exit and after that
@@ -33,7 +36,8 @@ module _ {A : Type 0} (xs before inner rest later : List A) (entry exit : A) (is
   at_exit = in_node ∙ sym (append_assoc (before ++ entry ∷ []) inner (exit ∷ (rest ++ later)))
 
   pub after_node : xs ≡ (((before ++ entry ∷ []) ++ inner) ++ exit ∷ []) ++ (rest ++ later)
-  after_node = at_exit ∙ sym (append_assoc ((before ++ entry ∷ []) ++ inner) (exit ∷ []) (rest ++ later))
+  after_node =
+      at_exit ∙ sym (append_assoc ((before ++ entry ∷ []) ++ inner) (exit ∷ []) (rest ++ later))
 
 pub length_events : (forest : Forest) (index : ℕ) (events : List Event) → length events ≡ index →
     length (events ++ flatten forest) ≡ index_after index forest
@@ -41,25 +45,32 @@ length_events Empty index events e = ap length (append-nil events) ∙ e
 length_events (Node name start end children rest) index events e =
     let first = entering name start in
     let last = exiting name end in
-    let inside = length_events children (suc index) (events ++ first ∷ []) (length_one events first ∙ ap suc e) in
+    let inside = length_events children (suc index) (events ++ first ∷ [])
+    (length_one events first ∙ ap suc e) in
     ap length (sym (regrouped events (flatten children) (flatten rest) first last))
-    ∙ length_events rest (suc (index_after (suc index) children)) (((events ++ first ∷ []) ++ flatten children) ++ last
+    ∙ length_events rest (suc (index_after (suc index) children))
+    (((events ++ first ∷ []) ++ flatten children) ++ last
     ∷ []) (length_one ((events ++ first ∷ []) ++ flatten children) last ∙ ap suc inside)
 
-node_there : (events : List Event) (facts : List Fact) (index : ℕ) (fact : Fact) (name : Name) (start end : Point) →
+node_there : (events : List Event) (facts : List Fact) (index : ℕ) (fact : Fact) (name : Name)
+    (start end : Point) →
     slice_get events index ≡ Some (entering name start) → slice_get facts index ≡ Some fact →
-    slice_get events fact.partner ≡ Some (exiting name end) → position_there events facts index ≡ Some (place start end)
+    slice_get events fact.partner ≡ Some (exiting name end) →
+    position_there events facts index ≡ Some (place start end)
 node_there events facts index fact name start end first found last =
     ap (λ o. position_from o (partner_event events (slice_get facts index))) first
     ∙ ap (λ o. position_from (Some (entering name start)) (partner_event events o)) found
     ∙ ap (λ o. position_from (Some (entering name start)) o) last
 
-all_there : (events : List Event) (facts : List Fact) (forest : Forest) (index tables : ℕ) (before later : List Event)
+all_there : (events : List Event) (facts : List Fact) (forest : Forest) (index tables : ℕ)
+    (before later : List Event)
     (found more : List Fact) → length before ≡ index → length found ≡ index →
-    events ≡ before ++ (flatten forest ++ later) → facts ≡ found ++ (facts_of index tables forest ++ more) →
+    events ≡ before ++ (flatten forest ++ later) →
+    facts ≡ found ++ (facts_of index tables forest ++ more) →
     AllAt (position_there events facts) index forest
 all_there events facts Empty index tables before later found more e f is are = tt
-all_there events facts (Node name start end children rest) index tables before later found more e f is are =
+all_there events facts (Node name start end children rest) index tables before later
+    found more e f is are =
     let exit = index_after (suc index) children in
     let first = entering name start in
     let last = exiting name end in
@@ -74,15 +85,19 @@ all_there events facts (Node name start end children rest) index tables before l
     let inside = length_events children (suc index) (before ++ first ∷ []) one in
     let facts_to = length_facts children (suc index) tables (found ++ fact ∷ []) two in (
       node_there events facts index fact name start end
-          (ap (λ es. slice_get es index) (at_entry events before inner (flatten rest) later first last is)
+          (ap (λ es. slice_get es index)
+          (at_entry events before inner (flatten rest) later first last is)
           ∙ get_at before (inner ++ (last ∷ (flatten rest ++ later))) first index e)
-          (ap (λ fs. slice_get fs index) (at_entry facts found facts_inside facts_after more fact other are)
+          (ap (λ fs. slice_get fs index)
+          (at_entry facts found facts_inside facts_after more fact other are)
           ∙ get_at found (facts_inside ++ (other ∷ (facts_after ++ more))) fact index f)
-          (ap (λ es. slice_get es exit) (at_exit events before inner (flatten rest) later first last is)
+          (ap (λ es. slice_get es exit)
+          (at_exit events before inner (flatten rest) later first last is)
           ∙ get_at ((before ++ first ∷ []) ++ inner) (flatten rest ++ later) last exit inside),
       all_there events facts children (suc index) tables (before ++ first ∷ []) (last
           ∷ (flatten rest ++ later)) (found ++ fact ∷ []) (other
-          ∷ (facts_after ++ more)) one two (in_node events before inner (flatten rest) later first last is)
+          ∷ (facts_after ++ more)) one two
+          (in_node events before inner (flatten rest) later first last is)
           (in_node facts found facts_inside facts_after more fact other are),
       all_there events facts rest (suc exit) ended (((before ++ first ∷ []) ++ inner) ++ last
           ∷ []) later (((found ++ fact ∷ []) ++ facts_inside) ++ other
@@ -94,7 +109,8 @@ all_there events facts (Node name start end children rest) index tables before l
 
 -- of no node but the first of all the entry is 0
 all_at : (events : List Event) (facts : List Fact) (forest : Forest) (index : ℕ) →
-    AllAt (position_there events facts) (suc index) forest → AllAt (position_at events facts) (suc index) forest
+    AllAt (position_there events facts) (suc index) forest →
+    AllAt (position_at events facts) (suc index) forest
 all_at events facts Empty index all = tt
 all_at events facts (Node name start end children rest) index all = (
   all.0,
@@ -105,10 +121,12 @@ all_at events facts (Node name start end children rest) index all = (
 -- a row's children are there
 abbrev HasThem : List Event → List Fact → Row → Type 0
 HasThem events facts row =
-    (children : Forest) → row.children ≡ Some children → AllAt (position_there events facts) (suc row.index) children
+    (children : Forest) → row.children ≡ Some children →
+    AllAt (position_there events facts) (suc row.index) children
 
 rows_there : (events : List Event) (facts : List Fact) (forest : Forest) (index tables : ℕ) →
-    AllAt (position_there events facts) index forest → All (HasThem events facts) (rows_of index tables forest)
+    AllAt (position_there events facts) index forest →
+    All (HasThem events facts) (rows_of index tables forest)
 rows_there events facts Empty index tables all = All-nil (HasThem events facts)
 rows_there events facts (Node name start end children rest) index tables all =
     let exit = index_after (suc index) children in
@@ -119,13 +137,16 @@ rows_there events facts (Node name start end children rest) index tables all =
     subst (λ nodes. AllAt (position_there events facts) (suc index) nodes) one all.1 in
     let last_has : HasThem events facts last = λ other e. cc in
     let later = rows_of (suc exit) ended rest in
-    All-cons (HasThem events facts) entry (rows_of (suc index) tables children ++ last ∷ later) entry_has
+    All-cons (HasThem events facts) entry
+    (rows_of (suc index) tables children ++ last ∷ later) entry_has
     (All-append (HasThem events facts) (rows_of (suc index) tables children) (last
     ∷ later) (rows_there events facts children (suc index) tables all.1)
-    (All-cons (HasThem events facts) last later last_has (rows_there events facts rest (suc exit) ended all.2)))
+    (All-cons (HasThem events facts) last later last_has
+    (rows_there events facts rest (suc exit) ended all.2)))
 
 -- the children of the node that the event at an index enters
-pub children-placed : (given : Handed) (index : ℕ) (name : Name) → EntersAt given.events index name →
+pub children-placed : (given : Handed) (index : ℕ) (name : Name) →
+    EntersAt given.events index name →
     (children : Forest) → IsEnteredAt given index children →
     AllAt (position_at given.events (facts_at given.events)) (suc index) children
 children-placed given index name enters children entered =
@@ -140,8 +161,9 @@ children-placed given index name enters children entered =
     ∙ sym (append-nil (facts_of 0 0 forest))) in
     let none : 0 + index ≡ index = omega arith in
     let index_is : Row.index (get_or rows index past) ≡ index =
-    numbered_get rows 0 (index_after 0 forest) index past (numbered_rows forest 0 0) inside ∙ none in
+    numbered_get rows 0 (index_after 0 forest) index past (numbered_rows forest 0 0) inside
+    ∙ none in
     let there = rows_there events facts forest 0 0 all index past inside children
     (children_there given index name enters forest entered.1 children entered.2) in
-    all_at events facts children index (subst (λ i. AllAt (position_there events facts) (suc i) children) index_is
-    there)
+    all_at events facts children index
+    (subst (λ i. AllAt (position_there events facts) (suc i) children) index_is there)

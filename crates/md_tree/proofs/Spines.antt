@@ -1,5 +1,6 @@
 -- The spine of shaped nodes is the same by names and by symbols.
-use Rattle.std.proofs.Common.{◌≡◌, Bool, true, false, cond, Option, List, [], ◌∷◌, ◌++◌, refl, sym, ap, ◌∙◌, append_assoc}
+use Rattle.std.proofs.Common.{◌≡◌, Bool, true, false, cond, Option, List, [], ◌∷◌, ◌++◌, refl, sym}
+use Rattle.std.proofs.Common.{ap, ◌∙◌, append_assoc}
 use Rattle.md_base.specs.declared.event.Name.{Name}
 use Rattle.md_base.specs.declared.event.Name.TheVariants.{BlockQuotePrefix, SpaceOrTab, Other}
 use Rattle.md_pattern.specs.declared.kinds.Symbol.{Symbol}
@@ -26,16 +27,19 @@ looked_through SpaceOrTab = refl
 looked_through (Other number) = refl
 looked_through _ = refl
 
-symbols-append : (names others : List Name) → symbols_of (names ++ others) ≡ symbols_of names ++ symbols_of others
+symbols-append : (names others : List Name) →
+    symbols_of (names ++ others) ≡ symbols_of names ++ symbols_of others
 symbols-append [] others = refl
 symbols-append (name ∷ names) others =
     ap (λ symbols. shown (standing_of name) [] ++ symbols) (symbols-append names others)
     ∙ sym (append_assoc (shown (standing_of name) []) (symbols_of names) (symbols_of others))
 
 -- what one node shows
-node_shows : (standing : Standing) (name : Name) (through : Bool) (children : Forest) (around : Role)
+node_shows :
+    (standing : Standing) (name : Name) (through : Bool) (children : Forest) (around : Role)
     (before : Option Symbol) → standing_of name ≡ standing → through ≡ is_through standing →
-    IsStanding standing around before children → spine children ≡ symbols_of (spine_names children) →
+    IsStanding standing around before children →
+    spine children ≡ symbols_of (spine_names children) →
     shown standing (spine children) ≡ symbols_of (cond through (spine_names children) (name ∷ []))
 node_shows Through name through children around before same is stands inner =
     inner ∙ ap (λ t. symbols_of (cond t (spine_names children) (name ∷ []))) (sym is)
@@ -43,10 +47,12 @@ node_shows Space name through children around before same is stands inner =
     ap (λ nodes. symbols_of (spine_names nodes)) (sym stands)
     ∙ ap (λ t. symbols_of (cond t (spine_names children) (name ∷ []))) (sym is)
 node_shows (Solid symbol usual reading) name through children around before same is stands inner =
-    ap (λ st. shown st [] ++ []) (sym same) ∙ ap (λ t. symbols_of (cond t (spine_names children) (name ∷ []))) (sym is)
+    ap (λ st. shown st [] ++ []) (sym same)
+    ∙ ap (λ t. symbols_of (cond t (spine_names children) (name ∷ []))) (sym is)
 node_shows Mdx name through children around before same is stands inner = absurd stands
 
-pub spine-names : (forest : Forest) (around : Role) (before : Option Symbol) → AreShaped forest around before →
+pub spine-names : (forest : Forest) (around : Role) (before : Option Symbol) →
+    AreShaped forest around before →
     spine forest ≡ symbols_of (spine_names forest)
 spine-names Empty around before shaped = refl
 spine-names (Node name start end children rest) around before shaped =
@@ -55,4 +61,5 @@ spine-names (Node name start end children rest) around before shaped =
     (spine-names children _ _ shaped.1))
     ∙ ap (λ symbols. symbols_of (cond (is_transparent name) (spine_names children) (name ∷ []))
     ++ symbols) (spine-names rest _ _ shaped.2)
-    ∙ sym (symbols-append (cond (is_transparent name) (spine_names children) (name ∷ [])) (spine_names rest))
+    ∙ sym (symbols-append (cond (is_transparent name) (spine_names children) (name ∷ []))
+    (spine_names rest))

@@ -1,5 +1,7 @@
 -- Runs of bytes that are texts: a part of a run is that part of the bytes.
-use Rattle.std.proofs.Common.{rules, ◌≡◌, ℕ, ◌+◌, ◌-◌, ◌≤◌, Bool, true, ◌&&◌, nat_le, Option, None, Some, List, ◌++◌, length, take, drop, take-add, refl, sym, ap, ◌∙◌, arith}
+use Rattle.std.proofs.Common.{rules, ◌≡◌, ℕ, ◌+◌, ◌-◌, ◌≤◌, Bool, true, ◌&&◌, nat_le, Option, None}
+use Rattle.std.proofs.Common.{Some, List, ◌++◌, length, take, drop, take-add, refl, sym, ap, ◌∙◌}
+use Rattle.std.proofs.Common.{arith}
 use Rattle.std.specs.Prelude.{slice_range, IfSome}
 use Rattle.std.specs.Str.{IsUtf8}
 use Rattle.std.proofs.lemmas.Str.{IsUtf8-append, is_utf8-from_IsUtf8}
@@ -7,8 +9,10 @@ use Rattle.std.proofs.lemmas.List.{take-take, drop-drop, drop-take}
 use Rattle.md_base.specs.Place.{text_when}
 
 -- the part of a run
-pub slice_range-run : (bytes text : List ℕ) (s start end : ℕ) → take (length text) (drop s bytes) ≡ text → s ≤ start →
-    start ≤ end → end - s ≤ length text → slice_range text (start - s) (end - s) ≡ slice_range bytes start end
+pub slice_range-run : (bytes text : List ℕ) (s start end : ℕ) →
+    take (length text) (drop s bytes) ≡ text → s ≤ start →
+    start ≤ end → end - s ≤ length text →
+    slice_range text (start - s) (end - s) ≡ slice_range bytes start end
 slice_range-run bytes text s start end is low ordered high =
     let from = start - s in
     let left = length text - from in
@@ -16,45 +20,55 @@ slice_range-run bytes text s start end is low ordered high =
     let there : s + from ≡ start = omega arith in
     let count : (end - s) - from ≡ end - start = omega arith in
     let rest : drop from text ≡ take left (drop start bytes) =
-    ap (drop from) (sym is ∙ ap (λ n. take n (drop s bytes)) (sym all)) ∙ drop-take from left (drop s bytes)
-    ∙ ap (take left) (drop-drop from s bytes ∙ ap (λ n. drop n bytes) there) in
+    ap (drop from) (sym is ∙ ap (λ n. take n (drop s bytes)) (sym all)) ∙ drop-take from left
+    (drop s bytes) ∙ ap (take left) (drop-drop from s bytes ∙ ap (λ n. drop n bytes) there) in
     ap (λ n. take n (drop from text)) count ∙ ap (take (end - start)) rest
     ∙ take-take (end - start) left (drop start bytes) (omega arith)
 
 -- bytes that may be read and are UTF-8 are a text
-pub text_when-some : (readable : Bool) (bytes part : List ℕ) → readable ≡ true → part ≡ bytes → IsUtf8 part →
+pub text_when-some : (readable : Bool) (bytes part : List ℕ) → readable ≡ true →
+    part ≡ bytes → IsUtf8 part →
     text_when readable bytes ≡ Some part
-text_when-some readable bytes part holds same utf8 = rw (holds, ← same, is_utf8-from_IsUtf8 part utf8) refl
+text_when-some readable bytes part holds same utf8 =
+    rw (holds, ← same, is_utf8-from_IsUtf8 part utf8) refl
 
 -- indices in order, within the bytes
-pub readable-ordered : (start end n : ℕ) → start ≤ end → end ≤ n → (nat_le start end && nat_le end n) ≡ true
+pub readable-ordered : (start end n : ℕ) → start ≤ end → end ≤ n →
+    (nat_le start end && nat_le end n) ≡ true
 readable-ordered start end n ordered within = search rules
 
 -- a part of a run's text is a text of the bytes
 pub run-part : (bytes text part : List ℕ) (s start end : ℕ) → s + length text ≤ length bytes →
-    take (length text) (drop s bytes) ≡ text → s ≤ start → s ≤ end → start - s ≤ end - s → end - s ≤ length text →
+    take (length text) (drop s bytes) ≡ text → s ≤ start → s ≤ end → start - s ≤ end - s →
+    end - s ≤ length text →
     part ≡ slice_range text (start - s) (end - s) → IsUtf8 part →
-    text_when (nat_le start end && nat_le end (length bytes)) (slice_range bytes start end) ≡ Some part
+    text_when (nat_le start end && nat_le end (length bytes)) (slice_range bytes start end)
+    ≡ Some part
 run-part bytes text part s start end within is low low_end ordered high same utf8 =
     let in_order : start ≤ end = omega (arith, ordered, low, low_end) in
-    text_when-some _ _ _ (readable-ordered start end (length bytes) in_order (omega (arith, within, high, low_end)))
+    text_when-some _ _ _
+    (readable-ordered start end (length bytes) in_order (omega (arith, within, high, low_end)))
     (same ∙ slice_range-run bytes text s start end is low in_order high) utf8
 
 -- what holds of an answer, where there is one
-pub some-weaken : {A : Type 0} (P Q : A → Type 0) → ((a : A) → P a → Q a) → (o : Option A) → IfSome o P → IfSome o Q
+pub some-weaken : {A : Type 0} (P Q : A → Type 0) → ((a : A) → P a → Q a) → (o : Option A) →
+    IfSome o P → IfSome o Q
 some-weaken P Q weaken None holds = holds
 some-weaken P Q weaken (Some a) holds = weaken a holds
 
 -- a text that goes on where another ends
-pub IsUtf8-on : (bytes : List ℕ) (start at end : ℕ) → start ≤ at → at ≤ end → IsUtf8 (slice_range bytes start at) →
+pub IsUtf8-on : (bytes : List ℕ) (start at end : ℕ) → start ≤ at → at ≤ end →
+    IsUtf8 (slice_range bytes start at) →
     IsUtf8 (slice_range bytes at end) → IsUtf8 (slice_range bytes start end)
 IsUtf8-on bytes start at end before after front rest =
     let m = at - start in
     let n = end - at in
     let all : end - start ≡ m + n = omega arith in
     let there : start + m ≡ at = omega arith in
-    let left : drop m (drop start bytes) ≡ drop at bytes = drop-drop m start bytes ∙ ap (λ k. drop k bytes) there in
-    let parts : take (end - start) (drop start bytes) ≡ take m (drop start bytes) ++ take n (drop at bytes) =
+    let left : drop m (drop start bytes) ≡ drop at bytes =
+    drop-drop m start bytes ∙ ap (λ k. drop k bytes) there in
+    let parts :
+    take (end - start) (drop start bytes) ≡ take m (drop start bytes) ++ take n (drop at bytes) =
     ap (λ k. take k (drop start bytes)) all ∙ take-add m n (drop start bytes)
     ∙ ap (λ xs. take m (drop start bytes) ++ take n xs) left in
     rw parts (IsUtf8-append _ _ front rest)

@@ -1,5 +1,6 @@
 -- A tree with the shape of the grammar is read from its first event to its last.
-use Rattle.std.proofs.Common.{◌≡◌, ◌≢◌, ℕ, suc, true, cond, Option, Some, None, MatchOption, List, [], ◌∷◌, ◌++◌, refl, sym, ap, ◌∙◌, subst}
+use Rattle.std.proofs.Common.{◌≡◌, ◌≢◌, ℕ, suc, true, cond, Option, Some, None, MatchOption, List}
+use Rattle.std.proofs.Common.{[], ◌∷◌, ◌++◌, refl, sym, ap, ◌∙◌, subst}
 use Rattle.std.specs.Prelude.{option_map}
 use Rattle.md_base.specs.declared.event.Point.{Point}
 use Rattle.md_base.specs.declared.event.Name.{Name}
@@ -19,12 +20,14 @@ use Rattle.md_tree.specs.Machine.{Entry}
 use Rattle.md_base.specs.Tree.{Forest, Empty, Node, flatten, exiting}
 use Rattle.md_pattern.specs.Standing.{standing_of}
 use Rattle.md_pattern.specs.Spine.{spine, shown, Matches}
-use Rattle.md_pattern.specs.Shape.{Claim, EachNode, IsShapedNode, IsStanding, inner_role, inner_before, last_symbol, role_for}
+use Rattle.md_pattern.specs.Shape.{Claim, EachNode, IsShapedNode, IsStanding, inner_role}
+use Rattle.md_pattern.specs.Shape.{inner_before, last_symbol, role_for}
 use Rattle.md_tree.specs.Rules.{reading_of, place, target_after, target_of}
 use Rattle.md_tree.specs.Mentions.{mention_of, mentions_with}
 use Rattle.md_pattern.specs.Partners.{index_after}
 use Rattle.md_pattern.specs.Steps.{may_hold, start_of, advance, is_complete}
-use Rattle.md_tree.specs.Machine.{Reads, Course, Runs, Exits, after_entry, entered, entered_on, beginning}
+use Rattle.md_tree.specs.Machine.{Reads, Course, Runs, Exits, after_entry, entered, entered_on}
+use Rattle.md_tree.specs.Machine.{beginning}
 use Rattle.md_tree.proofs.Groups.{Feeds, Feeds-split, Feeds-matches, advance_role}
 
 -- a claim about nodes that stand on a spine, of a node that stands so
@@ -36,16 +39,18 @@ IsReadWhere holds _ around before start end target = Unit {0}
 -- a node has its shape, and the claim holds of it
 abbrev pub IsFine : Reads → Claim
 IsFine holds around before name start end children =
-    IsShapedNode around before name start end children × IsReadWhere holds (standing_of name) around before start end
-    (target_of children Missing)
+    IsShapedNode around before name start end children
+    × IsReadWhere holds (standing_of name) around before start end (target_of children Missing)
 
 -- what is free is fine
 abbrev pub AllowsFree : Reads → Type 0
-AllowsFree holds = (around : Role) (before : Option Symbol) (start end : Point) (target : Referral) →
+AllowsFree holds =
+    (around : Role) (before : Option Symbol) (start end : Point) (target : Referral) →
     holds Free around before start end target
 
 pub Runs-append : (holds : Reads) (events others : List Event) (from middle to : Course) →
-    Runs holds events from middle → Runs holds others middle to → Runs holds (events ++ others) from to
+    Runs holds events from middle → Runs holds others middle to →
+    Runs holds (events ++ others) from to
 Runs-append holds [] others from middle to r q = subst (λ c. Runs holds others c to) (sym r) q
 Runs-append holds (event ∷ events) others from middle to r q =
     (r.0, r.1, Runs-append holds events others r.0 middle to r.2 q)
@@ -60,7 +65,8 @@ Runs-split holds (event ∷ events) others from to r =
 -- a spine keeps its role, and its last symbol is the last that was read
 pub Feeds-context : (from to : State) (symbols : List Symbol) → Feeds from symbols to →
     (to.role ≡ from.role) × (to.before ≡ last_symbol from.before symbols)
-Feeds-context from to [] f = (ap (λ (s : State). s.role) (sym f), ap (λ (s : State). s.before) (sym f))
+Feeds-context from to [] f =
+    (ap (λ (s : State). s.role) (sym f), ap (λ (s : State). s.before) (sym f))
 Feeds-context from to (symbol ∷ symbols) f =
     let here = advance_role from f.0 symbol f.1 in
     let rest = Feeds-context f.0 to symbols f.2 in
@@ -90,8 +96,8 @@ after_nodes forest end from =
     }
 
 -- a node is entered, its children are read, and it is left
-pub record NodeRuns (holds : Reads) (standing : Standing) (name : Name) (start end : Point) (children : Forest)
-    (from : Course) (middle : State) : Type 0 where
+pub record NodeRuns (holds : Reads) (standing : Standing) (name : Name) (start end : Point)
+    (children : Forest) (from : Course) (middle : State) : Type 0 where
   pub inside : Course
   pub last : Course
   pub enters : MatchOption (entered standing from.state from.target) ⊥ (λ entry. inside
@@ -113,19 +119,23 @@ enters_with : (standing : Standing) (name : Name) (start : Point) (from : Course
     ≡ after_entry e name start from)
 enters_with standing name start from entry may is =
     subst (λ b. MatchOption (cond b (entered_on standing from.state from.target) None) ⊥
-    (λ e. after_entry entry name start from ≡ after_entry e name start from)) (sym may)
-    (subst (λ o. MatchOption o ⊥ (λ e. after_entry entry name start from ≡ after_entry e name start from))
+    (λ e. after_entry entry name start from ≡ after_entry e name start from)) (sym may) (subst (λ o.
+    MatchOption o ⊥ (λ e. after_entry entry name start from ≡ after_entry e name start from))
     (sym is) refl)
 
 -- children are read
 abbrev pub ReadsChildren : Reads → Forest → Type 0
 ReadsChildren holds children =
-    (from : Course) (end : State) → EachNode (IsFine holds) children from.state.role from.state.before →
-    Feeds from.state (spine children) end → Runs holds (flatten children) from (after_nodes children end from)
+    (from : Course) (end : State) →
+    EachNode (IsFine holds) children from.state.role from.state.before →
+    Feeds from.state (spine children) end →
+    Runs holds (flatten children) from (after_nodes children end from)
 
-node_through : (holds : Reads) (name : Name) (start end : Point) (children : Forest) (from : Course) (middle : State)
+node_through : (holds : Reads) (name : Name) (start end : Point) (children : Forest)
+    (from : Course) (middle : State)
     → may_hold from.state.role ≡ true → ReadsChildren holds children →
-    EachNode (IsFine holds) children from.state.role from.state.before → Feeds from.state (spine children) middle →
+    EachNode (IsFine holds) children from.state.role from.state.before →
+    Feeds from.state (spine children) middle →
     NodeRuns holds Through name start end children from middle
 node_through holds name start end children from middle may reads fine feeds =
     let entry : Entry = record { state = from.state; target = from.target; outer = None } in
@@ -137,15 +147,23 @@ node_through holds name start end children from middle may reads fine feeds =
       exits = (refl, refl);
     }
 
-node_space : (holds : Reads) → AllowsFree holds → (name : Name) (start end : Point) (children : Forest)
-    (from : Course) (middle : State) → may_hold from.state.role ≡ true → ReadsChildren holds children →
+node_space : (holds : Reads) → AllowsFree holds →
+    (name : Name) (start end : Point) (children : Forest)
+    (from : Course) (middle : State) → may_hold from.state.role ≡ true →
+    ReadsChildren holds children →
     EachNode (IsFine holds) children Childless None → children ≡ Empty → from.state ≡ middle →
     NodeRuns holds Space name start end children from middle
 node_space holds free name start end children from middle may reads fine empty same =
     let entry : Entry = record {
       state = start_of Childless;
       target = Missing;
-      outer = Some (record { state = from.state; before = from.state.before; target = from.target; reading = Free });
+      outer = Some
+          (record {
+            state = from.state;
+            before = from.state.before;
+            target = from.target;
+            reading = Free;
+          });
     }
     in
     record {
@@ -170,7 +188,8 @@ node_space holds free name start end children from middle may reads fine empty s
       );
     }
 
-node_solid : (holds : Reads) (name : Name) (start end : Point) (children : Forest) (from : Course) (middle : State)
+node_solid : (holds : Reads) (name : Name) (start end : Point) (children : Forest)
+    (from : Course) (middle : State)
     (symbol : Symbol) (usual : Role) (reading : Reading) → may_hold from.state.role ≡ true →
     ReadsChildren holds children → EachNode (IsFine holds) children
     (role_for from.state.role from.state.before usual) None →
@@ -178,12 +197,19 @@ node_solid : (holds : Reads) (name : Name) (start end : Point) (children : Fores
     holds reading from.state.role from.state.before start end (target_of children Missing) →
     advance from.state symbol ≡ Some middle → NodeRuns holds
     (Solid symbol usual reading) name start end children from middle
-node_solid holds name start end children from middle symbol usual reading may reads fine matches read moved =
+node_solid holds name start end children from middle symbol usual reading may reads fine
+    matches read moved =
     let role = role_for from.state.role from.state.before usual in
     let entry : Entry = record {
       state = start_of role;
       target = Missing;
-      outer = Some (record { state = middle; before = from.state.before; target = from.target; reading = reading });
+      outer = Some
+          (record {
+            state = middle;
+            before = from.state.before;
+            target = from.target;
+            reading = reading;
+          });
     } in
     let whole = Feeds-matches role (spine children) matches in
     record {
@@ -212,26 +238,34 @@ node_solid holds name start end children from middle symbol usual reading may re
       );
     }
 
-node_runs : (holds : Reads) → AllowsFree holds → (standing : Standing) (name : Name) (start end : Point)
+node_runs : (holds : Reads) → AllowsFree holds →
+    (standing : Standing) (name : Name) (start end : Point)
     (children : Forest) (from : Course) (middle : State) → from.state.role ≢ Childless →
     IsStanding standing from.state.role from.state.before children →
-    IsReadWhere holds standing from.state.role from.state.before start end (target_of children Missing) →
-    ReadsChildren holds children → EachNode (IsFine holds) children
-    (inner_role standing from.state.role from.state.before) (inner_before standing from.state.before) →
+    IsReadWhere holds standing from.state.role from.state.before start end
+    (target_of children Missing) →
+    ReadsChildren holds children → EachNode (IsFine holds) children (inner_role standing
+    from.state.role from.state.before) (inner_before standing from.state.before) →
     Feeds from.state (shown standing (spine children)) middle →
     NodeRuns holds standing name start end children from middle
 node_runs holds free Through name start end children from middle ne stands read reads fine feeds =
-    node_through holds name start end children from middle (may_hold-from from.state.role ne) reads fine feeds
+    node_through holds name start end children from middle
+    (may_hold-from from.state.role ne) reads fine feeds
 node_runs holds free Space name start end children from middle ne stands read reads fine feeds =
-    node_space holds free name start end children from middle (may_hold-from from.state.role ne) reads fine stands feeds
-node_runs holds free (Solid symbol usual reading) name start end children from middle ne stands read reads fine feeds =
+    node_space holds free name start end children from middle (may_hold-from from.state.role ne)
+    reads fine stands feeds
+node_runs holds free (Solid symbol usual reading) name start end children from middle ne stands
+    read reads fine feeds =
     node_solid holds name start end children from middle symbol usual reading
     (may_hold-from from.state.role ne) reads fine stands read (feeds.1 ∙ ap Some feeds.2)
-node_runs holds free Mdx name start end children from middle ne stands read reads fine feeds = absurd stands
+node_runs holds free Mdx name start end children from middle ne stands read reads fine feeds =
+    absurd stands
 
 -- nodes that are fine are read, from a spine that takes theirs
-pub Runs-nodes : (holds : Reads) → AllowsFree holds → (forest : Forest) (from : Course) (end : State) →
-    EachNode (IsFine holds) forest from.state.role from.state.before → Feeds from.state (spine forest) end →
+pub Runs-nodes : (holds : Reads) → AllowsFree holds →
+    (forest : Forest) (from : Course) (end : State) →
+    EachNode (IsFine holds) forest from.state.role from.state.before →
+    Feeds from.state (spine forest) end →
     Runs holds (flatten forest) from (after_nodes forest end from)
 Runs-nodes holds free Empty from end fine feeds =
     ap (λ (s : State). record {
@@ -245,8 +279,8 @@ Runs-nodes holds free (Node name start stop children rest) from end fine feeds =
     let st = standing_of name in
     let parts = Feeds-split from.state end (shown st (spine children)) (spine rest) feeds in
     let middle = parts.0 in
-    let node = node_runs holds free st name start stop children from middle fine.0.0.0 fine.0.0.1 fine.0.1
-    (Runs-nodes holds free children) fine.1 parts.1 in
+    let node = node_runs holds free st name start stop children from middle fine.0.0.0 fine.0.0.1
+    fine.0.1 (Runs-nodes holds free children) fine.1 parts.1 in
     let context = Feeds-context from.state middle (shown st (spine children)) parts.1 in
     let after : Course = record {
       state = middle;
@@ -258,18 +292,21 @@ Runs-nodes holds free (Node name start stop children rest) from end fine feeds =
           (mentions_over (suc from.count) children from.mentions);
     } in
     let rest_fine = subst (λ b. EachNode (IsFine holds) rest middle.role b) (sym context.1)
-    (subst (λ r. EachNode (IsFine holds) rest r (last_symbol from.state.before (shown st (spine children))))
-    (sym context.0) fine.2) in
+    (subst (λ r. EachNode (IsFine holds) rest r
+    (last_symbol from.state.before (shown st (spine children)))) (sym context.0) fine.2) in
     let rest_runs = Runs-nodes holds free rest after end rest_fine parts.2 in (
       node.inside,
       node.enters,
       Runs-append holds (flatten children) (exiting name stop
-          ∷ flatten rest) node.inside node.last (after_nodes (Node name start stop children rest) end from) node.runs
+          ∷ flatten rest) node.inside node.last
+          (after_nodes (Node name start stop children rest) end from) node.runs
           (after, node.exits, rest_runs),
     )
 
-pub EachNode-map : (P Q : Claim) → ((around : Role) (before : Option Symbol) (name : Name) (start end : Point)
-    (children : Forest) → P around before name start end children → Q around before name start end children) →
+pub EachNode-map : (P Q : Claim) →
+    ((around : Role) (before : Option Symbol) (name : Name) (start end : Point)
+    (children : Forest) → P around before name start end children →
+    Q around before name start end children) →
     (forest : Forest) (around : Role) (before : Option Symbol) → EachNode P forest around before →
     EachNode Q forest around before
 EachNode-map P Q f Empty around before each = tt
@@ -277,13 +314,15 @@ EachNode-map P Q f (Node name start end children rest) around before each = (
   f around before name start end children each.0,
   EachNode-map P Q f children
       (inner_role (standing_of name) around before) (inner_before (standing_of name) before) each.1,
-  EachNode-map P Q f rest around (last_symbol before (shown (standing_of name) (spine children))) each.2,
+  EachNode-map P Q f rest around
+      (last_symbol before (shown (standing_of name) (spine children))) each.2,
 )
 
 -- a document that is fine is read to an end
 pub Runs-document : (holds : Reads) → AllowsFree holds → (forest : Forest) →
     EachNode (IsFine holds) forest Flow None → Matches Flow (spine forest) →
-    (end : State) × Runs holds (flatten forest) beginning (after_nodes forest end beginning) × (is_complete end ≡ true)
+    (end : State) × Runs holds (flatten forest) beginning (after_nodes forest end beginning)
+    × (is_complete end ≡ true)
 Runs-document holds free forest fine matches =
     let whole = Feeds-matches Flow (spine forest) matches in
     (whole.0, Runs-nodes holds free forest beginning whole.0 fine whole.1, whole.2)

@@ -10,8 +10,8 @@ use Rattle.md_pattern.specs.Facts.{tables_at, definitions_at}
 abbrev pub handed_of : Inside → Handed
 handed_of inside = handed inside.events.now inside.texts inside.names.now
 
--- the events are a document's of the grammar, each has what is found at it and its number, the tables, the definitions
--- and the first line ending are theirs, and each was visited once
+-- the events are a document's of the grammar, each has what is found at it and its number, the
+-- tables, the definitions and the first line ending are theirs, and each was visited once
 abbrev pub IsKept : Inside → Type 0
 IsKept inside =
     IsChecked (handed_of inside)

@@ -6,7 +6,8 @@ use Rattle.md_tree.specs.Grammar.{Handed}
 -- for each event of the nodes, in order: at an entry the node's children, nothing at an exit
 abbrev pub children_of : Forest → List (Option Forest)
 children_of Empty = []
-children_of (Node name start end children rest) = Some children ∷ children_of children ++ None ∷ children_of rest
+children_of (Node name start end children rest) =
+    Some children ∷ children_of children ++ None ∷ children_of rest
 
 -- the event at an index enters a node with these children, in the document that the events flatten
 abbrev pub IsEnteredAt : Handed → ℕ → Forest → Type 0

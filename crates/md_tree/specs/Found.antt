@@ -1,5 +1,7 @@
--- What is found of a node by the index of the event that enters it. Only contracts of private functions speak of it.
-use Rattle.std.specs.Prelude.{◌≡◌, ℕ, zero, suc, Option, Some, None, option_and_then, List, slice_get}
+-- What is found of a node by the index of the event that enters it. Only contracts of private
+-- functions speak of it.
+use Rattle.std.specs.Prelude.{◌≡◌, ℕ, zero, suc, Option, Some, None, option_and_then, List}
+use Rattle.std.specs.Prelude.{slice_get}
 use Rattle.md_base.specs.declared.event.Name.{Name}
 use Rattle.md_base.specs.declared.event.Event.{Event}
 use Rattle.md_base.specs.declared.event.Position.{Position}
@@ -15,11 +17,12 @@ use Rattle.md_pattern.specs.Facts.{fact_at}
 abbrev pub EntersSome : List Event → ℕ → Type 0
 EntersSome events index = (name : Name) × EntersAt events index name
 
--- what is found of the node that the event at an index enters, where some number of tables have ended
+-- what is found of the node that the event at an index enters, where some number of
+-- tables have ended
 abbrev pub IsFactAt : Handed → ℕ → Fact → Type 0
 IsFactAt given index fact =
-    (name : Name) (children : Forest) → EntersAt given.events index name → IsEnteredAt given index children →
-    (tables : ℕ) × (fact ≡ fact_at index tables name children)
+    (name : Name) (children : Forest) → EntersAt given.events index name →
+    IsEnteredAt given index children → (tables : ℕ) × (fact ≡ fact_at index tables name children)
 
 -- an index that is there
 abbrev pub index_if : ℕ → Option ℕ
@@ -43,7 +46,8 @@ position_there events facts index = position_from (slice_get events index)
 
 -- the same, where 0 stands for no index
 abbrev pub position_at : List Event → List Fact → ℕ → Option Position
-position_at events facts index = option_and_then (λ there. position_there events facts there) (index_if index)
+position_at events facts index =
+    option_and_then (λ there. position_there events facts there) (index_if index)
 
 -- the place of the node that the event at an index exits
 abbrev pub position_ended : List Event → List Fact → ℕ → Option Position

@@ -11,12 +11,14 @@ use Rattle.md_tree.specs.Rules.{MeetRules}
 use Rattle.md_tree.specs.Mentions.{mentions_of, IsResolved}
 
 -- a document is one of the grammar over these bytes and names
-pub record IsGrammatical (bytes : List ℕ) (names : List (List ℕ × List ℕ)) (forest : Forest) : Type 0 where
+pub record IsGrammatical (bytes : List ℕ) (names : List (List ℕ × List ℕ))
+    (forest : Forest) : Type 0 where
   pub shape : IsShaped forest
   pub rules : MeetRules bytes names forest role.Flow None
   pub resolved : All (IsResolved bytes (mentions_of forest)) (mentions_of forest)
 
--- what is handed to a check: events, the document's bytes, the names of character references with their texts
+-- what is handed to a check: events, the document's bytes, the names of character references
+-- with their texts
 pub record Handed : Type 0 where
   pub events : List Event
   pub bytes : List ℕ

@@ -12,7 +12,8 @@ use Rattle.md_tree.specs.Tables.{values_of_table}
 
 -- a table has one alignment for each cell value of its delimiter row, in order
 abbrev pub HasOneAlignmentForEachValue : Forest → Type 0
-HasOneAlignmentForEachValue children = alignments children ≡ map alignment_of (values_of_table children)
+HasOneAlignmentForEachValue children =
+    alignments children ≡ map alignment_of (values_of_table children)
 
 -- a list that is loose without its items is loose with them
 abbrev pub IsLooseWithItemsToo : Forest → Type 0

@@ -1,5 +1,6 @@
 -- How a check reads events: one small state for each open node.
-use Rattle.std.specs.Prelude.{◌≡◌, ℕ, suc, if◌then◌else◌, Option, Some, None, option_map, List, [], ◌∷◌, IsTrue, MatchOption}
+use Rattle.std.specs.Prelude.{◌≡◌, ℕ, suc, if◌then◌else◌, Option, Some, None, option_map, List, []}
+use Rattle.std.specs.Prelude.{◌∷◌, IsTrue, MatchOption}
 use Rattle.md_base.specs.declared.event.Point.{Point}
 use Rattle.md_base.specs.declared.event.Name.{Name}
 use Rattle.md_base.specs.declared.event.Event.{Event}
@@ -22,8 +23,8 @@ use Rattle.md_pattern.specs.Steps.{advance, is_complete, may_hold, start_of}
 use Rattle.md_tree.specs.Rules.{place, target_at}
 use Rattle.md_tree.specs.Mentions.{mention_of, mentions_with}
 
--- what waits for the end of a node that has a spine of its own: the spine around it with the node, the symbol before
--- it, the target of the spine around so far, and what is read of the node
+-- what waits for the end of a node that has a spine of its own: the spine around it with the node,
+-- the symbol before it, the target of the spine around so far, and what is read of the node
 pub record Outer : Type 0 where
   pub state : State
   pub before : Option Symbol
@@ -49,22 +50,26 @@ entered_on Space state target =
     Some (record {
       state = start_of role.Childless;
       target = Missing;
-      outer = Some (record { state = state; before = state.before; target = target; reading = Free });
+      outer =
+          Some (record { state = state; before = state.before; target = target; reading = Free });
     })
 entered_on (Solid symbol usual reading) state target =
     option_map (λ next. record {
       state = start_of (role_for state.role state.before usual);
       target = Missing;
-      outer = Some (record { state = next; before = state.before; target = target; reading = reading });
+      outer =
+          Some (record { state = next; before = state.before; target = target; reading = reading });
     })
     (advance state symbol)
 entered_on Mdx state target = None
 
 -- the same, where the node around may have children
 abbrev pub entered : Standing → State → Referral → Option Entry
-entered standing state target = if may_hold state.role then entered_on standing state target else None
+entered standing state target =
+    if may_hold state.role then entered_on standing state target else None
 
--- how far events have been read: how many, what they mention, and of the open nodes the innermost first
+-- how far events have been read: how many, what they mention, and of the open nodes
+-- the innermost first
 pub record Course : Type 0 where
   pub state : State
   pub target : Referral
@@ -102,8 +107,8 @@ after_exit outer start end others course = record {
   mentions = mentions_with course.count (mention_of outer.reading course.target) course.mentions;
 }
 
--- a claim about nodes that stand on a spine: what is read of each, the role around it, the symbol before it, its
--- start, end and target
+-- a claim about nodes that stand on a spine: what is read of each, the role around it, the symbol
+-- before it, its start, end and target
 abbrev pub Reads : Type 1
 Reads = Reading → Role → Option Symbol → Point → Point → Referral → Type 0
 
@@ -111,7 +116,8 @@ Reads = Reading → Role → Option Symbol → Point → Point → Referral → 
 abbrev pub ExitsWhere : Reads → Option Outer → Point → Point → List Open → Course → Course → Type 0
 ExitsWhere holds None start end others from to = to ≡ after_through others from
 ExitsWhere holds (Some outer) start end others from to =
-    IsTrue (is_complete from.state) × holds outer.reading outer.state.role outer.before start end from.target
+    IsTrue (is_complete from.state)
+    × holds outer.reading outer.state.role outer.before start end from.target
     × (to ≡ after_exit outer start end others from)
 
 -- an exiting event: of the innermost open node
@@ -137,8 +143,15 @@ Steps holds event from to = StepsBy holds event.kind event.name event.point from
 -- events, one after another
 abbrev pub Runs : Reads → List Event → Course → Course → Type 0
 Runs holds [] from to = from ≡ to
-Runs holds (event ∷ events) from to = (next : Course) × Steps holds event from next × Runs holds events next to
+Runs holds (event ∷ events) from to =
+    (next : Course) × Steps holds event from next × Runs holds events next to
 
 -- before any event
 abbrev pub beginning : Course
-beginning = record { state = start_of role.Flow; target = Missing; open_nodes = []; count = 0; mentions = [] }
+beginning = record {
+  state = start_of role.Flow;
+  target = Missing;
+  open_nodes = [];
+  count = 0;
+  mentions = [];
+}

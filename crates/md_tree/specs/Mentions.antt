@@ -9,7 +9,8 @@ use Rattle.md_pattern.specs.declared.kinds.Reading.TheVariants as reading
 use Rattle.md_tree.specs.declared.mention.Referral.{Referral}
 use Rattle.md_tree.specs.declared.mention.Referral.TheVariants.{Missing, Label}
 use Rattle.md_tree.specs.declared.mention.Mention.{Mention}
-use Rattle.md_tree.specs.declared.mention.Mention.TheVariants.{Nothing, Reference, Call, Definition, FootnoteDefinition}
+use Rattle.md_tree.specs.declared.mention.Mention.TheVariants.{Nothing, Reference, Call, Definition}
+use Rattle.md_tree.specs.declared.mention.Mention.TheVariants.{FootnoteDefinition}
 use Rattle.md_tree.specs.declared.mention.Mentioned.{Mentioned}
 use Rattle.md_base.specs.Tree.{Forest, Empty, Node}
 use Rattle.md_pattern.specs.Standing.{standing_of}
@@ -44,7 +45,8 @@ identifier_at bytes label = option_map normalized (label_between bytes label.sta
 
 -- one more identifier, where a definition is mentioned
 abbrev pub defined_by : List ℕ → Mention → List (Option (List ℕ)) → List (Option (List ℕ))
-defined_by bytes mention rest = elim mention [ Definition at ↦ identifier_at bytes at ∷ rest | _ ↦ rest ]
+defined_by bytes mention rest =
+    elim mention [ Definition at ↦ identifier_at bytes at ∷ rest | _ ↦ rest ]
 
 -- the identifiers of the definitions
 abbrev pub defined : List ℕ → List Mention → List (Option (List ℕ))
@@ -63,6 +65,8 @@ footnoted bytes (mention ∷ mentions) = footnoted_by bytes mention (footnoted b
 
 -- what leads to a definition or a footnote definition has one among these mentions
 abbrev pub IsResolved : List ℕ → List Mention → Mention → Type 0
-IsResolved bytes mentions (Reference label) = Contains (defined bytes mentions) (identifier_at bytes label)
-IsResolved bytes mentions (Call label) = Contains (footnoted bytes mentions) (identifier_at bytes label)
+IsResolved bytes mentions (Reference label) =
+    Contains (defined bytes mentions) (identifier_at bytes label)
+IsResolved bytes mentions (Call label) =
+    Contains (footnoted bytes mentions) (identifier_at bytes label)
 IsResolved bytes mentions _ = Unit {0}

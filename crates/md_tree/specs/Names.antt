@@ -2,7 +2,9 @@
 use Rattle.std.specs.Prelude.{ℕ, List, ◌++◌, codes}
 use Rattle.std.specs.Fmt.{decimal}
 use Rattle.md_tree.specs.declared.rule.Rule.{Rule}
-use Rattle.md_tree.specs.declared.rule.Rule.TheVariants.{Order, Mdx, Place, LineEnding, HeadingMark, ListNumber, CharacterReference, Definition, Footnote, Target}
+use Rattle.md_tree.specs.declared.rule.Rule.TheVariants as rule_variants
+use rule_variants.{Order, Mdx, Place, LineEnding, HeadingMark, ListNumber, CharacterReference}
+use rule_variants.{Definition, Footnote, Target}
 use Rattle.md_tree.specs.declared.rule.CompileError.{CompileError}
 use Rattle.md_tree.specs.declared.rule.CompileError.TheVariants.{Memory, Event}
 

@@ -1,11 +1,14 @@
 -- To which definition a mention leads, and what is kept of it.
-use Rattle.std.specs.Prelude.{◌≡◌, ℕ, zero, suc, ◌+◌, Bool, true, false, if◌then◌else◌, Option, Some, None, option_map, List, [], ◌∷◌, bytes_eq, string_bytes, String, Result, Ok, Err, map, slice_get, IsTrue}
+use Rattle.std.specs.Prelude.{◌≡◌, ℕ, zero, suc, ◌+◌, Bool, true, false, if◌then◌else◌, Option}
+use Rattle.std.specs.Prelude.{Some, None, option_map, List, [], ◌∷◌, bytes_eq, string_bytes, String}
+use Rattle.std.specs.Prelude.{Result, Ok, Err, map, slice_get, IsTrue}
 use Rattle.std.specs.BTreeMap.{BTreeMap, get}
 use Rattle.std.specs.Option.{option_cmp}
 use Rattle.std.specs.String.{string_cmp}
 use Rattle.std.specs.declared.alloc.Global.{Global}
 use Rattle.md_base.specs.declared.event.Name.{Name}
-use Rattle.md_base.specs.declared.event.Name.TheVariants.{Link, Image, GfmFootnoteCall, GfmFootnoteDefinition}
+use Rattle.md_base.specs.declared.event.Name.TheVariants.{Link, Image, GfmFootnoteCall}
+use Rattle.md_base.specs.declared.event.Name.TheVariants.{GfmFootnoteDefinition}
 use Rattle.md_base.specs.declared.event.Event.{Event}
 use Rattle.md_base.specs.Tree.{Forest, flatten}
 use Rattle.md_pattern.specs.Facts.{facts_at}
@@ -31,19 +34,23 @@ which [] wanted = None
 which (first ∷ others) wanted =
     if is_same first wanted then Some 0 else option_map (λ place. suc place) (which others wanted)
 
--- which of the definitions, in the order of their exits, is the first with the identifier of a link or an image: it is
--- the one to which they lead
+-- which of the definitions, in the order of their exits, is the first with the identifier of a link
+-- or an image: it is the one to which they lead
 abbrev pub definition_for : List ℕ → List Mention → Mention → Option ℕ
-definition_for bytes mentions (Reference label) = which (defined bytes mentions) (identifier_at bytes label)
+definition_for bytes mentions (Reference label) =
+    which (defined bytes mentions) (identifier_at bytes label)
 definition_for bytes mentions _ = None
 
 -- the same of the footnote definitions, for a call or a footnote definition
 abbrev pub footnote_for : List ℕ → List Mention → Mention → Option ℕ
-footnote_for bytes mentions (Call label) = which (footnoted bytes mentions) (identifier_at bytes label)
-footnote_for bytes mentions (FootnoteDefinition label) = which (footnoted bytes mentions) (identifier_at bytes label)
+footnote_for bytes mentions (Call label) =
+    which (footnoted bytes mentions) (identifier_at bytes label)
+footnote_for bytes mentions (FootnoteDefinition label) =
+    which (footnoted bytes mentions) (identifier_at bytes label)
 footnote_for bytes mentions _ = None
 
--- the same two of the node that the event at an index exits, in the document that the events flatten
+-- the same two of the node that the event at an index exits, in the document that
+-- the events flatten
 abbrev pub IsDefinitionFor : Handed → ℕ → Option ℕ → Type 0
 IsDefinitionFor given index found =
     (forest : Forest) (mention : Mention) → flatten forest ≡ given.events →
@@ -61,15 +68,17 @@ abbrev pub is_of_definitions : Name → Bool
 is_of_definitions name = elim name [ Link ↦ true | Image ↦ true | _ ↦ false ]
 
 abbrev pub is_of_footnotes : Name → Bool
-is_of_footnotes name = elim name [ GfmFootnoteCall ↦ true | GfmFootnoteDefinition ↦ true | _ ↦ false ]
+is_of_footnotes name =
+    elim name [ GfmFootnoteCall ↦ true | GfmFootnoteDefinition ↦ true | _ ↦ false ]
 
 abbrev pub ExitsOf : (Name → Bool) → List Event → ℕ → Type 0
 ExitsOf is events index = (name : Name) × ExitsAt events index name × IsTrue (is name)
 
 -- ---- what is kept: only contracts of private functions speak of it
 
--- by the identifiers of the definitions and of the footnote definitions, the number of a footnote definition and of
--- what leads to a definition of either kind: one more than which it is; 0 for another mention
+-- by the identifiers of the definitions and of the footnote definitions, the number of a
+-- footnote definition and of what leads to a definition of either kind: one more than which it
+-- is; 0 for another mention
 abbrev pub number_of : Option ℕ → ℕ
 number_of None = 0
 number_of (Some place) = suc place
@@ -100,7 +109,8 @@ put_number (suc index) number (fact ∷ facts) = fact ∷ put_number index numbe
 -- facts with the number of each mention at its event
 abbrev pub numbered : (Mention → ℕ) → List Mentioned → List Fact → List Fact
 numbered number [] facts = facts
-numbered number (one ∷ others) facts = numbered number others (put_number one.index (number one.mention) facts)
+numbered number (one ∷ others) facts =
+    numbered number others (put_number one.index (number one.mention) facts)
 
 -- what a map has for an identifier
 abbrev pub found_in : BTreeMap (Option (String Global)) ℕ → Option (String Global) → Option ℕ
@@ -111,8 +121,8 @@ abbrev pub found_or : Option ℕ → ℕ → Option ℕ → Option ℕ
 found_or (Some number) next later = Some number
 found_or None next later = option_map (λ place. next + place) later
 
--- a map has the number of each of these identifiers that is not first found among those that are left, of which the
--- first is to get the next number
+-- a map has the number of each of these identifiers that is not first found among those that are
+-- left, of which the first is to get the next number
 abbrev pub NumbersBefore : BTreeMap (Option (String Global)) ℕ → ℕ → List (Option (List ℕ)) →
     List (Option (List ℕ)) → Type 0
 NumbersBefore numbers next left all = (wanted : Option (String Global)) →
@@ -121,15 +131,16 @@ NumbersBefore numbers next left all = (wanted : Option (String Global)) →
 
 -- a map has the numbers of these identifiers, of which the first has the number after so many
 abbrev pub NumbersFrom : BTreeMap (Option (String Global)) ℕ → ℕ → List (Option (List ℕ)) → Type 0
-NumbersFrom numbers before all = (wanted : Option (String Global)) →
-    found_in numbers wanted ≡ option_map (λ place. suc (before + place)) (which all (option_map string_bytes wanted))
+NumbersFrom numbers before all = (wanted : Option (String Global)) → found_in numbers wanted
+    ≡ option_map (λ place. suc (before + place)) (which all (option_map string_bytes wanted))
 
 -- a map has the number of each of these identifiers and of no other
 abbrev pub Numbers : BTreeMap (Option (String Global)) ℕ → List (Option (List ℕ)) → Type 0
-Numbers numbers all = (wanted : Option (String Global)) →
-    found_in numbers wanted ≡ option_map (λ place. suc place) (which all (option_map string_bytes wanted))
+Numbers numbers all = (wanted : Option (String Global)) → found_in numbers wanted
+    ≡ option_map (λ place. suc place) (which all (option_map string_bytes wanted))
 
--- what is said of a mention by these: its number, where what it leads to is there, else the rule that it breaks
+-- what is said of a mention by these: its number, where what it leads to is there, else the
+-- rule that it breaks
 abbrev pub IsNowhere : List ℕ → List Mention → Mention → Rule → Type 0
 IsNowhere bytes mentions (Reference label) broken =
     (broken ≡ rule.Definition) × (IsResolved bytes mentions (Reference label) → ⊥)
@@ -145,11 +156,13 @@ IsLed bytes mentions mention (Err broken) = IsNowhere bytes mentions mention bro
 -- facts with the numbers of all mentions
 abbrev pub all_numbered : List ℕ → List Mention → List Mentioned → List Fact → List Fact
 all_numbered bytes mentions mentioned facts =
-    numbered (leading_number bytes mentions) mentioned (numbered (footnote_number bytes mentions) mentioned facts)
+    numbered (leading_number bytes mentions) mentioned
+    (numbered (footnote_number bytes mentions) mentioned facts)
 
 -- the number that is kept of a mention
 abbrev pub number_for : List ℕ → List Mention → Mention → ℕ
-number_for bytes mentions (Reference label) = number_of (definition_for bytes mentions (Reference label))
+number_for bytes mentions (Reference label) =
+    number_of (definition_for bytes mentions (Reference label))
 number_for bytes mentions (Call label) = number_of (footnote_for bytes mentions (Call label))
 number_for bytes mentions (FootnoteDefinition label) =
     number_of (footnote_for bytes mentions (FootnoteDefinition label))
@@ -165,8 +178,8 @@ facts_with (number ∷ numbers) (fact ∷ facts) = with_number number fact ∷ f
 abbrev pub AreNumbered : Handed → List Fact → Type 0
 AreNumbered given facts =
     (forest : Forest) → flatten forest ≡ given.events →
-    facts
-    ≡ facts_with (map (number_for given.bytes (mentions_of forest)) (mentions_of forest)) (facts_at given.events)
+    facts ≡ facts_with (map (number_for given.bytes (mentions_of forest)) (mentions_of forest))
+    (facts_at given.events)
 
 -- what a number stands for
 abbrev pub place_of : ℕ → Option ℕ

@@ -1,4 +1,5 @@
--- How far events have been read, and what was found at them. Only contracts of private functions speak of it.
+-- How far events have been read, and what was found at them. Only contracts of private
+-- functions speak of it.
 use Rattle.std.specs.Prelude.{◌≡◌, ℕ, List, take}
 use Rattle.md_base.specs.declared.event.Event.{Event}
 use Rattle.md_base.specs.declared.event.Kind.TheVariants.{Enter, Exit}
@@ -15,8 +16,10 @@ pub record IsLeaf (entry exit : Event) : Type 0 where
   pub same : entry.name ≡ exit.name
 
 -- so many of the events have been read
-pub record HasRead (bytes : List ℕ) (names : List (List ℕ × List ℕ)) (events : List Event) (count : ℕ)
+pub record HasRead (bytes : List ℕ) (names : List (List ℕ × List ℕ))
+    (events : List Event) (count : ℕ)
     (reader : Reader) : Type 0 where
-  pub walked : Runs (Unbroken bytes names) (take count events) beginning (course_of events count reader.walk)
+  pub walked :
+      Runs (Unbroken bytes names) (take count events) beginning (course_of events count reader.walk)
   pub passed : reader.pass ≡ passed_over (take count events) pass_beginning
   pub first_ending : reader.first_ending ≡ first_index (take count events)

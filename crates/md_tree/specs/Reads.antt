@@ -1,10 +1,14 @@
 -- What a name reads of the nodes on its spine: the place of one of them.
 use Rattle.std.specs.Prelude.{◌≡◌, ℕ, Bool, true, false, Option, None, unwrap_or, IsTrue}
 use Rattle.md_base.specs.declared.event.Name.{Name}
-use Rattle.md_base.specs.declared.event.Name.TheVariants.{HeadingAtx, ListOrdered, Link, Image, GfmFootnoteCall, Definition, GfmFootnoteDefinition}
+use Rattle.md_base.specs.declared.event.Name.TheVariants as name_variants
+use name_variants.{HeadingAtx, ListOrdered, Link, Image, GfmFootnoteCall, Definition}
+use name_variants.{GfmFootnoteDefinition}
 use Rattle.md_base.specs.declared.event.Position.{Position}
 use Rattle.md_base.specs.Tree.{Forest}
-use Rattle.md_base.specs.NameTests.{is_heading_mark, is_item, is_item_prefix, is_item_value, is_label, is_label_text, is_reference, is_definition_label, is_footnote_prefix, is_footnote_label}
+use Rattle.md_base.specs.NameTests.{is_heading_mark, is_item, is_item_prefix, is_item_value}
+use Rattle.md_base.specs.NameTests.{is_label, is_label_text, is_reference, is_definition_label}
+use Rattle.md_base.specs.NameTests.{is_footnote_prefix, is_footnote_label}
 use Rattle.md_base.specs.Children.{or_else, first_on_spine}
 use Rattle.md_tree.specs.Rules.{place}
 use Rattle.md_tree.specs.Grammar.{Handed}
@@ -17,7 +21,8 @@ first_place test children = first_on_spine test (λ start end inner. place start
 
 -- what is found in the first such node
 abbrev pub in_first : (Name → Bool) → (Forest → Option Position) → Forest → Option Position
-in_first test found children = unwrap_or (first_on_spine test (λ start end inner. found inner) children) None
+in_first test found children =
+    unwrap_or (first_on_spine test (λ start end inner. found inner) children) None
 
 -- the number in the first prefix of an item
 abbrev pub number_in : Forest → Option Position
@@ -27,8 +32,8 @@ number_in item = in_first is_item_prefix (first_place is_item_value) item
 abbrev pub label_in : Forest → Option Position
 label_in children = in_first is_label (first_place is_label_text) children
 
--- the one place that a name reads: a heading's first mark, the number of a list's first item, what a link, an image or
--- a call refers by, what a definition is referred to by
+-- the one place that a name reads: a heading's first mark, the number of a list's first item, what
+-- a link, an image or a call refers by, what a definition is referred to by
 abbrev pub reads : Name → Forest → Option Position
 reads HeadingAtx children = first_place is_heading_mark children
 reads ListOrdered children = in_first is_item number_in children
@@ -36,7 +41,8 @@ reads Link children = or_else (first_place is_reference children) (label_in chil
 reads Image children = or_else (first_place is_reference children) (label_in children)
 reads GfmFootnoteCall children = label_in children
 reads Definition children = first_place is_definition_label children
-reads GfmFootnoteDefinition children = in_first is_footnote_prefix (first_place is_footnote_label) children
+reads GfmFootnoteDefinition children =
+    in_first is_footnote_prefix (first_place is_footnote_label) children
 reads _ children = None
 
 -- a name that reads a place

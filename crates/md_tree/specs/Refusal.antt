@@ -1,5 +1,6 @@
 -- What is known of a list of events, where a check refuses it.
-use Rattle.std.specs.Prelude.{◌≡◌, ◌≢◌, ◌⊎◌, ℕ, suc, ◌<◌, ◌≤◌, Option, Some, None, List, [], ◌∷◌, ◌++◌, length, take, slice_get}
+use Rattle.std.specs.Prelude.{◌≡◌, ◌≢◌, ◌⊎◌, ℕ, suc, ◌<◌, ◌≤◌, Option, Some, None, List, [], ◌∷◌}
+use Rattle.std.specs.Prelude.{◌++◌, length, take, slice_get}
 use Rattle.md_base.specs.declared.event.Point.{Point}
 use Rattle.md_base.specs.declared.event.Position.{Position}
 use Rattle.md_base.specs.declared.event.Event.{Event}
@@ -32,7 +33,8 @@ pub record Level : Type 0 where
 -- the events of open nodes, the innermost first in the list, and of the whole nodes before each
 abbrev pub opening : List Level → List Event
 opening [] = []
-opening (level ∷ path) = opening path ++ flatten level.before ++ entering level.name level.start ∷ []
+opening (level ∷ path) =
+    opening path ++ flatten level.before ++ entering level.name level.start ∷ []
 
 -- the last symbol on the spine of nodes that stand after a symbol
 abbrev pub symbol_after : Option Symbol → Forest → Option Symbol
@@ -41,7 +43,8 @@ symbol_after before nodes = last_symbol before (spine nodes)
 -- the role and the last symbol of the spine on which the innermost open node's children stand
 abbrev pub before_in : List Level → Option Symbol
 before_in [] = None
-before_in (level ∷ path) = inner_before (standing_of level.name) (symbol_after (before_in path) level.before)
+before_in (level ∷ path) =
+    inner_before (standing_of level.name) (symbol_after (before_in path) level.before)
 
 abbrev pub role_in : List Level → Role
 role_in [] = role.Flow
@@ -51,10 +54,11 @@ role_in (level ∷ path) =
 -- the whole nodes before each open one have the shape of the grammar
 abbrev pub IsShapedPath : List Level → Type 0
 IsShapedPath [] = Unit {0}
-IsShapedPath (level ∷ path) = AreShaped level.before (role_in path) (before_in path) × IsShapedPath path
+IsShapedPath (level ∷ path) =
+    AreShaped level.before (role_in path) (before_in path) × IsShapedPath path
 
--- the events begin a tree in which each node that has ended matches its pattern: some are open, and these nodes
--- stand whole in the innermost one
+-- the events begin a tree in which each node that has ended matches its pattern: some are open, and
+-- these nodes stand whole in the innermost one
 pub record Begins (events : List Event) (path : List Level) (nodes : Forest) : Type 0 where
   pub events_are : events ≡ opening path ++ flatten nodes
   pub path_shaped : IsShapedPath path
@@ -67,35 +71,42 @@ BeginNoTree events = (forest : Forest) (more : List Event) → IsShaped forest �
 
 -- some tree with the shape of the grammar has a flattening that begins with these events
 abbrev pub BeginTree : List Event → Type 0
-BeginTree events = (forest : Forest) × (more : List Event) × IsShaped forest × (flatten forest ≡ events ++ more)
+BeginTree events =
+    (forest : Forest) × (more : List Event) × IsShaped forest × (flatten forest ≡ events ++ more)
 
 -- a spine ends in a group that has begun and isn't complete
 abbrev pub EndsInGroup : List Symbol → Type 0
-EndsInGroup symbols = (before group : List Symbol) × (symbols ≡ before ++ group) × IsBegunGroup group
+EndsInGroup symbols =
+    (before group : List Symbol) × (symbols ≡ before ++ group) × IsBegunGroup group
 
--- the events begin a tree with the shape of the grammar, and leave a node open, or a group on the document's own spine
+-- the events begin a tree with the shape of the grammar, and leave a node open, or a group on the
+-- document's own spine
 abbrev pub LeaveOpen : List Event → Type 0
-LeaveOpen events = BeginTree events × ((path : List Level) × (nodes : Forest) × Begins events path nodes
+LeaveOpen events =
+    BeginTree events × ((path : List Level) × (nodes : Forest) × Begins events path nodes
     × ((path ≢ []) ⊎ ((path ≡ []) × EndsInGroup (spine nodes))))
 
--- the node that ends with the last of these events breaks the rule, and each that has ended by then matches its pattern
-pub record EndsBroken (bytes : List ℕ) (names : List (List ℕ × List ℕ)) (events : List Event) (broken : Rule)
-    : Type 0 where
+-- the node that ends with the last of these events breaks the rule, and each that has ended by then
+-- matches its pattern
+pub record EndsBroken (bytes : List ℕ) (names : List (List ℕ × List ℕ)) (events : List Event)
+    (broken : Rule) : Type 0 where
   pub path : List Level
   pub nodes : Forest
   pub name : Name
   pub start : Point
   pub end : Point
   pub children : Forest
-  pub events_are : events ≡ opening path ++ flatten nodes ++ flatten (Node name start end children Empty)
+  pub events_are :
+      events ≡ opening path ++ flatten nodes ++ flatten (Node name start end children Empty)
   pub path_shaped : IsShapedPath path
   pub nodes_shaped : AreShaped nodes (role_in path) (before_in path)
-  pub shaped : AreShaped (Node name start end children Empty) (role_in path) (symbol_after (before_in path) nodes)
-  pub breaks : broken_at bytes names (role_in path) (symbol_after (before_in path) nodes) name start end children
-      ≡ Some broken
+  pub shaped : AreShaped (Node name start end children Empty) (role_in path)
+      (symbol_after (before_in path) nodes)
+  pub breaks : broken_at bytes names (role_in path) (symbol_after (before_in path) nodes) name start
+      end children ≡ Some broken
 
--- the events are a document that has its shape and meets the other rules, and what its node that ends at the index
--- leads to isn't there
+-- the events are a document that has its shape and meets the other rules, and what its node that
+-- ends at the index leads to isn't there
 pub record EndsUnresolved (given : Handed) (index : ℕ) (mention : Mention) : Type 0 where
   pub forest : Forest
   pub flattened : flatten forest ≡ given.events
@@ -113,7 +124,8 @@ IsOrder given _ = Unit {0}
 
 -- Mdx: that event enters a name of MDX
 abbrev pub IsMdx : Handed → CompileError → Type 0
-IsMdx given (error.Event index rule.Mdx) = (event : Event) × (slice_get given.events index ≡ Some event)
+IsMdx given (error.Event index rule.Mdx) =
+    (event : Event) × (slice_get given.events index ≡ Some event)
     × (event.kind ≡ Enter) × (standing_of event.name ≡ standing.Mdx)
 IsMdx given _ = Unit {0}
 
@@ -127,14 +139,18 @@ IsOfNode given (error.Event index rule.Place) = IsBroken given index rule.Place
 IsOfNode given (error.Event index rule.LineEnding) = IsBroken given index rule.LineEnding
 IsOfNode given (error.Event index rule.HeadingMark) = IsBroken given index rule.HeadingMark
 IsOfNode given (error.Event index rule.ListNumber) = IsBroken given index rule.ListNumber
-IsOfNode given (error.Event index rule.CharacterReference) = IsBroken given index rule.CharacterReference
+IsOfNode given (error.Event index rule.CharacterReference) =
+    IsBroken given index rule.CharacterReference
 IsOfNode given (error.Event index rule.Target) = IsBroken given index rule.Target
 IsOfNode given _ = Unit {0}
 
--- Definition or Footnote: what the node that ends there leads to isn't there, in a document that meets all else
+-- Definition or Footnote: what the node that ends there leads to isn't there, in a document
+-- that meets all else
 abbrev pub IsLost : Handed → CompileError → Type 0
-IsLost given (error.Event index rule.Definition) = (label : Position) × EndsUnresolved given index (Reference label)
-IsLost given (error.Event index rule.Footnote) = (label : Position) × EndsUnresolved given index (Call label)
+IsLost given (error.Event index rule.Definition) =
+    (label : Position) × EndsUnresolved given index (Reference label)
+IsLost given (error.Event index rule.Footnote) =
+    (label : Position) × EndsUnresolved given index (Call label)
 IsLost given _ = Unit {0}
 
 -- an event is refused only where the events are the flattening of no document of the grammar

@@ -26,4 +26,5 @@ IsUnresolvedBy bytes mentioned index _ = ⊥
 
 abbrev pub IsUnresolved : List ℕ → List Mentioned → CompileError → Type 0
 IsUnresolved bytes mentioned error.Memory = Unit {0}
-IsUnresolved bytes mentioned (error.Event index broken) = IsUnresolvedBy bytes mentioned index broken
+IsUnresolved bytes mentioned (error.Event index broken) =
+    IsUnresolvedBy bytes mentioned index broken

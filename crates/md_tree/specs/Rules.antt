@@ -1,14 +1,17 @@
 -- The side conditions of the grammar: what the bytes of each node have to be.
-use Rattle.std.specs.Prelude.{◌≡◌, ℕ, ◌+◌, ◌-◌, Bool, ◌&&◌, true, nat_lt, nat_le, if◌then◌else◌, Option, Some, None, is_some, List, length}
+use Rattle.std.specs.Prelude.{◌≡◌, ℕ, ◌+◌, ◌-◌, Bool, ◌&&◌, true, nat_lt, nat_le, if◌then◌else◌}
+use Rattle.std.specs.Prelude.{Option, Some, None, is_some, List, length}
 use Rattle.std.specs.Option.{option_map_or}
 use Rattle.md_base.specs.declared.event.Name.{Name}
 use Rattle.md_base.specs.declared.event.Point.{Point}
 use Rattle.md_base.specs.declared.event.Position.{Position}
-use Rattle.md_base.specs.Place.{byte_index, spaces_before, spaces_after, fits, text_between, label_between}
+use Rattle.md_base.specs.Place.{byte_index, spaces_before, spaces_after, fits, text_between}
+use Rattle.md_base.specs.Place.{label_between}
 use Rattle.md_base.specs.Reference.{is_number, decoded}
 use Rattle.md_text.specs.LineEnding.{ending_of}
 use Rattle.md_pattern.specs.declared.kinds.Symbol.{Symbol}
-use Rattle.md_pattern.specs.declared.kinds.Symbol.TheVariants.{ReferenceMarker, ReferenceNumeric, ReferenceHexadecimal}
+use Rattle.md_pattern.specs.declared.kinds.Symbol.TheVariants.{ReferenceMarker, ReferenceNumeric}
+use Rattle.md_pattern.specs.declared.kinds.Symbol.TheVariants.{ReferenceHexadecimal}
 use Rattle.md_pattern.specs.declared.kinds.Role.{Role}
 use Rattle.md_pattern.specs.declared.kinds.Role.TheVariants as role
 use Rattle.md_pattern.specs.declared.kinds.Reading.{Reading}
@@ -31,8 +34,8 @@ reading_of standing = elim standing [ Solid symbol usual read ↦ read | _ ↦ r
 abbrev pub place : Point → Point → Position
 place start end = record { start = start; end = end }
 
--- what a node leaves as the target of the node around, by what is read of it, the target so far and what its own
--- spine has
+-- what a node leaves as the target of the node around, by what is read of it, the target so far and
+-- what its own spine has
 abbrev pub target_at : Reading → Referral → Referral → Position → Referral
 target_at reading.Identifier found inner where_it_is = Label where_it_is
 target_at reading.Holder found inner where_it_is = inner
@@ -42,7 +45,8 @@ target_at _ found inner where_it_is = found
 -- the same for each way to stand
 abbrev pub target_after : Standing → Referral → (Referral → Referral) → Position → Referral
 target_after Through found inner where_it_is = inner found
-target_after (Solid symbol usual reading) found inner where_it_is = target_at reading found (inner Missing) where_it_is
+target_after (Solid symbol usual reading) found inner where_it_is =
+    target_at reading found (inner Missing) where_it_is
 target_after _ found inner where_it_is = found
 
 -- the target that a spine leaves: its resource, or its label's place, of which the last one counts
@@ -55,7 +59,8 @@ target_of (Node name start end children rest) found =
 abbrev pub is_line_ending : List ℕ → Bool
 is_line_ending text = is_some (ending_of text)
 
--- the marker of the reference group whose value stands after this symbol: `&`, `&#` or `&#x` is before it
+-- the marker of the reference group whose value stands after this symbol: `&`, `&#` or
+-- `&#x` is before it
 abbrev pub marker_after : Option Symbol → Option ℕ
 marker_after (Some ReferenceMarker) = Some 38
 marker_after (Some ReferenceNumeric) = Some 35
@@ -64,7 +69,8 @@ marker_after _ = None
 
 -- the value of a reference group decodes; no other value is asked to
 abbrev pub is_decodable : List (List ℕ × List ℕ) → Option Symbol → List ℕ → Bool
-is_decodable names before text = option_map_or (λ mark. is_some (decoded names mark text)) (marker_after before) true
+is_decodable names before text =
+    option_map_or (λ mark. is_some (decoded names mark text)) (marker_after before) true
 
 -- the one value in the prefix of an ordered list's first item is the list's number
 abbrev pub is_list_number : Role → Option Symbol → List ℕ → Bool
@@ -92,22 +98,24 @@ broken_by read judged = elim read [ None ↦ Some rule.Place | Some text ↦ jud
 abbrev pub broken_by_target : Referral → Option Rule
 broken_by_target target = elim target [ Missing ↦ Some rule.Target | _ ↦ None ]
 
--- the rule that a node breaks, by what is read of it, the role around it, the symbol before it, its place and its
--- target
+-- the rule that a node breaks, by what is read of it, the role around it, the symbol before it, its
+-- place and its target
 abbrev pub broken_rule : List ℕ → List (List ℕ × List ℕ) → Reading → Role → Option Symbol → Point →
     Point → Referral → Option Rule
 broken_rule bytes names read around before start end target = elim read [
   | reading.Text ↦ broken_by (text_between bytes start end) (λ text. None)
   | reading.LineEnding ↦
-      broken_by (text_between bytes start end) (λ text. unless (is_some (ending_of text)) rule.LineEnding)
+      broken_by (text_between bytes start end)
+      (λ text. unless (is_some (ending_of text)) rule.LineEnding)
   | reading.Number ↦
-      broken_by (text_between bytes start end) (λ text. unless (is_list_number around before text) rule.ListNumber)
+      broken_by (text_between bytes start end)
+      (λ text. unless (is_list_number around before text) rule.ListNumber)
   | reading.Value ↦
       broken_by (text_between bytes start end)
       (λ text. unless (is_decodable names before text) rule.CharacterReference)
   | reading.Mark ↦
-      if fits bytes start end then unless (is_rank around before (columns start end)) rule.HeadingMark
-      else Some rule.Place
+      if fits bytes start end
+      then unless (is_rank around before (columns start end)) rule.HeadingMark else Some rule.Place
   | reading.Underline ↦ unless (nat_lt start.index (length bytes)) rule.Place
   | reading.Identifier ↦ broken_by (label_between bytes start end) (λ text. None)
   | reading.Media ↦ broken_by_target target
@@ -118,7 +126,8 @@ broken_rule bytes names read around before start end target = elim read [
 abbrev pub broken_at : List ℕ → List (List ℕ × List ℕ) → Role → Option Symbol → Name → Point →
     Point → Forest → Option Rule
 broken_at bytes names around before name start end children =
-    broken_rule bytes names (reading_of (standing_of name)) around before start end (target_of children Missing)
+    broken_rule bytes names (reading_of (standing_of name)) around before start end
+    (target_of children Missing)
 
 -- a node meets the rules that are judged by itself and by what stands before it in the nodes around
 abbrev pub MeetsRules : List ℕ → List (List ℕ × List ℕ) → Claim

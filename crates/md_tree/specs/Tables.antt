@@ -13,7 +13,8 @@ use Rattle.md_pattern.specs.Shape.{AreShaped}
 abbrev pub in_each : {A : Type 0} → (Name → Bool) → (Forest → List A) → Forest → List A
 in_each test found Empty = []
 in_each test found (Node name start end children rest) =
-    (if test name then found children else (if is_transparent name then in_each test found children else []))
+    (if test name then found children
+    else (if is_transparent name then in_each test found children else []))
     ++ in_each test found rest
 
 -- the children of each cell value on the spine of a delimiter row with these children, in order

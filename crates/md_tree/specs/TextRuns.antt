@@ -6,8 +6,8 @@ use Rattle.md_tree.specs.declared.texts.Run.{Run}
 -- a run is the part of the bytes from its start on
 abbrev pub IsRun : List ℕ → Run → Type 0
 IsRun bytes run =
-    (run.start + length run.text.now ≤ length bytes) × (take (length run.text.now) (drop run.start bytes)
-    ≡ run.text.now)
+    (run.start + length run.text.now ≤ length bytes)
+    × (take (length run.text.now) (drop run.start bytes) ≡ run.text.now)
 
 -- each run is
 abbrev pub AreRuns : List ℕ → List Run → Type 0

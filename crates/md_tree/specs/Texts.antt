@@ -1,5 +1,6 @@
 -- The texts of a document's nodes, by the index of the event that ends each.
-use Rattle.std.specs.Prelude.{◌≡◌, ℕ, Bool, true, false, Option, Some, None, List, [], ◌∷◌, ◌++◌, slice_get, IsTrue}
+use Rattle.std.specs.Prelude.{◌≡◌, ℕ, Bool, true, false, Option, Some, None, List, [], ◌∷◌, ◌++◌}
+use Rattle.std.specs.Prelude.{slice_get, IsTrue}
 use Rattle.md_base.specs.declared.event.Position.{Position}
 use Rattle.md_base.specs.declared.event.Name.{Name}
 use Rattle.md_base.specs.declared.event.Kind.{Kind}
@@ -18,7 +19,8 @@ use Rattle.md_tree.specs.Grammar.{Handed}
 -- the event at an index is of this kind and name
 abbrev pub IsEventAt : List Event → ℕ → Kind → Name → Type 0
 IsEventAt events index kind name =
-    (event : Event) × (slice_get events index ≡ Some event) × (event.kind ≡ kind) × (event.name ≡ name)
+    (event : Event) × (slice_get events index ≡ Some event) × (event.kind ≡ kind)
+    × (event.name ≡ name)
 
 -- the event at an index enters, or exits, a node of this name
 abbrev pub EntersAt : List Event → ℕ → Name → Type 0
@@ -27,11 +29,12 @@ EntersAt events index name = IsEventAt events index Enter name
 abbrev pub ExitsAt : List Event → ℕ → Name → Type 0
 ExitsAt events index name = IsEventAt events index Exit name
 
--- for each event of the nodes, in order: nothing at an entry, at an exit where the node starts and ends
+-- for each event of the nodes, in order: nothing at an entry, at an exit where the
+-- node starts and ends
 abbrev pub positions_of : Forest → List (Option Position)
 positions_of Empty = []
-positions_of (Node name start end children rest) = None ∷ positions_of children ++ Some (place start end)
-    ∷ positions_of rest
+positions_of (Node name start end children rest) =
+    None ∷ positions_of children ++ Some (place start end) ∷ positions_of rest
 
 -- what is read of a node is its text
 abbrev pub is_text : Reading → Bool
@@ -63,7 +66,8 @@ abbrev pub ExitsText : List Event → ℕ → Type 0
 ExitsText events index = (name : Name) × ExitsAt events index name × IsTrue (is_text_name name)
 
 abbrev pub ExitsIdentifier : List Event → ℕ → Type 0
-ExitsIdentifier events index = (name : Name) × ExitsAt events index name × IsTrue (is_identifier_name name)
+ExitsIdentifier events index =
+    (name : Name) × ExitsAt events index name × IsTrue (is_identifier_name name)
 
 -- the text of the node that ends at an index, in the document that the events flatten
 abbrev pub IsTextAt : Handed → ℕ → List ℕ → Type 0

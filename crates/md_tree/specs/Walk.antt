@@ -1,5 +1,6 @@
 -- How a walk over events stands, and why it stops.
-use Rattle.std.specs.Prelude.{◌≡◌, ◌⊎◌, ℕ, suc, Bool, true, false, ◌&&◌, if◌then◌else◌, Option, Some, None, List, [], ◌∷◌, reverse, slice_get, IsTrue}
+use Rattle.std.specs.Prelude.{◌≡◌, ◌⊎◌, ℕ, suc, Bool, true, false, ◌&&◌, if◌then◌else◌, Option}
+use Rattle.std.specs.Prelude.{Some, None, List, [], ◌∷◌, reverse, slice_get, IsTrue}
 use Rattle.md_base.specs.declared.event.Point.{Point}
 use Rattle.md_base.specs.declared.event.Position.{Position}
 use Rattle.md_base.specs.declared.event.Name.{Name}
@@ -54,7 +55,8 @@ outer_seen events target outer =
       reading = outer.reading;
     }
 
--- the target that was put aside where a node was entered, if there was one; the innermost of those put aside is first
+-- the target that was put aside where a node was entered, if there was one; the innermost of those
+-- put aside is first
 abbrev pub target_of : Bool → List Aim → Aim
 target_of true (target ∷ targets) = target
 target_of true [] = aim.Missing
@@ -71,7 +73,8 @@ abbrev pub is_aimed : KeptOpen → Bool
 is_aimed open_node = open_node.stands && open_node.aimed
 
 abbrev pub outer_of : List Event → List Aim → KeptOpen → Outer
-outer_of events targets open_node = outer_seen events (target_of open_node.aimed targets) open_node.outer
+outer_of events targets open_node =
+    outer_seen events (target_of open_node.aimed targets) open_node.outer
 
 abbrev pub open_seen : List Event → List Aim → KeptOpen → Open
 open_seen events targets open_node =
@@ -85,7 +88,8 @@ open_seen events targets open_node =
 abbrev pub opens_at : List Event → List Aim → List KeptOpen → List Open
 opens_at events targets [] = []
 opens_at events targets (open_node ∷ open_nodes) =
-    open_seen events targets open_node ∷ opens_at events (targets_around (is_aimed open_node) targets) open_nodes
+    open_seen events targets open_node
+    ∷ opens_at events (targets_around (is_aimed open_node) targets) open_nodes
 
 -- the open nodes, of which the vector has the innermost last
 abbrev pub opens_seen : List Event → List Aim → List KeptOpen → List Open
@@ -129,14 +133,16 @@ abbrev pub BreaksWhere : List ℕ → List (List ℕ × List ℕ) → Rule → O
     Course → Type 0
 BreaksWhere bytes names broken None start end course = ⊥
 BreaksWhere bytes names broken (Some outer) start end course =
-    IsTrue (is_complete course.state) × Broken bytes names broken outer.reading outer.state.role outer.before start
+    IsTrue (is_complete course.state)
+    × Broken bytes names broken outer.reading outer.state.role outer.before start
     end course.target
 
 abbrev pub BreaksAtExit : List ℕ → List (List ℕ × List ℕ) → Rule → List Open → Name → Point →
     Course → Type 0
 BreaksAtExit bytes names broken [] name point course = ⊥
 BreaksAtExit bytes names broken (open_node ∷ others) name point course =
-    (open_node.name ≡ name) × BreaksWhere bytes names broken open_node.outer open_node.start point course
+    (open_node.name ≡ name)
+    × BreaksWhere bytes names broken open_node.outer open_node.start point course
 
 -- the rule that a name breaks where no node may stand
 abbrev pub misplaced_where : Standing → Rule
@@ -157,7 +163,8 @@ abbrev pub StopsAtExit : List ℕ → List (List ℕ × List ℕ) → Rule → N
 StopsAtExit bytes names rule.Order name point course = (next : Course) →
     Exits Anything course.open_nodes name point course next → ⊥
 StopsAtExit bytes names rule.Mdx name point course = ⊥
-StopsAtExit bytes names broken name point course = BreaksAtExit bytes names broken course.open_nodes name point course
+StopsAtExit bytes names broken name point course =
+    BreaksAtExit bytes names broken course.open_nodes name point course
 
 abbrev pub StopsBy : List ℕ → List (List ℕ × List ℕ) → Kind → Rule → Name → Point → Course → Type 0
 StopsBy bytes names Enter broken name point course = StopsAtEntry broken name point course

@@ -1,6 +1,7 @@
 //! Events that have passed a check, and what is found at them.
 
-ghost use Rattle.std.specs.Prelude.{◌≡◌, ◌↔◌, ◌<◌, Some, length, map, option_copied, option_map, slice_get, IsTrue};
+ghost use Rattle.std.specs.Prelude.{◌≡◌, ◌↔◌, ◌<◌, Some, length, map, option_copied, option_map};
+ghost use Rattle.std.specs.Prelude.{slice_get, IsTrue};
 ghost use Rattle.md_base.specs.Place.{text_between};
 ghost use Rattle.md_base.specs.declared.event.Event.{Event};
 ghost use Rattle.md_pattern.specs.declared.facts.Fact.{Fact};
@@ -46,7 +47,8 @@ impl<'a> Model for Checked<'a> {
 
 impl<'a> Checked<'a> {
     ghost use Rattle.std.specs.Prelude.{◌≡◌, ◌↔◌, ◌⊎◌, suc, map, IsTrue};
-    ghost use Rattle.md_tree.specs.Texts.{EntersAt, ExitsAt, ExitsText, ExitsIdentifier, IsTextAt, IsIdentifierAt};
+    ghost use Rattle.md_tree.specs.Texts.{EntersAt, ExitsAt, ExitsText, ExitsIdentifier, IsTextAt};
+    ghost use Rattle.md_tree.specs.Texts.{IsIdentifierAt};
     ghost use Rattle.md_base.specs.Reference.{name_table};
     ghost use Rattle.md_tree.specs.Grammar.{IsChecked, handed};
     ghost use Rattle.md_base.specs.Tree.{Forest};
@@ -59,7 +61,8 @@ impl<'a> Checked<'a> {
     ghost use Rattle.md_tree.specs.Entered.{IsEnteredAt, EntersNode};
     ghost use Rattle.md_tree.specs.Found.{EntersSome, IsFactAt};
     ghost use Rattle.md_tree.specs.Reads.{IsReadAt};
-    ghost use Rattle.md_tree.specs.Numbers.{AreNumbered, ExitsOf, is_of_definitions, is_of_footnotes, IsDefinitionFor, IsFootnoteFor};
+    ghost use Rattle.md_tree.specs.Numbers.{AreNumbered, ExitsOf, is_of_definitions};
+    ghost use Rattle.md_tree.specs.Numbers.{is_of_footnotes, IsDefinitionFor, IsFootnoteFor};
     ghost use Rattle.md_base.specs.declared.event.Name.TheVariants as name;
 
     /// What has passed a check, with what is found at its events.
@@ -189,7 +192,8 @@ impl<'a> Checked<'a> {
         partner_at(&self.facts, index)
     }
 
-    /// The index of the event that exits the first line ending, blank or not; None where there is none.
+    /// The index of the event that exits the first line ending, blank or not; None
+    /// where there is none.
     ///
     /// # Examples
     ///
@@ -233,8 +237,9 @@ impl<'a> Checked<'a> {
         self.definitions.as_slice()
     }
 
-    /// Which of the definitions, counted from 0 in the order of their exits, is the first with the identifier of the
-    /// link or the image that the event at the index exits: the one to which it leads. None where it has a resource.
+    /// Which of the definitions, counted from 0 in the order of their exits, is the first with the
+    /// identifier of the link or the image that the event at the index exits: the one to which it
+    /// leads. None where it has a resource.
     ///
     /// # Examples
     ///
@@ -249,13 +254,15 @@ impl<'a> Checked<'a> {
         place_of(fact_at(&self.facts, index).read_at)
     }
 
-    /// Which of the footnote definitions, counted from 0 in the order of their exits, is the first with the identifier
-    /// of the footnote call or the footnote definition that the event at the index exits.
+    /// Which of the footnote definitions, counted from 0 in the order of their exits, is the
+    /// first with the identifier of the footnote call or the footnote definition that the event
+    /// at the index exits.
     ///
     /// # Examples
     ///
     /// ```
-    /// // Of a document whose only footnote definition is exited at 9, and called by a call that is exited at 20:
+    /// // Of a document whose only footnote definition is exited at 9, and called by a call that
+    /// // is exited at 20:
     /// assert_eq!(checked.footnote_of(9), Some(0));
     /// assert_eq!(checked.footnote_of(20), Some(0));
     /// ```
@@ -327,7 +334,8 @@ impl<'a> Checked<'a> {
         requires { EntersAt self.now.events index name.GfmTable }
         ensures grammatical { IsChecked self.now }
         ensures entered { EntersNode self.now index }
-        ensures aligned { (children : Forest) → IsEnteredAt self.now index children → result.now ≡ alignments children }
+        ensures aligned { (children : Forest) → IsEnteredAt self.now index children
+            → result.now ≡ alignments children }
     {
         table_at(&self.tables, fact_at(&self.facts, index).read_at)
     }
@@ -349,13 +357,15 @@ impl<'a> Checked<'a> {
         self.texts.text_at(&position).unwrap()
     }
 
-    /// The label of the node that ends with the event at the index, as it is written (`normalize_identifier` makes an
-    /// identifier of it): the bytes between the indices of its points; columns of tabs are not read.
+    /// The label of the node that ends with the event at the index, as it is written
+    /// (`normalize_identifier` makes an identifier of it): the bytes between the indices of its
+    /// points; columns of tabs are not read.
     ///
     /// # Examples
     ///
     /// ```
-    /// // Of `[a]: b`, where 0 enters the definition, 1 its label, 2 the data in that, and 4 exits the label:
+    /// // Of `[a]: b`, where 0 enters the definition, 1 its label, 2 the data in that, and 4
+    /// // exits the label:
     /// assert_eq!(checked.identifier(4), "a");
     /// ```
     pub fn identifier(&self, index: usize) -> &'a str
@@ -366,8 +376,8 @@ impl<'a> Checked<'a> {
         self.texts.label_at(&position).unwrap()
     }
 
-    /// The text between two points, without the spaces of tabs that are cut there; None where the points don't fit the
-    /// bytes, or these aren't UTF-8.
+    /// The text between two points, without the spaces of tabs that are cut there; None where the
+    /// points don't fit the bytes, or these aren't UTF-8.
     ///
     /// # Examples
     ///

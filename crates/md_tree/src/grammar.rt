@@ -82,10 +82,14 @@ fn find<'a>(
 ) -> Result<Found<'a>, CompileError>
     ensures grammatical { OnOk result (IsChecked (handed events.now bytes.now names.now)) }
     ensures texts { IfOk result (λ found. found.texts ≡ bytes.now) }
-    ensures facts { IfOk result (λ found. AreNumbered (handed events.now bytes.now names.now) found.facts.facts.items) }
-    ensures tables { IfOk result (λ found. map (λ t. t.items) found.facts.tables.items ≡ tables_at events.now) }
-    ensures definitions { IfOk result (λ found. found.facts.definitions.items ≡ definitions_at events.now) }
-    ensures first_ending { IfOk result (λ found. found.facts.first_ending ≡ first_index events.now) }
+    ensures facts { IfOk result
+        (λ found. AreNumbered (handed events.now bytes.now names.now) found.facts.facts.items) }
+    ensures tables { IfOk result
+        (λ found. map (λ t. t.items) found.facts.tables.items ≡ tables_at events.now) }
+    ensures definitions { IfOk result
+        (λ found. found.facts.definitions.items ≡ definitions_at events.now) }
+    ensures first_ending { IfOk result
+        (λ found. found.facts.first_ending ≡ first_index events.now) }
     ensures visits { IfOk result (λ found. found.facts.visits ≡ length events.now) }
     ensures refused { IfErr result (IsRefusal (handed events.now bytes.now names.now)) }
 {
@@ -104,7 +108,8 @@ fn find<'a>(
         });
     }
     let Read { walk, mut found } = read;
-    // Identifiers may be long, and each is of a text that is read once: the list of other texts makes room for them.
+    // Identifiers may be long, and each is of a text that is read once: the list of other texts
+    // makes room for them.
     let texts = texts.with_front_alone(alloc);
     resolve(alloc, &texts, &walk.mentions, &mut found.facts)?;
     Ok(Found {
@@ -124,12 +129,15 @@ struct Read {
 fn read_events(input: Input) -> Result<Read, CompileError>
     ensures walked { IfOk result
         (λ read. Runs (Unbroken input.entry.bytes.now (name_table input.entry.names.now))
-        input.entry.events.now beginning (course_of input.entry.events.now (length input.entry.events.now) read.walk)) }
+        input.entry.events.now beginning
+        (course_of input.entry.events.now (length input.entry.events.now) read.walk)) }
     ensures facts { IfOk result (λ read. read.found.facts.items ≡ facts_at input.entry.events.now) }
     ensures tables { IfOk result (λ read. map (λ t. t.items) read.found.tables.items
         ≡ tables_at input.entry.events.now) }
-    ensures definitions { IfOk result (λ read. read.found.definitions.items ≡ definitions_at input.entry.events.now) }
-    ensures first_ending { IfOk result (λ read. read.found.first_ending ≡ first_index input.entry.events.now) }
+    ensures definitions { IfOk result
+        (λ read. read.found.definitions.items ≡ definitions_at input.entry.events.now) }
+    ensures first_ending { IfOk result
+        (λ read. read.found.first_ending ≡ first_index input.entry.events.now) }
     ensures visits { IfOk result (λ read. read.found.visits ≡ length input.entry.events.now) }
     ensures refused { IfErr result
         (IsRefusal (handed input.entry.events.now input.entry.bytes.now input.entry.names.now)) }
@@ -151,8 +159,10 @@ fn read_events(input: Input) -> Result<Read, CompileError>
 
 /// Whether all nodes have ended, and the document's spine may end.
 fn is_done(walk: &Walk) -> bool
-    ensures done { result ≡ true → (walk.now.open_nodes.items ≡ []) × (is_complete (state_of walk.now.place walk.now.before) ≡ true) }
-    ensures undone { result ≡ false → walk.now.open_nodes.items ≡ [] → is_complete (state_of walk.now.place walk.now.before) ≡ false }
+    ensures done { result ≡ true → (walk.now.open_nodes.items ≡ [])
+        × (is_complete (state_of walk.now.place walk.now.before) ≡ true) }
+    ensures undone { result ≡ false → walk.now.open_nodes.items ≡ []
+        → is_complete (state_of walk.now.place walk.now.before) ≡ false }
 {
     walk.open_nodes.is_empty() && walk.place.may_end()
 }

@@ -76,9 +76,11 @@ pub fn gfm_table_align(
 ) -> Result<Vec<AlignKind>, AllocError>
     requires { EntersAt checked.now.events index name.GfmTable }
     ensures entered { EntersNode checked.now index }
-    ensures aligned { IfOk result (λ columns. (children : Forest) → IsEnteredAt checked.now index children
+    ensures aligned { IfOk result
+        (λ columns. (children : Forest) → IsEnteredAt checked.now index children
         → columns.items ≡ alignments children) }
-    ensures one_for_each_value { IfOk result (λ columns. (children : Forest) → IsEnteredAt checked.now index children
+    ensures one_for_each_value { IfOk result
+        (λ columns. (children : Forest) → IsEnteredAt checked.now index children
         → columns.items ≡ map alignment_of (values_of_table children)) }
 {
     Vec::from_slice(alloc, checked.columns(index))

@@ -63,7 +63,8 @@ pub fn label_at<'a>(bytes: &'a [u8], position: &Position) -> Option<&'a str>
 /// The text of a node that is entered and exited at two indices.
 #[inline(always)]
 pub fn text_of<'a>(input: Input<'_, 'a>, entry: usize, exit: usize) -> Option<&'a str>
-    ensures { option_copied result ≡ text_between input.entry.bytes.now (point_at input.entry.events.now entry)
+    ensures { option_copied result
+        ≡ text_between input.entry.bytes.now (point_at input.entry.events.now entry)
         (point_at input.entry.events.now exit) }
 {
     input.bytes.text_at(&place_at(input.events, entry, exit))

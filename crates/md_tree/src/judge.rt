@@ -1,9 +1,12 @@
 //! The rules that are judged where a node ends.
 
-ghost use Rattle.std.specs.Prelude.{◌≡◌, ◌&&◌, None, List, length, nat_lt, nat_le, is_some, option_copied, IfOk, if◌then◌else◌};
+ghost use Rattle.std.specs.Prelude.{◌≡◌, ◌&&◌, None, List, length, nat_lt, nat_le, is_some};
+ghost use Rattle.std.specs.Prelude.{option_copied, IfOk, if◌then◌else◌};
 ghost use Rattle.md_base.specs.Place.{fits, text_between, label_between};
 ghost use Rattle.md_base.specs.Reference.{name_table, is_number, decoded};
-ghost use Rattle.md_tree.specs.Rules.{is_line_ending, is_decodable, is_list_number, is_rank, marker_after, columns, unless, broken_by, broken_by_target, broken_rule, target_at};
+ghost use Rattle.md_tree.specs.Rules.{is_line_ending, is_decodable, is_list_number, is_rank};
+ghost use Rattle.md_tree.specs.Rules.{marker_after, columns, unless, broken_by, broken_by_target};
+ghost use Rattle.md_tree.specs.Rules.{broken_rule, target_at};
 ghost use Rattle.md_pattern.specs.Places.{state_of};
 ghost use Rattle.md_tree.specs.Mentions.{mention_of};
 ghost use Rattle.md_tree.specs.Walk.{point_at, place_at, target_seen};
@@ -41,7 +44,8 @@ fn broken_text(text: Option<&str>) -> Option<Rule>
 /// The text of a line ending.
 #[inline(always)]
 fn broken_ending(text: Option<&str>) -> Option<Rule>
-    ensures { result ≡ broken_by (option_copied text.entry) (λ t. unless (is_line_ending t) rule.LineEnding) }
+    ensures { result
+        ≡ broken_by (option_copied text.entry) (λ t. unless (is_line_ending t) rule.LineEnding) }
 {
     match text {
         None => Some(Rule::Place),
@@ -98,7 +102,8 @@ fn broken_value(
 ) -> Result<Option<Rule>, AllocError>
     ensures { IfOk result
         (λ broken. broken ≡ broken_by (option_copied text.entry)
-        (λ t. unless (is_decodable (name_table input.entry.names.now) before t) rule.CharacterReference)) }
+        (λ t. unless (is_decodable (name_table input.entry.names.now) before t)
+        rule.CharacterReference)) }
 {
     let Some(text) = text else {
         return Ok(Some(Rule::Place));
@@ -113,7 +118,8 @@ fn broken_value(
 /// Whether the value of a character reference with this marker stands for a text.
 fn is_decodable(input: Input, marker: u8, value: &str) -> Result<bool, AllocError>
     ensures { IfOk result
-        (λ decodes. decodes ≡ is_some (decoded (name_table input.entry.names.now) marker value.now)) }
+        (λ decodes.
+        decodes ≡ is_some (decoded (name_table input.entry.names.now) marker value.now)) }
 {
     let text = decode_character_reference(input.alloc, value, marker, input.names)?;
     Ok(text.is_some())
@@ -143,7 +149,8 @@ fn broken_mark(
     ensures { (start end : Point) → start ≡ point_at input.entry.events.now entry
         → end ≡ point_at input.entry.events.now exit
         → result ≡ (if fits input.entry.bytes.now start end
-        then unless (is_rank around before (columns start end)) rule.HeadingMark else Some rule.Place) }
+        then unless (is_rank around before (columns start end)) rule.HeadingMark
+        else Some rule.Place) }
 {
     let position = place_at(input.events, entry, exit);
     match Slice::from_position(input.bytes.bytes(), &position) {
@@ -152,10 +159,12 @@ fn broken_mark(
     }
 }
 
-/// What identifies a link, an image, a footnote call or a definition, and is entered and exited at two indices.
+/// What identifies a link, an image, a footnote call or a definition, and is entered and
+/// exited at two indices.
 #[inline(always)]
 fn broken_identifier(input: Input, entry: usize, exit: usize) -> Option<Rule>
-    ensures { result ≡ broken_by (label_between input.entry.bytes.now (point_at input.entry.events.now entry)
+    ensures { result
+        ≡ broken_by (label_between input.entry.bytes.now (point_at input.entry.events.now entry)
         (point_at input.entry.events.now exit)) (λ _. None) }
 {
     let position = place_at(input.events, entry, exit);
@@ -371,7 +380,8 @@ fn read_other(
 ) -> Result<Option<Rule>, AllocError>
     ensures broken { IfOk result
         (λ broken. broken ≡ broken_rule input.entry.bytes.now (name_table input.entry.names.now)
-        spot.reading (state_of spot.around None).role spot.before (point_at input.entry.events.now spot.entry)
+        spot.reading (state_of spot.around None).role spot.before
+        (point_at input.entry.events.now spot.entry)
         (point_at input.entry.events.now spot.exit) (target_seen input.entry.events.now inner)) }
     ensures target { (events : List Event)
         → target_seen events target.new ≡ target_at spot.reading (target_seen events target.old)

@@ -18,12 +18,14 @@ pub fn events_flatten_one_document()
 
 /// Where events leave something open, each of them is in order.
 pub fn open_events_are_in_order()
-    ensures { (events : List Event) (count : ℕ) → LeaveOpen events → BeginNoTree (take count events) → ⊥ }
+    ensures { (events : List Event) (count : ℕ) → LeaveOpen events
+        → BeginNoTree (take count events) → ⊥ }
 {}
 
 /// Where nodes have the shape of the grammar, their spine is the same by names and by symbols.
 pub fn names_and_symbols_tell_one_spine()
-    ensures { (forest : Forest) (around : Role) (before : Option Symbol) → AreShaped forest around before
+    ensures { (forest : Forest) (around : Role) (before : Option Symbol)
+        → AreShaped forest around before
         → HasOneSpine forest }
 {}
 
@@ -37,8 +39,8 @@ pub fn one_alignment_for_each_cell_value()
     ensures { (children : Forest) → IsTable children → HasOneAlignmentForEachValue children }
 {}
 
-/// Identifiers of which one definition is the first that has them are one: so those of two references, or two calls,
-/// are equal exactly where `Checked` says the same of them.
+/// Identifiers of which one definition is the first that has them are one: so those of two
+/// references, or two calls, are equal exactly where `Checked` says the same of them.
 pub fn one_identifier_for_each_place()
     ensures { (identifiers : List (Option (List ℕ))) (one other : Option (List ℕ)) (place : ℕ)
         → which identifiers one ≡ Some place → which identifiers other ≡ Some place → one ≡ other }

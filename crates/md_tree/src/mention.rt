@@ -2,8 +2,9 @@
 
 use md_base::Position;
 
-/// By what a link, an image, a footnote call or a definition refers or is referred to: a label by its place.
-/// Contracts speak of it; while events are read, `Aim` is kept, which has indices of events.
+/// By what a link, an image, a footnote call or a definition refers or is referred to: a label
+/// by its place. Contracts speak of it; while events are read, `Aim` is kept, which has
+/// indices of events.
 #[derive(Clone, Copy)]
 pub enum Referral {
     Missing,

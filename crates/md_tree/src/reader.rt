@@ -1,6 +1,7 @@
 //! Reads events, each by the walk and by the pass that finds what is read or inferred.
 
-ghost use Rattle.std.specs.Prelude.{◌≡◌, ◌<◌, ◌≤◌, ◌+◌, true, suc, None, Some, slice_get, length, IfOk, OnOk, IfErr, IfSome};
+ghost use Rattle.std.specs.Prelude.{◌≡◌, ◌<◌, ◌≤◌, ◌+◌, true, suc, None, Some, slice_get, length};
+ghost use Rattle.std.specs.Prelude.{IfOk, OnOk, IfErr, IfSome};
 ghost use Rattle.md_base.specs.Reference.{name_table};
 ghost use Rattle.md_base.specs.declared.event.Event.{Event};
 ghost use Rattle.md_base.specs.declared.event.Kind.TheVariants as kind;
@@ -45,8 +46,8 @@ impl Reader {
         })
     }
 
-    /// Reads the event at an index, and the next one with it where both enter and exit a node without children; answers
-    /// how many it read.
+    /// Reads the event at an index, and the next one with it where both enter and exit a node
+    /// without children; answers how many it read.
     ///
     /// # Errors
     ///
@@ -60,13 +61,16 @@ impl Reader {
         event: Event,
     ) -> Result<usize, CompileError>
         requires here { slice_get input.events.now index ≡ Some event }
-        requires before { HasRead input.bytes.now (name_table input.names.now) input.events.now index self.old }
+        requires before { HasRead input.bytes.now (name_table input.names.now)
+            input.events.now index self.old }
         ensures read { IfOk result
-            (λ count. HasRead input.entry.bytes.now (name_table input.entry.names.now) input.entry.events.now
-            (index + count) self.new) }
-        ensures counted { IfOk result (λ count. (0 < count) × (index + count ≤ length input.entry.events.now)) }
+            (λ count. HasRead input.entry.bytes.now (name_table input.entry.names.now)
+            input.entry.events.now (index + count) self.new) }
+        ensures counted { IfOk result
+            (λ count. (0 < count) × (index + count ≤ length input.entry.events.now)) }
         ensures refused { IfErr result
-            (IsRefusal (handed input.entry.events.now input.entry.bytes.now input.entry.names.now)) }
+            (IsRefusal (handed input.entry.events.now input.entry.bytes.now
+            input.entry.names.now)) }
     {
         match own_exit(input.events, index, &event) {
             Some(exit) => {
@@ -132,14 +136,17 @@ impl Reader {
         requires here { slice_get input.events.now index ≡ Some event }
         requires after { slice_get input.events.now (suc index) ≡ Some exit.now }
         requires leaf { IsLeaf event exit.now }
-        requires before { HasRead input.bytes.now (name_table input.names.now) input.events.now index self.old }
+        requires before { HasRead input.bytes.now (name_table input.names.now)
+            input.events.now index self.old }
         ensures read { OnOk result
             (HasRead input.entry.bytes.now (name_table input.entry.names.now) input.entry.events.now
             (suc (suc index)) self.new) }
         ensures refused { IfErr result
-            (IsRefusal (handed input.entry.events.now input.entry.bytes.now input.entry.names.now)) }
+            (IsRefusal (handed input.entry.events.now input.entry.bytes.now
+            input.entry.names.now)) }
     {
-        // Most leaves have one of these names: where it is written, what goes by it is computed when this is built.
+        // Most leaves have one of these names: where it is written, what goes by it is computed
+        // when this is built.
         match event.name {
             Name::Data => self.read_named(input, index, event, exit, Name::Data),
             Name::LineEnding => self.read_named(input, index, event, exit, Name::LineEnding),
@@ -166,12 +173,14 @@ impl Reader {
         requires after { slice_get input.events.now (suc index) ≡ Some exit.now }
         requires leaf { IsLeaf event exit.now }
         requires named { event.name ≡ name }
-        requires before { HasRead input.bytes.now (name_table input.names.now) input.events.now index self.old }
+        requires before { HasRead input.bytes.now (name_table input.names.now)
+            input.events.now index self.old }
         ensures read { OnOk result
             (HasRead input.entry.bytes.now (name_table input.entry.names.now) input.entry.events.now
             (suc (suc index)) self.new) }
         ensures refused { IfErr result
-            (IsRefusal (handed input.entry.events.now input.entry.bytes.now input.entry.names.now)) }
+            (IsRefusal (handed input.entry.events.now input.entry.bytes.now
+            input.entry.names.now)) }
     {
         self.walk.leaf(input, index, name)?;
         self.pass.leaf(input.alloc, name)?;
@@ -206,7 +215,8 @@ fn note_ending(first: &mut Option<usize>, events: &[Event], index: usize)
 /// An index, where its event is a line ending's exit.
 #[inline(never)]
 fn ending_at(events: &[Event], index: usize) -> Option<usize>
-    ensures { (event : Event) → slice_get events.now index ≡ Some event → result ≡ ending_after None index event }
+    ensures { (event : Event) → slice_get events.now index ≡ Some event
+        → result ≡ ending_after None index event }
 {
     ending_after(None, index, events.get(index)?)
 }

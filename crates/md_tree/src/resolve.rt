@@ -1,8 +1,10 @@
 //! Whether the definitions are there to which links, images and footnote calls lead.
 
-ghost use Rattle.std.specs.Prelude.{◌≡◌, ◌∷◌, ◌<◌, ◌^◌, suc, length, List, Option, ℕ, option_map, string_bytes, IfOk, OnOk, IfErr};
+ghost use Rattle.std.specs.Prelude.{◌≡◌, ◌∷◌, ◌<◌, ◌^◌, suc, length, List, Option, ℕ, option_map};
+ghost use Rattle.std.specs.Prelude.{string_bytes, IfOk, OnOk, IfErr};
 ghost use Rattle.std.specs.List.{All};
-ghost use Rattle.md_tree.specs.Mentions.{identifier_at, defined, footnoted, mentions_among, IsResolved};
+ghost use Rattle.md_tree.specs.Mentions.{identifier_at, defined, footnoted, mentions_among};
+ghost use Rattle.md_tree.specs.Mentions.{IsResolved};
 ghost use Rattle.md_tree.specs.Resolve.{IsUnresolved};
 ghost use Rattle.md_tree.specs.declared.mention.Mention.{Mention};
 ghost use Rattle.md_tree.specs.Numbers as spec;
@@ -15,8 +17,8 @@ use md_pattern::Fact;
 use std::alloc::{AllocError, Global};
 use std::collections::BTreeMap;
 
-/// The number of each identifier: which of the definitions is the first that has it, counted from 1. They are in their
-/// order, so that one is found in few steps, whoever chose them.
+/// The number of each identifier: which of the definitions is the first that has it, counted from
+/// 1. They are in their order, so that one is found in few steps, whoever chose them.
 type Numbers = BTreeMap<Option<String>, usize>;
 
 /// The identifier at a label's place, where it is a text.
@@ -101,7 +103,8 @@ fn footnotes(
     ensures found { IfOk result
         (λ numbers. spec.Numbers numbers (footnoted bytes.now (mentions_among mentions.now))) }
     ensures kept { OnOk result (facts.new.items
-        ≡ spec.numbered (spec.footnote_number bytes.now (mentions_among mentions.now)) mentions.now facts.old.items) }
+        ≡ spec.numbered (spec.footnote_number bytes.now (mentions_among mentions.now))
+        mentions.now facts.old.items) }
 {
     let mut numbers = BTreeMap::new(alloc);
     let mut next = 1;
@@ -123,15 +126,15 @@ fn number_of_label(
     label: Position,
     numbers: &Numbers,
 ) -> Result<Option<usize>, AllocError>
-    ensures { IfOk result (λ number. (all : List (Option (List ℕ))) → spec.Numbers numbers.now all
-        → number ≡ option_map (λ place. suc place) (spec.which all (identifier_at bytes.now label))) }
+    ensures { IfOk result (λ number. (all : List (Option (List ℕ))) → spec.Numbers numbers.now all →
+        number ≡ option_map (λ place. suc place) (spec.which all (identifier_at bytes.now label))) }
 {
     let wanted = identifier(alloc, bytes, label)?;
     Ok(numbers.get(&wanted).copied())
 }
 
-/// The number of the definition or the footnote definition to which a mention leads, 0 where it is no such mention, or
-/// the rule that it breaks.
+/// The number of the definition or the footnote definition to which a mention leads, 0 where it is
+/// no such mention, or the rule that it breaks.
 fn lead(
     alloc: Global,
     bytes: &Texts,
@@ -157,9 +160,9 @@ fn lead(
     }
 }
 
-/// Numbers definitions, and footnote definitions, each by the first one with its identifier, counted from 1. The number
-/// of a footnote definition, and of what leads to one of either kind, is kept in the fact of its exit. Refuses what leads
-/// to one that isn't there.
+/// Numbers definitions, and footnote definitions, each by the first one with its identifier,
+/// counted from 1. The number of a footnote definition, and of what leads to one of either kind, is
+/// kept in the fact of its exit. Refuses what leads to one that isn't there.
 ///
 /// # Errors
 ///
@@ -172,7 +175,8 @@ pub fn resolve(
     mentions: &[Mentioned],
     facts: &mut Vec<Fact>,
 ) -> Result<(), CompileError>
-    ensures ok { OnOk result (All (IsResolved bytes.now (mentions_among mentions.now)) (mentions_among mentions.now)) }
+    ensures ok { OnOk result
+        (All (IsResolved bytes.now (mentions_among mentions.now)) (mentions_among mentions.now)) }
     ensures numbered { OnOk result (facts.new.items
         ≡ spec.all_numbered bytes.now (mentions_among mentions.now) mentions.now facts.old.items) }
     ensures refused { IfErr result (IsUnresolved bytes.now mentions.now) }

@@ -1,6 +1,7 @@
 //! A document's bytes, of which the parts that are texts are found once.
 
-ghost use Rattle.std.specs.Prelude.{◌≡◌, ◌≤◌, ◌<◌, ◌+◌, ℕ, List, Some, length, nat_le, ◌&&◌, option_copied, slice_range, IfOk, IfSome, IsTrue};
+ghost use Rattle.std.specs.Prelude.{◌≡◌, ◌≤◌, ◌<◌, ◌+◌, ℕ, List, Some, length, nat_le, ◌&&◌};
+ghost use Rattle.std.specs.Prelude.{option_copied, slice_range, IfOk, IfSome, IsTrue};
 ghost use Rattle.std.specs.Str.{IsUtf8};
 ghost use Rattle.md_base.specs.Place.{text_when, text_between, label_between};
 ghost use Rattle.md_tree.specs.TextRuns.{IsRun, AreRuns};
@@ -35,8 +36,8 @@ impl<'a> Run<'a> {
     /// The text between two indices of the bytes, where it lies in this part.
     fn text_between(&self, start: usize, end: usize) -> Option<&'a str>
         ensures { IfSome result
-            (λ text. (bytes : List ℕ) → IsRun bytes self.now
-            → text_when (nat_le start end && nat_le end (length bytes)) (slice_range bytes start end) ≡ Some text.now) }
+            (λ text. (bytes : List ℕ) → IsRun bytes self.now → text_when (nat_le start end
+            && nat_le end (length bytes)) (slice_range bytes start end) ≡ Some text.now) }
     {
         let from = start.checked_sub(self.start)?;
         let to = end.checked_sub(self.start)?;
@@ -48,7 +49,8 @@ impl<'a> Run<'a> {
 #[inline(always)]
 fn part(text: &str, from: usize, to: usize) -> Option<&str>
     ensures { IfSome result
-        (λ part. (from ≤ to) × (to ≤ length text.now) × (part.now ≡ slice_range text.now from to) × IsUtf8 part.now) }
+        (λ part. (from ≤ to) × (to ≤ length text.now) × (part.now ≡ slice_range text.now from to)
+        × IsUtf8 part.now) }
 {
     if from <= to && text.is_char_boundary(from) && text.is_char_boundary(to) {
         Some(&text[from..to])
@@ -96,8 +98,8 @@ impl<'a> Texts<'a> {
         })
     }
 
-    /// The same bytes with only the text that they begin with: mostly all of them. Other texts are read each time that
-    /// they are asked for, so that nothing is kept of them.
+    /// The same bytes with only the text that they begin with: mostly all of them. Other texts are
+    /// read each time that they are asked for, so that nothing is kept of them.
     pub fn with_front_alone(self, alloc: Global) -> Texts<'a>
         ensures { result ≡ self.entry }
     {
@@ -122,7 +124,8 @@ impl<'a> Texts<'a> {
 
     /// The text of a node, where its place fits the bytes and is one.
     ///
-    /// A text that was found is not read again, however long it is, unless it begins or ends in a tab.
+    /// A text that was found is not read again, however long it is, unless it begins
+    /// or ends in a tab.
     #[inline(always)]
     pub fn text_at(&self, position: &Position) -> Option<&'a str>
         ensures { option_copied result ≡ text_between self.now position.now.start position.now.end }
@@ -140,7 +143,8 @@ impl<'a> Texts<'a> {
     ///
     /// A text that was found is not read again, however long it is.
     pub fn label_at(&self, position: &Position) -> Option<&'a str>
-        ensures { option_copied result ≡ label_between self.now position.now.start position.now.end }
+        ensures { option_copied result
+            ≡ label_between self.now position.now.start position.now.end }
     {
         match self.text_between(position.start.index, position.end.index) {
             Some(text) => Some(text),
@@ -153,8 +157,8 @@ impl<'a> Texts<'a> {
     #[inline(always)]
     fn text_between(&self, start: usize, end: usize) -> Option<&'a str>
         ensures { IfSome result
-            (λ text. text_when (nat_le start end && nat_le end (length self.now)) (slice_range self.now start end)
-            ≡ Some text.now) }
+            (λ text. text_when (nat_le start end && nat_le end (length self.now))
+            (slice_range self.now start end) ≡ Some text.now) }
     {
         // Few documents have a byte that is in no character.
         match part(self.front, start, end) {
@@ -205,7 +209,8 @@ fn text_within(bytes: &[u8], start: usize, end: usize) -> &str
 #[inline(always)]
 fn next_start(bytes: &[u8], fault: usize) -> usize
     requires { fault ≤ length bytes.now }
-    ensures { (fault ≤ result) × (result ≤ length bytes.now) × (fault < length bytes.now → fault < result) }
+    ensures { (fault ≤ result) × (result ≤ length bytes.now)
+        × (fault < length bytes.now → fault < result) }
 {
     let mut at = bytes.len().min(fault + 1);
     while at < bytes.len() && goes_on(bytes[at]) {
@@ -220,12 +225,13 @@ fn goes_on(byte: u8) -> bool {
     byte & 0xC0 == 0x80
 }
 
-/// Where a text ends that begins at an index. Only if it is long it is read by parts: where one is no text, a look is
-/// lost.
+/// Where a text ends that begins at an index. Only if it is long it is read by parts: where one is
+/// no text, a look is lost.
 #[inline(always)]
 fn text_end(bytes: &[u8], start: usize) -> usize
     requires { start ≤ length bytes.now }
-    ensures { (start ≤ result) × (result ≤ length bytes.now) × IsUtf8 (slice_range bytes.now start result) }
+    ensures { (start ≤ result) × (result ≤ length bytes.now)
+        × IsUtf8 (slice_range bytes.now start result) }
 {
     let near = bytes.len().min(start + NEAR);
     let end = text_end_before(bytes, start, near);
@@ -236,7 +242,8 @@ fn text_end(bytes: &[u8], start: usize) -> usize
     text_end_by_parts(bytes, start, end)
 }
 
-/// Where a text ends that begins at an index, if it is read byte by byte and no further than to another index.
+/// Where a text ends that begins at an index, if it is read byte by byte and no further than
+/// to another index.
 #[inline(always)]
 fn text_end_before(bytes: &[u8], start: usize, end: usize) -> usize
     requires { (start ≤ end) × (end ≤ length bytes.now) }
@@ -248,12 +255,14 @@ fn text_end_before(bytes: &[u8], start: usize, end: usize) -> usize
     }
 }
 
-/// Where a text ends that begins at an index and is known as far as another. A part that is a text is read in one look,
-/// which doesn't tell where another has its fault: that is read again.
+/// Where a text ends that begins at an index and is known as far as another. A part that is a text
+/// is read in one look, which doesn't tell where another has its fault: that is read again.
 #[inline(never)]
 fn text_end_by_parts(bytes: &[u8], start: usize, known: usize) -> usize
-    requires { (start ≤ known) × (known ≤ length bytes.now) × IsUtf8 (slice_range bytes.now start known) }
-    ensures { (start ≤ result) × (result ≤ length bytes.now) × IsUtf8 (slice_range bytes.now start result) }
+    requires { (start ≤ known) × (known ≤ length bytes.now)
+        × IsUtf8 (slice_range bytes.now start known) }
+    ensures { (start ≤ result) × (result ≤ length bytes.now)
+        × IsUtf8 (slice_range bytes.now start result) }
 {
     let mut at = known;
     let mut size = FIRST_PART;

@@ -35,7 +35,8 @@ pub struct Walk {
 }
 
 impl Walk {
-    ghost use Rattle.std.specs.Prelude.{◌≡◌, ◌<◌, ◌+◌, List, suc, true, false, None, Some, length, reverse, IfOk, IfErr, OnOk};
+    ghost use Rattle.std.specs.Prelude.{◌≡◌, ◌<◌, ◌+◌, List, suc, true, false, None, Some, length};
+    ghost use Rattle.std.specs.Prelude.{reverse, IfOk, IfErr, OnOk};
     ghost use Rattle.md_base.specs.NameTests.{is_table};
     ghost use Rattle.md_base.specs.Reference.{name_table};
     ghost use Rattle.md_base.specs.declared.event.Event.{Event};
@@ -43,10 +44,13 @@ impl Walk {
     ghost use Rattle.md_pattern.specs.Steps.{is_complete};
     ghost use Rattle.md_pattern.specs.Places.{state_of};
     ghost use Rattle.md_tree.specs.Rules.{broken_rule, target_at};
-    ghost use Rattle.md_tree.specs.Machine.{Steps, Enters, Exits, ExitsWhere, after_entry, beginning};
+    ghost use Rattle.md_tree.specs.Machine.{Steps, Enters, Exits, ExitsWhere, after_entry};
+    ghost use Rattle.md_tree.specs.Machine.{beginning};
     ghost use Rattle.md_tree.specs.declared.open_nodes.Aim.TheVariants.{Missing};
     ghost use Rattle.md_tree.specs.declared.rule.CompileError.TheVariants.{Memory};
-    ghost use Rattle.md_tree.specs.Walk.{point_at, place_at, outer_seen, outer_of, opens_seen, target_of, targets_around, course_of, entered_at, Passes, Unbroken, IsStop, IsStopAtLeaf, IsStopInside};
+    ghost use Rattle.md_tree.specs.Walk.{point_at, place_at, outer_seen, outer_of, opens_seen};
+    ghost use Rattle.md_tree.specs.Walk.{target_of, targets_around, course_of, entered_at, Passes};
+    ghost use Rattle.md_tree.specs.Walk.{Unbroken, IsStop, IsStopAtLeaf, IsStopInside};
 
     /// Before any event.
     pub fn new(alloc: Global) -> Walk
@@ -75,10 +79,12 @@ impl Walk {
         requires { event.now.point ≡ point_at input.events.now index }
         ensures ok { OnOk result
             (Steps (Unbroken input.entry.bytes.now (name_table input.entry.names.now)) event.now
-            (course_of input.entry.events.now index self.old) (course_of input.entry.events.now (suc index) self.new)) }
+            (course_of input.entry.events.now index self.old)
+            (course_of input.entry.events.now (suc index) self.new)) }
         ensures refused { IfErr result
             (IsStop input.entry.bytes.now (name_table input.entry.names.now)
-            index event.now.kind event.now.name event.now.point (course_of input.entry.events.now index self.old)) }
+            index event.now.kind event.now.name event.now.point
+            (course_of input.entry.events.now index self.old)) }
     {
         match event.kind {
             Kind::Enter => self.enter(input, index, event.name),
@@ -90,11 +96,13 @@ impl Walk {
     #[inline(always)]
     fn enter(&mut self, input: Input, index: usize, name: Name) -> Result<(), CompileError>
         ensures ok { OnOk result
-            (Enters name (point_at input.entry.events.now index) (course_of input.entry.events.now index self.old)
+            (Enters name (point_at input.entry.events.now index)
+            (course_of input.entry.events.now index self.old)
             (course_of input.entry.events.now (suc index) self.new)) }
         ensures refused { IfErr result
             (IsStop input.entry.bytes.now (name_table input.entry.names.now) index kind.Enter name
-            (point_at input.entry.events.now index) (course_of input.entry.events.now index self.old)) }
+            (point_at input.entry.events.now index)
+            (course_of input.entry.events.now index self.old)) }
     {
         if !self.place.may_hold() {
             return refuse(index, misplaced(name));
@@ -153,9 +161,10 @@ impl Walk {
         outer: Outer,
     ) -> Result<(), CompileError>
         ensures ok { OnOk result
-            (course_of input.entry.events.now (suc index) self.new
-            ≡ after_entry (entered_at role (outer_seen input.entry.events.now self.old.target outer)) name
-            (point_at input.entry.events.now index) (course_of input.entry.events.now index self.old)) }
+            (course_of input.entry.events.now (suc index) self.new ≡ after_entry (entered_at role
+            (outer_seen input.entry.events.now self.old.target outer)) name
+            (point_at input.entry.events.now index)
+            (course_of input.entry.events.now index self.old)) }
         ensures memory { IfErr result (λ error. error ≡ Memory) }
     {
         let aimed = put_aside(&mut self.target, &mut self.targets)?;
@@ -230,11 +239,14 @@ impl Walk {
     fn exit(&mut self, input: Input, index: usize, name: Name) -> Result<(), CompileError>
         ensures ok { OnOk result
             (Exits (Unbroken input.entry.bytes.now (name_table input.entry.names.now))
-            (course_of input.entry.events.now index self.old).open_nodes name (point_at input.entry.events.now index)
-            (course_of input.entry.events.now index self.old) (course_of input.entry.events.now (suc index) self.new)) }
+            (course_of input.entry.events.now index self.old).open_nodes name
+            (point_at input.entry.events.now index)
+            (course_of input.entry.events.now index self.old)
+            (course_of input.entry.events.now (suc index) self.new)) }
         ensures refused { IfErr result
             (IsStop input.entry.bytes.now (name_table input.entry.names.now) index kind.Exit name
-            (point_at input.entry.events.now index) (course_of input.entry.events.now index self.old)) }
+            (point_at input.entry.events.now index)
+            (course_of input.entry.events.now index self.old)) }
     {
         let Some(open_node) = self.open_nodes.pop() else {
             return refuse(index, Rule::Order);
@@ -254,11 +266,12 @@ impl Walk {
     fn leave(&mut self, input: Input, index: usize, open_node: &Open) -> Result<(), CompileError>
         ensures ok { OnOk result
             (ExitsWhere (Unbroken input.entry.bytes.now (name_table input.entry.names.now))
-            (Some (outer_of input.entry.events.now (reverse self.old.targets.items) open_node.entry.now))
-            (point_at input.entry.events.now open_node.entry.now.entry) (point_at input.entry.events.now index)
-            (opens_seen input.entry.events.now
-            (targets_around open_node.entry.now.aimed (reverse self.old.targets.items)) self.old.open_nodes.items)
-            (course_of input.entry.events.now index self.old) (course_of input.entry.events.now (suc index) self.new)) }
+            (Some (outer_of input.entry.events.now (reverse self.old.targets.items)
+            open_node.entry.now)) (point_at input.entry.events.now open_node.entry.now.entry)
+            (point_at input.entry.events.now index) (opens_seen input.entry.events.now
+            (targets_around open_node.entry.now.aimed (reverse self.old.targets.items))
+            self.old.open_nodes.items) (course_of input.entry.events.now index self.old)
+            (course_of input.entry.events.now (suc index) self.new)) }
         ensures refused { IfErr result
             (IsStopInside input.entry.bytes.now (name_table input.entry.names.now) index
             (outer_of input.entry.events.now (reverse self.old.targets.items) open_node.entry.now)
@@ -286,11 +299,12 @@ impl Walk {
         requires { is_complete (state_of self.now.place self.now.before) ≡ true }
         ensures ok { OnOk result
             (ExitsWhere (Unbroken input.entry.bytes.now (name_table input.entry.names.now))
-            (Some (outer_of input.entry.events.now (reverse self.old.targets.items) open_node.entry.now))
-            (point_at input.entry.events.now open_node.entry.now.entry) (point_at input.entry.events.now index)
-            (opens_seen input.entry.events.now
-            (targets_around open_node.entry.now.aimed (reverse self.old.targets.items)) self.old.open_nodes.items)
-            (course_of input.entry.events.now index self.old) (course_of input.entry.events.now (suc index) self.new)) }
+            (Some (outer_of input.entry.events.now (reverse self.old.targets.items)
+            open_node.entry.now)) (point_at input.entry.events.now open_node.entry.now.entry)
+            (point_at input.entry.events.now index) (opens_seen input.entry.events.now
+            (targets_around open_node.entry.now.aimed (reverse self.old.targets.items))
+            self.old.open_nodes.items) (course_of input.entry.events.now index self.old)
+            (course_of input.entry.events.now (suc index) self.new)) }
         ensures refused { IfErr result
             (IsStopInside input.entry.bytes.now (name_table input.entry.names.now) index
             (outer_of input.entry.events.now (reverse self.old.targets.items) open_node.entry.now)
@@ -331,19 +345,23 @@ fn push_open(open_nodes: &mut Vec<Open>, node: Open) -> Result<(), AllocError>
 /// Whether nothing is read of a node, and neither it nor the spine around it has a target.
 #[inline(always)]
 fn is_plain(open_node: &Open, target: Aim) -> bool
-    ensures { result ≡ true → (open_node.now.outer.reading ≡ Free) × (open_node.now.aimed ≡ false) × (target ≡ Missing) }
+    ensures { result ≡ true → (open_node.now.outer.reading ≡ Free) × (open_node.now.aimed ≡ false)
+        × (target ≡ Missing) }
 {
     matches!(open_node.outer.reading, Reading::Free)
         && !open_node.aimed
         && matches!(target, Aim::Missing)
 }
 
-/// Puts aside the target of the spine around a node that is entered, if it has one; answers whether it has.
+/// Puts aside the target of the spine around a node that is entered, if it has one;
+/// answers whether it has.
 #[inline(always)]
 fn put_aside(target: &mut Aim, targets: &mut Vec<Aim>) -> Result<bool, AllocError>
     ensures begins { OnOk result (target.new ≡ Missing) }
-    ensures aside { IfOk result (λ aimed. target_of aimed (reverse targets.new.items) ≡ target.old) }
-    ensures around { IfOk result (λ aimed. targets_around aimed (reverse targets.new.items) ≡ reverse targets.old.items) }
+    ensures aside { IfOk result
+        (λ aimed. target_of aimed (reverse targets.new.items) ≡ target.old) }
+    ensures around { IfOk result
+        (λ aimed. targets_around aimed (reverse targets.new.items) ≡ reverse targets.old.items) }
 {
     if matches!(*target, Aim::Missing) {
         return Ok(false);
@@ -393,8 +411,8 @@ fn keep(
     reading: Reading,
     target: Aim,
 ) -> Result<(), AllocError>
-    ensures { OnOk result (mentions.new.items ≡ mentions_with index (mention_of reading (target_seen events.now target))
-        mentions.old.items) }
+    ensures { OnOk result (mentions.new.items ≡ mentions_with index
+        (mention_of reading (target_seen events.now target)) mentions.old.items) }
 {
     let Aim::Label(entry, exit) = target else {
         return Ok(());

@@ -99,7 +99,8 @@ fn ask_of_link<R: Print>(rt: &R, log: &Log, row: &Row, checked: &Checked) -> io:
     Ok(())
 }
 
-/// Makes the call of a footnote's call and of its definition, where they are the second node and one that ends later.
+/// Makes the call of a footnote's call and of its definition, where they are the second node and
+/// one that ends later.
 fn ask_of_footnote<R: Print>(rt: &R, log: &Log, row: &Row, checked: &Checked) -> io::Result<()> {
     if checked.exits(6, Name::GfmFootnoteCall) && checked.exits(23, Name::GfmFootnoteDefinition) {
         return log.tell(rt, footnote_answers(checked), "footnote_of", row.name);

@@ -10,7 +10,8 @@ use md_html::{
 use std::alloc::{AllocError, Global};
 use std::io;
 
-/// Makes these calls over each document, none of which has a link in a link, and over two with links and images.
+/// Makes these calls over each document, none of which has a link in a link, and over two with
+/// links and images.
 pub fn ask_each<R: Print + AllocGlobal>(rt: &R, log: &mut Log) -> io::Result<()> {
     for rows in documents() {
         ask_rows(rt, log, rows)?;

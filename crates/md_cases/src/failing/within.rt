@@ -13,8 +13,8 @@ use std::io;
 /// No limit.
 const NONE: usize = usize::MAX;
 
-/// Makes these calls over each document: at its exact length and work, at one less of each, and at the least and the
-/// greatest limits.
+/// Makes these calls over each document: at its exact length and work, at one less of each, and at
+/// the least and the greatest limits.
 pub fn ask_each<R: Print + AllocGlobal>(rt: &R, log: &mut Log) -> io::Result<()> {
     for rows in documents() {
         ask_rows(rt, log, rows)?;

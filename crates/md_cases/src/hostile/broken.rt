@@ -1,4 +1,5 @@
-//! Documents that are broken at one event: what they may give, and that the mended ones give what they gave.
+//! Documents that are broken at one event: what they may give, and that the mended ones
+//! give what they gave.
 
 use super::growing::{Tree, grow};
 use super::random::Random;
@@ -123,7 +124,8 @@ fn has_read_place(event: Event) -> bool {
     }
 }
 
-/// What the list may give: of an odd number of events, and where a node would end by another name, a refusal alone.
+/// What the list may give: of an odd number of events, and where a node would end by another name,
+/// a refusal alone.
 fn judged(first: Event, second: Event, change: Break, moved: Event, length: usize) -> Verdict {
     match change {
         Remove | Double | Rename => Refused,
@@ -137,7 +139,8 @@ fn judged(first: Event, second: Event, change: Break, moved: Event, length: usiz
 
 /// Whether a list that is broken at a place may be refused at this event by this rule.
 ///
-/// What comes before the place is as it was. A definition or a footnote is missed only where the order is right.
+/// What comes before the place is as it was. A definition or a footnote is missed only where
+/// the order is right.
 fn may_refuse(change: Break, place: usize, index: usize, rule: Rule) -> bool {
     match rule {
         Rule::Definition | Rule::Footnote => matches!(change, Move | Swap),

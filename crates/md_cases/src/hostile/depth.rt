@@ -13,7 +13,8 @@ const DEPTH: usize = 100_000;
 /// How many powers of two are below it.
 const POWERS: usize = 17;
 
-/// A shape gives its text at each depth that is a power of two below the greatest one, and at that one.
+/// A shape gives its text at each depth that is a power of two below the greatest one,
+/// and at that one.
 fn compiles_at_each_depth(
     rt: &(impl Print + AllocGlobal),
     shape: &Shape,

@@ -41,7 +41,8 @@ fn may_hold(around: Option<Name>, name: Name) -> bool {
     }
 }
 
-/// The first event that is out of order, or how many events there are where nodes are open at the end.
+/// The first event that is out of order, or how many events there are where nodes are
+/// open at the end.
 fn fault(alloc: Global, events: &[Event]) -> Result<Option<usize>, AllocError> {
     let mut open = Vec::new(alloc);
     for (index, event) in events.iter().enumerate() {

@@ -106,7 +106,8 @@ pub(super) const WRAPPERS: [Name; 4] = [
     Name::BlockQuotePrefix,
 ];
 
-/// What stands before each document, for identifiers: `a`, `A`, `ß`, `SS`, and two spellings of `x y`.
+/// What stands before each document, for identifiers: `a`, `A`, `ß`, `SS`, and two
+/// spellings of `x y`.
 pub(super) const PREAMBLE: &str = "aA\u{df}SSx  y X\tY ";
 
 /// The identifiers in it, and the empty one; the first, the third, the fifth and the last differ.
@@ -229,7 +230,8 @@ const ENDINGS: [&str; 3] = ["\n", "\r", "\r\n"];
 /// Numbers of lists.
 const NUMBERS: [&str; 5] = ["0", "1", "007", "12", "4294967295"];
 
-/// Decimal numbers of characters: of an angle bracket, a colon, NUL, a surrogate, one that is none, the greatest.
+/// Decimal numbers of characters: of an angle bracket, a colon, NUL, a surrogate, one that is
+/// none, the greatest.
 const DECIMALS: [&str; 6] = ["60", "0058", "0", "55296", "128", "4294967295"];
 
 /// Hexadecimal ones: of a quote, a letter, a planet, one that is none.
@@ -238,7 +240,8 @@ const HEXADECIMALS: [&str; 4] = ["22", "4a", "1FA90", "fffe"];
 /// Underlines of headings.
 const UNDERLINES: [&str; 3] = ["=", "--", "x"];
 
-/// Marks of headings, each with the virtual spaces of its start and its end; none is longer than six.
+/// Marks of headings, each with the virtual spaces of its start and its end; none is
+/// longer than six.
 pub(super) const MARKS: [(&str, usize, usize); 6] = [
     ("#", 0, 0),
     ("######", 0, 0),

@@ -1,4 +1,5 @@
-//! Grows trees of the grammar at random, as the events that go through them and the bytes of their documents.
+//! Grows trees of the grammar at random, as the events that go through them and the bytes of
+//! their documents.
 
 use super::grammar::{MARKS, PREAMBLE, Part, WRAPPERS, choices, definitions, others};
 use super::random::Random;
@@ -84,7 +85,8 @@ impl Tree {
         }
     }
 
-    /// Ends the innermost node that is open, in which a node that is passed over may stand last, if any may.
+    /// Ends the innermost node that is open, in which a node that is passed over may stand
+    /// last, if any may.
     fn end(&mut self) -> Result<(), AllocError> {
         match self.ends.pop() {
             Some((name, end)) => {

@@ -1,9 +1,10 @@
-//! A reader of HTML that has nothing but the elements of compiled Markdown, written apart from the definitions.
+//! A reader of HTML that has nothing but the elements of compiled Markdown, written apart from
+//! the definitions.
 
 use std::alloc::{AllocError, Global};
 
-/// An element or a void tag, and the attributes that it may have, in the order in which they stand, with spaces between
-/// them.
+/// An element or a void tag, and the attributes that it may have, in the order in which they stand,
+/// with spaces between them.
 type Tag = (&'static str, &'static str);
 
 static ELEMENTS: [Tag; 25] = [
@@ -66,8 +67,8 @@ pub(super) fn is_html(alloc: Global, text: &str) -> Result<bool, AllocError> {
     }
 }
 
-/// Whether tags, the first without the bracket at its start, each with the text after it, have their form, and each
-/// element ends where it may.
+/// Whether tags, the first without the bracket at its start, each with the text after it, have
+/// their form, and each element ends where it may.
 fn are_tags(alloc: Global, tags: &str) -> Result<bool, AllocError> {
     let mut open = Vec::new(alloc);
     for tag in tags.split('<') {
@@ -78,7 +79,8 @@ fn are_tags(alloc: Global, tags: &str) -> Result<bool, AllocError> {
     Ok(open.is_empty())
 }
 
-/// Takes a tag and the text after it, without the bracket at the start, and says whether both have their form.
+/// Takes a tag and the text after it, without the bracket at the start, and says whether both
+/// have their form.
 fn take_piece(open: &mut Vec<&'static str>, piece: &str) -> Result<bool, AllocError> {
     match piece.split_once('>') {
         Some((tag, after)) if is_plain(after) => take_tag(open, tag),
@@ -86,7 +88,8 @@ fn take_piece(open: &mut Vec<&'static str>, piece: &str) -> Result<bool, AllocEr
     }
 }
 
-/// Takes a tag, given without its brackets, into the list of open elements, and says whether it has its form.
+/// Takes a tag, given without its brackets, into the list of open elements, and says whether
+/// it has its form.
 fn take_tag(open: &mut Vec<&'static str>, tag: &str) -> Result<bool, AllocError> {
     if let Some(name) = tag.strip_prefix('/') {
         return Ok(open.pop() == Some(name));
@@ -131,8 +134,8 @@ fn are_attributes(permitted: &str, text: &str) -> bool {
     length == text.len()
 }
 
-/// How long the attribute of this name is with which a text begins; 0 where it doesn't begin with it, or it may not
-/// have that value.
+/// How long the attribute of this name is with which a text begins; 0 where it doesn't begin with
+/// it, or it may not have that value.
 fn attribute_length(text: &str, name: &str) -> usize {
     match attribute_of(text, name) {
         Some((value, others)) if is_value(name, value) => text.len().saturating_sub(others.len()),
@@ -165,7 +168,8 @@ fn is_plain(text: &str) -> bool {
     }
 }
 
-/// Whether a text, and what follows each ampersand in it, begins as a reference does behind its ampersand.
+/// Whether a text, and what follows each ampersand in it, begins as a reference does
+/// behind its ampersand.
 fn are_references(text: &str) -> bool {
     for after in text.split('&') {
         if !is_reference(after) {
@@ -185,7 +189,8 @@ fn is_reference(text: &str) -> bool {
 
 /// Whether a URL has no protocol or a permitted one, as a browser takes it.
 ///
-/// What the references stand for is in no permitted protocol, and ends none: so they are left as they are written.
+/// What the references stand for is in no permitted protocol, and ends none: so they are left as
+/// they are written.
 fn leads_among(value: &str, permitted: &str) -> bool {
     match value.split_once(':') {
         Some((protocol, _)) => {
@@ -211,7 +216,8 @@ fn is_dropped(character: char) -> bool {
     character <= ' '
 }
 
-/// Whether a text is a protocol, in letters of either case, with tabs and line endings anywhere, which a browser drops.
+/// Whether a text is a protocol, in letters of either case, with tabs and line endings anywhere,
+/// which a browser drops.
 fn is_protocol(written: &str, protocol: &str) -> bool {
     let mut left = protocol.as_bytes();
     for byte in written.as_bytes() {

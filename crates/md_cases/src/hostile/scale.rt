@@ -225,7 +225,8 @@ fn links_to_definitions(rt: &(impl Print + AllocGlobal)) -> Result<(), CompileEr
     compiles(rt, &DEFINITIONS, SIZE)
 }
 
-/// Calls out of order, and after them the footnotes, each with a text of its own: its number is the place of its call.
+/// Calls out of order, and after them the footnotes, each with a text of its own: its number is the
+/// place of its call.
 static CALLS: Shape = Shape {
     document: &[
         PARAGRAPH,

@@ -9,8 +9,8 @@ use md_html::{CompileError, CompileOptions, Event, Kind, Name, compile};
 use std::alloc::{AllocError, Global};
 use std::fmt::Write;
 
-/// How far it is from item to item out of order; a prime, so that each item comes once where their number is no
-/// multiple of it.
+/// How far it is from item to item out of order; a prime, so that each item comes once where their
+/// number is no multiple of it.
 const STRIDE: usize = 7_919;
 
 /// What is done at one place, to a document or to the text that it should give.

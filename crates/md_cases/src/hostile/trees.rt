@@ -1,4 +1,5 @@
-//! Trees that grow at random: each is a document, and its text under the safe options is HTML that leads where it may.
+//! Trees that grow at random: each is a document, and its text under the safe options is HTML that
+//! leads where it may.
 
 use super::growing::{Tree, grow};
 use super::html::is_html;
@@ -102,7 +103,8 @@ fn is_compiled(
     is_compiled_under(rt, given, &mut options, &mut Random::new(seed))
 }
 
-/// A tree is compiled under safe options, and its text is read; and then under some of the others too.
+/// A tree is compiled under safe options, and its text is read; and then under some
+/// of the others too.
 fn is_compiled_under(
     rt: &(impl Print + AllocGlobal),
     given: &Given<'_>,

@@ -1,4 +1,5 @@
-//! Questions on a script that `run` can't ask: by the names as references, as a page, with its visits.
+//! Questions on a script that `run` can't ask: by the names as references, as a page,
+//! with its visits.
 
 use super::{Asked, Call, no_such_call, with_line_feeds};
 use md_html::{CompileError, CompileOptions, Counted, SafeError, SafeHtml, compile_safe};

@@ -1,4 +1,5 @@
-//! Questions on the first two events: what stands between their places, and whether their names are the same.
+//! Questions on the first two events: what stands between their places, and whether their
+//! names are the same.
 
 use super::{Asked, Call, boolean, no_such_call};
 use md_html::{Event, Position, Slice, is_same_name};

@@ -1,7 +1,10 @@
 -- What a node knows of the nodes around it.
 use Rattle.std.specs.Prelude.{Bool, true, false, not, if◌then◌else◌}
 use Rattle.md_base.specs.declared.event.Name.{Name}
-use Rattle.md_base.specs.declared.event.Name.TheVariants.{BlockQuote, ListOrdered, ListUnordered, GfmFootnoteDefinition, CodeText, MathText, HtmlFlow, HtmlText, Definition, DefinitionDestinationString, Link, Image, ResourceDestinationString, GfmTable, GfmTableHead}
+use Rattle.md_base.specs.declared.event.Name.TheVariants as name_variants
+use name_variants.{BlockQuote, ListOrdered, ListUnordered, GfmFootnoteDefinition, CodeText}
+use name_variants.{MathText, HtmlFlow, HtmlText, Definition, DefinitionDestinationString, Link}
+use name_variants.{Image, ResourceDestinationString, GfmTable, GfmTableHead}
 use Rattle.md_meaning.specs.declared.context.Container.{Container}
 use Rattle.md_meaning.specs.declared.context.Container.TheVariants.{Nothing, TightList, Another}
 use Rattle.md_meaning.specs.declared.context.Surroundings.{Surroundings}
@@ -26,8 +29,10 @@ abbrev pub inside : CompileOptions → Bool → Name → Surroundings → Surrou
 inside options loose name around = elim name [
   | BlockQuote ↦ record around { container = Another; is_outermost = false }
   | GfmFootnoteDefinition ↦ record around { container = Another; is_outermost = false }
-  | ListOrdered ↦ record around { container = if loose then Another else TightList; is_outermost = false }
-  | ListUnordered ↦ record around { container = if loose then Another else TightList; is_outermost = false }
+  | ListOrdered ↦
+      record around { container = if loose then Another else TightList; is_outermost = false }
+  | ListUnordered ↦
+      record around { container = if loose then Another else TightList; is_outermost = false }
   | Image ↦ record around { in_image = true; is_outermost = false }
   | Link ↦ record around { in_link = true; is_outermost = false }
   | GfmTable ↦ record around { in_table = true; is_outermost = false }
@@ -35,8 +40,10 @@ inside options loose name around = elim name [
   | CodeText ↦ record around { in_code = true; is_outermost = false }
   | MathText ↦ record around { in_code = true; is_outermost = false }
   | Definition ↦ record around { in_definition = true; is_outermost = false }
-  | HtmlFlow ↦ record around { is_escaping = not options.allow_dangerous_html; is_outermost = false }
-  | HtmlText ↦ record around { is_escaping = not options.allow_dangerous_html; is_outermost = false }
+  | HtmlFlow ↦
+      record around { is_escaping = not options.allow_dangerous_html; is_outermost = false }
+  | HtmlText ↦
+      record around { is_escaping = not options.allow_dangerous_html; is_outermost = false }
   | DefinitionDestinationString ↦ record around { is_escaping = false; is_outermost = false }
   | ResourceDestinationString ↦ record around { is_escaping = false; is_outermost = false }
   | _ ↦ record around { is_outermost = false }

@@ -26,8 +26,8 @@ pub record Footnote : Type 0 where
   pub identifier : List ℕ
   pub text : List ℕ
 
--- the document's bytes, the names of references, the options, the line ending that is used; the identifiers of all
--- footnote calls, in the order of their exits, and the definitions
+-- the document's bytes, the names of references, the options, the line ending that is used; the
+-- identifiers of all footnote calls, in the order of their exits, and the definitions
 pub record Given : Type 0 where
   pub bytes : List ℕ
   pub names : List (List ℕ × List ℕ)
@@ -36,7 +36,8 @@ pub record Given : Type 0 where
   pub calls : List (List ℕ)
   pub definitions : List Defined
 
--- what is found on a spine: the text of a setext heading, a destination, a title, and where a resource leads
+-- what is found on a spine: the text of a setext heading, a destination, a title, and where
+-- a resource leads
 pub record Found : Type 0 where
   pub heading : Option (List ℕ)
   pub destination : Option (List ℕ)
@@ -50,8 +51,9 @@ nothing_found = record { heading = None; destination = None; title = None; resou
 abbrev pub target_in : Found → Target
 target_in found = record { destination = unwrap_or found.destination []; title = found.title }
 
--- what stands before a node: the calls that have ended, whether the next line ending is slurped, its previous sibling,
--- on its spine the names and the text of a setext heading; and the alignments of the table around it
+-- what stands before a node: the calls that have ended, whether the next line ending is slurped,
+-- its previous sibling, on its spine the names and the text of a setext heading; and the alignments
+-- of the table around it
 pub record Before : Type 0 where
   pub calls : List (List ℕ)
   pub slurps : Bool
@@ -60,8 +62,8 @@ pub record Before : Type 0 where
   pub heading : List ℕ
   pub columns : List AlignKind
 
--- a node: what stands around it and before it, its children, what is found on their spine, the calls that end before
--- it does, its place, and whether nothing follows it in the document
+-- a node: what stands around it and before it, its children, what is found on their spine, the
+-- calls that end before it does, its place, and whether nothing follows it in the document
 pub record At : Type 0 where
   pub around : Surroundings
   pub before : Before
@@ -75,7 +77,10 @@ pub record At : Type 0 where
 abbrev pub text_in : List ℕ → Position → List ℕ
 text_in bytes place = unwrap_or (text_between bytes place.start place.end) []
 
--- by what a node refers to others or is referred to: the identifier of the label that the grammar finds in it
+-- by what a node refers to others or is referred to: the identifier of the label that the
+-- grammar finds in it
 abbrev pub identifier_of : List ℕ → Forest → List ℕ
-identifier_of bytes children =
-    elim (target_of children Missing) [ Label place ↦ unwrap_or (identifier_at bytes place) [] | _ ↦ [] ]
+identifier_of bytes children = elim (target_of children Missing) [
+  | Label place ↦ unwrap_or (identifier_at bytes place) []
+  | _ ↦ []
+]

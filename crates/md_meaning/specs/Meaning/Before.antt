@@ -2,7 +2,9 @@
 use Rattle.std.specs.Prelude.{Bool, false, not, ◌&&◌, ◌||◌, if◌then◌else◌, [], None}
 use Rattle.std.specs.List.{list_any}
 use Rattle.md_base.specs.declared.event.Name.{Name}
-use Rattle.md_base.specs.declared.event.Name.TheVariants.{LineEnding, BlankLineEnding, BlockQuote, ListItem, CodeIndented, CodeFenced, GfmTable, MathFlow, HeadingSetextText, Paragraph, Frontmatter}
+use Rattle.md_base.specs.declared.event.Name.TheVariants as name_variants
+use name_variants.{LineEnding, BlankLineEnding, BlockQuote, ListItem, CodeIndented, CodeFenced}
+use name_variants.{GfmTable, MathFlow, HeadingSetextText, Paragraph, Frontmatter}
 use Rattle.md_base.specs.NameTests.{is_fence, is_transparent}
 use Rattle.md_base.specs.Is.{is}
 use Rattle.md_base.specs.Tree.{Forest}
@@ -14,17 +16,19 @@ use Rattle.md_meaning.specs.Meaning.At.{Before, At}
 abbrev pub is_first_fence : At → Bool
 is_first_fence at = not (list_any is_fence at.before.spine)
 
--- after a node outside definitions the next line ending is slurped: the node's exit sets that, or it was so after the
--- node's children and its exit doesn't clear it
+-- after a node outside definitions the next line ending is slurped: the node's exit sets that, or
+-- it was so after the node's children and its exit doesn't clear it
 abbrev pub lets_slurp : At → Name → Bool → Bool
-lets_slurp at name inner = is_fence name && is_first_fence at || is HeadingSetextText name || is Frontmatter name
-    || is Paragraph name && is_tight at.around.container
-    || inner && not (is BlankLineEnding name || is BlockQuote name || is CodeIndented name || is CodeFenced name
+lets_slurp at name inner =
+    is_fence name && is_first_fence at || is HeadingSetextText name || is Frontmatter name
+    || is Paragraph name && is_tight at.around.container || inner && not (is BlankLineEnding name
+    || is BlockQuote name || is CodeIndented name || is CodeFenced name
     || is MathFlow name || is ListItem name || is LineEnding name && not at.around.in_code)
 
 -- what stands before all nodes
 abbrev pub nothing_before : Before
-nothing_before = record { calls = []; slurps = false; previous = None; spine = []; heading = []; columns = [] }
+nothing_before =
+    record { calls = []; slurps = false; previous = None; spine = []; heading = []; columns = [] }
 
 -- what stands before a node's first child
 abbrev pub before_children : Name → Forest → Before → Before

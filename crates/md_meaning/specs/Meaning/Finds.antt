@@ -1,4 +1,5 @@
--- What is found in nodes: the places of a heading's first mark, of a list's number and of the first line ending.
+-- What is found in nodes: the places of a heading's first mark, of a list's number and of the
+-- first line ending.
 use Rattle.std.specs.Prelude.{Option, Some, None, unwrap_or, if◌then◌else◌}
 use Rattle.md_base.specs.declared.event.Name.{Name}
 use Rattle.md_base.specs.declared.event.Name.TheVariants.{ListItem, ListItemPrefix, ListItemValue}
@@ -15,11 +16,13 @@ first_named name children = first_on_spine (is name) (λ start end inner. place 
 
 -- what is found in the first such node
 abbrev pub in_first_named : Name → (Forest → Option Position) → Forest → Option Position
-in_first_named name find children = unwrap_or (first_on_spine (is name) (λ start end inner. find inner) children) None
+in_first_named name find children =
+    unwrap_or (first_on_spine (is name) (λ start end inner. find inner) children) None
 
 -- the number of a list's first item, in its prefix
 abbrev pub number_in_list : Forest → Option Position
-number_in_list children = in_first_named ListItem (in_first_named ListItemPrefix (first_named ListItemValue)) children
+number_in_list children =
+    in_first_named ListItem (in_first_named ListItemPrefix (first_named ListItemValue)) children
 
 -- the place of the line ending, blank or not, that exits first
 abbrev pub first_ending : Forest → Option Position

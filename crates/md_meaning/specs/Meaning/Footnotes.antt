@@ -1,5 +1,7 @@
 -- What footnote calls mean, and the section of footnotes at a document's end.
-use Rattle.std.specs.Prelude.{ℕ, ◌+◌, ◌-◌, zero, suc, true, not, ◌&&◌, ◌||◌, ◌==◌, if◌then◌else◌, List, [], ◌∷◌, ◌++◌, length, take, drop, filter, find, Option, option_map, bytes_eq, codes, string_bytes}
+use Rattle.std.specs.Prelude.{ℕ, ◌+◌, ◌-◌, zero, suc, true, not, ◌&&◌, ◌||◌, ◌==◌, if◌then◌else◌}
+use Rattle.std.specs.Prelude.{List, [], ◌∷◌, ◌++◌, length, take, drop, filter, find, Option}
+use Rattle.std.specs.Prelude.{option_map, bytes_eq, codes, string_bytes}
 use Rattle.std.specs.Option.{option_map_or}
 use Rattle.std.specs.List.{flat_map}
 use Rattle.std.specs.Fmt.{decimal}
@@ -17,7 +19,8 @@ distinct (first ∷ others) = first ∷ filter (λ other. not (bytes_eq other fi
 -- the place of an identifier among some, from 1
 abbrev pub place_among : List (List ℕ) → List ℕ → ℕ
 place_among [] identifier = 1
-place_among (other ∷ others) identifier = if bytes_eq other identifier then 1 else suc (place_among others identifier)
+place_among (other ∷ others) identifier =
+    if bytes_eq other identifier then 1 else suc (place_among others identifier)
 
 -- how many calls have an identifier
 abbrev pub count_of : List (List ℕ) → List ℕ → ℕ
@@ -28,20 +31,23 @@ count_of (other ∷ others) wanted = (if bytes_eq other wanted then 1 else 0) + 
 abbrev pub option_or : Option (List ℕ) → List ℕ → List ℕ
 option_or text unset = option_map_or (λ set. encoded true set) text unset
 
--- an id: the prefix, what it is the id of, and where ids go by number the footnote's, else its identifier as a URL
+-- an id: the prefix, what it is the id of, and where ids go by number the footnote's, else its
+-- identifier as a URL
 abbrev pub id_of : CompileOptions → List ℕ → List ℕ → ℕ → List ℕ
 id_of options kind identifier number =
     option_or (option_map string_bytes options.gfm_footnote_clobber_prefix) (codes "user-content-")
     ++ (kind ++ (if options.gfm_footnote_number_ids then decimal number else sanitized identifier))
 
--- the id of a call: after that `-` and which of its footnote's it is; where ids go by identifier from the second on
+-- the id of a call: after that `-` and which of its footnote's it is; where ids go by identifier
+-- from the second on
 abbrev pub call_id : CompileOptions → List ℕ → ℕ → ℕ → List ℕ
 call_id options identifier number occurrence =
     id_of options (codes "fnref-") identifier number
-    ++ (if not options.gfm_footnote_number_ids && occurrence == 1 then [] else codes "-" ++ decimal occurrence)
+    ++ (if not options.gfm_footnote_number_ids && occurrence == 1 then []
+    else codes "-" ++ decimal occurrence)
 
--- a call: its number is the place of its identifier among the distinct ones of all calls, and it is counted with those
--- of its identifier that ended before it
+-- a call: its number is the place of its identifier among the distinct ones of all calls, and it is
+-- counted with those of its identifier that ended before it
 abbrev pub call : Given → At → List Piece
 call given at =
     let identifier = identifier_of given.bytes at.children in
@@ -49,32 +55,34 @@ call given at =
     when (not at.around.in_image) (Text (codes "<sup><a href=\"#")
     ∷ Text (id_of given.options (codes "fn-") identifier number) ∷ Text (codes "\" id=\"")
     ∷ Text (call_id given.options identifier number (suc (count_of at.calls identifier)))
-    ∷ Text (codes "\" data-footnote-ref=\"\" aria-describedby=\"footnote-label\">") ∷ Text (decimal number)
-    ∷ Text (codes "</a></sup>") ∷ [])
+    ∷ Text (codes "\" data-footnote-ref=\"\" aria-describedby=\"footnote-label\">")
+    ∷ Text (decimal number) ∷ Text (codes "</a></sup>") ∷ [])
 
 -- the way back from a footnote to one of its calls; the arrow is U+21A9
 abbrev pub backreference : CompileOptions → List ℕ → ℕ → ℕ → List ℕ
 backreference options identifier number occurrence =
     codes "<a href=\"#" ++ (call_id options identifier number occurrence
-    ++ (codes "\" data-footnote-backref=\"\" aria-label=\""
-    ++ (option_or (option_map string_bytes options.gfm_footnote_back_label) (codes "Back to content")
-    ++ (codes "\" class=\"data-footnote-backref\">" ++ ((226 ∷ 134 ∷ 169 ∷ [])
-    ++ ((if occurrence == 1 then [] else codes "<sup>" ++ (decimal occurrence ++ codes "</sup>")) ++ codes "</a>"))))))
+    ++ (codes "\" data-footnote-backref=\"\" aria-label=\"" ++ (option_or (option_map string_bytes
+    options.gfm_footnote_back_label) (codes "Back to content")
+    ++ (codes "\" class=\"data-footnote-backref\">" ++ ((226 ∷ 134 ∷ 169 ∷ []) ++ ((if occurrence
+    == 1 then [] else codes "<sup>" ++ (decimal occurrence ++ codes "</sup>")) ++ codes "</a>"))))))
 
 -- the ways back to so many calls, with single spaces between
 abbrev pub backreferences : CompileOptions → List ℕ → ℕ → ℕ → List ℕ
 backreferences options identifier number zero = []
 backreferences options identifier number (suc count) =
-    backreferences options identifier number count
-    ++ ((if count == 0 then [] else codes " ") ++ backreference options identifier number (suc count))
+    backreferences options identifier number count ++ ((if count == 0 then [] else codes " ")
+    ++ backreference options identifier number (suc count))
 
 -- how many bytes are left of a text without the CR and LF at its end
 abbrev pub unended_length : List ℕ → ℕ
 unended_length [] = 0
 unended_length (byte ∷ bytes) =
-    if ((byte == 13) || (byte == 10)) && (unended_length bytes == 0) then 0 else suc (unended_length bytes)
+    if ((byte == 13) || (byte == 10)) && (unended_length bytes == 0) then 0
+    else suc (unended_length bytes)
 
--- a footnote's text and the ways back: before the `</p>` in which it ends, but for CR and LF, else after it
+-- a footnote's text and the ways back: before the `</p>` in which it ends, but for CR and
+-- LF, else after it
 abbrev pub body : List ℕ → List ℕ → List Piece
 body text back =
     let end = unended_length text - 4 in
@@ -96,11 +104,14 @@ item given footnotes identifier =
 -- the section's heading, and the list's tag
 abbrev pub section_start : CompileOptions → List Piece
 section_start options =
-    let tag = option_or (option_map string_bytes options.gfm_footnote_label_tag_name) (codes "h2") in
+    let tag =
+    option_or (option_map string_bytes options.gfm_footnote_label_tag_name) (codes "h2") in
     Needed ∷ Text (codes "<section data-footnotes=\"\" class=\"footnotes\"><") ∷ Text tag
     ∷ Text (codes " id=\"footnote-label\" ")
-    ∷ Text (option_map_or string_bytes options.gfm_footnote_label_attributes (codes "class=\"sr-only\""))
-    ∷ Text (codes ">") ∷ Text (option_or (option_map string_bytes options.gfm_footnote_label) (codes "Footnotes"))
+    ∷ Text (option_map_or string_bytes options.gfm_footnote_label_attributes
+    (codes "class=\"sr-only\""))
+    ∷ Text (codes ">")
+    ∷ Text (option_or (option_map string_bytes options.gfm_footnote_label) (codes "Footnotes"))
     ∷ Text (codes "</") ∷ Text tag ∷ Text (codes ">") ∷ Forced ∷ Text (codes "<ol>") ∷ []
 
 -- the section, where there is a call: one item for each identifier by its number

@@ -1,8 +1,10 @@
 -- What nodes print, and how it is laid out as one text.
-use Rattle.std.specs.Prelude.{ℕ, ◌-◌, Bool, true, ◌||◌, ◌==◌, if◌then◌else◌, List, [], ◌∷◌, ◌++◌, length, slice_get}
+use Rattle.std.specs.Prelude.{ℕ, ◌-◌, Bool, true, ◌||◌, ◌==◌, if◌then◌else◌, List, [], ◌∷◌, ◌++◌}
+use Rattle.std.specs.Prelude.{length, slice_get}
 use Rattle.std.specs.Option.{option_map_or}
 
--- a part of what a node prints: a text, a line ending where one is needed, a line ending in any case
+-- a part of what a node prints: a text, a line ending where one is needed, a line
+-- ending in any case
 pub data Piece : Type 0 where
   Text : (text : List ℕ) → Piece
   Needed : Piece
@@ -10,7 +12,8 @@ pub data Piece : Type 0 where
 
 -- a text that is empty or ends in CR or LF
 abbrev pub begins_line : List ℕ → Bool
-begins_line text = option_map_or (λ byte. byte == 13 || byte == 10) (slice_get text (length text - 1)) true
+begins_line text =
+    option_map_or (λ byte. byte == 13 || byte == 10) (slice_get text (length text - 1)) true
 
 -- some pieces after a text, where lines end in `ending`
 abbrev pub laid_after : List ℕ → List ℕ → List Piece → List ℕ

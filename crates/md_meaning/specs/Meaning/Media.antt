@@ -1,15 +1,19 @@
 -- What links, images and autolinks mean.
-use Rattle.std.specs.Prelude.{ℕ, Bool, true, ◌||◌, if◌then◌else◌, List, [], ◌∷◌, ◌++◌, Option, None, unwrap_or, find, bytes_eq, codes}
+use Rattle.std.specs.Prelude.{ℕ, Bool, true, ◌||◌, if◌then◌else◌, List, [], ◌∷◌, ◌++◌, Option, None}
+use Rattle.std.specs.Prelude.{unwrap_or, find, bytes_eq, codes}
 use Rattle.std.specs.Option.{option_map_or}
 use Rattle.md_text.specs.Encode.{encoded}
 use Rattle.md_text.specs.Url.{sanitized, sanitized_with, link_protocols, image_protocols}
 use Rattle.md_text.specs.declared.options.CompileOptions.{CompileOptions}
 use Rattle.md_meaning.specs.Meaning.Layout.{Piece, Text, said}
-use Rattle.md_meaning.specs.Meaning.At.{Target, Given, At, nothing_found, target_in, text_in, identifier_of}
+use Rattle.md_meaning.specs.Meaning.At.{Target, Given, At, nothing_found, target_in, text_in}
+use Rattle.md_meaning.specs.Meaning.At.{identifier_of}
 
--- a destination as a URL: with any protocol where `any` is set, else with one of `protocols` or none
+-- a destination as a URL: with any protocol where `any` is set, else with one of
+-- `protocols` or none
 abbrev pub url : Bool → List (List ℕ) → List ℕ → List ℕ
-url any protocols destination = if any then sanitized destination else sanitized_with protocols destination
+url any protocols destination =
+    if any then sanitized destination else sanitized_with protocols destination
 
 abbrev pub href : CompileOptions → List ℕ → List ℕ
 href options destination = url options.allow_dangerous_protocol link_protocols destination
@@ -21,11 +25,13 @@ src options destination =
 -- where the first definition with an identifier leads
 abbrev pub target_defined : Given → List ℕ → Target
 target_defined given identifier = option_map_or (λ defined. defined.target)
-    (find (λ defined. bytes_eq defined.identifier identifier) given.definitions) (target_in nothing_found)
+    (find (λ defined. bytes_eq defined.identifier identifier) given.definitions)
+    (target_in nothing_found)
 
 -- where a link or an image leads: as its resource says, else as the definition to which it refers
 abbrev pub leads_to : Given → At → Target
-leads_to given at = unwrap_or at.found.resource (target_defined given (identifier_of given.bytes at.children))
+leads_to given at =
+    unwrap_or at.found.resource (target_defined given (identifier_of given.bytes at.children))
 
 -- ` title="` title `"`, where there is one
 abbrev pub title_attribute : Option (List ℕ) → List Piece
@@ -46,15 +52,18 @@ picture options target label =
     ∷ (title_attribute target.title ++ said (codes " />"))
 
 -- a link or an image with a label, of which an image around it leaves the label
-abbrev pub medium : (CompileOptions → Target → List ℕ → List Piece) → Given → At → List ℕ → List Piece
-medium tag given at label = if at.around.in_image then said label else tag given.options (leads_to given at) label
+abbrev pub medium : (CompileOptions → Target → List ℕ → List Piece) → Given →
+    At → List ℕ → List Piece
+medium tag given at label =
+    if at.around.in_image then said label else tag given.options (leads_to given at) label
 
 -- an autolink: its text, which leads to itself after a prefix unless it is plain
 abbrev pub autolink : Given → At → Bool → List ℕ → List Piece
 autolink given at plain prefix =
     let text = text_in given.bytes at.place in
     if plain then said (encoded true text)
-    else anchor given.options (record { destination = prefix ++ text; title = None }) (encoded true text)
+    else anchor given.options (record { destination = prefix ++ text; title = None })
+    (encoded true text)
 
 -- a literal one is plain in a link as well
 abbrev pub literal : Given → At → List ℕ → List Piece

@@ -1,7 +1,10 @@
 -- What some nodes mean, one after another.
 use Rattle.std.specs.Prelude.{ℕ, Bool, List, [], ◌∷◌, ◌++◌, ◌&&◌, if◌then◌else◌, unwrap_or, Some}
 use Rattle.md_base.specs.declared.event.Name.{Name}
-use Rattle.md_base.specs.declared.event.Name.TheVariants.{HeadingSetextText, Definition, DefinitionDestinationString, DefinitionTitleString, GfmFootnoteCall, GfmFootnoteDefinition, Resource, ResourceDestinationString, ResourceTitleString}
+use Rattle.md_base.specs.declared.event.Name.TheVariants as name_variants
+use name_variants.{HeadingSetextText, Definition, DefinitionDestinationString}
+use name_variants.{DefinitionTitleString, GfmFootnoteCall, GfmFootnoteDefinition, Resource}
+use name_variants.{ResourceDestinationString, ResourceTitleString}
 use Rattle.md_base.specs.Is.{is}
 use Rattle.md_base.specs.Tree.{Forest, Empty, Node}
 use Rattle.md_base.specs.Children.{is_empty, or_else, spine_names}
@@ -11,12 +14,13 @@ use Rattle.md_meaning.specs.declared.context.Surroundings.{Surroundings}
 use Rattle.md_tree.specs.Rules.{place}
 use Rattle.md_meaning.specs.Meaning.Around.{inside}
 use Rattle.md_meaning.specs.Meaning.Layout.{Piece, layout, when}
-use Rattle.md_meaning.specs.Meaning.At.{Defined, Footnote, Given, Found, nothing_found, target_in, Before, At, identifier_of}
+use Rattle.md_meaning.specs.Meaning.At.{Defined, Footnote, Given, Found, nothing_found, target_in}
+use Rattle.md_meaning.specs.Meaning.At.{Before, At, identifier_of}
 use Rattle.md_meaning.specs.Meaning.Before.{before_children, lets_slurp}
 use Rattle.md_meaning.specs.Meaning.Means.{prints}
 
--- what nodes mean: their pieces, what is found on their spine, the calls, the definitions and the footnotes by their
--- exits, and whether the next line ending is slurped after them
+-- what nodes mean: their pieces, what is found on their spine, the calls, the definitions and the
+-- footnotes by their exits, and whether the next line ending is slurped after them
 pub record Outcome : Type 0 where
   pub pieces : List Piece
   pub found : Found
@@ -41,7 +45,8 @@ both first later = record {
   slurps = later.slurps;
 }
 
--- what is found where a node stands: what it is by itself, or where it is transparent what its children are
+-- what is found where a node stands: what it is by itself, or where it is transparent what
+-- its children are
 abbrev pub found_at : At → Name → List ℕ → Found
 found_at at HeadingSetextText text = record nothing_found { heading = Some text }
 found_at at DefinitionDestinationString text = record nothing_found { destination = Some text }
@@ -51,7 +56,8 @@ found_at at ResourceTitleString text = record nothing_found { title = Some text 
 found_at at Resource text = record nothing_found { resource = Some (target_in at.found) }
 found_at at name text = if is_transparent name then at.found else nothing_found
 
--- what a node means, by what its children mean; a call, a definition and a footnote are named by their labels
+-- what a node means, by what its children mean; a call, a definition and a footnote are
+-- named by their labels
 abbrev pub node : Given → At → Name → Outcome → Outcome
 node given at name inner =
     let text = layout given.ending inner.pieces in
@@ -60,10 +66,10 @@ node given at name inner =
       pieces = prints given at name inner.pieces;
       found = found_at at name text;
       calls = inner.calls ++ when (is GfmFootnoteCall name) (identifier ∷ []);
-      definitions = inner.definitions
-          ++ when (is Definition name) (record { identifier = identifier; target = target_in at.found } ∷ []);
-      footnotes = inner.footnotes
-          ++ when (is GfmFootnoteDefinition name) (record { identifier = identifier; text = text } ∷ []);
+      definitions = inner.definitions ++ when (is Definition name)
+          (record { identifier = identifier; target = target_in at.found } ∷ []);
+      footnotes = inner.footnotes ++ when (is GfmFootnoteDefinition name)
+          (record { identifier = identifier; text = text } ∷ []);
       slurps = if at.around.in_definition then inner.slurps else lets_slurp at name inner.slurps;
     }
 
@@ -83,8 +89,14 @@ continued at name here later = both here (later (before_next at name here))
 
 -- what some nodes mean, by what stands around them and before them
 abbrev pub outcome : Given → Surroundings → Before → Forest → Outcome
-outcome given around before Empty =
-    record { pieces = []; found = nothing_found; calls = []; definitions = []; footnotes = []; slurps = before.slurps }
+outcome given around before Empty = record {
+  pieces = [];
+  found = nothing_found;
+  calls = [];
+  definitions = [];
+  footnotes = [];
+  slurps = before.slurps;
+}
 outcome given around before (Node name start end children rest) =
     let inner = outcome given (inside given.options (is_loose children) name around)
     (before_children name children before) children in

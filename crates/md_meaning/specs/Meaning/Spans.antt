@@ -1,9 +1,11 @@
 -- What texts, line endings, code in texts and breaks mean.
-use Rattle.std.specs.Prelude.{ℕ, ◌-◌, Bool, false, not, ◌&&◌, ◌||◌, ◌==◌, if◌then◌else◌, List, [], ◌∷◌, ◌++◌, length, take, drop, unwrap_or, codes, slice_get}
+use Rattle.std.specs.Prelude.{ℕ, ◌-◌, Bool, false, not, ◌&&◌, ◌||◌, ◌==◌, if◌then◌else◌, List, []}
+use Rattle.std.specs.Prelude.{◌∷◌, ◌++◌, length, take, drop, unwrap_or, codes, slice_get}
 use Rattle.std.specs.Option.{option_map_or}
 use Rattle.std.specs.List.{list_all}
 use Rattle.md_base.specs.declared.event.Name.{Name}
-use Rattle.md_base.specs.declared.event.Name.TheVariants.{CharacterReferenceMarkerNumeric, CharacterReferenceMarkerHexadecimal}
+use Rattle.md_base.specs.declared.event.Name.TheVariants.{CharacterReferenceMarkerNumeric}
+use Rattle.md_base.specs.declared.event.Name.TheVariants.{CharacterReferenceMarkerHexadecimal}
 use Rattle.md_base.specs.Reference.{decoded}
 use Rattle.md_text.specs.Encode.{encoded}
 use Rattle.md_text.specs.Filter.{tag_filtered}
@@ -17,8 +19,11 @@ escaped at text = said (encoded at.around.is_escaping text)
 
 -- the marker that a name is: `x`, `#` or `&`
 abbrev pub marker : Name → ℕ
-marker name =
-    elim name [ CharacterReferenceMarkerHexadecimal ↦ 120 | CharacterReferenceMarkerNumeric ↦ 35 | _ ↦ 38 ]
+marker name = elim name [
+  | CharacterReferenceMarkerHexadecimal ↦ 120
+  | CharacterReferenceMarkerNumeric ↦ 35
+  | _ ↦ 38
+]
 
 -- what a reference stands for: the last mark before its value says how to read it
 abbrev pub reference : Given → At → List ℕ
@@ -26,9 +31,11 @@ reference given at =
     let last = slice_get at.before.spine (length at.before.spine - 1) in
     unwrap_or (decoded given.names (option_map_or marker last 38) (text_in given.bytes at.place)) []
 
--- a line ending is dropped where it is slurped, which none in a definition is, and after a definition of either kind
+-- a line ending is dropped where it is slurped, which none in a definition is, and after a
+-- definition of either kind
 abbrev pub is_dropped : At → Bool
-is_dropped at = not at.around.in_definition && at.before.slurps || option_map_or is_definition at.before.previous false
+is_dropped at = not at.around.in_definition && at.before.slurps
+    || option_map_or is_definition at.before.previous false
 
 -- a line ending: a space in code, else its own text unless it is dropped
 abbrev pub line_ending : Given → At → List Piece
@@ -61,8 +68,8 @@ without_escapes (byte ∷ bytes) =
 
 -- one space less at each end of a text that begins and ends with one and isn't all spaces
 abbrev pub trimmed : List ℕ → List ℕ
-trimmed text = if is_at 32 text 0 && is_at 32 text (length text - 1) && not (list_all (λ byte. byte == 32) text)
-    then take (length text - 2) (drop 1 text) else text
+trimmed text = if is_at 32 text 0 && is_at 32 text (length text - 1)
+    && not (list_all (λ byte. byte == 32) text) then take (length text - 2) (drop 1 text) else text
 
 -- code in a text; in an image without its tags
 abbrev pub code : At → List ℕ → List ℕ → List Piece

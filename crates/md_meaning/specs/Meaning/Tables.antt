@@ -1,5 +1,6 @@
 -- What rows and cells of tables mean.
-use Rattle.std.specs.Prelude.{ℕ, Bool, if◌then◌else◌, List, [], ◌∷◌, ◌++◌, drop, codes, slice_get, count_by}
+use Rattle.std.specs.Prelude.{ℕ, Bool, if◌then◌else◌, List, [], ◌∷◌, ◌++◌, drop, codes, slice_get}
+use Rattle.std.specs.Prelude.{count_by}
 use Rattle.std.specs.Option.{option_map_or}
 use Rattle.std.specs.List.{flat_map}
 use Rattle.md_base.specs.declared.event.AlignKind.{AlignKind}
@@ -32,4 +33,5 @@ cell at text = option_map_or (λ kind. cell_of at.around.in_head text kind)
 -- the end of a row, with empty cells for the columns that it has no cells for
 abbrev pub row_end : At → List Piece
 row_end at = flat_map (cell_of at.around.in_head [])
-    (drop (count_by (is GfmTableCell) (spine_names at.children)) at.before.columns) ++ on_own_line (codes "</tr>")
+    (drop (count_by (is GfmTableCell) (spine_names at.children)) at.before.columns)
+    ++ on_own_line (codes "</tr>")

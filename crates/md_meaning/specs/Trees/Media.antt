@@ -1,6 +1,13 @@
 -- Worked trees of links, images, definitions and autolinks.
 use Rattle.std.specs.Prelude.{ℕ, true, List, [], ◌∷◌, ◌++◌, codes}
-use Rattle.md_base.specs.declared.event.Name.TheVariants.{AutolinkEmail, AutolinkProtocol, BlankLineEnding, CodeText, CodeTextData, Data, Definition, DefinitionDestinationString, DefinitionLabelString, DefinitionTitleString, Emphasis, GfmAutolinkLiteralEmail, GfmAutolinkLiteralMailto, GfmAutolinkLiteralProtocol, GfmAutolinkLiteralWww, GfmAutolinkLiteralXmpp, GfmTaskListItemCheck, HardBreakEscape, Image, Label, LabelText, LineEnding, Link, Paragraph, ReferenceString, Resource, ResourceDestinationString, ResourceTitleString, SpaceOrTab, Strong}
+use Rattle.md_base.specs.declared.event.Name.TheVariants as name_variants
+use name_variants.{AutolinkEmail, AutolinkProtocol, BlankLineEnding, CodeText, CodeTextData, Data}
+use name_variants.{Definition, DefinitionDestinationString, DefinitionLabelString}
+use name_variants.{DefinitionTitleString, Emphasis, GfmAutolinkLiteralEmail}
+use name_variants.{GfmAutolinkLiteralMailto, GfmAutolinkLiteralProtocol, GfmAutolinkLiteralWww}
+use name_variants.{GfmAutolinkLiteralXmpp, GfmTaskListItemCheck, HardBreakEscape, Image, Label}
+use name_variants.{LabelText, LineEnding, Link, Paragraph, ReferenceString, Resource}
+use name_variants.{ResourceDestinationString, ResourceTitleString, SpaceOrTab, Strong}
 use Rattle.md_base.specs.Tree.{Forest, Empty, Node}
 use Rattle.md_text.specs.Defaults.{default_options}
 use Rattle.md_text.specs.declared.options.CompileOptions.{CompileOptions}
@@ -9,19 +16,21 @@ use Rattle.md_meaning.specs.Trees.{at}
 -- first definition: the tree, its bytes and its text
 abbrev pub first_definition : Forest
 first_definition =
-    Node Paragraph (at 0) (at 3) (Node Link (at 0) (at 3)
-    (Node Label (at 0) (at 3) (Node LabelText (at 1) (at 2) (Node Data (at 1) (at 2) (Empty) (Empty)) (Empty))
+    Node Paragraph (at 0) (at 3) (Node Link (at 0) (at 3) (Node Label (at 0) (at 3)
+    (Node LabelText (at 1) (at 2) (Node Data (at 1) (at 2) (Empty) (Empty)) (Empty))
     (Empty)) (Empty)) (Node LineEnding (at 3) (at 4) (Empty)
     (Node BlankLineEnding (at 4) (at 5) (Empty) (Node Definition (at 5) (at 11)
     (Node DefinitionLabelString (at 6) (at 7) (Node Data (at 6) (at 7) (Empty) (Empty))
-    (Node DefinitionDestinationString (at 10) (at 11) (Node Data (at 10) (at 11) (Empty) (Empty)) (Empty)))
-    (Node LineEnding (at 11) (at 12) (Empty) (Node Definition (at 12) (at 18)
+    (Node DefinitionDestinationString (at 10) (at 11) (Node Data (at 10) (at 11) (Empty) (Empty))
+    (Empty))) (Node LineEnding (at 11) (at 12) (Empty) (Node Definition (at 12) (at 18)
     (Node DefinitionLabelString (at 13) (at 14) (Node Data (at 13) (at 14) (Empty) (Empty))
-    (Node DefinitionDestinationString (at 17) (at 18) (Node Data (at 17) (at 18) (Empty) (Empty)) (Empty)))
+    (Node DefinitionDestinationString (at 17) (at 18)
+    (Node Data (at 17) (at 18) (Empty) (Empty)) (Empty)))
     (Empty))))))
 
 abbrev pub first_definition_bytes : List ℕ
-first_definition_bytes = codes "[a]" ++ (10 ∷ []) ++ (10 ∷ []) ++ codes "[a]: b" ++ (10 ∷ []) ++ codes "[A]: c"
+first_definition_bytes =
+    codes "[a]" ++ (10 ∷ []) ++ (10 ∷ []) ++ codes "[a]: b" ++ (10 ∷ []) ++ codes "[A]: c"
 
 abbrev pub first_definition_text : List ℕ
 first_definition_text = codes "<p><a href=\"b\">a</a></p>" ++ (10 ∷ [])
@@ -30,11 +39,12 @@ first_definition_text = codes "<p><a href=\"b\">a</a></p>" ++ (10 ∷ [])
 abbrev pub image_text : Forest
 image_text =
     Node Paragraph (at 0) (at 15) (Node Image (at 0) (at 15)
-    (Node Label (at 0) (at 8) (Node LabelText (at 2) (at 7)
-    (Node Data (at 2) (at 4) (Empty) (Node Emphasis (at 4) (at 7) (Node Data (at 5) (at 6) (Empty) (Empty))
+    (Node Label (at 0) (at 8) (Node LabelText (at 2) (at 7) (Node Data (at 2) (at 4) (Empty)
+    (Node Emphasis (at 4) (at 7) (Node Data (at 5) (at 6) (Empty) (Empty))
     (Empty))) (Empty)) (Node Resource (at 8) (at 15) (Node ResourceDestinationString (at 9) (at 10)
     (Node Data (at 9) (at 10) (Empty) (Empty)) (Node SpaceOrTab (at 10) (at 11) (Empty)
-    (Node ResourceTitleString (at 12) (at 13) (Node Data (at 12) (at 13) (Empty) (Empty)) (Empty)))) (Empty)))
+    (Node ResourceTitleString (at 12) (at 13) (Node Data (at 12) (at 13) (Empty) (Empty)) (Empty))))
+    (Empty)))
     (Empty)) (Empty)
 
 abbrev pub image_text_bytes : List ℕ
@@ -57,7 +67,8 @@ nested_autolink_bytes = codes "[<http://a>](b)"
 abbrev pub nested_autolink_text : List ℕ
 nested_autolink_text = codes "<a href=\"b\"><a href=\"http://a\">http://a</a></a>"
 
--- code, a break, a task, strong text, an autolink and a link in the label of an image: the tree, its bytes and its text
+-- code, a break, a task, strong text, an autolink and a link in the label of an image: the tree,
+-- its bytes and its text
 abbrev pub image_around_other_names : Forest
 image_around_other_names =
     Node Paragraph (at 0) (at 34) (Node Image (at 0) (at 34)
@@ -65,8 +76,8 @@ image_around_other_names =
     (Node CodeText (at 2) (at 7) (Node CodeTextData (at 3) (at 6) (Empty) (Empty))
     (Node HardBreakEscape (at 7) (at 8) (Empty) (Node GfmTaskListItemCheck (at 8) (at 11) (Empty)
     (Node Strong (at 11) (at 16) (Node Data (at 13) (at 14) (Empty) (Empty))
-    (Node AutolinkProtocol (at 16) (at 24) (Empty) (Node Link (at 24) (at 30)
-    (Node Label (at 24) (at 27) (Node LabelText (at 25) (at 26) (Node Data (at 25) (at 26) (Empty) (Empty)) (Empty))
+    (Node AutolinkProtocol (at 16) (at 24) (Empty) (Node Link (at 24) (at 30) (Node Label (at 24)
+    (at 27) (Node LabelText (at 25) (at 26) (Node Data (at 25) (at 26) (Empty) (Empty)) (Empty))
     (Node Resource (at 27) (at 30) (Node ResourceDestinationString (at 28) (at 29)
     (Node Data (at 28) (at 29) (Empty) (Empty)) (Empty)) (Empty))) (Empty))))))) (Empty))
     (Node Resource (at 31) (at 34) (Node ResourceDestinationString (at 32) (at 33)
@@ -81,8 +92,8 @@ image_around_other_names_text = codes "<p><img src=\"u\" alt=\"ashttp://cl\" /><
 -- reference beside a label: the tree, its bytes and its text
 abbrev pub reference_beside_a_label : Forest
 reference_beside_a_label =
-    Node Paragraph (at 0) (at 4) (Node Link (at 0) (at 4)
-    (Node Label (at 0) (at 3) (Node LabelText (at 1) (at 2) (Node Data (at 1) (at 2) (Empty) (Empty)) (Empty))
+    Node Paragraph (at 0) (at 4) (Node Link (at 0) (at 4) (Node Label (at 0) (at 3)
+    (Node LabelText (at 1) (at 2) (Node Data (at 1) (at 2) (Empty) (Empty)) (Empty))
     (Node ReferenceString (at 3) (at 4) (Node Data (at 3) (at 4) (Empty) (Empty)) (Empty))) (Empty))
     (Node Definition (at 4) (at 10) (Node DefinitionLabelString (at 5) (at 6)
     (Node Data (at 5) (at 6) (Empty) (Empty)) (Node DefinitionDestinationString (at 9) (at 10)
@@ -101,11 +112,12 @@ reference_beside_a_label_text = codes "<p><a href=\"d\" title=\"t\">a</a></p>"
 -- empty title: the tree, its bytes and its text
 abbrev pub empty_title : Forest
 empty_title =
-    Node Paragraph (at 0) (at 3) (Node Link (at 0) (at 3)
-    (Node Label (at 0) (at 3) (Node LabelText (at 1) (at 2) (Node Data (at 1) (at 2) (Empty) (Empty)) (Empty))
+    Node Paragraph (at 0) (at 3) (Node Link (at 0) (at 3) (Node Label (at 0) (at 3)
+    (Node LabelText (at 1) (at 2) (Node Data (at 1) (at 2) (Empty) (Empty)) (Empty))
     (Empty)) (Empty)) (Node Definition (at 3) (at 12) (Node DefinitionLabelString (at 4) (at 5)
     (Node Data (at 4) (at 5) (Empty) (Empty)) (Node DefinitionDestinationString (at 8) (at 9)
-    (Node Data (at 8) (at 9) (Empty) (Empty)) (Node DefinitionTitleString (at 11) (at 11) (Empty) (Empty)))) (Empty))
+    (Node Data (at 8) (at 9) (Empty) (Empty))
+    (Node DefinitionTitleString (at 11) (at 11) (Empty) (Empty)))) (Empty))
 
 abbrev pub empty_title_bytes : List ℕ
 empty_title_bytes = codes "[a][a]: e \"\""
@@ -116,8 +128,8 @@ empty_title_text = codes "<p><a href=\"e\" title=\"\">a</a></p>"
 -- protocols that are not permitted: the tree, its bytes and its text
 abbrev pub protocols_that_are_not_permitted : Forest
 protocols_that_are_not_permitted =
-    Node Paragraph (at 0) (at 41) (Node Link (at 0) (at 17)
-    (Node Label (at 0) (at 3) (Node LabelText (at 1) (at 2) (Node Data (at 1) (at 2) (Empty) (Empty)) (Empty))
+    Node Paragraph (at 0) (at 41) (Node Link (at 0) (at 17) (Node Label (at 0) (at 3)
+    (Node LabelText (at 1) (at 2) (Node Data (at 1) (at 2) (Empty) (Empty)) (Empty))
     (Node Resource (at 3) (at 17) (Node ResourceDestinationString (at 4) (at 16)
     (Node Data (at 4) (at 16) (Empty) (Empty)) (Empty)) (Empty)))
     (Node Image (at 17) (at 31) (Node Label (at 17) (at 21)
@@ -136,8 +148,8 @@ abbrev pub protocols_that_are_not_permitted_text : List ℕ
 protocols_that_are_not_permitted_text =
     codes "<p><a href=\"\">a</a><img src=\"\" alt=\"c\" /><a href=\"IRC:f\">e</a></p>"
 
--- autolinks: of mail, literals, one in a link, and one whose protocol is not permitted: the tree, its bytes and its
--- text
+-- autolinks: of mail, literals, one in a link, and one whose protocol is not permitted: the tree,
+-- its bytes and its text
 abbrev pub literal_autolinks : Forest
 literal_autolinks =
     Node Paragraph (at 0) (at 50) (Node AutolinkEmail (at 0) (at 3) (Empty)
@@ -156,18 +168,21 @@ literal_autolinks_bytes = codes "a@bwww.c[http://d](e)f@gxmpp:hmailto:ijavascrip
 
 abbrev pub literal_autolinks_text : List ℕ
 literal_autolinks_text =
-    codes "<p><a href=\"mailto:a@b\">a@b</a><a href=\"http://www.c\">www.c</a><a href=\"e\">http://d</a>"
-    ++ codes "<a href=\"mailto:f@g\">f@g</a>"
-    ++ codes "<a href=\"xmpp:h\">xmpp:h</a><a href=\"mailto:i\">mailto:i</a><a href=\"\">javascript:j</a></p>"
+    codes
+    "<p><a href=\"mailto:a@b\">a@b</a><a href=\"http://www.c\">www.c</a><a href=\"e\">http://d</a>"
+    ++ codes "<a href=\"mailto:f@g\">f@g</a>" ++ codes
+    "<a href=\"xmpp:h\">xmpp:h</a><a href=\"mailto:i\">mailto:i</a><a href=\"\">javascript:j</a></p>"
 
--- links and images of any protocol, where the options let them: the options, the tree, its bytes and its text
+-- links and images of any protocol, where the options let them: the options, the tree, its
+-- bytes and its text
 abbrev pub any_protocol_options : CompileOptions
-any_protocol_options = record default_options { allow_any_img_src = true; allow_dangerous_protocol = true }
+any_protocol_options =
+    record default_options { allow_any_img_src = true; allow_dangerous_protocol = true }
 
 abbrev pub any_protocol : Forest
 any_protocol =
-    Node Paragraph (at 0) (at 31) (Node Image (at 0) (at 14)
-    (Node Label (at 0) (at 4) (Node LabelText (at 2) (at 3) (Node Data (at 2) (at 3) (Empty) (Empty)) (Empty))
+    Node Paragraph (at 0) (at 31) (Node Image (at 0) (at 14) (Node Label (at 0) (at 4)
+    (Node LabelText (at 2) (at 3) (Node Data (at 2) (at 3) (Empty) (Empty)) (Empty))
     (Node Resource (at 4) (at 14) (Node ResourceDestinationString (at 5) (at 13)
     (Node Data (at 5) (at 13) (Empty) (Empty)) (Empty)) (Empty)))
     (Node Link (at 14) (at 31) (Node Label (at 14) (at 17)
@@ -185,8 +200,8 @@ any_protocol_text = codes "<p><img src=\"mailto:b\" alt=\"a\" /><a href=\"javasc
 abbrev pub ampersand_in_a_destination : Forest
 ampersand_in_a_destination =
     Node Paragraph (at 0) (at 3) (Node Link (at 0) (at 3) (Node Label (at 0) (at 3)
-    (Node LabelText (at 1) (at 2) (Node Data (at 1) (at 2) (Empty) (Empty)) (Empty)) (Empty)) (Empty))
-    (Node LineEnding (at 3) (at 4) (Empty) (Node BlankLineEnding (at 4) (at 5) (Empty)
+    (Node LabelText (at 1) (at 2) (Node Data (at 1) (at 2) (Empty) (Empty)) (Empty)) (Empty))
+    (Empty)) (Node LineEnding (at 3) (at 4) (Empty) (Node BlankLineEnding (at 4) (at 5) (Empty)
     (Node Definition (at 5) (at 15) (Node DefinitionLabelString (at 6) (at 7)
     (Node Data (at 6) (at 7) (Empty) (Empty)) (Node DefinitionDestinationString (at 10) (at 15)
     (Node Data (at 10) (at 15) (Empty) (Empty)) (Empty))) (Empty))))
@@ -200,10 +215,10 @@ ampersand_in_a_destination_text = codes "<p><a href=\"b?c&amp;d\">a</a></p>" ++ 
 -- a label with CR in it, which refers as a space does: the tree, its bytes and its text
 abbrev pub carriage_return_in_a_label : Forest
 carriage_return_in_a_label =
-    Node Paragraph (at 0) (at 5) (Node Link (at 0) (at 5) (Node Label (at 0) (at 5)
-    (Node LabelText (at 1) (at 4) (Node Data (at 1) (at 2) (Empty) (Node LineEnding (at 2) (at 3) (Empty)
-    (Node Data (at 3) (at 4) (Empty) (Empty)))) (Empty)) (Empty)) (Empty)) (Node Definition (at 5) (at 13)
-    (Node DefinitionLabelString (at 6) (at 9) (Node Data (at 6) (at 9) (Empty) (Empty))
+    Node Paragraph (at 0) (at 5) (Node Link (at 0) (at 5) (Node Label (at 0) (at 5) (Node LabelText
+    (at 1) (at 4) (Node Data (at 1) (at 2) (Empty) (Node LineEnding (at 2) (at 3) (Empty)
+    (Node Data (at 3) (at 4) (Empty) (Empty)))) (Empty)) (Empty)) (Empty)) (Node Definition (at 5)
+    (at 13) (Node DefinitionLabelString (at 6) (at 9) (Node Data (at 6) (at 9) (Empty) (Empty))
     (Node DefinitionDestinationString (at 12) (at 13)
     (Node Data (at 12) (at 13) (Empty) (Empty)) (Empty))) (Empty))
 

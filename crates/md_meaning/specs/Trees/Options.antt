@@ -1,14 +1,20 @@
--- A worked tree with each name whose text an option that is off or on touches, under each option alone and with
--- those that it meets.
+-- A worked tree with each name whose text an option that is off or on touches, under each option
+-- alone and with those that it meets.
 use Rattle.std.specs.Prelude.{ℕ, true, List, [], ◌∷◌, ◌++◌, codes}
-use Rattle.md_base.specs.declared.event.Name.TheVariants.{AutolinkProtocol, Data, GfmFootnoteCall, GfmFootnoteDefinition, GfmFootnoteDefinitionLabelString, GfmFootnoteDefinitionPrefix, GfmTaskListItemCheck, HtmlFlow, HtmlFlowData, HtmlText, HtmlTextData, Image, Label, LabelText, Link, Paragraph, Resource, ResourceDestinationString}
-use Rattle.md_text.specs.declared.line_ending.LineEnding.TheVariants.{CarriageReturn, CarriageReturnLineFeed}
+use Rattle.md_base.specs.declared.event.Name.TheVariants as name_variants
+use name_variants.{AutolinkProtocol, Data, GfmFootnoteCall, GfmFootnoteDefinition}
+use name_variants.{GfmFootnoteDefinitionLabelString, GfmFootnoteDefinitionPrefix}
+use name_variants.{GfmTaskListItemCheck, HtmlFlow, HtmlFlowData, HtmlText, HtmlTextData, Image}
+use name_variants.{Label, LabelText, Link, Paragraph, Resource, ResourceDestinationString}
+use Rattle.md_text.specs.declared.line_ending.LineEnding.TheVariants.{CarriageReturn}
+use Rattle.md_text.specs.declared.line_ending.LineEnding.TheVariants.{CarriageReturnLineFeed}
 use Rattle.md_base.specs.Tree.{Forest, Empty, Node}
 use Rattle.md_text.specs.Defaults.{default_options}
 use Rattle.md_text.specs.declared.options.CompileOptions.{CompileOptions}
 use Rattle.md_meaning.specs.Trees.{at}
 
--- a link, an image, an autolink, data, HTML in a text, a task and a call in a paragraph; HTML by itself; a footnote
+-- a link, an image, an autolink, data, HTML in a text, a task and a call in a paragraph; HTML by
+-- itself; a footnote
 abbrev pub each_name : Forest
 each_name =
     Node Paragraph (at 0) (at 35)
@@ -42,22 +48,25 @@ each_name =
 abbrev pub each_name_bytes : List ℕ
 each_name_bytes = codes "[a](x:b)![a](x:c)<x:d>&<xmp>[ ][^e]<title>[^e]:f"
 
--- its text by what options change: the ids of the footnote and its call, the addresses of the link, the autolink and
--- the image, the HTML in the text and the one by itself, what a task says, the line ending
-abbrev pub each_name_text_by : (footnote call link autolink image span block task ending : List ℕ) → List ℕ
+-- its text by what options change: the ids of the footnote and its call, the addresses of the
+-- link, the autolink and the image, the HTML in the text and the one by itself, what a task
+-- says, the line ending
+abbrev pub each_name_text_by : (footnote call link autolink image span block task ending : List ℕ) →
+    List ℕ
 each_name_text_by footnote call link autolink image span block task ending =
     codes "<p><a href=\"" ++ link ++ codes "\">a</a><img src=\"" ++ image ++ codes "\" alt=\"a\" />"
     ++ codes "<a href=\"" ++ autolink ++ codes "\">x:d</a>&amp;" ++ span
     ++ codes "<input type=\"checkbox\" " ++ task ++ codes "/>"
-    ++ codes "<sup><a href=\"#user-content-fn-" ++ footnote ++ codes "\" id=\"user-content-fnref-" ++ call
-    ++ codes "\" data-footnote-ref=\"\" "
+    ++ codes "<sup><a href=\"#user-content-fn-" ++ footnote ++ codes "\" id=\"user-content-fnref-"
+    ++ call ++ codes "\" data-footnote-ref=\"\" "
     ++ codes "aria-describedby=\"footnote-label\">1</a></sup></p>" ++ ending ++ block ++ ending
     ++ codes "<section data-footnotes=\"\" class=\"footnotes\">"
     ++ codes "<h2 id=\"footnote-label\" class=\"sr-only\">Footnotes</h2>" ++ ending
-    ++ codes "<ol>" ++ ending ++ codes "<li id=\"user-content-fn-" ++ footnote ++ codes "\">" ++ ending
-    ++ codes "<p>f <a href=\"#user-content-fnref-" ++ call
+    ++ codes "<ol>" ++ ending ++ codes "<li id=\"user-content-fn-" ++ footnote ++ codes "\">"
+    ++ ending ++ codes "<p>f <a href=\"#user-content-fnref-" ++ call
     ++ codes "\" data-footnote-backref=\"\" aria-label=\"Back to content\" "
-    ++ codes "class=\"data-footnote-backref\">" ++ (226 ∷ 134 ∷ 169 ∷ []) ++ codes "</a></p>" ++ ending
+    ++ codes "class=\"data-footnote-backref\">" ++ (226 ∷ 134 ∷ 169 ∷ [])
+    ++ codes "</a></p>" ++ ending
     ++ codes "</li>" ++ ending ++ codes "</ol>" ++ ending ++ codes "</section>" ++ ending
 
 -- the same where ids go by identifier
@@ -90,7 +99,8 @@ abbrev pub any_image_source : CompileOptions
 any_image_source = record default_options { allow_any_img_src = true }
 
 abbrev pub any_image_source_text : List ℕ
-any_image_source_text = each_name_text [] [] (codes "x:c") (codes "&lt;xmp&gt;") (codes "&lt;title&gt;") disabled lf
+any_image_source_text =
+    each_name_text [] [] (codes "x:c") (codes "&lt;xmp&gt;") (codes "&lt;title&gt;") disabled lf
 
 -- links and images may have any protocol
 abbrev pub any_protocol : CompileOptions
@@ -98,15 +108,18 @@ any_protocol = record default_options { allow_dangerous_protocol = true }
 
 abbrev pub any_protocol_text : List ℕ
 any_protocol_text =
-    each_name_text (codes "x:b") (codes "x:d") (codes "x:c") (codes "&lt;xmp&gt;") (codes "&lt;title&gt;") disabled lf
+    each_name_text (codes "x:b") (codes "x:d") (codes "x:c") (codes "&lt;xmp&gt;")
+    (codes "&lt;title&gt;") disabled lf
 
 -- both of these together
 abbrev pub any_protocol_and_source : CompileOptions
-any_protocol_and_source = record default_options { allow_any_img_src = true; allow_dangerous_protocol = true }
+any_protocol_and_source =
+    record default_options { allow_any_img_src = true; allow_dangerous_protocol = true }
 
 abbrev pub any_protocol_and_source_text : List ℕ
 any_protocol_and_source_text =
-    each_name_text (codes "x:b") (codes "x:d") (codes "x:c") (codes "&lt;xmp&gt;") (codes "&lt;title&gt;") disabled lf
+    each_name_text (codes "x:b") (codes "x:d") (codes "x:c") (codes "&lt;xmp&gt;")
+    (codes "&lt;title&gt;") disabled lf
 
 -- HTML stays as it is, and other text is escaped
 abbrev pub html : CompileOptions
@@ -141,14 +154,16 @@ abbrev pub carriage_returns : CompileOptions
 carriage_returns = record default_options { default_line_ending = CarriageReturn }
 
 abbrev pub carriage_returns_text : List ℕ
-carriage_returns_text = each_name_text [] [] [] (codes "&lt;xmp&gt;") (codes "&lt;title&gt;") disabled cr
+carriage_returns_text =
+    each_name_text [] [] [] (codes "&lt;xmp&gt;") (codes "&lt;title&gt;") disabled cr
 
 -- lines end in CR and LF
 abbrev pub both_ends_of_line : CompileOptions
 both_ends_of_line = record default_options { default_line_ending = CarriageReturnLineFeed }
 
 abbrev pub both_ends_of_line_text : List ℕ
-both_ends_of_line_text = each_name_text [] [] [] (codes "&lt;xmp&gt;") (codes "&lt;title&gt;") disabled crlf
+both_ends_of_line_text =
+    each_name_text [] [] [] (codes "&lt;xmp&gt;") (codes "&lt;title&gt;") disabled crlf
 
 -- footnotes' ids go by number
 abbrev pub ids_by_number : CompileOptions
@@ -156,4 +171,5 @@ ids_by_number = record default_options { gfm_footnote_number_ids = true }
 
 abbrev pub ids_by_number_text : List ℕ
 ids_by_number_text =
-    each_name_text_by (codes "1") (codes "1-1") [] [] [] (codes "&lt;xmp&gt;") (codes "&lt;title&gt;") disabled lf
+    each_name_text_by (codes "1") (codes "1-1") [] [] [] (codes "&lt;xmp&gt;")
+    (codes "&lt;title&gt;") disabled lf

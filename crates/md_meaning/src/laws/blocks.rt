@@ -5,12 +5,14 @@ ghost use Rattle.md_meaning.specs.Trees.{Means, MeansWith};
 
 /// The meaning of heading with emphasis.
 pub fn meaning_of_heading_with_emphasis()
-    ensures { Means blocks.heading_with_emphasis_bytes blocks.heading_with_emphasis blocks.heading_with_emphasis_text }
+    ensures { Means blocks.heading_with_emphasis_bytes blocks.heading_with_emphasis
+        blocks.heading_with_emphasis_text }
 {}
 
 /// The meaning of fence in a quote.
 pub fn meaning_of_fence_in_a_quote()
-    ensures { Means blocks.fence_in_a_quote_bytes blocks.fence_in_a_quote blocks.fence_in_a_quote_text }
+    ensures { Means blocks.fence_in_a_quote_bytes blocks.fence_in_a_quote
+        blocks.fence_in_a_quote_text }
 {}
 
 /// The meaning of virtual spaces.
@@ -42,18 +44,21 @@ pub fn meaning_of_unclosed_fence()
 
 /// The meaning of unclosed fence alone in a quote.
 pub fn meaning_of_unclosed_fence_alone_in_a_quote()
-    ensures { Means blocks.unclosed_fence_alone_in_a_quote_bytes blocks.unclosed_fence_alone_in_a_quote
+    ensures { Means blocks.unclosed_fence_alone_in_a_quote_bytes
+        blocks.unclosed_fence_alone_in_a_quote
         blocks.unclosed_fence_alone_in_a_quote_text }
 {}
 
 /// The meaning of code without a chunk.
 pub fn meaning_of_code_without_a_chunk()
-    ensures { Means blocks.code_without_a_chunk_bytes blocks.code_without_a_chunk blocks.code_without_a_chunk_text }
+    ensures { Means blocks.code_without_a_chunk_bytes blocks.code_without_a_chunk
+        blocks.code_without_a_chunk_text }
 {}
 
 /// The meaning of HTML where it is escaped.
 pub fn meaning_of_html_by_default()
-    ensures { Means blocks.html_by_default_bytes blocks.html_by_default blocks.html_by_default_text }
+    ensures { Means blocks.html_by_default_bytes blocks.html_by_default
+        blocks.html_by_default_text }
 {}
 
 /// The meaning of HTML where it is left, and disarmed by the tag filter.
@@ -64,7 +69,8 @@ pub fn meaning_of_filtered_html()
 
 /// The meaning of setext heading after two endings.
 pub fn meaning_of_setext_heading_after_two_endings()
-    ensures { Means blocks.setext_heading_after_two_endings_bytes blocks.setext_heading_after_two_endings
+    ensures { Means blocks.setext_heading_after_two_endings_bytes
+        blocks.setext_heading_after_two_endings
         blocks.setext_heading_after_two_endings_text }
 {}
 
@@ -76,10 +82,12 @@ pub fn meaning_of_heading_mark_over_a_cut_tab()
 
 /// The meaning of a tag that is split between two data nodes, which passes the tag filter.
 pub fn meaning_of_split_tag()
-    ensures { MeansWith blocks.split_tag_options blocks.split_tag_bytes blocks.split_tag blocks.split_tag_text }
+    ensures { MeansWith blocks.split_tag_options blocks.split_tag_bytes blocks.split_tag
+        blocks.split_tag_text }
 {}
 
 /// The meaning of an unclosed fence in a transparent node, which is not the last child.
 pub fn meaning_of_fence_in_another_name()
-    ensures { Means blocks.fence_in_another_name_bytes blocks.fence_in_another_name blocks.fence_in_another_name_text }
+    ensures { Means blocks.fence_in_another_name_bytes blocks.fence_in_another_name
+        blocks.fence_in_another_name_text }
 {}

@@ -5,13 +5,15 @@ ghost use Rattle.md_meaning.specs.Trees.{Means, MeansWith};
 
 /// The meaning of two endings after a definition.
 pub fn meaning_of_two_endings_after_a_definition()
-    ensures { Means endings.two_endings_after_a_definition_bytes endings.two_endings_after_a_definition
+    ensures { Means endings.two_endings_after_a_definition_bytes
+        endings.two_endings_after_a_definition
         endings.two_endings_after_a_definition_text }
 {}
 
 /// The meaning of two line endings after a footnote definition, of which the first is dropped.
 pub fn meaning_of_endings_after_a_footnote_definition()
-    ensures { Means endings.endings_after_a_footnote_definition_bytes endings.endings_after_a_footnote_definition
+    ensures { Means endings.endings_after_a_footnote_definition_bytes
+        endings.endings_after_a_footnote_definition
         endings.endings_after_a_footnote_definition_text }
 {}
 
@@ -33,7 +35,8 @@ pub fn meaning_of_default_line_ending()
         endings.default_line_ending endings.default_line_ending_text }
 {}
 
-/// The meaning of a list before a definition with the only line ending, which is the one that is used.
+/// The meaning of a list before a definition with the only line ending, which is the
+/// one that is used.
 pub fn meaning_of_line_ending_in_a_definition()
     ensures { Means endings.line_ending_in_a_definition_bytes endings.line_ending_in_a_definition
         endings.line_ending_in_a_definition_text }
@@ -47,7 +50,8 @@ pub fn meaning_of_ending_after_a_blank_line()
 
 /// The meaning of a line ending after frontmatter and a block quote, which clears.
 pub fn meaning_of_ending_after_a_quote()
-    ensures { Means endings.ending_after_a_quote_bytes endings.ending_after_a_quote endings.ending_after_a_quote_text }
+    ensures { Means endings.ending_after_a_quote_bytes endings.ending_after_a_quote
+        endings.ending_after_a_quote_text }
 {}
 
 /// The meaning of a line ending after frontmatter and indented code, which clears.
@@ -64,7 +68,8 @@ pub fn meaning_of_ending_after_fenced_code()
 
 /// The meaning of a line ending after math, which clears what its fence sets.
 pub fn meaning_of_ending_after_math()
-    ensures { Means endings.ending_after_math_bytes endings.ending_after_math endings.ending_after_math_text }
+    ensures { Means endings.ending_after_math_bytes endings.ending_after_math
+        endings.ending_after_math_text }
 {}
 
 /// The meaning of a line ending after a tight list, whose item clears what its paragraph sets.
@@ -75,19 +80,24 @@ pub fn meaning_of_ending_after_a_tight_list()
 
 /// The meaning of a line ending after frontmatter and code with a line ending, which is no mark.
 pub fn meaning_of_ending_after_code_with_an_ending()
-    ensures { Means endings.ending_after_code_with_an_ending_bytes endings.ending_after_code_with_an_ending
+    ensures { Means endings.ending_after_code_with_an_ending_bytes
+        endings.ending_after_code_with_an_ending
         endings.ending_after_code_with_an_ending_text }
 {}
 
-/// The meaning of a line ending after frontmatter and a definition with a line ending, which is no mark.
+/// The meaning of a line ending after frontmatter and a definition with a line ending,
+/// which is no mark.
 pub fn meaning_of_ending_after_a_definition_with_an_ending()
     ensures { Means endings.ending_after_a_definition_with_an_ending_bytes
-        endings.ending_after_a_definition_with_an_ending endings.ending_after_a_definition_with_an_ending_text }
+        endings.ending_after_a_definition_with_an_ending
+        endings.ending_after_a_definition_with_an_ending_text }
 {}
 
-/// The meaning of a title with a line ending after frontmatter, which is not slurped in a definition.
+/// The meaning of a title with a line ending after frontmatter, which is not slurped
+/// in a definition.
 pub fn meaning_of_title_on_two_lines()
-    ensures { Means endings.title_on_two_lines_bytes endings.title_on_two_lines endings.title_on_two_lines_text }
+    ensures { Means endings.title_on_two_lines_bytes endings.title_on_two_lines
+        endings.title_on_two_lines_text }
 {}
 
 /// The meaning of a line ending after a transparent node that holds a definition.

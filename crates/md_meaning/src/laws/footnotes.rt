@@ -10,7 +10,8 @@ pub fn meaning_of_footnote()
 
 /// The meaning of two references to one footnote.
 pub fn meaning_of_two_references_to_one_footnote()
-    ensures { Means footnotes.two_references_to_one_footnote_bytes footnotes.two_references_to_one_footnote
+    ensures { Means footnotes.two_references_to_one_footnote_bytes
+        footnotes.two_references_to_one_footnote
         footnotes.two_references_to_one_footnote_text }
 {}
 
@@ -22,24 +23,28 @@ pub fn meaning_of_nested_footnote_definition()
 
 /// The meaning of footnote without a paragraph.
 pub fn meaning_of_footnote_without_a_paragraph()
-    ensures { Means footnotes.footnote_without_a_paragraph_bytes footnotes.footnote_without_a_paragraph
+    ensures { Means footnotes.footnote_without_a_paragraph_bytes
+        footnotes.footnote_without_a_paragraph
         footnotes.footnote_without_a_paragraph_text }
 {}
 
 /// The meaning of footnotes in the order of their calls.
 pub fn meaning_of_footnotes_in_the_order_of_their_calls()
     ensures { Means footnotes.footnotes_in_the_order_of_their_calls_bytes
-        footnotes.footnotes_in_the_order_of_their_calls footnotes.footnotes_in_the_order_of_their_calls_text }
+        footnotes.footnotes_in_the_order_of_their_calls
+        footnotes.footnotes_in_the_order_of_their_calls_text }
 {}
 
 /// The meaning of a call in the label of a call, which has the lower number and prints nothing.
 pub fn meaning_of_call_in_a_call()
-    ensures { Means footnotes.call_in_a_call_bytes footnotes.call_in_a_call footnotes.call_in_a_call_text }
+    ensures { Means footnotes.call_in_a_call_bytes footnotes.call_in_a_call
+        footnotes.call_in_a_call_text }
 {}
 
 /// The meaning of a call in the label of an image, which is counted and prints nothing.
 pub fn meaning_of_call_in_an_image()
-    ensures { Means footnotes.call_in_an_image_bytes footnotes.call_in_an_image footnotes.call_in_an_image_text }
+    ensures { Means footnotes.call_in_an_image_bytes footnotes.call_in_an_image
+        footnotes.call_in_an_image_text }
 {}
 
 /// The meaning of call in its own footnote.
@@ -50,7 +55,8 @@ pub fn meaning_of_call_in_its_own_footnote()
 
 /// The meaning of an identifier with a capital letter and white space.
 pub fn meaning_of_folded_identifier()
-    ensures { Means footnotes.folded_identifier_bytes footnotes.folded_identifier footnotes.folded_identifier_text }
+    ensures { Means footnotes.folded_identifier_bytes footnotes.folded_identifier
+        footnotes.folded_identifier_text }
 {}
 
 /// The meaning of footnote without a call.
@@ -61,29 +67,34 @@ pub fn meaning_of_footnote_without_a_call()
 
 /// The meaning of footnote that ends in a quote.
 pub fn meaning_of_footnote_that_ends_in_a_quote()
-    ensures { Means footnotes.footnote_that_ends_in_a_quote_bytes footnotes.footnote_that_ends_in_a_quote
+    ensures { Means footnotes.footnote_that_ends_in_a_quote_bytes
+        footnotes.footnote_that_ends_in_a_quote
         footnotes.footnote_that_ends_in_a_quote_text }
 {}
 
 /// The meaning of a footnote with CR and LF after its last paragraph.
 pub fn meaning_of_footnote_that_ends_in_line_endings()
-    ensures { Means footnotes.footnote_that_ends_in_line_endings_bytes footnotes.footnote_that_ends_in_line_endings
+    ensures { Means footnotes.footnote_that_ends_in_line_endings_bytes
+        footnotes.footnote_that_ends_in_line_endings
         footnotes.footnote_that_ends_in_line_endings_text }
 {}
 
 /// The meaning of empty footnote.
 pub fn meaning_of_empty_footnote()
-    ensures { Means footnotes.empty_footnote_bytes footnotes.empty_footnote footnotes.empty_footnote_text }
+    ensures { Means footnotes.empty_footnote_bytes footnotes.empty_footnote
+        footnotes.empty_footnote_text }
 {}
 
 /// The meaning of empty identifier.
 pub fn meaning_of_empty_identifier()
-    ensures { Means footnotes.empty_identifier_bytes footnotes.empty_identifier footnotes.empty_identifier_text }
+    ensures { Means footnotes.empty_identifier_bytes footnotes.empty_identifier
+        footnotes.empty_identifier_text }
 {}
 
 /// The meaning of a footnote that ends in a paragraph of HTML.
 pub fn meaning_of_footnote_that_ends_in_html()
-    ensures { MeansWith footnotes.footnote_that_ends_in_html_options footnotes.footnote_that_ends_in_html_bytes
+    ensures { MeansWith footnotes.footnote_that_ends_in_html_options
+        footnotes.footnote_that_ends_in_html_bytes
         footnotes.footnote_that_ends_in_html footnotes.footnote_that_ends_in_html_text }
 {}
 
@@ -101,13 +112,15 @@ pub fn meaning_of_identifiers_that_meet()
 
 /// The meaning of the same two with ids by number, where no two are equal.
 pub fn meaning_of_identifiers_that_meet_by_number()
-    ensures { MeansWith footnotes.ids_by_number footnotes.identifiers_that_meet_bytes footnotes.identifiers_that_meet
+    ensures { MeansWith footnotes.ids_by_number footnotes.identifiers_that_meet_bytes
+        footnotes.identifiers_that_meet
         footnotes.identifiers_that_meet_by_number_text }
 {}
 
-/// The meaning of a footnote definition in a tight list, whose paragraph has tags, and after which the line ending is
-/// dropped.
+/// The meaning of a footnote definition in a tight list, whose paragraph has tags, and after which
+/// the line ending is dropped.
 pub fn meaning_of_footnote_definition_in_a_tight_list()
-    ensures { Means footnotes.footnote_definition_in_a_tight_list_bytes footnotes.footnote_definition_in_a_tight_list
+    ensures { Means footnotes.footnote_definition_in_a_tight_list_bytes
+        footnotes.footnote_definition_in_a_tight_list
         footnotes.footnote_definition_in_a_tight_list_text }
 {}

@@ -20,7 +20,8 @@ pub fn meaning_of_empty_item()
 
 /// The meaning of quote in a tight list.
 pub fn meaning_of_quote_in_a_tight_list()
-    ensures { Means lists.quote_in_a_tight_list_bytes lists.quote_in_a_tight_list lists.quote_in_a_tight_list_text }
+    ensures { Means lists.quote_in_a_tight_list_bytes lists.quote_in_a_tight_list
+        lists.quote_in_a_tight_list_text }
 {}
 
 /// The meaning of start number.
@@ -35,7 +36,8 @@ pub fn meaning_of_task()
 
 /// The meaning of nested tight list.
 pub fn meaning_of_nested_tight_list()
-    ensures { Means lists.nested_tight_list_bytes lists.nested_tight_list lists.nested_tight_list_text }
+    ensures { Means lists.nested_tight_list_bytes lists.nested_tight_list
+        lists.nested_tight_list_text }
 {}
 
 /// The meaning of checkable task.
@@ -46,7 +48,8 @@ pub fn meaning_of_checkable_task()
 
 /// The meaning of item with a blank line.
 pub fn meaning_of_item_with_a_blank_line()
-    ensures { Means lists.item_with_a_blank_line_bytes lists.item_with_a_blank_line lists.item_with_a_blank_line_text }
+    ensures { Means lists.item_with_a_blank_line_bytes lists.item_with_a_blank_line
+        lists.item_with_a_blank_line_text }
 {}
 
 /// The meaning of an item that ends in code, whose end stands on its own line.
@@ -60,9 +63,11 @@ pub fn meaning_of_start_number_with_zeros()
         lists.start_number_with_zeros_text }
 {}
 
-/// The meaning of a blank line after an item that ends in a quote with nothing in it, which leaves the list tight.
+/// The meaning of a blank line after an item that ends in a quote with nothing in it, which
+/// leaves the list tight.
 pub fn meaning_of_bare_quote_in_an_item()
-    ensures { Means lists.bare_quote_in_an_item_bytes lists.bare_quote_in_an_item lists.bare_quote_in_an_item_text }
+    ensures { Means lists.bare_quote_in_an_item_bytes lists.bare_quote_in_an_item
+        lists.bare_quote_in_an_item_text }
 {}
 
 /// The meaning of the same with a space after the quote.
@@ -71,7 +76,8 @@ pub fn meaning_of_bare_quote_before_a_space()
         lists.bare_quote_before_a_space_text }
 {}
 
-/// The meaning of a blank line after an item that ends in a quote with a text in it, which makes the list loose.
+/// The meaning of a blank line after an item that ends in a quote with a text in it, which
+/// makes the list loose.
 pub fn meaning_of_quote_before_a_blank_line()
     ensures { Means lists.quote_before_a_blank_line_bytes lists.quote_before_a_blank_line
         lists.quote_before_a_blank_line_text }

@@ -5,7 +5,8 @@ ghost use Rattle.md_meaning.specs.Trees.{Means, MeansWith};
 
 /// The meaning of first definition.
 pub fn meaning_of_first_definition()
-    ensures { Means media.first_definition_bytes media.first_definition media.first_definition_text }
+    ensures { Means media.first_definition_bytes media.first_definition
+        media.first_definition_text }
 {}
 
 /// The meaning of image text.
@@ -18,7 +19,8 @@ pub fn meaning_of_nested_autolink()
     ensures { Means media.nested_autolink_bytes media.nested_autolink media.nested_autolink_text }
 {}
 
-/// The meaning of code, a break, a task, strong text, an autolink and a link in the label of an image.
+/// The meaning of code, a break, a task, strong text, an autolink and a link in the
+/// label of an image.
 pub fn meaning_of_image_around_other_names()
     ensures { Means media.image_around_other_names_bytes media.image_around_other_names
         media.image_around_other_names_text }
@@ -37,18 +39,22 @@ pub fn meaning_of_empty_title()
 
 /// The meaning of protocols that are not permitted.
 pub fn meaning_of_protocols_that_are_not_permitted()
-    ensures { Means media.protocols_that_are_not_permitted_bytes media.protocols_that_are_not_permitted
+    ensures { Means media.protocols_that_are_not_permitted_bytes
+        media.protocols_that_are_not_permitted
         media.protocols_that_are_not_permitted_text }
 {}
 
-/// The meaning of autolinks: of mail, literals, one in a link, and one whose protocol is not permitted.
+/// The meaning of autolinks: of mail, literals, one in a link, and one whose protocol
+/// is not permitted.
 pub fn meaning_of_literal_autolinks()
-    ensures { Means media.literal_autolinks_bytes media.literal_autolinks media.literal_autolinks_text }
+    ensures { Means media.literal_autolinks_bytes media.literal_autolinks
+        media.literal_autolinks_text }
 {}
 
 /// The meaning of links and images of any protocol, where the options let them.
 pub fn meaning_of_any_protocol()
-    ensures { MeansWith media.any_protocol_options media.any_protocol_bytes media.any_protocol media.any_protocol_text }
+    ensures { MeansWith media.any_protocol_options media.any_protocol_bytes media.any_protocol
+        media.any_protocol_text }
 {}
 
 /// The meaning of a definition with `&` in its destination, which is escaped once.

@@ -5,7 +5,8 @@ ghost use Rattle.md_meaning.specs.Trees.{MeansWith};
 
 /// No option is on.
 pub fn meaning_under_no_option()
-    ensures { MeansWith options.no_option options.each_name_bytes options.each_name options.no_option_text }
+    ensures { MeansWith options.no_option options.each_name_bytes options.each_name
+        options.no_option_text }
 {}
 
 /// Images may have any source; links keep to their protocols.
@@ -16,7 +17,8 @@ pub fn meaning_under_any_image_source()
 
 /// Links and images may have any protocol.
 pub fn meaning_under_any_protocol()
-    ensures { MeansWith options.any_protocol options.each_name_bytes options.each_name options.any_protocol_text }
+    ensures { MeansWith options.any_protocol options.each_name_bytes options.each_name
+        options.any_protocol_text }
 {}
 
 /// Both of these together.
@@ -32,17 +34,20 @@ pub fn meaning_under_html()
 
 /// Only the tag filter, where HTML is escaped.
 pub fn meaning_under_tag_filter()
-    ensures { MeansWith options.tag_filter options.each_name_bytes options.each_name options.tag_filter_text }
+    ensures { MeansWith options.tag_filter options.each_name_bytes options.each_name
+        options.tag_filter_text }
 {}
 
 /// HTML stays, and the tag filter disarms it.
 pub fn meaning_under_filtered_html()
-    ensures { MeansWith options.filtered_html options.each_name_bytes options.each_name options.filtered_html_text }
+    ensures { MeansWith options.filtered_html options.each_name_bytes options.each_name
+        options.filtered_html_text }
 {}
 
 /// Tasks are checkable.
 pub fn meaning_under_checkable_tasks()
-    ensures { MeansWith options.checkable_tasks options.each_name_bytes options.each_name options.checkable_tasks_text }
+    ensures { MeansWith options.checkable_tasks options.each_name_bytes options.each_name
+        options.checkable_tasks_text }
 {}
 
 /// Lines end in CR.
@@ -59,5 +64,6 @@ pub fn meaning_under_both_ends_of_line()
 
 /// Footnotes' ids go by number.
 pub fn meaning_under_ids_by_number()
-    ensures { MeansWith options.ids_by_number options.each_name_bytes options.each_name options.ids_by_number_text }
+    ensures { MeansWith options.ids_by_number options.each_name_bytes options.each_name
+        options.ids_by_number_text }
 {}

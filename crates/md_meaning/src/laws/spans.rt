@@ -16,7 +16,8 @@ pub fn meaning_of_backslash_before_a_pipe()
 
 /// The meaning of spans and breaks.
 pub fn meaning_of_spans_and_breaks()
-    ensures { Means spans.spans_and_breaks_bytes spans.spans_and_breaks spans.spans_and_breaks_text }
+    ensures { Means spans.spans_and_breaks_bytes spans.spans_and_breaks
+        spans.spans_and_breaks_text }
 {}
 
 /// The meaning of math.
@@ -26,16 +27,19 @@ pub fn meaning_of_math()
 
 /// The meaning of number references.
 pub fn meaning_of_number_references()
-    ensures { Means spans.number_references_bytes spans.number_references spans.number_references_text }
+    ensures { Means spans.number_references_bytes spans.number_references
+        spans.number_references_text }
 {}
 
 /// The meaning of math in a text with a line ending in it, which is a space.
 pub fn meaning_of_math_on_two_lines()
-    ensures { Means spans.math_on_two_lines_bytes spans.math_on_two_lines spans.math_on_two_lines_text }
+    ensures { Means spans.math_on_two_lines_bytes spans.math_on_two_lines
+        spans.math_on_two_lines_text }
 {}
 
 /// The meaning of references by numbers past the last character.
 pub fn meaning_of_references_past_the_last_character()
-    ensures { Means spans.references_past_the_last_character_bytes spans.references_past_the_last_character
+    ensures { Means spans.references_past_the_last_character_bytes
+        spans.references_past_the_last_character
         spans.references_past_the_last_character_text }
 {}

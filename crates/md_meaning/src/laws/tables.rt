@@ -5,7 +5,8 @@ ghost use Rattle.md_meaning.specs.Trees.{Means};
 
 /// The meaning of short table row.
 pub fn meaning_of_short_table_row()
-    ensures { Means tables.short_table_row_bytes tables.short_table_row tables.short_table_row_text }
+    ensures { Means tables.short_table_row_bytes tables.short_table_row
+        tables.short_table_row_text }
 {}
 
 /// The meaning of call in a dropped cell.
@@ -27,7 +28,8 @@ pub fn meaning_of_aligned_column()
 
 /// The meaning of head without cells.
 pub fn meaning_of_head_without_cells()
-    ensures { Means tables.head_without_cells_bytes tables.head_without_cells tables.head_without_cells_text }
+    ensures { Means tables.head_without_cells_bytes tables.head_without_cells
+        tables.head_without_cells_text }
 {}
 
 /// The meaning of a table of four columns, with a short row and a long one.
@@ -44,7 +46,8 @@ pub fn meaning_of_head_without_delimiter_values()
 
 /// The meaning of body without an ending before it.
 pub fn meaning_of_body_without_an_ending_before_it()
-    ensures { Means tables.body_without_an_ending_before_it_bytes tables.body_without_an_ending_before_it
+    ensures { Means tables.body_without_an_ending_before_it_bytes
+        tables.body_without_an_ending_before_it
         tables.body_without_an_ending_before_it_text }
 {}
 
@@ -55,5 +58,6 @@ pub fn meaning_of_call_in_a_head()
 
 /// The meaning of table in a footnote.
 pub fn meaning_of_table_in_a_footnote()
-    ensures { Means tables.table_in_a_footnote_bytes tables.table_in_a_footnote tables.table_in_a_footnote_text }
+    ensures { Means tables.table_in_a_footnote_bytes tables.table_in_a_footnote
+        tables.table_in_a_footnote_text }
 {}

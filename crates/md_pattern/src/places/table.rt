@@ -161,8 +161,8 @@ pub(super) fn roles() -> &'static [Role]
     &ROLES
 }
 
-/// A row for each place: for each symbol, in the order in which they are declared, `.` where it may not follow, else a
-/// letter that tells the next row, counted from this one, which is `m`.
+/// A row for each place: for each symbol, in the order in which they are declared, `.` where it may
+/// not follow, else a letter that tells the next row, counted from this one, which is `m`.
 static ROWS: [[u8; 47]; 114] = [
     *b"mmmn...mmq.....................................",
     *b"....n.l........................................",

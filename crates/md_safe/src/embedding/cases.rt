@@ -12,7 +12,8 @@ pub fn split_newline()
     ensures before { EndsInDataState (13 ∷ []) (Character 10 ∷ []) }
     ensures after { run 9 Data (with_line_feeds (10 ∷ [])) ≡ Some (Character 10 ∷ EndOfFile ∷ []) }
     ensures split { splits_newline (13 ∷ []) (10 ∷ []) ≡ true }
-    ensures joined { run 9 Data (with_line_feeds (13 ∷ 10 ∷ [])) ≡ Some (Character 10 ∷ EndOfFile ∷ []) }
+    ensures joined { run 9 Data (with_line_feeds (13 ∷ 10 ∷ []))
+        ≡ Some (Character 10 ∷ EndOfFile ∷ []) }
     ensures not_alone { Leads Data (with_line_feeds (13 ∷ 10 ∷ [])) (Character 10 ∷ [])
         (with_line_feeds (10 ∷ [])) → ⊥ }
 {}
@@ -26,7 +27,8 @@ pub fn whole_newlines()
 
 /// A template that is cut in the data state, behind a tag or a character.
 pub fn cut_in_data_state()
-    ensures tags { EndsInDataState (codes "<!doctype html><div class=\"c\">\n") (Doctype (codes "html")
+    ensures tags { EndsInDataState (codes "<!doctype html><div class=\"c\">\n")
+        (Doctype (codes "html")
         ∷ StartTag (codes "div") (record { name = codes "class"; value = codes "c" } ∷ []) false
         ∷ Character 10 ∷ []) }
     ensures nothing { EndsInDataState [] [] }

@@ -18,21 +18,24 @@ pub fn line_ends()
 /// Letters of names are lowered, of tags, attributes and end tags.
 pub fn names_are_lowered()
     ensures start { run 50 Data (codes "<A Id=\"X\">")
-        ≡ Some (StartTag (codes "a") (record { name = codes "id"; value = codes "X" } ∷ []) false ∷ EndOfFile ∷ []) }
+        ≡ Some (StartTag (codes "a") (record { name = codes "id"; value = codes "X" } ∷ []) false
+        ∷ EndOfFile ∷ []) }
     ensures end { run 50 Data (codes "</dEl>") ≡ Some (EndTag (codes "del") ∷ EndOfFile ∷ []) }
 {}
 
 /// The first attribute with a name stays, and a later one is dropped; a value may be left out.
 pub fn attributes_are_kept_once()
     ensures { run 50 Data (codes "<a id=\"1\" ID=\"2\" href>") ≡ Some (StartTag (codes "a")
-        (record { name = codes "id"; value = codes "1" } ∷ record { name = codes "href"; value = [] } ∷ [])
+        (record { name = codes "id"; value = codes "1" }
+        ∷ record { name = codes "href"; value = [] } ∷ [])
         false ∷ EndOfFile ∷ []) }
 {}
 
 /// Nothing but a double quote ends a value in double quotes.
 pub fn quoted_values()
     ensures { run 50 Data (codes "<a id=\"'<b>/ =`\">")
-        ≡ Some (StartTag (codes "a") (record { name = codes "id"; value = codes "'<b>/ =`" } ∷ []) false
+        ≡ Some (StartTag (codes "a")
+        (record { name = codes "id"; value = codes "'<b>/ =`" } ∷ []) false
         ∷ EndOfFile ∷ []) }
 {}
 
@@ -41,23 +44,28 @@ pub fn references_are_read()
     ensures text { run 50 Data (codes "&amp;lt;&quot;")
         ≡ Some (map Character (codes "&lt;\"") ++ EndOfFile ∷ []) }
     ensures value { run 50 Data (codes "<a id=\"&gt;&amp;\">")
-        ≡ Some (StartTag (codes "a") (record { name = codes "id"; value = codes ">&" } ∷ []) false ∷ EndOfFile ∷ []) }
+        ≡ Some (StartTag (codes "a") (record { name = codes "id"; value = codes ">&" } ∷ []) false
+        ∷ EndOfFile ∷ []) }
     ensures begun { run 50 Data (codes "&amp") ≡ None }
     ensures unended { run 50 Data (codes "&amplt;") ≡ None }
-    ensures alone { run 50 Data (codes "& &") ≡ Some (map Character (codes "& &") ++ EndOfFile ∷ []) }
+    ensures alone { run 50 Data (codes "& &")
+        ≡ Some (map Character (codes "& &") ++ EndOfFile ∷ []) }
 {}
 
 /// The self-closing flag is that of the `/` directly before the `>`.
 pub fn self_closing_flags()
-    ensures closed { run 50 Data (codes "<br />") ≡ Some (StartTag (codes "br") [] true ∷ EndOfFile ∷ []) }
-    ensures open { run 50 Data (codes "<br / >") ≡ Some (StartTag (codes "br") [] false ∷ EndOfFile ∷ []) }
+    ensures closed { run 50 Data (codes "<br />")
+        ≡ Some (StartTag (codes "br") [] true ∷ EndOfFile ∷ []) }
+    ensures open { run 50 Data (codes "<br / >")
+        ≡ Some (StartTag (codes "br") [] false ∷ EndOfFile ∷ []) }
 {}
 
 /// NUL stays in a text, and is U+FFFD in a value.
 pub fn nul()
     ensures text { run 50 Data (0 ∷ []) ≡ Some (Character 0 ∷ EndOfFile ∷ []) }
     ensures value { run 50 Data (codes "<a id=\"" ++ (0 ∷ codes "\">"))
-        ≡ Some (StartTag (codes "a") (record { name = codes "id"; value = 239 ∷ 191 ∷ 189 ∷ [] } ∷ []) false
+        ≡ Some (StartTag (codes "a")
+        (record { name = codes "id"; value = 239 ∷ 191 ∷ 189 ∷ [] } ∷ []) false
         ∷ EndOfFile ∷ []) }
 {}
 
@@ -69,13 +77,15 @@ pub fn broken_tags()
 
 /// In a title nothing but its own end tag is a tag.
 pub fn titles()
-    ensures { run 50 Data (codes "<title></b>&lt;</TITLE >") ≡ Some (StartTag (codes "title") [] false
+    ensures { run 50 Data (codes "<title></b>&lt;</TITLE >")
+        ≡ Some (StartTag (codes "title") [] false
         ∷ map Character (codes "</b><") ++ EndTag (codes "title") ∷ EndOfFile ∷ []) }
 {}
 
 /// A doctype's name is lowered.
 pub fn doctypes()
-    ensures { run 50 Data (codes "<!DocType HTML>") ≡ Some (Doctype (codes "html") ∷ EndOfFile ∷ []) }
+    ensures { run 50 Data (codes "<!DocType HTML>")
+        ≡ Some (Doctype (codes "html") ∷ EndOfFile ∷ []) }
 {}
 
 /// Of what isn't written out nothing is claimed.
@@ -98,8 +108,8 @@ pub fn hidden_schemes()
     ensures digit { scheme_of (codes "1a:b") ≡ None }
 {}
 
-/// The grammar's test of a link stands on its values being escaped: alone it passes this one, in which
-/// a browser reads a colon.
+/// The grammar's test of a link stands on its values being escaped: alone it passes this one, in
+/// which a browser reads a colon.
 pub fn escaping_is_needed()
     ensures passes { is_safe_value link_protocols (codes "javascript&#58;x") ≡ true }
     ensures not_escaped { is_escaped (codes "javascript&#58;x") ≡ false }

@@ -52,9 +52,11 @@ pub fn listed_attributes_are_allowed()
     ensures h2 { HasReading (codes "<h2 class=\"sr-only\" id=\"a\"></h2>") }
     ensures th { HasReading (codes "<th align=\"left\"></th>") }
     ensures td { HasReading (codes "<td align=\"right\"></td>") }
-    ensures section { HasReading (codes "<section data-footnotes=\"\" class=\"footnotes\"></section>") }
+    ensures section { HasReading
+        (codes "<section data-footnotes=\"\" class=\"footnotes\"></section>") }
     ensures a { HasReading
-        (codes "<a href=\"a\" title=\"b\" id=\"c\" class=\"d\" data-footnote-ref=\"\" data-footnote-backref=\"\" aria-describedby=\"e\" aria-label=\"f\">"
+        (codes
+        "<a href=\"a\" title=\"b\" id=\"c\" class=\"d\" data-footnote-ref=\"\" data-footnote-backref=\"\" aria-describedby=\"e\" aria-label=\"f\">"
         ++ codes "</a>") }
     ensures img { HasReading (codes "<img src=\"a\" alt=\"b\" title=\"c\" />") }
     ensures input { HasReading (codes "<input type=\"checkbox\" disabled=\"\" checked=\"\" />") }
@@ -71,14 +73,16 @@ pub fn texts_stand_alone()
 /// Nested lists, a table and a section of footnotes.
 pub fn documents_have_readings()
     ensures nested_lists { HasReading (codes "<ul>\n<li>a\n<ul>\n<li>b</li>\n</ul>\n</li>\n</ul>") }
-    ensures aligned_table { HasReading (codes "<table>\n<thead>\n<tr>\n<th align=\"left\">a</th>\n</tr>\n</thead>\n"
+    ensures aligned_table { HasReading
+        (codes "<table>\n<thead>\n<tr>\n<th align=\"left\">a</th>\n</tr>\n</thead>\n"
         ++ codes "<tbody>\n<tr>\n<td>b</td>\n</tr>\n</tbody>\n</table>") }
     ensures footnotes { HasReading (codes "<section data-footnotes=\"\" class=\"footnotes\">"
         ++ codes "<h2 id=\"footnote-label\" class=\"sr-only\">Footnotes</h2>\n<ol>\n"
-        ++ codes "<li id=\"fn-a\">\n<p>"
-        ++ codes "b <a href=\"#fnref-a\" data-footnote-backref=\"\" aria-label=\"Back to content\" class=\"data-footnote-backref\">"
+        ++ codes "<li id=\"fn-a\">\n<p>" ++ codes
+        "b <a href=\"#fnref-a\" data-footnote-backref=\"\" aria-label=\"Back to content\" class=\"data-footnote-backref\">"
         ++ codes "back</a></p>\n</li>\n</ol>\n</section>\n") }
-    ensures inline { HasReading (codes "<p>a <strong>b</strong><em>c</em>d<br />\n<del>e</del></p>\n<hr />") }
+    ensures inline { HasReading
+        (codes "<p>a <strong>b</strong><em>c</em>d<br />\n<del>e</del></p>\n<hr />") }
 {}
 
 /// A tag that the tables don't list, whatever its case.
@@ -154,7 +158,8 @@ pub fn safe_links()
     ensures colon_in_a_query { HasReadingWith is_safe_link (codes "<a href=\"?a:b\"></a>") }
     ensures colon_in_a_fragment { HasReadingWith is_safe_link (codes "<a href=\"#a:b\"></a>") }
     ensures nested { HasReadingWith is_safe_link (codes "<p><em><a href=\"irc:a\"></a></em></p>") }
-    ensures another_attribute { HasReadingWith is_safe_link (codes "<a title=\"javascript:a\"></a>") }
+    ensures another_attribute { HasReadingWith is_safe_link
+        (codes "<a title=\"javascript:a\"></a>") }
     ensures an_image { HasReadingWith is_safe_link (codes "<img src=\"data:a\" />") }
 {}
 
@@ -165,9 +170,12 @@ pub fn unsafe_links()
     ensures longer { ¬ HasReadingWith is_safe_link (codes "<a href=\"httpsx:a\"></a>") }
     ensures shorter { ¬ HasReadingWith is_safe_link (codes "<a href=\"htt:a\"></a>") }
     ensures empty_protocol { ¬ HasReadingWith is_safe_link (codes "<a href=\":a\"></a>") }
-    ensures reference_in_the_protocol { ¬ HasReadingWith is_safe_link (codes "<a href=\"http&amp;:a\"></a>") }
-    ensures nested { ¬ HasReadingWith is_safe_link (codes "<p><em><a href=\"javascript:a\"></a></em></p>") }
-    ensures after_a_safe_one { ¬ HasReadingWith is_safe_link (codes "<a href=\"a\"></a><a href=\"b:c\"></a>") }
+    ensures reference_in_the_protocol { ¬ HasReadingWith is_safe_link
+        (codes "<a href=\"http&amp;:a\"></a>") }
+    ensures nested { ¬ HasReadingWith is_safe_link
+        (codes "<p><em><a href=\"javascript:a\"></a></em></p>") }
+    ensures after_a_safe_one { ¬ HasReadingWith is_safe_link
+        (codes "<a href=\"a\"></a><a href=\"b:c\"></a>") }
 {}
 
 /// Images with no protocol, or one that an image may have.
@@ -186,7 +194,8 @@ pub fn unsafe_images()
 /// The protocols of links and of images, and the names that the tag filter disarms.
 pub fn lists_are_as_written()
     ensures links { link_protocols
-        ≡ codes "http" ∷ codes "https" ∷ codes "irc" ∷ codes "ircs" ∷ codes "mailto" ∷ codes "xmpp" ∷ [] }
+        ≡ codes "http" ∷ codes "https" ∷ codes "irc" ∷ codes "ircs" ∷ codes "mailto"
+        ∷ codes "xmpp" ∷ [] }
     ensures images { image_protocols ≡ codes "http" ∷ codes "https" ∷ [] }
     ensures disarmed { disarmed_names
         ≡ codes "iframe" ∷ codes "noembed" ∷ codes "noframes" ∷ codes "plaintext" ∷ codes "script"
@@ -197,9 +206,12 @@ pub fn lists_are_as_written()
 pub fn equal_ids_are_told()
     ensures differ { HasDistinctIds (codes "<li id=\"a\"></li><li id=\"b\"></li>") }
     ensures other_attribute { HasDistinctIds (codes "<a title=\"a\"></a><a title=\"a\"></a>") }
-    ensures equal { ¬ HasDistinctIds (codes "<li id=\"a\"></li><li id=\"b\"></li><li id=\"a\"></li>") }
+    ensures equal { ¬ HasDistinctIds
+        (codes "<li id=\"a\"></li><li id=\"b\"></li><li id=\"a\"></li>") }
     ensures nested { ¬ HasDistinctIds (codes "<li id=\"a\"><a id=\"a\"></a></li>") }
-    ensures after_others { ¬ HasDistinctIds (codes "<a href=\"#x\" id=\"a\"></a><a href=\"#y\" id=\"a\"></a>") }
+    ensures after_others { ¬ HasDistinctIds
+        (codes "<a href=\"#x\" id=\"a\"></a><a href=\"#y\" id=\"a\"></a>") }
     ensures headings { ¬ HasDistinctIds (codes "<h2 id=\"a\"></h2><li id=\"a\"></li>") }
-    ensures referenced { ¬ HasDistinctIds (codes "<li id=\"&amp;a\"></li>&lt;<li id=\"&amp;a\"></li>") }
+    ensures referenced { ¬ HasDistinctIds
+        (codes "<li id=\"&amp;a\"></li>&lt;<li id=\"&amp;a\"></li>") }
 {}

@@ -1,5 +1,5 @@
-//! What the rules of texts say of each byte and each place, a second time and apart from the definitions: values that
-//! are computed, as the contracts of functions that do nothing.
+//! What the rules of texts say of each byte and each place, a second time and apart from the
+//! definitions: values that are computed, as the contracts of functions that do nothing.
 
 ghost use Rattle.std.specs.Prelude.{◌≡◌, ◌∷◌, [], ◌++◌, true, false, Some, None, codes};
 ghost use Rattle.std.specs.List.{range_with_len};
@@ -25,14 +25,16 @@ pub fn endings_are_as_written()
 pub fn letters_are_as_written()
     ensures letters { bytes_where is_letter
         ≡ codes "ABCDEFGHIJKLMNOPQRSTUVWXYZabcdefghijklmnopqrstuvwxyz" }
-    ensures lower { lowered (codes "ABCDEFGHIJKLMNOPQRSTUVWXYZ") ≡ codes "abcdefghijklmnopqrstuvwxyz" }
+    ensures lower { lowered (codes "ABCDEFGHIJKLMNOPQRSTUVWXYZ")
+        ≡ codes "abcdefghijklmnopqrstuvwxyz" }
     ensures others_stay { changed lowered ≡ codes "ABCDEFGHIJKLMNOPQRSTUVWXYZ" }
 {}
 
 /// Of all bytes those that are escaped, and what they become, with HTML escaped and without.
 pub fn escapes_are_as_written()
     ensures html { changed (encoded true) ≡ 0 ∷ codes "\"&<>" }
-    ensures html_texts { encoded true (0 ∷ codes "\"&<>") ≡ 239 ∷ 191 ∷ 189 ∷ codes "&quot;&amp;&lt;&gt;" }
+    ensures html_texts { encoded true (0 ∷ codes "\"&<>")
+        ≡ 239 ∷ 191 ∷ 189 ∷ codes "&quot;&amp;&lt;&gt;" }
     ensures text { changed (encoded false) ≡ 0 ∷ [] }
     ensures text_texts { encoded false (0 ∷ codes "\"&<>") ≡ 239 ∷ 191 ∷ 189 ∷ codes "\"&<>" }
     ensures html_character { encoded_character true 0 ≡ 65533 ∷ [] }
@@ -43,9 +45,12 @@ pub fn escapes_are_as_written()
 pub fn urls_are_as_written()
     ensures stay { kept_between normalized_url [] [] ≡ codes "!#$&'()*+,-./0123456789:;=?@"
         ++ codes "ABCDEFGHIJKLMNOPQRSTUVWXYZ_abcdefghijklmnopqrstuvwxyz~" }
-    ensures first_digit { kept_between normalized_url (codes "%") (codes "0") ≡ codes "0123456789ABCDEFabcdef" }
-    ensures second_digit { kept_between normalized_url (codes "%0") [] ≡ codes "0123456789ABCDEFabcdef" }
-    ensures others { normalized_url (0 ∷ 9 ∷ 31 ∷ codes " \"%<>[\\]^`{|}" ++ range_with_len 127 2 ++ 160 ∷ 255 ∷ [])
+    ensures first_digit { kept_between normalized_url (codes "%") (codes "0")
+        ≡ codes "0123456789ABCDEFabcdef" }
+    ensures second_digit { kept_between normalized_url (codes "%0") []
+        ≡ codes "0123456789ABCDEFabcdef" }
+    ensures others { normalized_url (0 ∷ 9 ∷ 31 ∷ codes " \"%<>[\\]^`{|}"
+        ++ range_with_len 127 2 ++ 160 ∷ 255 ∷ [])
         ≡ codes "%00%09%1F%20%22%25%3C%3E%5B%5C%5D%5E%60%7B%7C%7D%7F%80%A0%FF" }
     ensures ended { normalized_url (codes "%4") ≡ codes "%254" }
     ensures escaped { sanitized (codes "&amp;'") ≡ codes "&amp;amp;'" }
@@ -60,9 +65,11 @@ pub fn protocols_end_as_written()
     ensures stop_after { protocol_of (codes "a:/?#") ≡ Some (codes "a") }
 {}
 
-/// Of all bytes those that end the name of a tag, whose end a text's end is too, and what may stand before a name.
+/// Of all bytes those that end the name of a tag, whose end a text's end is too, and what may
+/// stand before a name.
 pub fn filtered_tags_are_as_written()
-    ensures ends { bytes_where (λ b. bytes_eq (tag_filtered (codes "<xmp" ++ b ∷ [])) (codes "&lt;xmp" ++ b ∷ []))
+    ensures ends { bytes_where (λ b.
+        bytes_eq (tag_filtered (codes "<xmp" ++ b ∷ [])) (codes "&lt;xmp" ++ b ∷ []))
         ≡ 9 ∷ 10 ∷ 12 ∷ 13 ∷ codes " />" }
     ensures end_of_text { tag_filtered (codes "<xmp") ≡ codes "&lt;xmp" }
     ensures closing { tag_filtered (codes "</xmp>") ≡ codes "&lt;/xmp>" }

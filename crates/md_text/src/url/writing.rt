@@ -1,6 +1,7 @@
 //! Writes the bytes of a URL: those that stay, and what becomes of the others.
 
-ghost use Rattle.std.specs.Prelude.{◌≡◌, ◌≤◌, ◌<◌, ◌++◌, ◌∷◌, ◌/◌, ◌%◌, false, IfOk, OnOk, drop, length};
+ghost use Rattle.std.specs.Prelude.{◌≡◌, ◌≤◌, ◌<◌, ◌++◌, ◌∷◌, ◌/◌, ◌%◌, false, IfOk, OnOk, drop};
+ghost use Rattle.std.specs.Prelude.{length};
 ghost use Rattle.std.specs.String.{string_bytes};
 ghost use Rattle.md_text.specs.Kept.{begins_kept, AreKept, changed_byte};
 ghost use Rattle.md_text.specs.Laws.{AreAscii};
@@ -26,7 +27,8 @@ fn push_ascii(out: &mut String, bytes: &[u8]) -> Result<(), AllocError>
 pub(super) fn push_low<'a>(out: &mut String, rest: &'a [u8]) -> Result<&'a [u8], AllocError>
     requires { 0 < length rest.now }
     ensures value { IfOk result
-        (λ left. string_bytes out.new ++ sanitized left.now ≡ string_bytes out.old ++ sanitized rest.now) }
+        (λ left.
+        string_bytes out.new ++ sanitized left.now ≡ string_bytes out.old ++ sanitized rest.now) }
     ensures left { IfOk result (λ left. length left.now < length rest.now) }
 {
     let run = kept_length(rest);
@@ -39,12 +41,14 @@ pub(super) fn push_low<'a>(out: &mut String, rest: &'a [u8]) -> Result<&'a [u8],
     }
 }
 
-/// Writes so many bytes as they are, and what becomes of an ASCII byte after them, and gives what is left.
+/// Writes so many bytes as they are, and what becomes of an ASCII byte after them, and
+/// gives what is left.
 #[inline(always)]
 fn push_run<'a>(out: &mut String, rest: &'a [u8], run: usize) -> Result<&'a [u8], AllocError>
     requires { (AreKept rest.now run) × (0 < run) × (begins_kept (drop run rest.now) ≡ false) }
     ensures value { IfOk result
-        (λ left. string_bytes out.new ++ sanitized left.now ≡ string_bytes out.old ++ sanitized rest.now) }
+        (λ left.
+        string_bytes out.new ++ sanitized left.now ≡ string_bytes out.old ++ sanitized rest.now) }
     ensures left { IfOk result (λ left. length left.now < length rest.now) }
 {
     let (kept, left) = rest.split_at(run);
@@ -73,7 +77,8 @@ fn push_kept(out: &mut String, bytes: &[u8]) -> Result<(), AllocError>
     }
 }
 
-/// Writes what becomes of a byte past ASCII, and of the three after it where they are so too, and gives what is left.
+/// Writes what becomes of a byte past ASCII, and of the three after it where they are so too, and
+/// gives what is left.
 #[inline(always)]
 pub(super) fn push_high<'a>(
     out: &mut String,
@@ -82,7 +87,8 @@ pub(super) fn push_high<'a>(
 ) -> Result<&'a [u8], AllocError>
     requires { 128 ≤ byte }
     ensures value { IfOk result
-        (λ left. string_bytes out.new ++ sanitized left.now ≡ string_bytes out.old ++ sanitized (byte ∷ rest.now)) }
+        (λ left. string_bytes out.new ++ sanitized left.now
+        ≡ string_bytes out.old ++ sanitized (byte ∷ rest.now)) }
     ensures left { IfOk result (λ left. length left.now ≤ length rest.now) }
 {
     match rest {

@@ -23,5 +23,7 @@ returns-clause-ok c =
 pub returns-in_err-html-clause-err : goal.returns-in_err-html-clause-err
 returns-in_err-html-clause-err c =
     let why = c.in_err-html.ensures in
-    safe_told (handed c.args.events.now c.args.bytes.now c.args.names.now) c.args.options.now c.in_err-html.field-0.0
-    c.from_residual.result c.from_residual.ensures.1 why.options why.outside why.order why.mdx why.of_node why.lost
+    safe_told (handed c.args.events.now c.args.bytes.now c.args.names.now) c.args.options.now
+    c.in_err-html.field-0.0
+    c.from_residual.result c.from_residual.ensures.1 why.options why.outside why.order why.mdx
+    why.of_node why.lost

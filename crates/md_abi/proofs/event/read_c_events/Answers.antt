@@ -1,5 +1,5 @@
--- An event that is read adds to those before it; the first that can't be read is told; at the end all are read.
--- By itself the search takes long over it.
+-- An event that is read adds to those before it; the first that can't be read is told; at the end
+-- all are read. By itself the search takes long over it.
 use Rattle.std.proofs.Common.{length, ap}
 use Rattle.md_abi.specs.Events.{event_of}
 use Rattle.md_abi.proofs.StandingLemmas.{one_more, first_without, all_read}
@@ -7,15 +7,17 @@ use Rattle.md_abi.proofs.event.read_c_events.Goals as goal
 
 pub loop-event-preserved : goal.loop-event-preserved
 loop-event-preserved c =
-    one_more event_of c.args.events.now c.loop-event.event-index c.loop-event.read.items c.loop-event.invariant _
+    one_more event_of c.args.events.now c.loop-event.event-index c.loop-event.read.items
+    c.loop-event.invariant _
     c.in-Some.event _ c.loop-event-test.true c.in-Some.ensures c.in_ok-add_event-in-Some.ensures
 
 pub returns-in-None-clause-err : goal.returns-in-None-clause-err
 returns-in-None-clause-err c =
     first_without event_of c.args.events.now c.loop-event.event-index c.loop-event.read.items
-    c.loop-event.invariant _ _ c.loop-event-test.true c.in-None.ensures (ap length c.as_slice.ensures.value)
+    c.loop-event.invariant _ _ c.loop-event-test.true c.in-None.ensures
+    (ap length c.as_slice.ensures.value)
 
 pub returns-clause-ok : goal.returns-clause-ok
 returns-clause-ok c =
-    all_read event_of c.args.events.now c.loop-event.event-index c.loop-event.read.items c.loop-event.invariant
-    c.loop-event-test.false
+    all_read event_of c.args.events.now c.loop-event.event-index c.loop-event.read.items
+    c.loop-event.invariant c.loop-event-test.false

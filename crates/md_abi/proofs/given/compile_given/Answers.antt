@@ -1,5 +1,5 @@
--- What was read stands for what C handed in, also as slices: so what `compile_read` says holds of C's arguments.
--- By itself the search can't carry its promise from the one to the other.
+-- What was read stands for what C handed in, also as slices: so what `compile_read` says holds of
+-- C's arguments. By itself the search can't carry its promise from the one to the other.
 use Rattle.std.specs.Prelude.{string_bytes}
 use Rattle.md_abi.proofs.GivenLemmas.{read_as, text_given, refusal_given}
 use Rattle.md_abi.proofs.given.compile_given.Goals as goal
@@ -9,8 +9,8 @@ returns-clause-ok c =
     let given = c.args.given in
     let read = read_as given.events.now given.options.now given.names.now c.as_slice.result.now _
     c.in_ok-options.options c.as_slice-2.result.now _
-    c.as_slice.ensures.value c.as_slice-2.ensures.value c.in_ok-events.ensures.ok c.in_ok-options.ensures.ok
-    c.in_ok-names.ensures.ok in
+    c.as_slice.ensures.value c.as_slice-2.ensures.value c.in_ok-events.ensures.ok
+    c.in_ok-options.ensures.ok c.in_ok-names.ensures.ok in
     text_given _ given.bytes.now _ _ _ _ _ read string_bytes c.compile_read.result
     c.compile_read.ensures.ok
 
@@ -19,6 +19,6 @@ returns-clause-err c =
     let given = c.args.given in
     let read = read_as given.events.now given.options.now given.names.now c.as_slice.result.now _
     c.in_ok-options.options c.as_slice-2.result.now _
-    c.as_slice.ensures.value c.as_slice-2.ensures.value c.in_ok-events.ensures.ok c.in_ok-options.ensures.ok
-    c.in_ok-names.ensures.ok in
+    c.as_slice.ensures.value c.as_slice-2.ensures.value c.in_ok-events.ensures.ok
+    c.in_ok-options.ensures.ok c.in_ok-names.ensures.ok in
     refusal_given _ given.bytes.now _ _ _ _ _ read c.compile_read.result c.compile_read.ensures.err

@@ -7,6 +7,13 @@ use Rattle.md_abi.proofs.given.compile_read.Goals as goal
 pub returns-in_err-compile-clause-err : goal.returns-in_err-compile-clause-err
 returns-in_err-compile-clause-err c =
     let why = c.in_err-compile.ensures in
-    told (handed c.args.events.now c.args.bytes.now c.args.names.now) c.in_err-compile.field-0.0 c.from_residual.result
-    (record { order = why.order; mdx = why.mdx; of_node = why.of_node; lost = why.lost; outside = why.outside })
+    told (handed c.args.events.now c.args.bytes.now c.args.names.now) c.in_err-compile.field-0.0
+    c.from_residual.result
+    (record {
+      order = why.order;
+      mdx = why.mdx;
+      of_node = why.of_node;
+      lost = why.lost;
+      outside = why.outside;
+    })
     c.from_residual.ensures.1

@@ -1,5 +1,5 @@
--- A reference that is read adds to those before it; the first that can't be read is told; at the end all are read.
--- By itself the search takes long over it.
+-- A reference that is read adds to those before it; the first that can't be read is told; at the
+-- end all are read. By itself the search takes long over it.
 use Rattle.std.proofs.Common.{◌∷◌, [], length, sym, ap, ◌∙◌}
 use Rattle.std.proofs.lemmas.List.{length-map, map-append}
 use Rattle.md_base.specs.Reference.{name_table}
@@ -18,7 +18,8 @@ loop-reference-preserved c =
 pub returns-in-None-clause-err : goal.returns-in-None-clause-err
 returns-in-None-clause-err c =
     let read = c.loop-reference.read.items in
-    first_without reference_of c.args.references.now c.loop-reference.reference-index (name_table read)
+    first_without reference_of c.args.references.now
+    c.loop-reference.reference-index (name_table read)
     c.loop-reference.invariant _ _ c.loop-reference-test.true c.in-None.ensures
     (ap length c.as_slice.ensures.value ∙ sym (length-map read pair_of))
 

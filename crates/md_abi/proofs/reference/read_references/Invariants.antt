@@ -1,4 +1,5 @@
--- At each turn: the names that were read, and after them what the rest stands for, are what the whole stands for.
+-- At each turn: the names that were read, and after them what the rest stands for, are what the
+-- whole stands for.
 use Rattle.std.proofs.Common.{◌≡◌, ◌++◌, map, drop, Some}
 use Rattle.md_base.specs.Reference.{name_table}
 use Rattle.md_abi.specs.References.{reference_of}

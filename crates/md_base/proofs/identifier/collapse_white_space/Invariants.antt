@@ -7,7 +7,8 @@ use Rattle.md_base.proofs.identifier.collapse_white_space.Given as goal
 
 abbrev pub invariant-loop-character : goal.invariant-loop-character
 invariant-loop-character l = record {
-  whole : string_bytes l.text ++ still l.is_gap (string_bytes l.text) (chars_rest l.character-iterator)
+  whole :
+      string_bytes l.text ++ still l.is_gap (string_bytes l.text) (chars_rest l.character-iterator)
       ≡ collapsed l.value;
   owed : l.is_gap ≡ true → 0 < length (string_bytes l.text);
 }

@@ -15,7 +15,8 @@ loop-character-preserved c =
     let step = c.in-Some.ensures.steps.0 in
     record {
       whole =
-          ap (λ w. w ++ encode_utf8_all (default_case_fold (chars rest))) c.in_ok-push_folded.ensures
+          ap (λ w. w ++ encode_utf8_all (default_case_fold (chars rest)))
+          c.in_ok-push_folded.ensures
           ∙ fold_step (string_bytes c.loop-character.folded) rest old c.in-Some.character text step
           ∙ c.loop-character.invariant.whole;
       utf8 = IsUtf8-past_char old rest c.in-Some.character text step;

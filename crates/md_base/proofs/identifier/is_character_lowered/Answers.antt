@@ -11,5 +11,7 @@ returns-then-is_ascii c holds =
 pub returns : goal.returns
 returns c holds =
     let table = c.full_folding.result.now in
-    kept_character c.args.character table (ltb-false c.args.character 128 (sym c.if-is_ascii.ensures))
-    c.full_folding.ensures.value (omega (arith, eqb-true (length table) 0 (sym c.is_empty.ensures ∙ holds)))
+    kept_character c.args.character table
+    (ltb-false c.args.character 128 (sym c.if-is_ascii.ensures))
+    c.full_folding.ensures.value
+    (omega (arith, eqb-true (length table) 0 (sym c.is_empty.ensures ∙ holds)))

@@ -13,12 +13,13 @@ loop-character-preserved c =
     let text = c.loop-character.invariant.utf8 in
     let step = c.in-Some.ensures.steps.0 in
     record {
-      whole = λ later. c.loop-character.invariant.whole
-          (lowered_step old rest c.in-Some.character text step (c.if-not-is_character_lowered.ensures refl) later);
+      whole = λ later. c.loop-character.invariant.whole (lowered_step old rest c.in-Some.character
+          text step (c.if-not-is_character_lowered.ensures refl) later);
       utf8 = IsUtf8-past_char old rest c.in-Some.character text step;
     }
 
 pub returns : goal.returns
 returns c holds =
     c.loop-character.invariant.whole (subst IsLowered
-    (sym (nil_from_length (chars_rest c.loop-character.character-iterator) c.in-None.ensures.steps.0.0)) lowered_end)
+    (sym (nil_from_length (chars_rest c.loop-character.character-iterator)
+    c.in-None.ensures.steps.0.0)) lowered_end)

@@ -1,4 +1,5 @@
--- The loop over characters: if to fold the rest is to lower its ASCII letters, so is to fold the text.
+-- The loop over characters: if to fold the rest is to lower its ASCII letters, so is
+-- to fold the text.
 use Rattle.std.proofs.Common.{IsUtf8}
 use Rattle.std.specs.Str.Iter.{chars_rest}
 use Rattle.md_base.proofs.FoldLemmas.{IsLowered}

@@ -10,8 +10,8 @@ returns-in_err-code c =
     let no_plus = eqb-false (get_or c.args.digits.now 0 0) 43
     (sym (c.if-starts_with.ensures.byte (lit< tt) (lit< tt) (λ _ _ found. found))) in
     ap (option_map encode_utf8) c.from_residual.ensures
-    ∙ numbered_none c.args.radix c.args.digits.now c.from_str_radix.result no_plus c.from_str_radix.ensures.value
-    c.in_err-code.ensures.value
+    ∙ numbered_none c.args.radix c.args.digits.now c.from_str_radix.result no_plus
+    c.from_str_radix.ensures.value c.in_err-code.ensures.value
 
 pub returns : goal.returns
 returns c =

@@ -1,5 +1,6 @@
 -- A text that is made first is put.
-use Rattle.std.proofs.Common.{◌≡◌, ◌∷◌, ◌++◌, [], ℕ, List, Bool, true, false, not, Option, Some, None, refl, ap, sym, ◌∙◌}
+use Rattle.std.proofs.Common.{◌≡◌, ◌∷◌, ◌++◌, [], ℕ, List, Bool, true, false, not, Option, Some}
+use Rattle.std.proofs.Common.{None, refl, ap, sym, ◌∙◌}
 use Rattle.std.specs.Prelude.{codes, if◌then◌else◌, unwrap_or, ◌||◌, ◌&&◌}
 use Rattle.md_shape.specs.Steps as steps
 use Rattle.md_shape.specs.Steps.{State, Told}
@@ -16,6 +17,7 @@ returns c =
     let options = c.args.options.now in
     let identifier = c.args.identifier.now in
     let with : List ℕ → Texts = λ t. record { text = t; below = old.below } in
-    on_ok _ _ (λ e. e ∙ ap (λ t. with (old.text ++ t)) (c.as_str.ensures.value ∙ c.in_ok-push_call.ensures
+    on_ok _ _
+    (λ e. e ∙ ap (λ t. with (old.text ++ t)) (c.as_str.ensures.value ∙ c.in_ok-push_call.ensures
     ∙ ap (λ s. laid_after [] s (steps.call_pieces options calls identifier)) c.clear.ensures.bytes)
     ∙ ap with (call-laid old.text options calls identifier)) c.put.result c.put.ensures

@@ -1,5 +1,6 @@
 -- After a space a text may be cut.
-use Rattle.std.proofs.Common.{◌≡◌, ℕ, Bool, true, false, List, [], ◌∷◌, length, sym, ap, ◌∙◌, arith, zero-lt-suc}
+use Rattle.std.proofs.Common.{◌≡◌, ℕ, Bool, true, false, List, [], ◌∷◌, length, sym, ap, ◌∙◌, arith}
+use Rattle.std.proofs.Common.{zero-lt-suc}
 use Rattle.std.specs.Prelude.{slice_get}
 use Rattle.std.specs.Bool.{OnTrue}
 use Rattle.std.specs.Str.{IsCharBoundary, IsUtf8}
@@ -9,7 +10,8 @@ use Rattle.md_emit.specs.Code.{is_space}
 use Rattle.md_emit.proofs.code.is_padded.Goals as goal
 use Rattle.md_emit.proofs.code.is_padded.Goals.{then-is_space, else-is_space}
 
-space_cut : (text : List ℕ) → IsUtf8 text → is_space (slice_get text 0) ≡ true → IsCharBoundary text 1
+space_cut : (text : List ℕ) → IsUtf8 text → is_space (slice_get text 0) ≡ true →
+    IsCharBoundary text 1
 space_cut [] utf8 e = absurd (false≢true e)
 space_cut (b ∷ bs) utf8 e =
     let space : b ≡ 32 = eqb-true b 32 e in
@@ -27,5 +29,6 @@ returns-then-is_space-2-clause-cut_start c =
       | then-is_space w ↦ space_cut text c.utf8.text
           (ap (λ t. is_space (slice_get t 0)) (sym c.as_bytes-bytes.ensures.value)
           ∙ ap is_space (sym c.first.ensures.value) ∙ sym c.is_space.ensures ∙ w.if-is_space.true)
-      | else-is_space w ↦ absurd (false≢true (sym w.if-is_space.false ∙ sym w.value-is ∙ c.if-is_space-2.true))
+      | else-is_space w ↦
+          absurd (false≢true (sym w.if-is_space.false ∙ sym w.value-is ∙ c.if-is_space-2.true))
     ])

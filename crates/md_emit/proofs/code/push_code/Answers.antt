@@ -1,5 +1,6 @@
 -- The text of code is what is meant.
-use Rattle.std.proofs.Common.{◌≡◌, ◌∷◌, ◌++◌, [], ℕ, List, Bool, true, false, not, Option, Some, None, refl, ap, sym, ◌∙◌}
+use Rattle.std.proofs.Common.{◌≡◌, ◌∷◌, ◌++◌, [], ℕ, List, Bool, true, false, not, Option, Some}
+use Rattle.std.proofs.Common.{None, refl, ap, sym, ◌∙◌}
 use Rattle.std.specs.Prelude.{codes, if◌then◌else◌, unwrap_or, ◌||◌}
 use Rattle.md_output.specs.Texts.{Texts}
 use Rattle.md_meaning.specs.Meaning.Spans.{trimmed, without_escapes}
@@ -15,5 +16,6 @@ returns-in_ok-unescaped c =
     on_ok _ _ (λ e. e ∙ ap with (c.trim.ensures
     ∙ ap without_padding (c.as_str.ensures.value ∙ c.in_ok-unescaped.ensures)
     ∙ trimmed-same (unescaped_pipes c.args.text.now) ∙ ap trimmed (escapes-same c.args.text.now)
-    ∙ ap (λ b. trimmed (if b then without_escapes c.args.text.now else c.args.text.now)) (sym c.if-in_table.true)))
+    ∙ ap (λ b. trimmed (if b then without_escapes c.args.text.now else c.args.text.now))
+    (sym c.if-in_table.true)))
     c.put.result c.put.ensures

@@ -14,5 +14,5 @@ returns-else-escapes_pipe c =
 
 pub returns-then-escapes_pipe : goal.returns-then-escapes_pipe
 returns-then-escapes_pipe c =
-    ap (λ x. string_bytes c.args.out.now ++ x)
-    (sym (unescaped_pipes-step c.args.c c.args.rest.now _ (rw c.as_bytes.ensures.value at c.if-escapes_pipe.ensures)))
+    ap (λ x. string_bytes c.args.out.now ++ x) (sym (unescaped_pipes-step c.args.c c.args.rest.now _
+    (rw c.as_bytes.ensures.value at c.if-escapes_pipe.ensures)))

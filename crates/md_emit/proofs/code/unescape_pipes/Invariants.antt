@@ -1,4 +1,5 @@
--- At each turn: what is written, and after it what the rest becomes, is what the whole text becomes.
+-- At each turn: what is written, and after it what the rest becomes, is what the
+-- whole text becomes.
 use Rattle.std.proofs.Common.{◌≡◌, ◌++◌, string_bytes}
 use Rattle.md_emit.specs.Code.{unescaped_pipes}
 use Rattle.md_emit.proofs.code.unescape_pipes.Given as goal

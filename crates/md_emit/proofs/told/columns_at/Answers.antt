@@ -8,4 +8,5 @@ use Rattle.md_emit.proofs.told.columns_at.Goals as goal
 pub returns : goal.returns
 returns c = λ one there.
     let seen = entered c.args.checked.now c.args.index GfmTable one c.requires there in
-    c.columns.ensures.aligned seen.node.children seen.entered ∙ ap (λ (n : Noticed). n.told.columns) (sym seen.is)
+    c.columns.ensures.aligned seen.node.children seen.entered
+    ∙ ap (λ (n : Noticed). n.told.columns) (sym seen.is)

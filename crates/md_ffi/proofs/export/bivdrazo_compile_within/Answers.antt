@@ -77,43 +77,50 @@ pub returns-in-Err-clause-refused : goal.returns-in-Err-clause-refused
 returns-in-Err-clause-refused c =
     let a = c.args in
     (within_says a.events.now a.bytes.now a.options.now a.names.now a.limits.now
-    c.in-Err.failure c.answer_to_within.result c.answer_to_within.ensures c.in-Err.ensures.err).refused
+    c.in-Err.failure c.answer_to_within.result c.answer_to_within.ensures
+    c.in-Err.ensures.err).refused
 
 pub returns-in-Err-clause-no_event : goal.returns-in-Err-clause-no_event
 returns-in-Err-clause-no_event c =
     let a = c.args in
     (within_says a.events.now a.bytes.now a.options.now a.names.now a.limits.now
-    c.in-Err.failure c.answer_to_within.result c.answer_to_within.ensures c.in-Err.ensures.err).no_event
+    c.in-Err.failure c.answer_to_within.result c.answer_to_within.ensures
+    c.in-Err.ensures.err).no_event
 
 pub returns-in-Err-clause-no_name : goal.returns-in-Err-clause-no_name
 returns-in-Err-clause-no_name c =
     let a = c.args in
     (within_says a.events.now a.bytes.now a.options.now a.names.now a.limits.now
-    c.in-Err.failure c.answer_to_within.result c.answer_to_within.ensures c.in-Err.ensures.err).no_name
+    c.in-Err.failure c.answer_to_within.result c.answer_to_within.ensures
+    c.in-Err.ensures.err).no_name
 
 pub returns-in-Err-clause-no_option : goal.returns-in-Err-clause-no_option
 returns-in-Err-clause-no_option c =
     let a = c.args in
     (within_says a.events.now a.bytes.now a.options.now a.names.now a.limits.now
-    c.in-Err.failure c.answer_to_within.result c.answer_to_within.ensures c.in-Err.ensures.err).no_option
+    c.in-Err.failure c.answer_to_within.result c.answer_to_within.ensures
+    c.in-Err.ensures.err).no_option
 
 pub returns-in-Err-clause-too_long : goal.returns-in-Err-clause-too_long
 returns-in-Err-clause-too_long c =
     let a = c.args in
     (within_says a.events.now a.bytes.now a.options.now a.names.now a.limits.now
-    c.in-Err.failure c.answer_to_within.result c.answer_to_within.ensures c.in-Err.ensures.err).too_long
+    c.in-Err.failure c.answer_to_within.result c.answer_to_within.ensures
+    c.in-Err.ensures.err).too_long
 
 pub returns-in-Err-clause-too_much : goal.returns-in-Err-clause-too_much
 returns-in-Err-clause-too_much c =
     let a = c.args in
     (within_says a.events.now a.bytes.now a.options.now a.names.now a.limits.now
-    c.in-Err.failure c.answer_to_within.result c.answer_to_within.ensures c.in-Err.ensures.err).too_much
+    c.in-Err.failure c.answer_to_within.result c.answer_to_within.ensures
+    c.in-Err.ensures.err).too_much
 
 pub returns-in-Err-clause-bounded : goal.returns-in-Err-clause-bounded
 returns-in-Err-clause-bounded c =
     let a = c.args in
     (within_says a.events.now a.bytes.now a.options.now a.names.now a.limits.now
-    c.in-Err.failure c.answer_to_within.result c.answer_to_within.ensures c.in-Err.ensures.err).bounded
+    c.in-Err.failure c.answer_to_within.result c.answer_to_within.ensures
+    c.in-Err.ensures.err).bounded
 
 pub returns-in-Err-clause-fields : goal.returns-in-Err-clause-fields
 returns-in-Err-clause-fields c =

@@ -3,14 +3,17 @@
 use Rattle.std.proofs.Common.{subst, sym, ap, ◌∙◌}
 use Rattle.md_script.specs.Run.{IsTextOf}
 use Rattle.md_abi.specs.Failures.{answer_of}
-use Rattle.md_abi.proofs.AnswerLemmas.{handed_over, text_status, text_of_run, text_says_of_script, failure_hands_over, failure_of_script, failure_says_of_script}
+use Rattle.md_abi.proofs.AnswerLemmas.{handed_over, text_status, text_of_run, text_says_of_script}
+use Rattle.md_abi.proofs.AnswerLemmas.{failure_hands_over, failure_of_script}
+use Rattle.md_abi.proofs.AnswerLemmas.{failure_says_of_script}
 use Rattle.md_ffi.proofs.export.bivdrazo_run.Goals as goal
 
 pub returns-in-Ok-clause-text : goal.returns-in-Ok-clause-text
 returns-in-Ok-clause-text c =
     handed_over (IsTextOf c.args.script.now) c.as_str.result.now
     c.args.buffer.now _ c.hand_over.result
-    (subst (IsTextOf c.args.script.now) (sym c.as_str.ensures.value) c.in-Ok.ensures.text) c.hand_over.ensures
+    (subst (IsTextOf c.args.script.now) (sym c.as_str.ensures.value) c.in-Ok.ensures.text)
+    c.hand_over.ensures
 
 pub returns-in-Ok-clause-refused : goal.returns-in-Ok-clause-refused
 returns-in-Ok-clause-refused c =
@@ -32,7 +35,8 @@ returns-in-Ok-clause-fields c = text_of_run _ _ _ c.hand_over.result c.hand_over
 
 pub returns-in-Err-clause-text : goal.returns-in-Err-clause-text
 returns-in-Err-clause-text c =
-    failure_hands_over (IsTextOf c.args.script.now) c.args.buffer.now _ c.answer_to.result c.answer_to.ensures
+    failure_hands_over (IsTextOf c.args.script.now) c.args.buffer.now _
+    c.answer_to.result c.answer_to.ensures
 
 pub returns-in-Err-clause-refused : goal.returns-in-Err-clause-refused
 returns-in-Err-clause-refused c =
@@ -50,5 +54,6 @@ returns-in-Err-clause-no_line c =
     c.in-Err.ensures.err (c.answer_to.ensures ∙ ap answer_of c.from.ensures)).no_line
 
 pub returns-in-Err-clause-fields : goal.returns-in-Err-clause-fields
-returns-in-Err-clause-fields c = failure_of_script c.args.script.now c.in-Err.error c.answer_to.result
+returns-in-Err-clause-fields c =
+    failure_of_script c.args.script.now c.in-Err.error c.answer_to.result
     (c.answer_to.ensures ∙ ap answer_of c.from.ensures)

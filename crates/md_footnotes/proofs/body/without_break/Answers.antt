@@ -1,5 +1,5 @@
--- A line ending less at the end makes no difference to the text without them; any other byte at the end stays.
--- By itself the search does no induction over the text.
+-- A line ending less at the end makes no difference to the text without them; any other byte at the
+-- end stays. By itself the search does no induction over the text.
 use Rattle.md_footnotes.specs.Words.{unended}
 use Rattle.md_footnotes.proofs.body.without_break.Goals as goal
 use Rattle.std.proofs.Common.{ap, sym, ◌∙◌, arith}

@@ -1,5 +1,5 @@
--- At each turn: to add the footnotes that are left is to add all of them to the text as it was at the start.
--- It ends, as fewer are left each time.
+-- At each turn: to add the footnotes that are left is to add all of them to the text as it was at
+-- the start. It ends, as fewer are left each time.
 use Rattle.std.proofs.Common.{◌≡◌, ◌-◌, ◌≤◌, length, drop, string_bytes}
 use Rattle.std.specs.List.{flat_map}
 use Rattle.md_meaning.specs.Meaning.Layout.{laid_after}
@@ -13,8 +13,8 @@ invariant-loop-called l =
     (flat_map (meaning.item (given_by l.settings.options.now l.calls) l.notes)
     (drop l.index (meaning.distinct l.calls)))
     ≡ laid_after l.settings.ending.now (string_bytes l.fn.out)
-    (flat_map (meaning.item (given_by l.settings.options.now l.calls) l.notes) (meaning.distinct l.calls)))
-    × (l.index ≤ length (meaning.distinct l.calls))
+    (flat_map (meaning.item (given_by l.settings.options.now l.calls) l.notes)
+    (meaning.distinct l.calls))) × (l.index ≤ length (meaning.distinct l.calls))
 
 abbrev pub decreases-loop-called : goal.decreases-loop-called
 decreases-loop-called l = length (meaning.distinct l.calls) - l.index

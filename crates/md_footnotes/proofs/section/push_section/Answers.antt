@@ -1,6 +1,7 @@
--- Where there is a call, the opening, the items and the end, laid one after another, are the section.
--- By itself the search can't lay pieces in parts.
-use Rattle.std.proofs.Common.{◌≡◌, ◌∷◌, [], ◌++◌, OnOk, List, ℕ, not, ap, sym, ◌∙◌, subst, codes, string_bytes}
+-- Where there is a call, the opening, the items and the end, laid one after another, are the
+-- section. By itself the search can't lay pieces in parts.
+use Rattle.std.proofs.Common.{◌≡◌, ◌∷◌, [], ◌++◌, OnOk, List, ℕ, not, ap, sym, ◌∙◌, subst, codes}
+use Rattle.std.proofs.Common.{string_bytes}
 use Rattle.std.specs.List.{flat_map}
 use Rattle.md_meaning.specs.Meaning.Layout.{Piece, Text, Forced, laid_after, when}
 use Rattle.md_meaning.specs.Meaning.Footnotes as meaning

@@ -12,5 +12,6 @@ returns c =
     subst (λ t. OnOk c.push_call_id.result (string_bytes c.push_call_id.new.out
     ≡ t ++ meaning.call_id options identifier number c.args.occurrence))
     (c.in_ok-push_str-2.ensures.bytes ∙ ap (λ t. t ++ codes "\" id=\"") (c.in_ok-push_id.ensures
-    ∙ ap (λ t. t ++ meaning.id_of options (codes "fn-") identifier number) c.in_ok-push_str.ensures.bytes))
+    ∙ ap (λ t. t ++ meaning.id_of options (codes "fn-") identifier number)
+    c.in_ok-push_str.ensures.bytes))
     c.push_call_id.ensures

@@ -1,5 +1,5 @@
--- The ways back so far, a space unless there are none, and one way back are the ways back to one call more.
--- By itself the search can't go from the text to the definition for one more call.
+-- The ways back so far, a space unless there are none, and one way back are the ways back to one
+-- call more. By itself the search can't go from the text to the definition for one more call.
 use Rattle.std.proofs.Common.{rules, ◌≡◌, [], ◌++◌, ◌==◌, suc, string_bytes, codes, ℕ, ◌+◌, List}
 use Rattle.std.specs.Prelude.{if◌then◌else◌}
 use Rattle.md_meaning.specs.Meaning.Footnotes as meaning
@@ -12,7 +12,8 @@ one_more : (options : CompileOptions) (identifier : List ℕ) (number n : ℕ) �
     ++ meaning.backreference options identifier number (n + 1))
     ≡ meaning.backreferences options identifier number (n + 1)
 one_more options identifier number n =
-    ap (λ m. meaning.backreferences options identifier number n ++ ((if n == 0 then [] else codes " ")
+    ap (λ m. meaning.backreferences options identifier number n
+    ++ ((if n == 0 then [] else codes " ")
     ++ meaning.backreference options identifier number m)) (next n)
     ∙ ap (λ m. meaning.backreferences options identifier number m) (sym (next n))
   where
@@ -30,7 +31,8 @@ loop-done-preserved c =
     let so_far : List ℕ = meaning.backreferences options identifier number done in
     let one : List ℕ = meaning.backreference options identifier number (done + 1) in (
       c.in_ok-push_backreference.ensures
-          ∙ ap (λ t. t ++ one) (c.in_ok-push_space.ensures ∙ ap (λ t. t ++ space) c.loop-done.invariant.0)
+          ∙ ap (λ t. t ++ one)
+          (c.in_ok-push_space.ensures ∙ ap (λ t. t ++ space) c.loop-done.invariant.0)
           ∙ append_assoc (start ++ so_far) space one
           ∙ append_assoc start so_far (space ++ one)
           ∙ ap (λ t. start ++ t) (one_more options identifier number done),

@@ -1,4 +1,5 @@
--- At each turn: the ways back to as many calls as are done were added, which are no more than there are.
+-- At each turn: the ways back to as many calls as are done were added, which are no
+-- more than there are.
 use Rattle.std.proofs.Common.{◌-◌, ◌≡◌, ◌++◌, string_bytes, ◌≤◌}
 use Rattle.md_meaning.specs.Meaning.Footnotes as meaning
 use Rattle.md_footnotes.proofs.ways_back.push_backreferences.Given as goal
@@ -6,7 +7,8 @@ use Rattle.md_footnotes.proofs.ways_back.push_backreferences.Given as goal
 abbrev pub invariant-loop-done : goal.invariant-loop-done
 invariant-loop-done l =
     (string_bytes l.out ≡ string_bytes l.fn.out
-    ++ meaning.backreferences l.options l.called.identifier.now l.called.number l.done) × (l.done ≤ l.called.count)
+    ++ meaning.backreferences l.options l.called.identifier.now l.called.number l.done)
+    × (l.done ≤ l.called.count)
 
 abbrev pub decreases-loop-done : goal.decreases-loop-done
 decreases-loop-done l = l.called.count - l.done

@@ -12,5 +12,5 @@ returns-clause-meaning c = λ document flat.
 
 pub returns-clause-tree : goal.returns-clause-tree
 returns-clause-tree c = λ document flat unnested keeps.
-    c.in_ok-counted.ensures.tree document (flat ∙ ap (λ (d : Handed). d.events) (sym c.in_ok-checked.ensures.ok)) unnested
-    keeps
+    c.in_ok-counted.ensures.tree document
+    (flat ∙ ap (λ (d : Handed). d.events) (sym c.in_ok-checked.ensures.ok)) unnested keeps

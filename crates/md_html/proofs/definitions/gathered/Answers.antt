@@ -15,8 +15,8 @@ loop-entry-preserved c = λ at document supplies flat.
     c.in_ok-push.ensures.items
     ∙ ap (λ xs. xs ++ target ∷ []) (c.loop-entry.invariant at document supplies flat)
     ∙ take-next (targets_of at document) place target
-    (target-there handed document at c.grammatical.ensures flat _ place target entries (Supplies.bytes supplies)
-    (c.definitions-entries.ensures.definitions document flat)
+    (target-there handed document at c.grammatical.ensures flat _ place target entries
+    (Supplies.bytes supplies) (c.definitions-entries.ensures.definitions document flat)
     (slice_get-get_or entries place _ c.loop-entry-test.true)
     (c.definitions-entries.ensures.entered place _ c.loop-entry-test.true)
     (λ one there. c.in_ok-target.ensures at document one supplies flat there))

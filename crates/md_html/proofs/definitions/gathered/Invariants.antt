@@ -8,5 +8,6 @@ use Rattle.md_html.proofs.definitions.gathered.Given as goal
 
 abbrev pub invariant-loop-entry : goal.invariant-loop-entry
 invariant-loop-entry l =
-    (at : Given) (document : Forest) → Supplies l.given at → flatten document ≡ l.given.checked.now.events →
+    (at : Given) (document : Forest) → Supplies l.given at →
+    flatten document ≡ l.given.checked.now.events →
     l.targets.items ≡ take l.entry-index (targets_of at document)

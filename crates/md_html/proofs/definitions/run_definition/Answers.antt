@@ -19,7 +19,8 @@ overflow_add-index c =
     let found = inside-within c.args.given.now.checked.now checked.0 c.args.index Definition
     (IsReadAs.flattened checked.1) c.requires.enters in
     let inner : c.args.index + found.0.inside < length c.events-events.result.now =
-    subst (λ es. c.args.index + found.0.inside < length es) (sym c.events-events.ensures.events) found.3 in
+    subst (λ es. c.args.index + found.0.inside < length es)
+    (sym c.events-events.ensures.events) found.3 in
     omega (arith, inner, found.4)
 
 pub overflow_add-index-2 : goal.overflow_add-index-2
@@ -28,7 +29,8 @@ overflow_add-index-2 c =
     let found = inside-within c.args.given.now.checked.now checked.0 c.args.index Definition
     (IsReadAs.flattened checked.1) c.requires.enters in
     let inner : c.args.index + found.0.inside < length c.events-events.result.now =
-    subst (λ es. c.args.index + found.0.inside < length es) (sym c.events-events.ensures.events) found.3 in
+    subst (λ es. c.args.index + found.0.inside < length es)
+    (sym c.events-events.ensures.events) found.3 in
     let same = c.inside_at-inside.ensures found.0 found.2 in
     omega (arith, inner, same)
 
@@ -61,8 +63,10 @@ run-requires-clause-within c =
     let found = inside-within c.args.given.now.checked.now checked.0 c.args.index Definition
     (IsReadAs.flattened checked.1) c.requires.enters in
     let inner = least c.args.index c.inside_at-inside.result found.0.inside
-    (length c.args.given.now.checked.now.events) (c.inside_at-inside.ensures found.0 found.2) found.3 in
-    below (c.args.index + c.inside_at-inside.result) (length c.args.given.now.checked.now.events) inner
+    (length c.args.given.now.checked.now.events)
+    (c.inside_at-inside.ensures found.0 found.2) found.3 in
+    below (c.args.index + c.inside_at-inside.result)
+    (length c.args.given.now.checked.now.events) inner
   where
     below : (n m : ℕ) → n < m → n ≤ m
     below n m lt = omega (arith, lt)
@@ -77,7 +81,9 @@ returns c =
     (noticed handed.bytes true document)) c.enter.new.self)
     (window-within handed.events c.args.index one.inside c.inside_at-inside.result same)
     ∙ ap (λ ts. run at 0 (within c.args.index one.inside handed.events) ts c.enter.new.self)
-    (window-within (noticed handed.bytes true document) c.args.index one.inside c.inside_at-inside.result same)
+    (window-within (noticed handed.bytes true document) c.args.index one.inside
+    c.inside_at-inside.result same)
     ∙ ap (λ s. run at 0 (within c.args.index one.inside handed.events)
     (within c.args.index one.inside (noticed handed.bytes true document)) s)
-    (c.in_ok-enter.ensures at one supplies there ∙ ap (λ s. entered at one.told Definition s) c.requires.new)
+    (c.in_ok-enter.ensures at one supplies there
+    ∙ ap (λ s. entered at one.told Definition s) c.requires.new)

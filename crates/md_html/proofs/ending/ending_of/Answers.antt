@@ -7,17 +7,20 @@ use Rattle.md_html.proofs.ending.ending_of.Goals as goal
 
 pub text-requires : goal.text-requires
 text-requires c =
-    ending-text c.args.checked.now.events c.in-Some.index (sym c.first_ending.ensures.index ∙ c.in-Some.is)
+    ending-text c.args.checked.now.events c.in-Some.index
+    (sym c.first_ending.ensures.index ∙ c.in-Some.is)
 
 pub returns-in-Some-clause-ending : goal.returns-in-Some-clause-ending
 returns-in-Some-clause-ending c = λ document flat.
-    let found = ending-some document c.args.checked.now.events c.in-Some.index flat (sym c.first_ending.ensures.index
-    ∙ c.in-Some.is) in
+    let found = ending-some document c.args.checked.now.events c.in-Some.index flat
+    (sym c.first_ending.ensures.index ∙ c.in-Some.is) in
     let text = c.text.ensures document found.0 flat found.1 in
     sym (ap (λ place. ending_at c.args.options.now c.args.checked.now.bytes place) found.2
     ∙ ap (λ t. unwrap_or t []) text)
 
 pub returns-in-None-clause-ending : goal.returns-in-None-clause-ending
 returns-in-None-clause-ending c = λ document flat.
-    let none = ending-none document c.args.checked.now.events flat (sym c.first_ending.ensures.index ∙ c.in-None.is) in
-    c.as_str.ensures ∙ sym (ap (λ place. ending_at c.args.options.now c.args.checked.now.bytes place) none)
+    let none = ending-none document c.args.checked.now.events flat
+    (sym c.first_ending.ensures.index ∙ c.in-None.is) in
+    c.as_str.ensures
+    ∙ sym (ap (λ place. ending_at c.args.options.now c.args.checked.now.bytes place) none)

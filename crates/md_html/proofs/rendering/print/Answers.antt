@@ -15,10 +15,11 @@ pub returns : goal.returns
 returns c = λ at document supplies flat.
     let handed = c.args.given.now.checked.now in
     let after : State = c.run-ran.new.printer in
-    let count : length c.events.result.now ≡ length handed.events = ap (λ es. length es) c.events.ensures.events in
+    let count : length c.events.result.now ≡ length handed.events =
+    ap (λ es. length es) c.events.ensures.events in
     let ran : after ≡ run at 0 (flatten document) (noticed at.bytes true document) beginning =
-    c.in_ok-ran.ensures.ran at document supplies flat
-    ∙ ap (λ es. run at 0 es (window 0 (length c.events.result.now) (noticed handed.bytes true document))
+    c.in_ok-ran.ensures.ran at document supplies flat ∙ ap (λ es. run at 0 es
+    (window 0 (length c.events.result.now) (noticed handed.bytes true document))
     c.reserve.new.self) (window-all handed.events (length c.events.result.now) count ∙ sym flat)
     ∙ ap (λ ts. run at 0 (flatten document) ts c.reserve.new.self)
     (window-all (noticed handed.bytes true document) (length c.events.result.now)
@@ -27,5 +28,7 @@ returns c = λ at document supplies flat.
     (sym (Supplies.bytes supplies))
     ∙ ap (λ s. run at 0 (flatten document) (noticed at.bytes true document) s)
     (c.reserve.ensures ∙ c.new-printer.ensures) in
-    c.in_ok-text.ensures (record at { calls = after.calls }) (Supplies.options supplies) (Supplies.ending supplies) refl
-    ∙ ap (λ (s : State). laid_after at.ending s.text (section (record at { calls = s.calls }) s.footnotes)) ran
+    c.in_ok-text.ensures (record at { calls = after.calls }) (Supplies.options supplies)
+    (Supplies.ending supplies) refl
+    ∙ ap (λ (s : State). laid_after at.ending s.text
+    (section (record at { calls = s.calls }) s.footnotes)) ran

@@ -1,4 +1,5 @@
--- The text of the events, with where the document's definitions lead, is the meaning of the document.
+-- The text of the events, with where the document's definitions lead, is the meaning
+-- of the document.
 use Rattle.std.proofs.Common.{◌≡◌, ℕ, List, refl, sym, ap, ◌∙◌}
 use Rattle.md_base.specs.Tree.{Forest, flatten}
 use Rattle.md_meaning.specs.Meaning.{meaning}
@@ -18,7 +19,8 @@ targets-requires c =
     record {
       supplied = (
         given_alone c.args.options.now checked.names checked.bytes ending,
-        alone-supplied _ c.args.options.now checked.names checked.bytes ending refl (sym c.names-names.ensures) refl
+        alone-supplied _ c.args.options.now checked.names checked.bytes ending refl
+            (sym c.names-names.ensures) refl
             refl refl,
       );
     }
@@ -32,12 +34,13 @@ print-requires c =
     let document : Forest = read.0 in
     let flat : flatten document ≡ checked.events = IsReadAs.flattened read.1 in
     let alone : Given = given_alone options checked.names checked.bytes ending in
-    let none = alone-supplied _ options checked.names checked.bytes ending refl (sym c.names-names.ensures) refl refl
-    refl in
+    let none = alone-supplied _ options checked.names checked.bytes ending refl
+    (sym c.names-names.ensures) refl refl refl in
     record {
       supplied = (
         record alone { definitions = defined alone document },
-        all-supplied _ options checked.names checked.bytes ending refl (sym c.names-names.ensures) refl refl document
+        all-supplied _ options checked.names checked.bytes ending refl
+            (sym c.names-names.ensures) refl refl document
             flat (c.as_slice.ensures.value ∙ c.in_ok-definitions.ensures alone document none flat),
       );
     }
@@ -52,19 +55,20 @@ returns c =
       definitions = defined (given_alone options checked.names checked.bytes ending) document;
     } in
     let alone : Given = given_alone options checked.names checked.bytes ending in
-    let none = alone-supplied _ options checked.names checked.bytes ending refl (sym c.names-names.ensures) refl refl
-    refl in
+    let none = alone-supplied _ options checked.names checked.bytes ending refl
+    (sym c.names-names.ensures) refl refl refl in
     let means : (document : Forest) → flatten document ≡ checked.events →
-    text_of (given ending document) document ≡ meaning options checked.names checked.bytes document =
+    text_of (given ending document) document
+    ≡ meaning options checked.names checked.bytes document =
     λ document flat. ap (λ ending. text_of (given ending document) document)
     (c.ending_of-ending.ensures.ending document flat)
     ∙ c.steps_print_what_is_meant.ensures options checked.names checked.bytes document
     (grammatical-there checked document c.ending_of-ending.ensures.grammatical flat) in
     record {
       meaning = on_answer _ _ (λ text is document flat.
-          is (given ending document) document
-          (all-supplied _ options checked.names checked.bytes ending refl (sym c.names-names.ensures) refl refl document
-          flat (c.as_slice.ensures.value ∙ c.in_ok-definitions.ensures alone document none flat)) flat
-          ∙ means document flat)
+          is (given ending document) document (all-supplied _ options checked.names checked.bytes
+          ending refl (sym c.names-names.ensures) refl refl document
+          flat (c.as_slice.ensures.value ∙ c.in_ok-definitions.ensures alone document none flat))
+          flat ∙ means document flat)
           c.print.result c.print.ensures;
     }

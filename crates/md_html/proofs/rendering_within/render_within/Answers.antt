@@ -1,5 +1,7 @@
--- The text of the events, with where the document's definitions lead, is the meaning of the document.
-use Rattle.std.proofs.Common.{◌≡◌, ◌<◌, ℕ, List, Option, Some, None, Result, Ok, Err, IfOk, length, refl, sym, ap, ◌∙◌, subst}
+-- The text of the events, with where the document's definitions lead, is the meaning
+-- of the document.
+use Rattle.std.proofs.Common.{◌≡◌, ◌<◌, ℕ, List, Option, Some, None, Result, Ok, Err, IfOk, length}
+use Rattle.std.proofs.Common.{refl, sym, ap, ◌∙◌, subst}
 use Rattle.std.specs.Prelude.{IfSome}
 use Rattle.md_base.specs.Tree.{Forest, flatten}
 use Rattle.md_meaning.specs.Meaning.{meaning}
@@ -19,7 +21,8 @@ targets-requires c =
     record {
       supplied = (
         given_alone c.args.options.now checked.names checked.bytes ending,
-        alone-supplied _ c.args.options.now checked.names checked.bytes ending refl (sym c.names-names.ensures) refl
+        alone-supplied _ c.args.options.now checked.names checked.bytes ending refl
+            (sym c.names-names.ensures) refl
             refl refl,
       );
     }
@@ -33,18 +36,20 @@ print_within-requires c =
     let document : Forest = read.0 in
     let flat : flatten document ≡ checked.events = IsReadAs.flattened read.1 in
     let alone : Given = given_alone options checked.names checked.bytes ending in
-    let none = alone-supplied _ options checked.names checked.bytes ending refl (sym c.names-names.ensures) refl refl
-    refl in
+    let none = alone-supplied _ options checked.names checked.bytes ending refl
+    (sym c.names-names.ensures) refl refl refl in
     record {
       supplied = (
         record alone { definitions = defined alone document },
-        all-supplied _ options checked.names checked.bytes ending refl (sym c.names-names.ensures) refl refl document
+        all-supplied _ options checked.names checked.bytes ending refl
+            (sym c.names-names.ensures) refl refl document
             flat (c.as_slice.ensures.value ∙ c.in_ok-definitions.ensures alone document none flat),
       );
     }
 
 -- a claim of a text, where there is one
-on_text : {A E : Type 0} (P Q : A → Type 0) → ((a : A) → P a → Q a) → (result : Result (Option A) E) →
+on_text : {A E : Type 0} (P Q : A → Type 0) → ((a : A) → P a → Q a) →
+    (result : Result (Option A) E) →
     IfOk result (λ answer. IfSome answer P) → IfOk result (λ answer. IfSome answer Q)
 on_text P Q f (Ok (Some a)) p = f a p
 on_text P Q f (Ok None) p = tt
@@ -60,26 +65,27 @@ returns c =
       definitions = defined (given_alone options checked.names checked.bytes ending) document;
     } in
     let alone : Given = given_alone options checked.names checked.bytes ending in
-    let none = alone-supplied _ options checked.names checked.bytes ending refl (sym c.names-names.ensures) refl refl
-    refl in
+    let none = alone-supplied _ options checked.names checked.bytes ending refl
+    (sym c.names-names.ensures) refl refl refl in
     let means : (document : Forest) → flatten document ≡ checked.events →
-    text_of (given ending document) document ≡ meaning options checked.names checked.bytes document =
+    text_of (given ending document) document
+    ≡ meaning options checked.names checked.bytes document =
     λ document flat. ap (λ ending. text_of (given ending document) document)
     (c.ending_of-ending.ensures.ending document flat)
     ∙ c.steps_print_what_is_meant.ensures options checked.names checked.bytes document
     (grammatical-there checked document c.ending_of-ending.ensures.grammatical flat) in
     record {
       meaning = on_text _ _ (λ text is document flat.
-          is (given ending document) document
-          (all-supplied _ options checked.names checked.bytes ending refl (sym c.names-names.ensures) refl refl document
-          flat (c.as_slice.ensures.value ∙ c.in_ok-definitions.ensures alone document none flat)) flat
-          ∙ means document flat)
+          is (given ending document) document (all-supplied _ options checked.names checked.bytes
+          ending refl (sym c.names-names.ensures) refl refl document
+          flat (c.as_slice.ensures.value ∙ c.in_ok-definitions.ensures alone document none flat))
+          flat ∙ means document flat)
           c.print_within.result c.print_within.ensures.text;
       within = c.print_within.ensures.within;
       too_long = on_answer _ _ (λ answer long nothing document flat.
           subst (λ text. c.args.limit < length text) (means document flat)
-          (long nothing (given ending document) document
-          (all-supplied _ options checked.names checked.bytes ending refl (sym c.names-names.ensures) refl refl document
-          flat (c.as_slice.ensures.value ∙ c.in_ok-definitions.ensures alone document none flat)) flat))
+          (long nothing (given ending document) document (all-supplied _ options checked.names
+          checked.bytes ending refl (sym c.names-names.ensures) refl refl document flat
+          (c.as_slice.ensures.value ∙ c.in_ok-definitions.ensures alone document none flat)) flat))
           c.print_within.result c.print_within.ensures.too_long;
     }

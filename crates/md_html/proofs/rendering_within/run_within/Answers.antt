@@ -1,4 +1,5 @@
--- Each turn goes on from where the one before it stands; what is too long where nothing is captured stays so.
+-- Each turn goes on from where the one before it stands; what is too long where nothing is
+-- captured stays so.
 use Rattle.std.proofs.Common.{rules, ◌≡◌, ◌≤◌, length, ap, arith}
 use Rattle.md_html.specs.Stepping.{Goes}
 use Rattle.md_html.proofs.Long.{goes-on, whole-run, longer-run}
@@ -11,11 +12,13 @@ returns-then-is_longer-clause-too_long c = λ no at document supplies flat.
     let first = c.args.printer.now in
     let most : c.min-to.result ≤ count = search rules in
     let on : Goes code 0 c.in_ok-index.index count first c.run.new.printer =
-    goes-on code 0 c.loop-index.index c.in_ok-index.index c.min-to.result count first c.loop-index.printer
+    goes-on code 0 c.loop-index.index c.in_ok-index.index c.min-to.result count first
+    c.loop-index.printer
     c.run.new.printer most c.loop-index.invariant.2 c.in_ok-index.ensures.goes in
     let long = c.is_longer.ensures c.if-is_longer.true in
     longer-run code at document c.in_ok-index.index count first c.run.new.printer supplies flat
-    (ap (λ es. length es) c.events-count.ensures.events) c.requires.new on c.args.limit long.0 long.1
+    (ap (λ es. length es) c.events-count.ensures.events) c.requires.new on
+    c.args.limit long.0 long.1
 
 pub loop-index-preserved : goal.loop-index-preserved
 loop-index-preserved c =
@@ -23,14 +26,18 @@ loop-index-preserved c =
     let most : c.min-to.result ≤ count = search rules in (
       c.in_ok-index.ensures.cells,
       c.in_ok-index.ensures.fences,
-      goes-on c.args.given.now 0 c.loop-index.index c.in_ok-index.index c.min-to.result count c.args.printer.now
-          c.loop-index.printer c.run.new.printer most c.loop-index.invariant.2 c.in_ok-index.ensures.goes,
+      goes-on c.args.given.now 0 c.loop-index.index c.in_ok-index.index c.min-to.result
+          count c.args.printer.now
+          c.loop-index.printer c.run.new.printer most c.loop-index.invariant.2
+          c.in_ok-index.ensures.goes,
     )
 
 pub returns-clause-whole : goal.returns-clause-whole
 returns-clause-whole c = λ yes at document supplies flat.
     let count = length c.events-count.result.now in
     let past : count ≤ c.loop-index.index = search rules in
-    whole-run c.args.given.now at document c.loop-index.index count c.args.printer.now c.loop-index.printer supplies
+    whole-run c.args.given.now at document c.loop-index.index count c.args.printer.now
+    c.loop-index.printer supplies
     flat
-    (ap (λ es. length es) c.events-count.ensures.events) c.requires.new c.loop-index.invariant.2 past
+    (ap (λ es. length es) c.events-count.ensures.events) c.requires.new
+    c.loop-index.invariant.2 past

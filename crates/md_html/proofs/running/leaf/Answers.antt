@@ -15,7 +15,8 @@ pub leaf-requires-clause-exits : goal.leaf-requires-clause-exits
 leaf-requires-clause-exits c =
     let enters : EntersAt c.args.given.now.checked.now.events c.args.index c.args.event.name =
     (c.args.event, c.requires.there, c.in-Enter.is, refl) in
-    subst (λ i. ExitsAt c.args.given.now.checked.now.events i c.args.event.name) (sym (one-more c.args.index))
+    subst (λ i. ExitsAt c.args.given.now.checked.now.events i c.args.event.name)
+    (sym (one-more c.args.index))
     (c.is_leaf_at.ensures.exits c.if-is_leaf_at.true c.args.event.name enters)
 
 pub leaf-requires-clause-one : goal.leaf-requires-clause-one
@@ -23,7 +24,8 @@ leaf-requires-clause-one c = λ one there.
     subst (λ i. IsNoticedAt c.args.given.now.checked.now i one) (sym (one-more c.args.index))
     (c.is_leaf_at.ensures.noticed c.if-is_leaf_at.true one there)
 
-both : {A E : Type 0} (P Q R : A → Type 0) (result : Result A E) → ((a : A) → P a → Q a → R a) → IfOk result P →
+both : {A E : Type 0} (P Q R : A → Type 0) (result : Result A E) →
+    ((a : A) → P a → Q a → R a) → IfOk result P →
     IfOk result Q → IfOk result R
 both P Q R (Ok a) f p q = f a p q
 both P Q R (Err e) f p q = tt

@@ -6,9 +6,10 @@ use Rattle.md_html.proofs.running.open.Goals as goal
 
 pub returns-then-is_definition : goal.returns-then-is_definition
 returns-then-is_definition c = λ at one supplies there.
-    let same : is_passed c.args.name ≡ true = sym c.is_definition.ensures ∙ c.if-is_definition.true in (
+    let same : is_passed c.args.name ≡ true =
+    sym c.is_definition.ensures ∙ c.if-is_definition.true in (
       c.inside_at.ensures one there ∙ ap (λ b. if b then one.inside else 0) (sym same),
       c.pass_definition.ensures
-          ∙ ap (λ b. if b then passed c.args.printer.now else entered at one.told c.args.name c.args.printer.now)
-          (sym same),
+          ∙ ap (λ b. if b then passed c.args.printer.now
+          else entered at one.told c.args.name c.args.printer.now) (sym same),
     )

@@ -1,4 +1,5 @@
--- Going on from the present state is as going over all the events; the counts have not passed the index.
+-- Going on from the present state is as going over all the events; the counts have not
+-- passed the index.
 use Rattle.std.proofs.Common.{◌≤◌, ◌-◌}
 use Rattle.md_html.specs.Stepping.{Goes}
 use Rattle.md_html.proofs.running.run.Given as goal

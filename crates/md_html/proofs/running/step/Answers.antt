@@ -12,10 +12,12 @@ returns-in-Enter c =
     let before = c.args.printer.now in
     on_answer _ _ (λ more opens at one supplies there.
     let both = opens at one supplies there in (
-      both.0 ∙ ap (λ k. elim k [ Enter ↦ if is_passed event.name then one.inside else 0 | Exit ↦ 0 ])
+      both.0
+          ∙ ap (λ k. elim k [ Enter ↦ if is_passed event.name then one.inside else 0 | Exit ↦ 0 ])
           (sym c.in-Enter.is),
       both.1 ∙ ap (λ k. elim k [
-        | Enter ↦ if is_passed event.name then passed before else entered at one.told event.name before
+        | Enter ↦
+            if is_passed event.name then passed before else entered at one.told event.name before
         | Exit ↦ exited at one.told event.name before
       ]) (sym c.in-Enter.is),
     )) c.open.result c.open.ensures

@@ -1,5 +1,5 @@
--- The events that were checked are those handed in, so a text is what their document means, and what holds of each
--- meaning holds of it.
+-- The events that were checked are those handed in, so a text is what their document means, and
+-- what holds of each meaning holds of it.
 use Rattle.std.proofs.Common.{rules, ◌≡◌, ◌<◌, ◌^◌, length, string_bytes, subst, arith}
 use Rattle.std.specs.Prelude.{Option, Some, IfSome}
 use Rattle.md_base.specs.Tree.{Forest, flatten}
@@ -25,7 +25,8 @@ returns-in-Some c =
     let read : IsChecked given = c.in_ok-checked.ensures.grammatical in
     let kept = promises c.args.options.now given text read few meant in
     record {
-      within = some-at _ c.in_ok-text.field-0 c.in-Some.text c.in-Some.is c.in_ok-text.ensures.within;
+      within =
+          some-at _ c.in_ok-text.field-0 c.in-Some.text c.in-Some.is c.in_ok-text.ensures.within;
       work = search rules;
       grammatical = read;
       meaning = meant;
@@ -50,5 +51,5 @@ returns-in-Some c =
 
 pub returns-clause-too_long : goal.returns-clause-too_long
 returns-clause-too_long c =
-    subst (λ (given : Handed). IsLonger c.args.options.now given c.args.limits.text) c.in_ok-checked.ensures.ok
-    (c.in_ok-text.ensures.too_long c.in-None.is)
+    subst (λ (given : Handed). IsLonger c.args.options.now given c.args.limits.text)
+    c.in_ok-checked.ensures.ok (c.in_ok-text.ensures.too_long c.in-None.is)

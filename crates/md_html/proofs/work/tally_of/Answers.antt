@@ -24,5 +24,6 @@ pub returns-clause-cells : goal.returns-clause-cells
 returns-clause-cells c =
     let at = c.loop-event in
     let none = nil_from_length at.rest.now c.in_default.ensures.cases in
-    all-added at.cells (cells at.columns at.rest.now) (cells 0 c.args.events.now) at.invariant.cells_fit
+    all-added at.cells (cells at.columns at.rest.now) (cells 0 c.args.events.now)
+    at.invariant.cells_fit
     (ap (λ events. cells at.columns events) none) at.invariant.cells

@@ -13,4 +13,5 @@ returns-then-is_open-clause-items c =
     let first = c.args.first in
     open-set c.args.waiting.now.items first c.args.head
     (ap (λ (ws : List Head). is_open (drop first ws)) (sym c.as_slice.ensures.value)
-    ∙ ap (λ (ws : List Head). is_open ws) (sym (take_rest slice first)) ∙ sym c.is_open.ensures ∙ c.if-is_open.true)
+    ∙ ap (λ (ws : List Head). is_open ws) (sym (take_rest slice first)) ∙ sym c.is_open.ensures
+    ∙ c.if-is_open.true)

@@ -16,8 +16,8 @@ before_body = codes "</title></head><body>"
 abbrev end_text : List ℕ
 end_text = codes "</body></html>\n"
 
-joined : (title body : List ℕ) → ((before_title ++ title) ++ before_body) ++ body ++ end_text ≡ before_title
-    ++ (title ++ (before_body ++ (body ++ end_text)))
+joined : (title body : List ℕ) → ((before_title ++ title) ++ before_body) ++ body ++ end_text
+    ≡ before_title ++ (title ++ (before_body ++ (body ++ end_text)))
 joined title body =
     append_assoc ((before_title ++ title) ++ before_body) body end_text
     ∙ append_assoc (before_title ++ title) before_body (body ++ end_text)
@@ -35,12 +35,13 @@ returns-clause-text g c =
     ∙ ap (λ t. t ++ c.as_str.result.now) (c.in_ok-push_str.ensures.bytes
     ∙ ap (λ t. t ++ before_title) c.new-text.ensures.bytes))))
     ∙ joined c.as_str.result.now c.as_str-2.result.now
-    ∙ ap (λ t. before_title ++ (t ++ (before_body ++ (c.as_str-2.result.now ++ end_text)))) (c.as_str.ensures.value
-    ∙ c.in_ok-escaped.ensures.by_byte)
+    ∙ ap (λ t. before_title ++ (t ++ (before_body ++ (c.as_str-2.result.now ++ end_text))))
+    (c.as_str.ensures.value ∙ c.in_ok-escaped.ensures.by_byte)
     ∙ ap (λ t. before_title ++ (encoded true c.args.title.now ++ (before_body ++ (t ++ end_text))))
     c.as_str-2.ensures.text
 
 pub returns-clause-tokens : goal.returns-clause-tokens
 returns-clause-tokens g c = λ x h.
-    subst (λ t. IsSafePage t (page_around (shown c.args.title.now) x)) (sym (returns-clause-text g c))
+    subst (λ t. IsSafePage t (page_around (shown c.args.title.now) x))
+    (sym (returns-clause-text g c))
     (page-emitted c.args.title.now (g.H.Html.text c.args.body.now) c.as_str-2.ensures.written x h)

@@ -7,8 +7,8 @@ use Rattle.md_page.proofs.headings.heading_text.Given as goal
 
 abbrev pub invariant-loop-words : goal.invariant-loop-words
 invariant-loop-words l =
-    (string_bytes l.out ++ text_before l.fn.digit false l.rest ≡ text_before l.fn.digit false l.fn.text)
-    × shadow (Utf8 l.rest)
+    (string_bytes l.out ++ text_before l.fn.digit false l.rest
+    ≡ text_before l.fn.digit false l.fn.text) × shadow (Utf8 l.rest)
 
 abbrev pub decreases-loop-words : goal.decreases-loop-words
 decreases-loop-words l = length l.rest

@@ -1,4 +1,5 @@
--- Those that are found, and after them those of the rest, are all; no more are found than bytes are passed.
+-- Those that are found, and after them those of the rest, are all; no more are found than
+-- bytes are passed.
 use Rattle.std.proofs.Common.{◌≡◌, ◌≤◌, ◌+◌, ◌++◌, map, length, vec_len}
 use Rattle.md_page.specs.Headings.{listed}
 use Rattle.md_page.specs.Scan.{scanned_headings}
@@ -9,8 +10,8 @@ use Rattle.md_page.proofs.headings.headings.Given as goal
 abbrev pub invariant-loop-at : goal.invariant-loop-at
 invariant-loop-at l =
     (vec_len l.found + length l.rest ≤ length l.fn.text)
-    × (map listed l.found.items ++ scanned_headings (vec_len l.found) l.rest ≡ scanned_headings 0 l.fn.text)
-    × shadow (Utf8 l.rest)
+    × (map listed l.found.items ++ scanned_headings (vec_len l.found) l.rest
+    ≡ scanned_headings 0 l.fn.text) × shadow (Utf8 l.rest)
 
 abbrev pub decreases-loop-at : goal.decreases-loop-at
 decreases-loop-at l = length l.rest

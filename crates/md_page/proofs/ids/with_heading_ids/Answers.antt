@@ -17,7 +17,8 @@ pub new-html-requires : goal.new-html-requires
 new-html-requires g c =
     let prefix = c.args.prefix.now in
     let text = g.H.Html.text c.args.html.now in
-    subst IsWritten (sym (c.in_ok-text.ensures ∙ ap (with_new picks_heading (new_id prefix)) c.as_str-2.ensures.text))
+    subst IsWritten (sym (c.in_ok-text.ensures
+    ∙ ap (with_new picks_heading (new_id prefix)) c.as_str-2.ensures.text))
     (heading-written prefix text c.as_str.ensures.written)
 
 pub returns-clause-tokens : goal.returns-clause-tokens
@@ -25,7 +26,8 @@ returns-clause-tokens g c = λ x h.
     (let prefix = c.args.prefix.now in
     let text = g.H.Html.text c.args.html.now in
     subst (λ t. IsTokenized t (with_heading_ids prefix x))
-    (sym (c.new-html.ensures ∙ c.in_ok-text.ensures ∙ ap (with_new picks_heading (new_id prefix)) c.as_str-2.ensures.text))
+    (sym (c.new-html.ensures ∙ c.in_ok-text.ensures
+    ∙ ap (with_new picks_heading (new_id prefix)) c.as_str-2.ensures.text))
     (heading-tokens prefix text c.as_str.ensures.written x h))
 
 pub returns-clause-attributed : goal.returns-clause-attributed
@@ -33,8 +35,10 @@ returns-clause-attributed g c =
     let prefix = c.args.prefix.now in
     let text = g.H.Html.text c.args.html.now in
     subst IsAttributed
-    (sym (c.new-html.ensures ∙ c.in_ok-text.ensures ∙ ap (with_new picks_heading (new_id prefix)) c.as_str-2.ensures.text))
-    (attributed (with_new picks_heading (new_id prefix) text) (heading-written prefix text c.as_str.ensures.written))
+    (sym (c.new-html.ensures ∙ c.in_ok-text.ensures
+    ∙ ap (with_new picks_heading (new_id prefix)) c.as_str-2.ensures.text))
+    (attributed (with_new picks_heading (new_id prefix) text)
+    (heading-written prefix text c.as_str.ensures.written))
 
 pub returns-clause-headings : goal.returns-clause-headings
 returns-clause-headings g c = λ x h.

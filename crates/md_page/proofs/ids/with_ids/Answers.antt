@@ -1,5 +1,6 @@
 -- A turn writes up to a tag's end, and its attribute.
-use Rattle.std.proofs.Common.{◌≡◌, ◌+◌, ℕ, suc, false, List, [], ◌∷◌, ◌++◌, length, string_bytes, ap, ◌∙◌, subst, arith}
+use Rattle.std.proofs.Common.{◌≡◌, ◌+◌, ℕ, suc, false, List, [], ◌∷◌, ◌++◌, length, string_bytes}
+use Rattle.std.proofs.Common.{ap, ◌∙◌, subst, arith}
 use Rattle.std.proofs.lemmas.List.{length-drop}
 use Rattle.md_text.specs.Html.{written_attributes}
 use Rattle.md_page.specs.Scan.{scanned, picks_heading, with_new, new_id}
@@ -19,11 +20,20 @@ loop-end-preserved c =
     let out : List ℕ = string_bytes c.push_heading_id.new.out in
     let later : List ℕ = c.range_from-rest.result.now in
     let next : suc n ≡ n + 1 = omega arith in (
-      omega (arith, c.loop-end.invariant.0, ap length c.range_from-rest.ensures.value, length-drop end rest, place.0, place.1),
-      subst (λ m. out ++ scanned picks_heading add false m later ≡ with_new picks_heading (new_id prefix) c.args.text.now)
+      omega (
+        arith,
+        c.loop-end.invariant.0,
+        ap length c.range_from-rest.ensures.value,
+        length-drop end rest,
+        place.0,
+        place.1,
+      ),
+      subst (λ m. out ++ scanned picks_heading add false m later
+          ≡ with_new picks_heading (new_id prefix) c.args.text.now)
           next
-          (turned picks_heading add n rest end (string_bytes c.loop-end.out) (string_bytes c.push_str.new.self) out
-          c.range.result.now _ later _ c.in_ok-push_str.ensures.bytes (c.range.ensures.value ∙ from_start rest end)
+          (turned picks_heading add n rest end (string_bytes c.loop-end.out)
+          (string_bytes c.push_str.new.self) out c.range.result.now _ later _
+          c.in_ok-push_str.ensures.bytes (c.range.ensures.value ∙ from_start rest end)
           c.in_ok-push_heading_id.ensures (id-written prefix c.as_str.result.now n
           (c.as_str.ensures.value ∙ c.in_ok-start.ensures))
           c.range_from-rest.ensures.value scan c.loop-end.invariant.1),

@@ -1,4 +1,5 @@
--- What is written, and after it what becomes of the rest, is the whole; no more are numbered than bytes are passed.
+-- What is written, and after it what becomes of the rest, is the whole; no more are numbered than
+-- bytes are passed.
 use Rattle.std.proofs.Common.{◌≡◌, ◌≤◌, ◌+◌, false, ◌++◌, [], ◌∷◌, length, string_bytes}
 use denote.Text.{Utf8}
 use denote.Shadow.{shadow}
@@ -9,8 +10,8 @@ use Rattle.md_page.proofs.ids.with_ids.Given as goal
 abbrev pub invariant-loop-end : goal.invariant-loop-end
 invariant-loop-end l =
     (l.number + length l.rest ≤ length l.fn.text)
-    × (string_bytes l.out
-    ++ scanned picks_heading (λ k. written_attributes (new_id l.fn.prefix k ∷ [])) false l.number l.rest
+    × (string_bytes l.out ++ scanned picks_heading
+    (λ k. written_attributes (new_id l.fn.prefix k ∷ [])) false l.number l.rest
     ≡ with_new picks_heading (new_id l.fn.prefix) l.fn.text)
     × shadow (Utf8 l.rest)
 

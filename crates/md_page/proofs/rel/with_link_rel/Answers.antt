@@ -13,7 +13,8 @@ pub new-requires : goal.new-requires
 new-requires g c =
     let rel = c.args.rel.now in
     let text = g.H.Html.text c.args.html.now in
-    subst IsWritten (sym (c.in_ok-text.ensures ∙ ap (with_new picks_link (new_rel rel)) c.as_str.ensures.text))
+    subst IsWritten
+    (sym (c.in_ok-text.ensures ∙ ap (with_new picks_link (new_rel rel)) c.as_str.ensures.text))
     (link-written rel text c.as_str.ensures.written)
 
 pub returns-clause-tokens : goal.returns-clause-tokens
@@ -21,7 +22,8 @@ returns-clause-tokens g c = λ x h.
     (let rel = c.args.rel.now in
     let text = g.H.Html.text c.args.html.now in
     subst (λ t. IsTokenized t (with_link_rel rel x))
-    (sym (c.new.ensures ∙ c.in_ok-text.ensures ∙ ap (with_new picks_link (new_rel rel)) c.as_str.ensures.text))
+    (sym (c.new.ensures ∙ c.in_ok-text.ensures
+    ∙ ap (with_new picks_link (new_rel rel)) c.as_str.ensures.text))
     (link-tokens rel text c.as_str.ensures.written x h))
 
 pub returns-clause-attributed : goal.returns-clause-attributed
@@ -29,5 +31,7 @@ returns-clause-attributed g c =
     let rel = c.args.rel.now in
     let text = g.H.Html.text c.args.html.now in
     subst IsAttributed
-    (sym (c.new.ensures ∙ c.in_ok-text.ensures ∙ ap (with_new picks_link (new_rel rel)) c.as_str.ensures.text))
-    (attributed (with_new picks_link (new_rel rel) text) (link-written rel text c.as_str.ensures.written))
+    (sym (c.new.ensures ∙ c.in_ok-text.ensures
+    ∙ ap (with_new picks_link (new_rel rel)) c.as_str.ensures.text))
+    (attributed (with_new picks_link (new_rel rel) text)
+    (link-written rel text c.as_str.ensures.written))

@@ -14,8 +14,10 @@ loop-end-preserved c =
     let scan = rw c.as_bytes.ensures.value at c.in-Some.ensures.scan add n in (
       (
         suc n,
-        turned picks_link add n rest end (string_bytes c.loop-end.out) (string_bytes c.push_str.new.self)
-            (string_bytes c.push_str-in-Some.new.self) c.range.result.now c.as_str.result.now c.range_from-rest.result.now
+        turned picks_link add n rest end (string_bytes c.loop-end.out)
+            (string_bytes c.push_str.new.self)
+            (string_bytes c.push_str-in-Some.new.self) c.range.result.now c.as_str.result.now
+            c.range_from-rest.result.now
             _ c.in_ok-push_str.ensures.bytes (c.range.ensures.value ∙ from_start rest end)
             c.in_ok-push_str-2.ensures.bytes (c.as_str.ensures.value ∙ c.in_ok-attribute.ensures)
             c.range_from-rest.ensures.value scan c.loop-end.invariant.0.1,

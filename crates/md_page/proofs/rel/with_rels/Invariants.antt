@@ -8,7 +8,8 @@ use Rattle.md_page.proofs.rel.with_rels.Given as goal
 
 abbrev pub invariant-loop-end : goal.invariant-loop-end
 invariant-loop-end l =
-    ((n : ℕ) × (string_bytes l.out ++ scanned picks_link (λ k. written_attributes (new_rel l.fn.rel k ∷ [])) false n l.rest
+    ((n : ℕ) × (string_bytes l.out
+    ++ scanned picks_link (λ k. written_attributes (new_rel l.fn.rel k ∷ [])) false n l.rest
     ≡ with_new picks_link (new_rel l.fn.rel) l.fn.text))
     × shadow (Utf8 l.rest)
 

@@ -1,5 +1,6 @@
 -- Another letter, or no level after it.
-use Rattle.std.proofs.Common.{◌≡◌, suc, ◌<◌, ◌+◌, length, false, drop, sym, ◌∙◌, subst, arith, ne_eqb}
+use Rattle.std.proofs.Common.{◌≡◌, suc, ◌<◌, ◌+◌, length, false, drop, sym, ◌∙◌, subst, arith}
+use Rattle.std.proofs.Common.{ne_eqb}
 use Rattle.std.specs.Prelude.{slice_index}
 use Rattle.md_page.specs.declared.scan.Rule.TheVariants.{Link, Heading}
 use Rattle.md_page.specs.Scan.{picks_of}

@@ -10,5 +10,5 @@ returns-then-is_named c = λ other. not-angle c.args.rule c.args.text.now c.args
 
 pub returns-else-is_named : goal.returns-else-is_named
 returns-else-is_named c = λ other.
-    both-not (slice_index c.args.text.now c.args.at == 60) (picks_of c.args.rule (drop (suc c.args.at) c.args.text.now))
-    (c.is_named.ensures c.if-is_named.false)
+    both-not (slice_index c.args.text.now c.args.at == 60) (picks_of c.args.rule
+    (drop (suc c.args.at) c.args.text.now)) (c.is_named.ensures c.if-is_named.false)

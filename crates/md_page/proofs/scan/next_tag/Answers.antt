@@ -1,5 +1,6 @@
 -- A `<` whose tag the rule doesn't pick is passed.
-use Rattle.std.proofs.Common.{◌≡◌, ◌==◌, ◌&&◌, ◌+◌, suc, true, drop, sym, ap, ◌∙◌, subst, add-one, arith}
+use Rattle.std.proofs.Common.{◌≡◌, ◌==◌, ◌&&◌, ◌+◌, suc, true, drop, sym, ap, ◌∙◌, subst, add-one}
+use Rattle.std.proofs.Common.{arith}
 use Rattle.std.proofs.lemmas.List.{take_rest}
 use Rattle.md_page.specs.Scan.{clear, picks_of, IsAngleFrom}
 use Rattle.md_page.proofs.Passing.{clear-one}

@@ -21,7 +21,8 @@ loop-passed-preserved c =
     let within : here + 1 < length text = omega (arith, c.requires, c.loop-passed-test.true) in (
       omega (arith, c.loop-passed-test.true),
       λ h. subst (λ m. clear (picks_of c.args.rule) m text ≡ true) (sum c.args.at passed)
-          (past-two c.args.rule text here within (ne_eqb (slice_index text (here + 1)) 60 c.if-text-here-eq60.false)
+          (past-two c.args.rule text here within
+          (ne_eqb (slice_index text (here + 1)) 60 c.if-text-here-eq60.false)
           (c.may_begin.ensures c.if-may_begin.false) (c.loop-passed.invariant.1 h)),
     )
   where

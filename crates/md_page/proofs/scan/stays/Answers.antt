@@ -7,4 +7,5 @@ pub returns-then-stays_within : goal.returns-then-stays_within
 returns-then-stays_within c = λ is. stays-within c.args.tag.now (sym c.stays_within.ensures ∙ is)
 
 pub returns-else-stays_within : goal.returns-else-stays_within
-returns-else-stays_within c = λ is. leads-nowhere c.args.tag.now (sym c.starts_with.ensures.value ∙ is)
+returns-else-stays_within c =
+    λ is. leads-nowhere c.args.tag.now (sym c.starts_with.ensures.value ∙ is)

@@ -7,7 +7,8 @@ use Rattle.md_pattern.proofs.places.letter_at.Goals as goal
 pub returns-in_err-get-clause-lacking : goal.returns-in_err-get-clause-lacking
 returns-in_err-get-clause-lacking c = λ none.
     let past : length c.rows.result.now ≤ c.args.row = search rules in
-    moved-outside c.args.row c.args.symbol (subst (λ n. n ≤ c.args.row) (rows-count c.rows.result.now c.rows.ensures) past)
+    moved-outside c.args.row c.args.symbol
+    (subst (λ n. n ≤ c.args.row) (rows-count c.rows.result.now c.rows.ensures) past)
 
 pub returns-clause-told : goal.returns-clause-told
 returns-clause-told c =
@@ -15,8 +16,8 @@ returns-clause-told c =
     let inside : c.args.row < length rows = search rules in
     let is : c.in_ok-get.field-0.now ≡ get_or rows c.args.row [] = search rules in
     ap (λ row. told c.args.row (get_or row c.column.result 0)) is
-    ∙ letter-told rows c.args.row c.column.result c.args.symbol c.rows.ensures inside c.column.ensures.few
-    c.column.ensures.symbol
+    ∙ letter-told rows c.args.row c.column.result c.args.symbol c.rows.ensures inside
+    c.column.ensures.few c.column.ensures.symbol
 
 pub returns-clause-leads : goal.returns-clause-leads
 returns-clause-leads c =

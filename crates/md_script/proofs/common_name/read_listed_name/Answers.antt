@@ -13,5 +13,6 @@ returns-then-size-same_bytes c =
     let found = c.in_ok-text.ensures.lookup in
     row_read rows c.args.place row c.args.bytes.now c.args.size c.same_bytes.result
     c.listed_rows.ensures
-    (slice_get-get_or rows c.args.place row (ltb-true _ _ (sym found.0)) ∙ ap Some (sym found.1)) c.requires.room
+    (slice_get-get_or rows c.args.place row (ltb-true _ _ (sym found.0)) ∙ ap Some (sym found.1))
+    c.requires.room
     c.requires.few c.requires.space c.same_bytes.ensures c.if-size-same_bytes.true

@@ -4,4 +4,5 @@ use Rattle.md_script.proofs.CommonLemmas.{same_before}
 use Rattle.md_script.proofs.common_name.same_bytes.Goals as goal
 
 pub returns : goal.returns
-returns c = λ k low few. same_before c.args.bytes.now c.args.text.now k c.requires c.told-text low few
+returns c =
+    λ k low few. same_before c.args.bytes.now c.args.text.now k c.requires c.told-text low few

@@ -1,5 +1,5 @@
--- Another byte ends the number; so few digits write less than 10^9, which fits with one more; one more is a step.
--- By itself the search does no induction over the digits.
+-- Another byte ends the number; so few digits write less than 10^9, which fits with one more; one
+-- more is a step. By itself the search does no induction over the digits.
 use Rattle.std.proofs.Common.{◌+◌, ◌*◌, ◌∙◌, ap, arith}
 use Rattle.md_script.proofs.NumberLemmas.{value_few, value_more, digits_more}
 use Rattle.md_script.proofs.CommonLemmas.{number_read}
@@ -8,19 +8,22 @@ use Rattle.md_script.proofs.digits.digits_before.Goals as goal
 pub returns-then-digit-gt9 : goal.returns-then-digit-gt9
 returns-then-digit-gt9 c =
     let known = c.loop-length.invariant in
-    number_read c.args.bytes.now c.loop-length.length c.args.most c.args.end c.loop-length.number (omega arith)
+    number_read c.args.bytes.now c.loop-length.length c.args.most c.args.end
+    c.loop-length.number (omega arith)
     c.if-bytes-length.false (omega arith) (omega arith) known.value known.digits
 
 pub overflow_mul-number : goal.overflow_mul-number
 overflow_mul-number c =
     let known = c.loop-length.invariant in
-    let small = value_few c.args.bytes.now c.loop-length.length known.digits (omega arith) (omega arith) in
+    let small =
+    value_few c.args.bytes.now c.loop-length.length known.digits (omega arith) (omega arith) in
     omega (arith, small, known.value)
 
 pub overflow_add-number : goal.overflow_add-number
 overflow_add-number c =
     let known = c.loop-length.invariant in
-    let small = value_few c.args.bytes.now c.loop-length.length known.digits (omega arith) (omega arith) in
+    let small =
+    value_few c.args.bytes.now c.loop-length.length known.digits (omega arith) (omega arith) in
     omega (arith, small, known.value, c.if-digit-gt9.false)
 
 pub loop-length-preserved : goal.loop-length-preserved

@@ -9,8 +9,9 @@ returns-in_err-compile_safe-clause-err c =
     let why = c.in_err-compile_safe.ensures in
     let given = c.as_slice.result.now in
     let bytes = c.args.script.now.document.now in
-    told_safely c.from_residual.result c.in_err-compile_safe.field-0.0 given _ bytes c.args.script.now.options
+    told_safely c.from_residual.result c.in_err-compile_safe.field-0.0 given _ bytes
+    c.args.script.now.options
     c.as_slice.ensures.value
     c.from_residual.ensures.1 why.options
-    (refusal_of (document_of given bytes) c.in_err-compile_safe.field-0.0 why.order why.mdx why.of_node why.lost
-    why.outside)
+    (refusal_of (document_of given bytes) c.in_err-compile_safe.field-0.0 why.order why.mdx
+    why.of_node why.lost why.outside)

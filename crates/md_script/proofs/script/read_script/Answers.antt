@@ -1,6 +1,8 @@
--- A line that is read is one step of progress; the line that ends the script, an unreadable one or the input's end
--- says what is answered. By itself the search can't tell what all lines say from the last one.
-use Rattle.std.proofs.Common.{rules, ◌≡◌, ℕ, ◌+◌, ◌++◌, ◌∷◌, [], List, true, cond, refl, sym, ◌∙◌, subst, arith, length, option_to_list, is_some}
+-- A line that is read is one step of progress; the line that ends the script, an unreadable one
+-- or the input's end says what is answered. By itself the search can't tell what all lines say
+-- from the last one.
+use Rattle.std.proofs.Common.{rules, ◌≡◌, ℕ, ◌+◌, ◌++◌, ◌∷◌, [], List, true, cond, refl, sym, ◌∙◌}
+use Rattle.std.proofs.Common.{subst, arith, length, option_to_list, is_some}
 use Rattle.std.specs.Borrow.{Bor}
 use Rattle.std.proofs.lemmas.List.{length-append, length-map}
 use Rattle.md_base.specs.declared.event.Event.{Event}
@@ -8,13 +10,14 @@ use Rattle.md_script.specs.Line.{event_of}
 use Rattle.md_script.specs.Setting.{texts_of, HasOptions}
 use Rattle.md_script.specs.Script.{Explains}
 use Rattle.md_script.specs.declared.error.RunError.TheVariants.{Line}
-use Rattle.md_script.proofs.ScriptLemmas.{Progress, takes, line_more, counted_more, plain_more, script_ends_at, line_stops, input_stops}
+use Rattle.md_script.proofs.ScriptLemmas.{Progress, takes, line_more, counted_more, plain_more}
+use Rattle.md_script.proofs.ScriptLemmas.{script_ends_at, line_stops, input_stops}
 use Rattle.md_script.proofs.script.read_script.Goals as goal
 
 pub returns-then-is_end-clause-ok : goal.returns-then-is_end-clause-ok
 returns-then-is_end-clause-ok c =
-    script_ends_at c.lines.invariant c.first_line.result.0.now c.first_line.result.1 c.unwrap_or-document.result _
-    c.in_ok-options.options
+    script_ends_at c.lines.invariant c.first_line.result.0.now c.first_line.result.1
+    c.unwrap_or-document.result _ c.in_ok-options.options
     c.first_line.ensures.lines (sym c.if-is_end.ensures) c.unwrap_or-document.ensures refl
     (subst (λ items. HasOptions (texts_of items) c.in_ok-options.options) c.as_slice.ensures.value
     c.in_ok-options.ensures)
@@ -30,8 +33,8 @@ returns-then-not-branch-clause-err c =
       length-map c.lines.settings.items (λ (t : Bor (List ℕ)). t.now),
     ) in
     subst (λ n. Explains c.args.input.now (Line n)) same
-    (line_stops c.lines.invariant c.first_line.result.0.now c.first_line.result.1 c.first_line.ensures.lines
-    (sym c.if-is_end.ensures)
+    (line_stops c.lines.invariant c.first_line.result.0.now c.first_line.result.1
+    c.first_line.ensures.lines (sym c.if-is_end.ensures)
     (sym c.in_ok-take_line.ensures.taken ∙ c.if-not-branch.true))
 
 pub returns-in_default-following-clause-err : goal.returns-in_default-following-clause-err
@@ -53,11 +56,13 @@ pub lines-preserved-in-Some : goal.lines-preserved-in-Some
 lines-preserved-in-Some c =
     let events : List Event = c.lines.events.items in
     let settings : List (List ℕ) = texts_of c.lines.settings.items in
-    let more = plain_more c.lines.invariant c.in-Some.event c.in-Some.following.now c.in-Some.ensures in
-    subst (λ es. Progress c.args.input.now (length es + length settings) es settings c.in-Some.following.now)
+    let more =
+    plain_more c.lines.invariant c.in-Some.event c.in-Some.following.now c.in-Some.ensures in
+    subst (λ es. Progress c.args.input.now (length es + length settings) es settings
+    c.in-Some.following.now)
     (sym c.in_ok-keep_event.ensures)
-    (subst (λ n. Progress c.args.input.now n (events ++ c.in-Some.event ∷ []) settings c.in-Some.following.now)
-    (omega (arith, length-append events (c.in-Some.event ∷ []))) more)
+    (subst (λ n. Progress c.args.input.now n (events ++ c.in-Some.event ∷ []) settings
+    c.in-Some.following.now) (omega (arith, length-append events (c.in-Some.event ∷ []))) more)
 
 pub lines-preserved-in-Some-read_plain_line : goal.lines-preserved-in-Some-read_plain_line
 lines-preserved-in-Some-read_plain_line c =
@@ -65,16 +70,17 @@ lines-preserved-in-Some-read_plain_line c =
     let events : List Event = c.lines.events.items in
     let settings : List (List ℕ) = texts_of c.lines.settings.items in
     let more = plain_more c.lines.invariant read.event read.following.now read.ensures in
-    subst (λ es. Progress c.args.input.now (length es + length settings) es settings read.following.now)
+    subst (λ es. Progress c.args.input.now (length es + length settings) es
+    settings read.following.now)
     (sym c.in_ok-keep_event-2.ensures)
-    (subst (λ n. Progress c.args.input.now n (events ++ read.event ∷ []) settings read.following.now)
-    (omega (arith, length-append events (read.event ∷ []))) more)
+    (subst (λ n. Progress c.args.input.now n (events ++ read.event ∷ []) settings
+    read.following.now) (omega (arith, length-append events (read.event ∷ []))) more)
 
 pub lines-preserved : goal.lines-preserved
 lines-preserved c =
     let line = c.first_line.result.0.now in
-    let taken : takes (texts_of c.lines.settings.items) line ≡ true = sym c.in_ok-take_line.ensures.taken
-    ∙ c.if-not-branch.false in
+    let taken : takes (texts_of c.lines.settings.items) line ≡ true =
+    sym c.in_ok-take_line.ensures.taken ∙ c.if-not-branch.false in
     let more = line_more c.lines.invariant line c.in-Some-following.following.now
     (rw c.in-Some-following.is at c.first_line.ensures.lines)
     (rw c.in-Some-following.is at c.first_line.ensures.len) taken in
@@ -82,14 +88,16 @@ lines-preserved c =
     let settings : List (List ℕ) = texts_of c.lines.settings.items in
     let left = c.in-Some-following.following.now in
     let said = event_of line in
-    subst (λ es. Progress c.args.input.now (length es + length (texts_of c.take_line.new.settings.items)) es
+    subst (λ es. Progress c.args.input.now
+    (length es + length (texts_of c.take_line.new.settings.items)) es
     (texts_of c.take_line.new.settings.items) left)
     (sym c.in_ok-take_line.ensures.events)
     (subst (λ kept. Progress c.args.input.now (length (events ++ option_to_list said) + length kept)
     (events ++ option_to_list said) kept left)
     (sym (c.in_ok-take_line.ensures.settings c.if-not-branch.false))
     (subst (λ n. Progress c.args.input.now n (events ++ option_to_list said)
-    (settings ++ cond (is_some said) [] (line ∷ [])) left) (counted_more events settings line said) more))
+    (settings ++ cond (is_some said) [] (line ∷ [])) left)
+    (counted_more events settings line said) more))
 
 -- The search that proves this one, and no other: a wrong body is refused by it in a second.
 pub lines-init : goal.lines-init

@@ -1,5 +1,5 @@
--- Nothing is read at first, each read adds its bytes, and one that gives none, with room for some, has met the end.
--- By itself the search can't join what was read by several reads.
+-- Nothing is read at first, each read adds its bytes, and one that gives none, with room for some,
+-- has met the end. By itself the search can't join what was read by several reads.
 use Rattle.std.proofs.Common.{◌≡◌, ◌++◌, take, append-nil, sym, ap, ◌∙◌, subst, rules}
 use Rattle.std.proofs.lemmas.List.{places}
 use Rattle.std.specs.Io.KnownBytes.{Consumes}
@@ -7,7 +7,8 @@ use Rattle.std.proofs.KnownBytes.{Consumes-nil, Consumes-trans}
 use Rattle.md_script.proofs.serving.read_input.Goals as goal
 
 pub loop-init : goal.loop-init
-loop-init g c = (subst (Consumes _ _) (sym c.new-input.ensures.items) (Consumes-nil _), c.in_ok-buffer.ensures)
+loop-init g c =
+    (subst (Consumes _ _) (sym c.new-input.ensures.items) (Consumes-nil _), c.in_ok-buffer.ensures)
 
 pub returns-then-count-eq0-clause-ok : goal.returns-then-count-eq0-clause-ok
 returns-then-count-eq0-clause-ok g c =

@@ -1,6 +1,7 @@
 -- What is written goes from the front of the rest to the end of what is done.
 -- By itself the search can't choose the bytes that are done.
-use Rattle.std.proofs.Common.{arith, ◌≡◌, ℕ, ◌-◌, List, ◌++◌, length, take, drop, sym, ap, ◌∙◌, append_assoc, take-append-drop}
+use Rattle.std.proofs.Common.{arith, ◌≡◌, ℕ, ◌-◌, List, ◌++◌, length, take, drop, sym, ap, ◌∙◌}
+use Rattle.std.proofs.Common.{append_assoc, take-append-drop}
 use Rattle.std.proofs.lemmas.List.{take_rest}
 use Rattle.std.proofs.KnownBytes.{Appends-trans}
 use Rattle.std.proofs.lemmas.Grind.{common_steps}
@@ -9,15 +10,19 @@ use Rattle.md_script.proofs.serving.write_text.Goals as goal
 moves_front : (all done rest : List ℕ) (n : ℕ) → all ≡ done ++ rest →
     all ≡ (done ++ take n rest) ++ take (length rest - n) (drop n rest)
 moves_front all done rest n e =
-    e ∙ ap (λ l. done ++ l) (sym (take-append-drop n rest)) ∙ sym (append_assoc done (take n rest) (drop n rest))
+    e ∙ ap (λ l. done ++ l) (sym (take-append-drop n rest))
+    ∙ sym (append_assoc done (take n rest) (drop n rest))
     ∙ ap (λ l. (done ++ take n rest) ++ l) (sym (take_rest rest n))
 
 pub loop-rest-preserved : goal.loop-rest-preserved
 loop-rest-preserved g c =
     let (done, split, appended) = c.loop-rest.invariant in
     let rest = c.loop-rest.rest.now in
-    let n = c.in-Ok.count in
-    (done ++ take n rest, moves_front _ done rest n split, Appends-trans _ _ _ _ _ appended c.in-Ok.ensures.bytes)
+    let n = c.in-Ok.count in (
+      done ++ take n rest,
+      moves_front _ done rest n split,
+      Appends-trans _ _ _ _ _ appended c.in-Ok.ensures.bytes,
+    )
 
 -- The search that proves this one, and no other: a wrong body is refused by it in a second.
 pub returns-in-Ok-flush-clause-ok : goal.returns-in-Ok-flush-clause-ok

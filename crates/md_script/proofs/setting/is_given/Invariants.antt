@@ -4,4 +4,5 @@ use Rattle.md_script.specs.Setting.{is_given, texts_of}
 use Rattle.md_script.proofs.setting.is_given.Given as goal
 
 abbrev pub invariant-loop-line : goal.invariant-loop-line
-invariant-loop-line l = is_given (texts_of (drop l.line-index l.lines)) l.name ≡ is_given (texts_of l.lines) l.name
+invariant-loop-line l =
+    is_given (texts_of (drop l.line-index l.lines)) l.name ≡ is_given (texts_of l.lines) l.name

@@ -5,4 +5,5 @@ use Rattle.md_script.proofs.SettingLemmas.{reads_as_text}
 use Rattle.md_script.proofs.setting.is_utf8.Goals as goal
 
 pub returns : goal.returns
-returns c = c.is_ok.ensures.value ∙ reads_as_text c.args.bytes.now _ c.from_utf8.result c.from_utf8.ensures.cases
+returns c = c.is_ok.ensures.value
+    ∙ reads_as_text c.args.bytes.now _ c.from_utf8.result c.from_utf8.ensures.cases

@@ -4,4 +4,5 @@ use Rattle.md_script.specs.Setting.{text_given, texts_of}
 use Rattle.md_script.proofs.setting.value_given.Given as goal
 
 abbrev pub invariant-loop-line : goal.invariant-loop-line
-invariant-loop-line l = text_given (texts_of (drop l.line-index l.lines)) l.name ≡ text_given (texts_of l.lines) l.name
+invariant-loop-line l =
+    text_given (texts_of (drop l.line-index l.lines)) l.name ≡ text_given (texts_of l.lines) l.name

@@ -1,4 +1,5 @@
--- The search that proves these, and no other: all that is tried without an answer takes a second longer.
+-- The search that proves these, and no other: all that is tried without an answer takes
+-- a second longer.
 use Rattle.std.proofs.Common.{arith}
 use Rattle.std.proofs.lemmas.Grind.{common_steps}
 use Rattle.md_script.proofs.table.listed.Goals as goal

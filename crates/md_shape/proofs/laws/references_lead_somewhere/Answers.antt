@@ -6,4 +6,11 @@ use Rattle.md_shape.proofs.Listed.{definitions-listed, footnotes-listed}
 use Rattle.md_shape.proofs.laws.references_lead_somewhere.Goals as goal
 
 pub returns : goal.returns
-returns c = record { found = leads-somewhere; alike = leads-alike; first = find-first (λ (d : Defined). d.identifier); first_footnote = find-first (λ (f : Footnote). f.identifier); definitions = definitions-listed; footnotes = footnotes-listed }
+returns c = record {
+  found = leads-somewhere;
+  alike = leads-alike;
+  first = find-first (λ (d : Defined). d.identifier);
+  first_footnote = find-first (λ (f : Footnote). f.identifier);
+  definitions = definitions-listed;
+  footnotes = footnotes-listed;
+}

@@ -1,5 +1,7 @@
 -- After an ASCII byte a text may be cut, and a byte that doesn't stay is one.
-use Rattle.std.proofs.Common.{◌≡◌, ◌+◌, ◌-◌, ◌<◌, ℕ, Bool, true, false, List, ◌++◌, OnOk, length, slice_range, get_or, take, drop, string_bytes, [], ◌∷◌, ap₂, refl, sym, ap, subst, ◌∙◌, append_assoc, arith}
+use Rattle.std.proofs.Common.{◌≡◌, ◌+◌, ◌-◌, ◌<◌, ℕ, Bool, true, false, List, ◌++◌, OnOk, length}
+use Rattle.std.proofs.Common.{slice_range, get_or, take, drop, string_bytes, [], ◌∷◌, ap₂, refl}
+use Rattle.std.proofs.Common.{sym, ap, subst, ◌∙◌, append_assoc, arith}
 use Rattle.std.proofs.lemmas.Grind.{common_steps}
 use Rattle.std.proofs.lemmas.List.Sums.{prefix_len_stops}
 use Rattle.std.proofs.lemmas.Str.{IsCharBoundary-after_ascii}
@@ -16,14 +18,16 @@ is_filled [] = false
 is_filled (b ∷ bs) = true
 
 -- a text that is there stays at the front
-goes_on : (before now more : List ℕ) → take (length before) now ≡ before → take (length before) (now ++ more) ≡ before
+goes_on : (before now more : List ℕ) → take (length before) now ≡ before →
+    take (length before) (now ++ more) ≡ before
 goes_on [] now more e = refl
 goes_on (b ∷ before) [] more e = lie (ap is_filled e)
 goes_on (b ∷ before) (x ∷ now) more e =
     ap₂ (λ x xs. x ∷ xs) (ap (λ xs. get_or xs 0 0) e) (goes_on before now more (ap (drop 1) e))
 
 -- the byte after those that stay
-changes : (html : _) (rest : List ℕ) (index : ℕ) → index ≡ prefix_len (is_kept html) rest → index < length rest →
+changes : (html : _) (rest : List ℕ) (index : ℕ) → index ≡ prefix_len (is_kept html) rest →
+    index < length rest →
     is_kept html (get_or rest index 0) ≡ false
 changes html rest index place inside =
     subst (λ n. is_kept html (get_or rest n 0) ≡ false) (sym place)
@@ -36,21 +40,25 @@ range-requires-clause-end_boundary c =
     let index = c.loop-index.index in
     let inside = c.loop-index-test.true in
     let low : get_or rest index 0 < 128 =
-    changed-ascii html (get_or rest index 0) (changes html rest index c.loop-index.invariant.2 inside) in
+    changed-ascii html (get_or rest index 0)
+    (changes html rest index c.loop-index.invariant.2 inside) in
     (omega (arith, inside), λ later high. absurd (omega (arith, low, high)))
 
 pub push_replacement-requires : goal.push_replacement-requires
 push_replacement-requires c =
     let html = c.args.encode_html in
-    ap (λ bytes. is_kept html (get_or bytes c.loop-index.index 0)) c.as_bytes-in-loop-index.ensures.value
-    ∙ changes html c.loop-index.rest.now c.loop-index.index c.loop-index.invariant.2 c.loop-index-test.true
+    ap (λ bytes. is_kept html (get_or bytes c.loop-index.index 0))
+    c.as_bytes-in-loop-index.ensures.value
+    ∙ changes html c.loop-index.rest.now c.loop-index.index c.loop-index.invariant.2
+    c.loop-index-test.true
 
 pub range_from-rest-requires : goal.range_from-rest-requires
 range_from-rest-requires c =
     let html = c.args.encode_html in
     let rest : List ℕ = c.loop-index.rest.now in
     let inside = c.loop-index-test.true in
-    let low = changed-ascii html _ (changes html rest c.loop-index.index c.loop-index.invariant.2 inside) in
+    let low =
+    changed-ascii html _ (changes html rest c.loop-index.index c.loop-index.invariant.2 inside) in
     λ later. IsCharBoundary-after_ascii rest c.loop-index.index c.loop-index.invariant.3 inside low
 
 pub loop-index-preserved : goal.loop-index-preserved
@@ -64,16 +72,19 @@ loop-index-preserved c =
     let before : List ℕ = string_bytes c.args.out.now in
     let added : List ℕ = encoded_byte html (get_or c.as_bytes-in-loop-index.result.now index 0) in
     let kept : encoded html (take index rest) ≡ take index rest =
-    subst (λ n. encoded html (take n rest) ≡ take n rest) (sym c.loop-index.invariant.2) (encoded-kept html rest) in (
-      ap (λ text. string_bytes c.push_replacement.new.out ++ encoded html text) c.range_from-rest.ensures.value
+    subst (λ n. encoded html (take n rest) ≡ take n rest) (sym c.loop-index.invariant.2)
+    (encoded-kept html rest) in (
+      ap (λ text. string_bytes c.push_replacement.new.out ++ encoded html text)
+          c.range_from-rest.ensures.value
           ∙ ap (λ text. text ++ later) (c.in_ok-push_replacement.ensures
-          ∙ ap (λ bytes. string_bytes c.push_str.new.self ++ encoded_byte html (get_or bytes index 0))
-          c.as_bytes-in-loop-index.ensures.value
+          ∙ ap (λ bytes. string_bytes c.push_str.new.self
+          ++ encoded_byte html (get_or bytes index 0)) c.as_bytes-in-loop-index.ensures.value
           ∙ ap (λ text. text ++ other) (c.in_ok-push_str.ensures.bytes
           ∙ ap (λ text. out ++ text) (c.range.ensures.value ∙ from_start rest index)))
           ∙ append_assoc (out ++ take index rest) other later
           ∙ append_assoc out (take index rest) (other ++ later)
-          ∙ ap (λ text. out ++ text) (encoded-at html rest other index c.loop-index-test.true kept refl)
+          ∙ ap (λ text. out ++ text)
+          (encoded-at html rest other index c.loop-index-test.true kept refl)
           ∙ c.loop-index.invariant.0,
       subst (λ text. take (length before) text ≡ before) (sym (c.in_ok-push_replacement.ensures
           ∙ ap (λ text. text ++ added) c.in_ok-push_str.ensures.bytes))
@@ -94,7 +105,8 @@ pub returns-clause-added : goal.returns-clause-added
 returns-clause-added c =
     let html = c.args.encode_html in
     let rest : List ℕ = c.loop-index.rest.now in
-    let all = encoded-all_kept html rest (omega (arith, c.loop-index.invariant.2, c.loop-index-test.false)) in
+    let all =
+    encoded-all_kept html rest (omega (arith, c.loop-index.invariant.2, c.loop-index-test.false)) in
     subst (λ text. OnOk c.push_str-2.result (string_bytes c.push_str-2.new.self ≡ text))
     (ap (λ text. string_bytes c.loop-index.out ++ text) (sym all) ∙ c.loop-index.invariant.0)
     (grind (arith, common_steps))

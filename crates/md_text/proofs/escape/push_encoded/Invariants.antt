@@ -1,4 +1,5 @@
--- What is written, and after it the rest escaped, is the whole; the next byte that doesn't stay is known.
+-- What is written, and after it the rest escaped, is the whole; the next byte that
+-- doesn't stay is known.
 use Rattle.std.proofs.Common.{◌≡◌, ◌++◌, length, take, string_bytes}
 use Rattle.std.specs.List.{prefix_len}
 use denote.Text.{Utf8}
@@ -9,7 +10,8 @@ use Rattle.md_text.proofs.escape.push_encoded.Given as goal
 
 abbrev pub invariant-loop-index : goal.invariant-loop-index
 invariant-loop-index l =
-    (string_bytes l.out ++ encoded l.encode_html l.rest ≡ string_bytes l.fn.out ++ encoded l.encode_html l.value)
+    (string_bytes l.out ++ encoded l.encode_html l.rest
+    ≡ string_bytes l.fn.out ++ encoded l.encode_html l.value)
     × (take (length (string_bytes l.fn.out)) (string_bytes l.out) ≡ string_bytes l.fn.out)
     × (l.index ≡ prefix_len (is_kept l.encode_html) l.rest) × shadow (Utf8 l.rest)
 

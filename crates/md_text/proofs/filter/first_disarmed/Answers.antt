@@ -1,5 +1,6 @@
 -- A `<` that opens no tag to disarm stays, and what comes before the next one.
-use Rattle.std.proofs.Common.{◌≡◌, ◌+◌, ◌-◌, ◌<◌, ◌≤◌, ℕ, List, length, take, drop, sym, ap, ◌∙◌, arith, refl}
+use Rattle.std.proofs.Common.{◌≡◌, ◌+◌, ◌-◌, ◌<◌, ◌≤◌, ℕ, List, length, take, drop, sym, ap, ◌∙◌}
+use Rattle.std.proofs.Common.{arith, refl}
 use Rattle.std.proofs.lemmas.List.{length-drop, take_rest}
 use Rattle.std.proofs.lemmas.List.Sums.{prefix_len-le-length}
 use Rattle.std.specs.List.{prefix_len}
@@ -24,13 +25,19 @@ reaches : (bytes : List ℕ) (at run : ℕ) → at < length bytes →
     (at + 1 + run ≤ length bytes) × (run ≡ prefix_len opens_no_tag (drop (at + 1) bytes))
 reaches bytes at run inside is =
     let same = is ∙ ap (prefix_len opens_no_tag) (take_rest bytes (at + 1)) in (
-      omega (arith, same, prefix_len-le-length opens_no_tag (drop (at + 1) bytes), length-drop (at + 1) bytes),
+      omega (
+        arith,
+        same,
+        prefix_len-le-length opens_no_tag (drop (at + 1) bytes),
+        length-drop (at + 1) bytes,
+      ),
       same,
     )
 
 pub overflow_add-at-in-loop-at : goal.overflow_add-at-in-loop-at
 overflow_add-at-in-loop-at c =
-    let next = reaches c.args.bytes.now c.loop-at.at c.run_length.result c.loop-at-test.true c.run_length.ensures in
+    let next = reaches c.args.bytes.now c.loop-at.at c.run_length.result c.loop-at-test.true
+    c.run_length.ensures in
     record { fits = omega (arith, next.0) }
 
 pub loop-at-preserved : goal.loop-at-preserved
@@ -40,11 +47,13 @@ loop-at-preserved c =
     let run = c.run_length.result in
     let inside = c.loop-at-test.true in
     let next = reaches bytes at run inside c.run_length.ensures in
-    let other = ap (λ after. begins_disarmed_name (past_slash after)) (sym (take_rest bytes (at + 1)))
+    let other =
+    ap (λ after. begins_disarmed_name (past_slash after)) (sym (take_rest bytes (at + 1)))
     ∙ ap begins_disarmed_name (sym c.past_slash.ensures) ∙ sym c.begins_disarmed_name.ensures
     ∙ c.if-begins_disarmed_name.false in (
       next.0,
       filtered-run bytes (at + 1) run (at + 1 + run) refl (omega (arith, next.1))
-          ∙ filtered-angle bytes at inside (c.loop-at.invariant.2 inside) other ∙ c.loop-at.invariant.1,
+          ∙ filtered-angle bytes at inside (c.loop-at.invariant.2 inside) other
+          ∙ c.loop-at.invariant.1,
       λ within. angle-at bytes (at + 1) run (at + 1 + run) refl next.1 within,
     )

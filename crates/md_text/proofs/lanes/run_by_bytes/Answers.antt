@@ -1,6 +1,7 @@
 -- A byte that stays is one more; the first that doesn't ends the run.
 use Rattle.std.proofs.Common.{sym, arith, ◌∙◌}
-use Rattle.std.proofs.lemmas.List.Sums.{prefix_len-le-length, prefix_len-drop_yes, prefix_len-drop_no}
+use Rattle.std.proofs.lemmas.List.Sums.{prefix_len-le-length, prefix_len-drop_yes}
+use Rattle.std.proofs.lemmas.List.Sums.{prefix_len-drop_no}
 use Rattle.md_text.proofs.RunLemmas.{prefix_len-drop}
 use Rattle.md_text.proofs.lanes.run_by_bytes.Goals as goal
 
@@ -12,7 +13,8 @@ loop-index-preserved g c =
     omega (
       arith,
       prefix_len-drop q at bytes c.loop-index.invariant,
-      prefix_len-drop_yes q bytes at 0 c.loop-index-test.true (sym c.is_passed.ensures ∙ c.if-is_passed.true),
+      prefix_len-drop_yes q bytes at 0 c.loop-index-test.true
+          (sym c.is_passed.ensures ∙ c.if-is_passed.true),
     )
 
 pub returns-else-is_passed : goal.returns-else-is_passed
@@ -23,7 +25,8 @@ returns-else-is_passed g c =
     omega (
       arith,
       prefix_len-drop q at bytes c.loop-index.invariant,
-      prefix_len-drop_no q bytes at 0 c.loop-index-test.true (sym c.is_passed.ensures ∙ c.if-is_passed.false),
+      prefix_len-drop_no q bytes at 0 c.loop-index-test.true
+          (sym c.is_passed.ensures ∙ c.if-is_passed.false),
     )
 
 pub returns-after-loop-index : goal.returns-after-loop-index

@@ -9,7 +9,9 @@ use Rattle.md_text.proofs.names.lowered_is.Given as goal
 -- what is left decides
 abbrev pub invariant-loop-a : goal.invariant-loop-a
 invariant-loop-a l = record {
-  decides : bytes_eq (lowered (iter_rest (zip_first l.a-iterator))) (iter_rest (zip_second l.a-iterator))
+  decides :
+      bytes_eq (lowered (iter_rest (zip_first l.a-iterator))) (iter_rest (zip_second l.a-iterator))
       ≡ bytes_eq (lowered l.name) l.text;
-  as_long : length (iter_rest (zip_first l.a-iterator)) ≡ length (iter_rest (zip_second l.a-iterator));
+  as_long :
+      length (iter_rest (zip_first l.a-iterator)) ≡ length (iter_rest (zip_second l.a-iterator));
 }

@@ -4,7 +4,8 @@ use Rattle.md_text.specs.Url.{sanitized}
 use Rattle.md_text.proofs.url.push_sanitized.Given as goal
 
 abbrev pub invariant-loop-byte : goal.invariant-loop-byte
-invariant-loop-byte l = string_bytes l.out ++ sanitized l.rest ≡ string_bytes l.fn.out ++ sanitized l.value
+invariant-loop-byte l =
+    string_bytes l.out ++ sanitized l.rest ≡ string_bytes l.fn.out ++ sanitized l.value
 
 abbrev pub decreases-loop-byte : goal.decreases-loop-byte
 decreases-loop-byte l = length l.rest

@@ -5,7 +5,8 @@ use Rattle.md_tree.specs.Numbers.{IsDefinitionFor}
 use Rattle.md_told.proofs.Leading.{led-there, led-target, unled}
 use Rattle.md_told.proofs.definitions.definition_left_at.Goals as goal
 
-if-some : (Is : Option ℕ → Type 0) (P : ℕ → Type 0) → ((place : ℕ) → Is (Some place) → P place) → (o : Option ℕ) →
+if-some : (Is : Option ℕ → Type 0) (P : ℕ → Type 0) → ((place : ℕ) → Is (Some place) → P place) →
+    (o : Option ℕ) →
     Is o → IfSome o P
 if-some Is P f None is = tt
 if-some Is P f (Some place) is = f place is

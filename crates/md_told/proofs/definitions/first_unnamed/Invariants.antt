@@ -7,7 +7,8 @@ use Rattle.md_told.proofs.definitions.first_unnamed.Given as goal
 
 abbrev pub invariant-loop-place : goal.invariant-loop-place
 invariant-loop-place l =
-    (document : Forest) → flatten document ≡ l.checked.events → Skips (defined_in l.checked.bytes document) l.place
+    (document : Forest) → flatten document ≡ l.checked.events →
+    Skips (defined_in l.checked.bytes document) l.place
 
 abbrev pub decreases-loop-place : goal.decreases-loop-place
 decreases-loop-place l = length l.entries - l.place

@@ -12,5 +12,6 @@ point_at-requires c =
 pub returns : goal.returns
 returns c = λ one there.
     let exits = c.requires.1 in
-    c.point_at.ensures exits.0 (ap (λ es. slice_get es c.args.index) c.events.ensures.events ∙ exits.1)
+    c.point_at.ensures exits.0
+    (ap (λ es. slice_get es c.args.index) c.events.ensures.events ∙ exits.1)
     ∙ end-noticed c.args.checked.now c.args.index c.requires.0 one exits there exits.0 exits.1

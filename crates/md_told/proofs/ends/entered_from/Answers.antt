@@ -12,5 +12,6 @@ point_at-requires c =
 pub returns : goal.returns
 returns c = λ one there.
     let enters = c.requires.1 in
-    c.point_at.ensures enters.0 (ap (λ es. slice_get es c.args.index) c.events.ensures.events ∙ enters.1)
+    c.point_at.ensures enters.0
+    (ap (λ es. slice_get es c.args.index) c.events.ensures.events ∙ enters.1)
     ∙ start-noticed c.args.checked.now c.args.index c.requires.0 one enters there enters.0 enters.1

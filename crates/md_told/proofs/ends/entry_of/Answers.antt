@@ -8,8 +8,8 @@ use Rattle.md_told.proofs.ends.entry_of.Goals as goal
 
 pub unwrap-requires : goal.unwrap-requires
 unwrap-requires c =
-    let found = partner-exited c.args.checked.now c.args.index c.requires.0 c.partner.result c.requires.1
-    c.partner.ensures in
+    let found = partner-exited c.args.checked.now c.args.index c.requires.0 c.partner.result
+    c.requires.1 c.partner.ensures in
     some-there c.partner.result found.0 found.1
 
 same-place : (o : Option ℕ) (one other : ℕ) → o ≡ Some one → o ≡ Some other → one ≡ other
@@ -17,13 +17,15 @@ same-place o one other e f = cc
 
 pub returns-clause-enters : goal.returns-clause-enters
 returns-clause-enters c = λ name exits.
-    let found = partner-exited c.args.checked.now c.args.index name c.partner.result exits c.partner.ensures in
+    let found =
+    partner-exited c.args.checked.now c.args.index name c.partner.result exits c.partner.ensures in
     subst (λ i. EntersAt c.args.checked.now.events i name)
     (same-place c.partner.result found.0 c.unwrap.result found.1 c.unwrap.ensures) found.2
 
 pub returns-clause-noticed : goal.returns-clause-noticed
 returns-clause-noticed c = λ one there.
-    let found = partner-exited c.args.checked.now c.args.index c.requires.0 c.partner.result c.requires.1
-    c.partner.ensures in
+    let found = partner-exited c.args.checked.now c.args.index c.requires.0 c.partner.result
+    c.requires.1 c.partner.ensures in
     subst (λ i. IsNoticedAt c.args.checked.now i one)
-    (same-place c.partner.result found.0 c.unwrap.result found.1 c.unwrap.ensures) (found.3 one there)
+    (same-place c.partner.result found.0 c.unwrap.result found.1 c.unwrap.ensures)
+    (found.3 one there)

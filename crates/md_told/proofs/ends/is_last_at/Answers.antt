@@ -13,5 +13,6 @@ overflow_add-result c =
 pub returns : goal.returns
 returns c = λ one there.
     let more : c.args.index + 1 ≡ suc c.args.index = omega arith in
-    ap (λ n. n == length c.events-count.result.now) more ∙ ap (λ es. suc c.args.index == length es) c.events-count.ensures.events
+    ap (λ n. n == length c.events-count.result.now) more
+    ∙ ap (λ es. suc c.args.index == length es) c.events-count.ensures.events
     ∙ last-noticed c.args.checked.now c.args.index c.requires.0 one c.requires.1 there

@@ -9,18 +9,21 @@ pub exits_next-requires : goal.exits_next-requires
 exits_next-requires c =
     let checked = c.events.ensures.grammatical in
     subst (λ es. c.args.index + 1 < length es) (sym c.events.ensures.events)
-    (entry-followed c.args.checked.now checked.0 (IsReadAs.flattened checked.1) c.args.index c.requires.0
+    (entry-followed c.args.checked.now checked.0 (IsReadAs.flattened checked.1)
+    c.args.index c.requires.0
     c.requires.1)
 
 pub returns-clause-exits : goal.returns-clause-exits
 returns-clause-exits c = λ yes name enters.
     let next = c.exits_next.ensures yes in
     let checked = c.events.ensures.grammatical in
-    leaf-exits c.args.checked.now checked.0 (IsReadAs.flattened checked.1) c.args.index name enters next.0
+    leaf-exits c.args.checked.now checked.0 (IsReadAs.flattened checked.1)
+    c.args.index name enters next.0
     (ap (λ es. slice_get es (suc c.args.index)) (sym c.events.ensures.events) ∙ next.1) next.2
 
 pub returns-clause-noticed : goal.returns-clause-noticed
 returns-clause-noticed c = λ yes one there.
     let next = c.exits_next.ensures yes in
     leaf-noticed c.args.checked.now c.args.index c.requires.0 c.requires.1 next.0
-    (ap (λ es. slice_get es (suc c.args.index)) (sym c.events.ensures.events) ∙ next.1) next.2 one there
+    (ap (λ es. slice_get es (suc c.args.index)) (sym c.events.ensures.events) ∙ next.1)
+    next.2 one there

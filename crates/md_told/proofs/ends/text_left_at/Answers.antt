@@ -8,5 +8,7 @@ pub returns : goal.returns
 returns c = λ one there.
     let bytes = c.args.checked.now.bytes in
     c.text_of_leaf.ensures
-    ∙ ap (λ start. unwrap_or (text_between bytes start c.end_of.result) []) (c.start_of.ensures one there)
-    ∙ ap (λ end. unwrap_or (text_between bytes one.told.place.start end) []) (c.end_of.ensures one there)
+    ∙ ap (λ start. unwrap_or (text_between bytes start c.end_of.result) [])
+    (c.start_of.ensures one there)
+    ∙ ap (λ end. unwrap_or (text_between bytes one.told.place.start end) [])
+    (c.end_of.ensures one there)

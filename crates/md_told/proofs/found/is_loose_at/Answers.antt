@@ -9,4 +9,5 @@ pub returns : goal.returns
 returns c = λ one there.
     let list = enters-list c.args.checked.now.events c.args.index c.requires in
     let seen = entered c.args.checked.now c.args.index list.0 one list.1 there in
-    c.list_loose.ensures.loose seen.node.children seen.entered ∙ ap (λ (n : Noticed). n.told.loose) (sym seen.is)
+    c.list_loose.ensures.loose seen.node.children seen.entered
+    ∙ ap (λ (n : Noticed). n.told.loose) (sym seen.is)

@@ -11,14 +11,15 @@ pub returns-in-Some : goal.returns-in-Some
 returns-in-Some c = λ one there.
     let seen = entered c.args.checked.now c.args.index HeadingAtx one c.requires there in
     c.length_of.ensures ∙ ap (λ bytes. length_of bytes c.in-Some.place) c.bytes.ensures
-    ∙ rank-found c.args.checked.now seen.document c.args.index seen.exit seen.node c.grammatical.ensures seen.flat
-    (Some c.in-Some.place)
+    ∙ rank-found c.args.checked.now seen.document c.args.index seen.exit seen.node
+    c.grammatical.ensures seen.flat (Some c.in-Some.place)
     (c.in-Some.ensures.reads HeadingAtx seen.node.children c.requires refl seen.entered)
     ∙ ap (λ (n : Noticed). n.told.rank) (sym seen.is)
 
 pub returns-in-None : goal.returns-in-None
 returns-in-None c = λ one there.
     let seen = entered c.args.checked.now c.args.index HeadingAtx one c.requires there in
-    rank-found c.args.checked.now seen.document c.args.index seen.exit seen.node c.grammatical.ensures seen.flat None
+    rank-found c.args.checked.now seen.document c.args.index seen.exit seen.node
+    c.grammatical.ensures seen.flat None
     (c.in-None.ensures.reads HeadingAtx seen.node.children c.requires refl seen.entered)
     ∙ ap (λ (n : Noticed). n.told.rank) (sym seen.is)

@@ -2,7 +2,8 @@
 use Rattle.std.proofs.Common.{◌≡◌, true, refl, sym, ap, ◌∙◌}
 use Rattle.md_base.proofs.Lies.{lie}
 use Rattle.md_base.specs.declared.event.Name.{Name}
-use Rattle.md_base.specs.declared.event.Name.TheVariants.{GfmFootnoteCall, Definition, GfmFootnoteDefinition}
+use Rattle.md_base.specs.declared.event.Name.TheVariants.{GfmFootnoteCall, Definition}
+use Rattle.md_base.specs.declared.event.Name.TheVariants.{GfmFootnoteDefinition}
 use Rattle.md_meaning.specs.Places.{identifier_at}
 use Rattle.md_tree.specs.Reads.{is_reader}
 use Rattle.md_shape.specs.Run.{Noticed}
@@ -24,6 +25,7 @@ returns c = λ one there.
     let seen = entered given c.args.index name one c.requires.1 there in
     let found = seen.node.children in
     ap (λ (n : Noticed). n.told.identifier) seen.is
-    ∙ labelled given c.args.index name found c.grammatical.ensures c.requires.1 seen.entered c.requires.2
+    ∙ labelled given c.args.index name found c.grammatical.ensures c.requires.1
+    seen.entered c.requires.2
     ∙ ap (identifier_at given.bytes)
     (sym (c.reads.ensures.reads name found c.requires.1 (reader name c.requires.2) seen.entered))

@@ -1,5 +1,5 @@
--- What `find` says where the walk isn't done, where a mention leads nowhere, and where all is well. The search
--- can't go from how a walk ends to what holds of the events: `Checking` does.
+-- What `find` says where the walk isn't done, where a mention leads nowhere, and where all is well.
+-- The search can't go from how a walk ends to what holds of the events: `Checking` does.
 use Rattle.std.proofs.Common.{◌≡◌, [], ◌∷◌, refl, sym, ap, ◌∙◌, subst, length, List}
 use Rattle.std.specs.Prelude.{reverse}
 use Rattle.md_base.specs.declared.event.Event.{Event}
@@ -14,18 +14,22 @@ use Rattle.md_tree.specs.Numbers.{all_numbered}
 use Rattle.md_tree.specs.Grammar.{handed}
 use Rattle.md_tree.specs.Walk.{opens_at, opens_seen, course_of}
 use Rattle.md_tree.proofs.Endings.{IsWalked, IsWalked-done}
-use Rattle.md_tree.proofs.Checking.{IsRefusal-undone, IsRefusal-lost, IsChecked-walked, AreNumbered-walked}
+use Rattle.md_tree.proofs.Checking.{IsRefusal-undone, IsRefusal-lost, IsChecked-walked}
+use Rattle.md_tree.proofs.Checking.{AreNumbered-walked}
 use Rattle.md_tree.proofs.grammar.find.Goals as goal
 
 -- no node of a course is open, and so none of a walk
-none_at : (events : List Event) (targets : List Aim) (opens : List Open) → opens_at events targets opens ≡ [] →
+none_at : (events : List Event) (targets : List Aim) (opens : List Open) →
+    opens_at events targets opens ≡ [] →
     opens ≡ []
 none_at events targets [] e = refl
 none_at events targets (open_node ∷ opens) e = cc
 
-none_open : (events : List Event) (targets : List Aim) (opens : List Open) → opens_seen events targets opens ≡ [] →
+none_open : (events : List Event) (targets : List Aim) (opens : List Open) →
+    opens_seen events targets opens ≡ [] →
     opens ≡ []
-none_open events targets opens e = sym (reverse-reverse opens) ∙ ap reverse (none_at events targets (reverse opens) e)
+none_open events targets opens e =
+    sym (reverse-reverse opens) ∙ ap reverse (none_at events targets (reverse opens) e)
 
 pub returns-then-not-is_done-clause-refused : goal.returns-then-not-is_done-clause-refused
 returns-then-not-is_done-clause-refused c =
@@ -38,18 +42,21 @@ returns-then-not-is_done-clause-refused c =
 
 pub returns-in_err-resolve-clause-refused : goal.returns-in_err-resolve-clause-refused
 returns-in_err-resolve-clause-refused c =
-    let p = err_from_is_err_and c.from_residual-in_err-resolve.result c.from_residual-in_err-resolve.ensures.1 in
+    let p = err_from_is_err_and c.from_residual-in_err-resolve.result
+    c.from_residual-in_err-resolve.ensures.1 in
     let given = handed c.args.events.now c.args.bytes.now c.args.names.now in
     let mentions = c.in_ok-read.read.walk.mentions.items in
     let done = c.is_done.ensures.done c.if-not-is_done.false in
     let walked : IsWalked given mentions = IsWalked-done given
     (course_of c.args.events.now (length c.args.events.now) c.in_ok-read.read.walk)
     (rw c.in_ok-texts.ensures at c.in_ok-read.ensures.walked)
-    (ap (λ opens. opens_seen c.args.events.now (reverse c.in_ok-read.read.walk.targets.items) opens) done.0) done.1 in
+    (ap (λ opens. opens_seen c.args.events.now (reverse c.in_ok-read.read.walk.targets.items) opens)
+    done.0) done.1 in
     rw (p.1, p.2)
     (IsRefusal-lost given mentions c.in_err-resolve.field-0.0 walked
     (subst (λ ms. IsUnresolved c.args.bytes.now ms c.in_err-resolve.field-0.0) c.deref.ensures.value
-    (rw (c.with_front_alone-texts.ensures, c.in_ok-texts.ensures) at c.in_err-resolve.ensures.refused)))
+    (rw (c.with_front_alone-texts.ensures, c.in_ok-texts.ensures) at
+    c.in_err-resolve.ensures.refused)))
 
 pub returns-clause-grammatical : goal.returns-clause-grammatical
 returns-clause-grammatical c =
@@ -59,8 +66,10 @@ returns-clause-grammatical c =
     let walked : IsWalked given mentions = IsWalked-done given
     (course_of c.args.events.now (length c.args.events.now) c.in_ok-read.read.walk)
     (rw c.in_ok-texts.ensures at c.in_ok-read.ensures.walked)
-    (ap (λ opens. opens_seen c.args.events.now (reverse c.in_ok-read.read.walk.targets.items) opens) done.0) done.1 in
-    IsChecked-walked given mentions walked (subst (λ ms. All (IsResolved c.args.bytes.now (mentions_among ms))
+    (ap (λ opens. opens_seen c.args.events.now (reverse c.in_ok-read.read.walk.targets.items) opens)
+    done.0) done.1 in
+    IsChecked-walked given mentions walked
+    (subst (λ ms. All (IsResolved c.args.bytes.now (mentions_among ms))
     (mentions_among ms)) c.deref.ensures.value
     (rw (c.with_front_alone-texts.ensures, c.in_ok-texts.ensures) at c.in_ok-resolve.ensures.ok))
 
@@ -72,9 +81,11 @@ returns-clause-facts c = λ forest flattens.
     let walked : IsWalked given mentions = IsWalked-done given
     (course_of c.args.events.now (length c.args.events.now) c.in_ok-read.read.walk)
     (rw c.in_ok-texts.ensures at c.in_ok-read.ensures.walked)
-    (ap (λ opens. opens_seen c.args.events.now (reverse c.in_ok-read.read.walk.targets.items) opens) done.0) done.1 in
+    (ap (λ opens. opens_seen c.args.events.now (reverse c.in_ok-read.read.walk.targets.items) opens)
+    done.0) done.1 in
     rw (c.with_front_alone-texts.ensures, c.in_ok-texts.ensures) at c.in_ok-resolve.ensures.numbered
     ∙ ap (λ ms. all_numbered given.bytes (mentions_among ms) ms c.in_ok-read.read.found.facts.items)
     c.deref.ensures.value
-    ∙ ap (λ fs. all_numbered given.bytes (mentions_among mentions) mentions fs) c.in_ok-read.ensures.facts
+    ∙ ap (λ fs. all_numbered given.bytes (mentions_among mentions) mentions fs)
+    c.in_ok-read.ensures.facts
     ∙ AreNumbered-walked given mentions walked forest flattens

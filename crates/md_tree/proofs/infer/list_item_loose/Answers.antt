@@ -1,5 +1,5 @@
--- What the fact says of the item is what is defined of its children. The pass is told it child by child, so it is
--- shown by induction, in `Telling`.
+-- What the fact says of the item is what is defined of its children. The pass is told it child by
+-- child, so it is shown by induction, in `Telling`.
 use Rattle.std.proofs.Common.{ap, ◌∙◌}
 use Rattle.md_base.specs.declared.event.Name.TheVariants.{ListItem}
 use Rattle.md_pattern.specs.declared.facts.Fact.{Fact}
@@ -8,5 +8,5 @@ use Rattle.md_tree.proofs.infer.list_item_loose.Goals as goal
 
 pub returns-clause-loose : goal.returns-clause-loose
 returns-clause-loose c = λ children entered.
-    ap (λ (f : Fact). f.looseness.of_item) (c.fact.ensures.fact ListItem children c.requires entered).1
-    ∙ of_item-told children
+    ap (λ (f : Fact). f.looseness.of_item)
+    (c.fact.ensures.fact ListItem children c.requires entered).1 ∙ of_item-told children

@@ -1,6 +1,8 @@
--- A text with a plus sign before it is no number, and of any other std's reader of numbers says what the definition
--- says. The search knows neither without the lemmas on digits.
-use Rattle.std.proofs.Common.{◌≡◌, ◌≢◌, ℕ, Bool, true, false, not, ◌&&◌, ◌^◌, eqb, nat_lt, cond, List, [], ◌∷◌, length, get_or, Some, None, Result, Ok, Err, is_ok, sym, ◌∙◌, subst, refl, lit<, arith}
+-- A text with a plus sign before it is no number, and of any other std's reader of numbers says
+-- what the definition says. The search knows neither without the lemmas on digits.
+use Rattle.std.proofs.Common.{◌≡◌, ◌≢◌, ℕ, Bool, true, false, not, ◌&&◌, ◌^◌, eqb, nat_lt, cond}
+use Rattle.std.proofs.Common.{List, [], ◌∷◌, length, get_or, Some, None, Result, Ok, Err, is_ok}
+use Rattle.std.proofs.Common.{sym, ◌∙◌, subst, refl, lit<, arith}
 use Rattle.std.specs.Char.{digit_value}
 use Rattle.std.specs.List.{list_all}
 use Rattle.std.specs.Str.Parse.{ParsesUnsigned, digits_value}
@@ -17,7 +19,8 @@ is_none_of : (b : Bool) (x : List ℕ) → None ≡ cond b (Some x) None → fal
 is_none_of true x e = cc
 is_none_of false x e = refl
 
-ok_number : {E : Type 0} (digits : List ℕ) (r : Result ℕ E) → get_or digits 0 0 ≢ 43 → ParsesUnsigned 32 10 digits r →
+ok_number : {E : Type 0} (digits : List ℕ) (r : Result ℕ E) → get_or digits 0 0 ≢ 43 →
+    ParsesUnsigned 32 10 digits r →
     is_ok r ≡ is_number 10 digits
 ok_number {E} digits (Ok n) no_plus parsed =
     is_some_of (is_number 10 digits) (character_of (digits_value 10 digits)) (character_of n)
@@ -34,7 +37,8 @@ plus_number : (digits : List ℕ) → get_or digits 0 0 ≡ 43 → false ≡ is_
 plus_number [] e = absurd (omega arith)
 plus_number (b ∷ digits) e =
     subst (λ x. false ≡ is_number 10 (x ∷ digits)) (sym e)
-    (sym (none_here (not (eqb (length (43 ∷ digits)) 0)) (list_all (λ digit. nat_lt (digit_value digit) 10) digits)
+    (sym (none_here (not (eqb (length (43 ∷ digits)) 0))
+    (list_all (λ digit. nat_lt (digit_value digit) 10) digits)
     (nat_lt (digits_value 10 (43 ∷ digits)) (2 ^ 32))))
 
 pub returns-then-starts_with : goal.returns-then-starts_with
@@ -46,4 +50,5 @@ pub returns : goal.returns
 returns c =
     let no_plus = eqb-false (get_or c.args.text.now 0 0) 43
     (sym (c.if-starts_with.ensures.byte (lit< tt) (lit< tt) (λ _ _ found. found))) in
-    c.is_ok.ensures.value ∙ ok_number c.args.text.now c.from_str_radix.result no_plus c.from_str_radix.ensures.value
+    c.is_ok.ensures.value
+    ∙ ok_number c.args.text.now c.from_str_radix.result no_plus c.from_str_radix.ensures.value

@@ -5,6 +5,6 @@ use Rattle.md_tree.proofs.resolve.definition_count.Given as goal
 
 abbrev pub invariant-loop-mentioned : goal.invariant-loop-mentioned
 invariant-loop-mentioned l =
-    (l.count ≤ l.mentioned-index)
-    × ((bytes : List ℕ) → l.count + length (defined bytes (mentions_among (drop l.mentioned-index l.mentions)))
+    (l.count ≤ l.mentioned-index) × ((bytes : List ℕ) →
+    l.count + length (defined bytes (mentions_among (drop l.mentioned-index l.mentions)))
     ≡ length (defined bytes (mentions_among l.mentions)))

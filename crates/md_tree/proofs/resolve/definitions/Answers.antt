@@ -1,6 +1,7 @@
--- A definition gets its number in the map, another mention none. The search can't take a mention off the end of the
--- list.
-use Rattle.std.proofs.Common.{◌≡◌, ◌+◌, ◌-◌, ◌++◌, ◌∷◌, [], ℕ, suc, List, length, ap, sym, subst, ◌∙◌, append_assoc, arith}
+-- A definition gets its number in the map, another mention none. The search can't take a mention
+-- off the end of the list.
+use Rattle.std.proofs.Common.{◌≡◌, ◌+◌, ◌-◌, ◌++◌, ◌∷◌, [], ℕ, suc, List, length, ap, sym, subst}
+use Rattle.std.proofs.Common.{◌∙◌, append_assoc, arith}
 use Rattle.md_base.specs.declared.event.Position.{Position}
 use Rattle.md_tree.specs.declared.mention.Mention.TheVariants.{Definition}
 use Rattle.md_tree.specs.declared.mention.Mentioned.{Mentioned}
@@ -11,14 +12,18 @@ use Rattle.md_tree.proofs.resolve.definitions.Goals as goal
 
 -- how many definitions there are up to a mention
 module _ (bytes : List ℕ) (rest before : List Mentioned) (last : Mentioned) (number : ℕ)
-    (split : rest ≡ before ++ last ∷ []) (counted : number ≡ length (defined bytes (mentions_among rest))) where
-  all_counted : number ≡ length (defined bytes (mentions_among before)) + length (defined_by bytes last.mention [])
-  all_counted = counted ∙ ap (λ r. length (defined bytes (mentions_among r))) split ∙ defined-last bytes before last
+    (split : rest ≡ before ++ last ∷ [])
+    (counted : number ≡ length (defined bytes (mentions_among rest))) where
+  all_counted : number
+      ≡ length (defined bytes (mentions_among before)) + length (defined_by bytes last.mention [])
+  all_counted = counted ∙ ap (λ r. length (defined bytes (mentions_among r))) split
+      ∙ defined-last bytes before last
 
   at_definition : (label : Position) → last.mention ≡ Definition label →
       number ≡ suc (length (defined bytes (mentions_among before)))
   at_definition label is = plus_one (length (defined bytes (mentions_among before))) number
-      (all_counted ∙ ap (λ m. length (defined bytes (mentions_among before)) + length (defined_by bytes m [])) is)
+      (all_counted ∙ ap (λ m. length (defined bytes (mentions_among before))
+      + length (defined_by bytes m [])) is)
     where
       plus_one : (n total : ℕ) → total ≡ n + 1 → total ≡ suc n
       plus_one n total e = omega (arith, e)
@@ -37,9 +42,9 @@ one_less number left e = omega (arith, e)
 
 pub overflow_sub-number : goal.overflow_sub-number
 overflow_sub-number c =
-    let e = at_definition c.args.bytes.now c.loop-mentioned.rest.now c.in-Some.before.now c.in-Some.mentioned.now
-    c.loop-mentioned.number c.in-Some.ensures.cases.0 c.loop-mentioned.invariant.2 c.in-Definition.label
-    c.in-Definition.is in
+    let e = at_definition c.args.bytes.now c.loop-mentioned.rest.now c.in-Some.before.now
+    c.in-Some.mentioned.now c.loop-mentioned.number c.in-Some.ensures.cases.0
+    c.loop-mentioned.invariant.2 c.in-Definition.label c.in-Definition.is in
     omega (arith, e)
 
 pub loop-mentioned-preserved-in_ok-insert : goal.loop-mentioned-preserved-in_ok-insert
@@ -51,7 +56,8 @@ loop-mentioned-preserved-in_ok-insert c =
     let left = length (defined bytes (mentions_among before)) in
     let later = defined bytes (mentions_among passed) in
     let e = at_definition bytes c.loop-mentioned.rest.now before last c.loop-mentioned.number
-    c.in-Some.ensures.cases.0 c.loop-mentioned.invariant.2 c.in-Definition.label c.in-Definition.is in (
+    c.in-Some.ensures.cases.0 c.loop-mentioned.invariant.2 c.in-Definition.label
+    c.in-Definition.is in (
       last ∷ passed,
       c.loop-mentioned.invariant.1 ∙ ap (λ r. r ++ passed) c.in-Some.ensures.cases.0
           ∙ append_assoc before (last ∷ []) passed,
@@ -61,7 +67,8 @@ loop-mentioned-preserved-in_ok-insert c =
           (subst (λ l. NumbersFrom c.insert.new.self left l)
           (ap (λ i. i ∷ later) c.in_ok-identifier.ensures
           ∙ sym (ap (λ m. defined_by bytes m later) c.in-Definition.is))
-          (NumbersFrom-put c.loop-mentioned.numbers c.insert.new.self c.in_ok-identifier.identifier left later
+          (NumbersFrom-put c.loop-mentioned.numbers c.insert.new.self
+          c.in_ok-identifier.identifier left later
           (subst (λ n. NumbersFrom c.loop-mentioned.numbers n later) e c.loop-mentioned.invariant.3)
           (rw e at c.in_ok-insert.ensures.updates))),
     )

@@ -1,4 +1,5 @@
--- At each turn: as many definitions are left as the number says, and the map has the numbers of those that were passed.
+-- At each turn: as many definitions are left as the number says, and the map has the numbers of
+-- those that were passed.
 use Rattle.std.proofs.Common.{◌≡◌, ◌++◌, List, length}
 use Rattle.md_tree.specs.declared.mention.Mentioned.{Mentioned}
 use Rattle.md_tree.specs.Mentions.{defined, mentions_among}

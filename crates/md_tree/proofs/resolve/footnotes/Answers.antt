@@ -1,12 +1,14 @@
--- A footnote definition gets its number in the map and at its exit, another mention none. The search doesn't look each
--- identifier up in the longer map.
+-- A footnote definition gets its number in the map and at its exit, another mention none. The
+-- search doesn't look each identifier up in the longer map.
 use Rattle.std.proofs.Common.{◌≡◌, ◌≤◌, ℕ, suc, ◌+◌, List, Option, drop, ap, sym, ◌∙◌, arith}
 use Rattle.md_tree.specs.declared.mention.Mentioned.{Mentioned}
 use Rattle.md_tree.specs.Mentions.{mentions_among, footnoted, footnoted_by}
 use Rattle.md_tree.specs.Numbers.{which, number_of, footnote_number}
-use Rattle.md_tree.proofs.Numbering.{NumbersBefore-first, NumbersBefore-passed, numbered-kept, numbered-passed, footnoted_by-other, footnote_number-other}
+use Rattle.md_tree.proofs.Numbering.{NumbersBefore-first, NumbersBefore-passed, numbered-kept}
+use Rattle.md_tree.proofs.Numbering.{numbered-passed, footnoted_by-other, footnote_number-other}
 use Rattle.md_tree.proofs.resolve.footnotes.Goals as goal
-use Rattle.md_tree.proofs.resolve.footnotes.Goals.{in-FootnoteDefinition+in_ok-identifier+in_ok-number, in_default}
+use Rattle.md_tree.proofs.resolve.footnotes.Goals.{in-FootnoteDefinition+in_ok-identifier+in_ok-number}
+use Rattle.md_tree.proofs.resolve.footnotes.Goals.{in_default}
 
 -- what footnotes are defined
 abbrev read : List ℕ → List Mentioned → List (Option (List ℕ))
@@ -30,26 +32,34 @@ loop-mentioned-preserved c =
     let all = mentions_among mentions in
     elim c.match-mentioned.branch [
       | in-FootnoteDefinition+in_ok-identifier+in_ok-number w ↦
-          let before = NumbersBefore-first (read bytes) mentions index c.loop-mentioned.numbers c.loop-mentioned.next
+          let before = NumbersBefore-first (read bytes) mentions index c.loop-mentioned.numbers
+          c.loop-mentioned.next
           c.loop-mentioned-test.true c.loop-mentioned.invariant.1 _ w.in_ok-identifier.identifier _
-          (ap (λ mention. footnoted_by bytes mention later) w.in-FootnoteDefinition.is) w.in_ok-identifier.ensures in (
-            later_by c.match-mentioned.next c.loop-mentioned.next index w.next-is c.loop-mentioned.invariant.0,
-            rw (w.numbers-is, w.next-is ∙ one c.loop-mentioned.next) (w.in_ok-number.ensures.numbers later (read bytes
-                mentions) before),
-            rw w.facts-is (numbered-kept (footnote_number bytes all) mentions index c.loop-mentioned.facts.items _
+          (ap (λ mention. footnoted_by bytes mention later) w.in-FootnoteDefinition.is)
+          w.in_ok-identifier.ensures in (
+            later_by c.match-mentioned.next c.loop-mentioned.next index w.next-is
+                c.loop-mentioned.invariant.0,
+            rw (w.numbers-is, w.next-is ∙ one c.loop-mentioned.next)
+                (w.in_ok-number.ensures.numbers later (read bytes mentions) before),
+            rw w.facts-is (numbered-kept (footnote_number bytes all) mentions index
+                c.loop-mentioned.facts.items _
                 c.loop-mentioned-test.true c.loop-mentioned.invariant.2 _ _ w.in_ok-number.number
                 (ap (footnote_number bytes all) w.in-FootnoteDefinition.is
-                ∙ ap (λ x. number_of (which (footnoted bytes all) x)) (sym w.in_ok-identifier.ensures)
-                ∙ sym (w.in_ok-number.ensures.number later (read bytes mentions) before)) w.keep_number.ensures),
+                ∙ ap (λ x. number_of (which (footnoted bytes all) x))
+                (sym w.in_ok-identifier.ensures)
+                ∙ sym (w.in_ok-number.ensures.number later (read bytes mentions) before))
+                w.keep_number.ensures),
           )
       | in_default w ↦ (
-        no_later c.match-mentioned.next c.loop-mentioned.next index w.next-is c.loop-mentioned.invariant.0,
-        rw (w.numbers-is, w.next-is) (NumbersBefore-passed (read bytes) mentions index c.loop-mentioned.numbers
+        no_later c.match-mentioned.next c.loop-mentioned.next index w.next-is
+            c.loop-mentioned.invariant.0,
+        rw (w.numbers-is, w.next-is)
+            (NumbersBefore-passed (read bytes) mentions index c.loop-mentioned.numbers
             c.loop-mentioned.next
-            c.loop-mentioned-test.true c.loop-mentioned.invariant.1 _ (footnoted_by-other bytes _ later
-            w.in_default.not-FootnoteDefinition)),
-        rw w.facts-is (numbered-passed (footnote_number bytes all) mentions index c.loop-mentioned.facts.items _
-            c.loop-mentioned-test.true c.loop-mentioned.invariant.2 _ (footnote_number-other bytes all _
-            w.in_default.not-FootnoteDefinition)),
+            c.loop-mentioned-test.true c.loop-mentioned.invariant.1 _
+            (footnoted_by-other bytes _ later w.in_default.not-FootnoteDefinition)),
+        rw w.facts-is (numbered-passed (footnote_number bytes all) mentions index
+            c.loop-mentioned.facts.items _ c.loop-mentioned-test.true c.loop-mentioned.invariant.2 _
+            (footnote_number-other bytes all _ w.in_default.not-FootnoteDefinition)),
       )
     ]

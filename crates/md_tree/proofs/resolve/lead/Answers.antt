@@ -1,16 +1,17 @@
--- What has a number is there, and what has none leads nowhere. The search does no induction over the identifiers.
+-- What has a number is there, and what has none leads nowhere. The search does no induction over
+-- the identifiers.
 use Rattle.md_tree.proofs.Numbering.{led-reference, led-call}
 use Rattle.md_tree.specs.Mentions.{defined, footnoted}
 use Rattle.md_tree.proofs.resolve.lead.Goals as goal
 
 pub returns-in_ok-number-in-Reference : goal.returns-in_ok-number-in-Reference
 returns-in_ok-number-in-Reference c = λ mentions d f.
-    rw (c.in-Reference.is, c.ok_or.ensures.value) (led-reference c.args.bytes.now mentions c.in-Reference.label
-    c.in_ok-number-in-Reference.number
+    rw (c.in-Reference.is, c.ok_or.ensures.value)
+    (led-reference c.args.bytes.now mentions c.in-Reference.label c.in_ok-number-in-Reference.number
     (c.in_ok-number-in-Reference.ensures (defined c.args.bytes.now mentions) d))
 
 pub returns-in_ok-number-in-Call : goal.returns-in_ok-number-in-Call
 returns-in_ok-number-in-Call c = λ mentions d f.
-    rw (c.in-Call.is, c.ok_or-in-Call.ensures.value) (led-call c.args.bytes.now mentions c.in-Call.label
-    c.in_ok-number-in-Call.number
+    rw (c.in-Call.is, c.ok_or-in-Call.ensures.value)
+    (led-call c.args.bytes.now mentions c.in-Call.label c.in_ok-number-in-Call.number
     (c.in_ok-number-in-Call.ensures (footnoted c.args.bytes.now mentions) f))

@@ -1,5 +1,5 @@
--- A mention that is refused leads nowhere, and after one that passes all so far are resolved and numbered. The search
--- doesn't go from the numbers to what the mentions define: `Numbering` does.
+-- A mention that is refused leads nowhere, and after one that passes all so far are resolved and
+-- numbered. The search doesn't go from the numbers to what the mentions define: `Numbering` does.
 use Rattle.std.proofs.Common.{below_more, get_or, sym}
 use Rattle.md_tree.specs.Mentions.{mentions_among, IsResolved}
 use Rattle.md_tree.specs.Numbers.{leading_number}
@@ -8,9 +8,9 @@ use Rattle.md_tree.proofs.resolve.resolve.Goals as goal
 
 pub returns-in-Err-clause-refused : goal.returns-in-Err-clause-refused
 returns-in-Err-clause-refused c =
-    IsUnresolvedBy-at c.args.bytes.now c.args.mentions.now c.loop-mentioned.mentioned-index _ c.in-Err.rule
-    c.loop-mentioned-test.true
-    (rw c.in-Err.is at (c.in_ok-number.ensures (mentions_among c.args.mentions.now) c.in_ok-definitions.ensures
+    IsUnresolvedBy-at c.args.bytes.now c.args.mentions.now c.loop-mentioned.mentioned-index _
+    c.in-Err.rule c.loop-mentioned-test.true (rw c.in-Err.is at
+    (c.in_ok-number.ensures (mentions_among c.args.mentions.now) c.in_ok-definitions.ensures
     c.in_ok-footnotes.ensures.found))
 
 pub loop-mentioned-preserved : goal.loop-mentioned-preserved
@@ -18,12 +18,15 @@ loop-mentioned-preserved c =
     let bytes = c.args.bytes.now in
     let mentions = c.args.mentions.now in
     let index = c.loop-mentioned.mentioned-index in
-    let led = rw c.in-Ok.is at (c.in_ok-number.ensures (mentions_among mentions) c.in_ok-definitions.ensures
+    let led =
+    rw c.in-Ok.is at (c.in_ok-number.ensures (mentions_among mentions) c.in_ok-definitions.ensures
     c.in_ok-footnotes.ensures.found) in (
       λ k d below.
-          below_more (λ i. IsResolved bytes (mentions_among mentions) (get_or (mentions_among mentions) i d)) index
-          (λ i h. c.loop-mentioned.invariant.0 i d h)
+          below_more (λ i. IsResolved bytes (mentions_among mentions)
+          (get_or (mentions_among mentions) i d)) index (λ i h. c.loop-mentioned.invariant.0 i d h)
           (IsResolved-at bytes mentions index _ d c.loop-mentioned-test.true led.0) k below,
-      numbered-kept (leading_number bytes (mentions_among mentions)) mentions index c.loop-mentioned.facts.items _
-          c.loop-mentioned-test.true c.loop-mentioned.invariant.1 _ _ c.in-Ok.number (sym led.1) c.keep_number.ensures,
+      numbered-kept (leading_number bytes (mentions_among mentions)) mentions index
+          c.loop-mentioned.facts.items _
+          c.loop-mentioned-test.true c.loop-mentioned.invariant.1 _ _ c.in-Ok.number (sym led.1)
+          c.keep_number.ensures,
     )

@@ -1,5 +1,5 @@
--- At each turn: each mention before this one is resolved, and with the numbers of those from here on the facts are
--- those with all numbers.
+-- At each turn: each mention before this one is resolved, and with the numbers of those from here
+-- on the facts are those with all numbers.
 use Rattle.std.proofs.Common.{◌≡◌, ℕ, ◌<◌, get_or, drop}
 use Rattle.md_tree.specs.declared.mention.Mention.{Mention}
 use Rattle.md_tree.specs.Mentions.{mentions_among, IsResolved}
@@ -10,5 +10,6 @@ abbrev pub invariant-loop-mentioned : goal.invariant-loop-mentioned
 invariant-loop-mentioned l =
     ((k : ℕ) (d : Mention) → k < l.mentioned-index → IsResolved l.bytes (mentions_among l.mentions)
     (get_or (mentions_among l.mentions) k d))
-    × (numbered (leading_number l.bytes (mentions_among l.mentions)) (drop l.mentioned-index l.mentions) l.facts.items
+    × (numbered (leading_number l.bytes (mentions_among l.mentions))
+    (drop l.mentioned-index l.mentions) l.facts.items
     ≡ all_numbered l.bytes (mentions_among l.mentions) l.mentions l.fn.facts.items)

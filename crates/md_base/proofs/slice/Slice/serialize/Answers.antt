@@ -11,12 +11,13 @@ returns-in_default c =
 pub returns : goal.returns
 returns c =
     let slice = c.args.self.now in
-    let written : string_bytes c.push_spaces-2.new.text ≡ replicate slice.before 32 ++ c.in-Some.inner.now
-    ++ replicate slice.after 32 =
+    let written : string_bytes c.push_spaces-2.new.text
+    ≡ replicate slice.before 32 ++ c.in-Some.inner.now ++ replicate slice.after 32 =
     rw (
       c.in_ok-push_spaces-2.ensures,
       c.in_ok-push_str.ensures.bytes,
       c.in_ok-push_spaces.ensures,
       c.new-text.ensures.bytes,
     ) in
-    padded_some slice.before slice.after slice.bytes.now c.in-Some.inner.now _ c.in-Some.ensures written
+    padded_some slice.before slice.after slice.bytes.now c.in-Some.inner.now _
+    c.in-Some.ensures written

@@ -1,5 +1,6 @@
 -- What is told is what the check found.
-use Rattle.std.proofs.Common.{◌≡◌, ◌∷◌, ◌++◌, [], ℕ, List, Bool, true, false, not, Option, Some, None, refl, ap, sym, ◌∙◌}
+use Rattle.std.proofs.Common.{◌≡◌, ◌∷◌, ◌++◌, [], ℕ, List, Bool, true, false, not, Option, Some}
+use Rattle.std.proofs.Common.{None, refl, ap, sym, ◌∙◌}
 use Rattle.std.specs.Prelude.{codes, if◌then◌else◌, unwrap_or, ◌||◌}
 use Rattle.md_base.specs.declared.event.Name.TheVariants as names
 use Rattle.md_shape.specs.Steps as steps
@@ -23,7 +24,8 @@ returns-in_ok-enter_line-in-ListUnordered c =
       ended = None;
       marker = 38;
     } in
-    on_ok _ _ (λ e. enters-by code c.args.index c.args.name names.ListUnordered old c.turn_list.new.self
+    on_ok _ _
+    (λ e. enters-by code c.args.index c.args.name names.ListUnordered old c.turn_list.new.self
     c.in-ListUnordered.is (λ given one supplies there.
     e ∙ ap (λ s. loose s c.is_loose_at.result) c.in_ok-enter_line-in-ListUnordered.ensures
     ∙ ap (loose tagged) (c.is_loose_at.ensures one there))) c.turn_list.result c.turn_list.ensures
@@ -36,8 +38,8 @@ returns-in_ok-open_list-in-ListOrdered c =
       around = record s.around { is_contained = true; is_tight = not b };
       arounds = s.around ∷ s.arounds;
     } in
-    on_ok _ _ (λ e. enters-by code c.args.index c.args.name names.ListOrdered old c.turn_list-in-ListOrdered.new.self
-    c.in-ListOrdered.is (λ given one supplies there.
+    on_ok _ _ (λ e. enters-by code c.args.index c.args.name names.ListOrdered old
+    c.turn_list-in-ListOrdered.new.self c.in-ListOrdered.is (λ given one supplies there.
     let tagged : State = record old {
       text = laid_after code.ending.now old.text (on_own_line (codes "<ol")
           ++ (steps.list_opening given one.told ++ said (codes ">")));
@@ -58,24 +60,30 @@ returns-in-HeadingAtx c =
       ended = None;
       marker = 38;
     } in
-    on_ok _ _ (λ e. enters-by code c.args.index c.args.name names.HeadingAtx old c.enter_heading.new.self
+    on_ok _ _
+    (λ e. enters-by code c.args.index c.args.name names.HeadingAtx old c.enter_heading.new.self
     c.in-HeadingAtx.is (λ given one supplies there. e ∙ ap ranked (c.rank_at.ensures one there)))
     c.enter_heading.result c.enter_heading.ensures
 
 pub returns-in-CodeIndented : goal.returns-in-CodeIndented
 returns-in-CodeIndented c =
-    on_ok _ _ (λ e. enters-by c.args.given.now c.args.index c.args.name names.CodeIndented c.args.self.now c.enter_raw.new.self
+    on_ok _ _ (λ e. enters-by c.args.given.now c.args.index c.args.name names.CodeIndented
+    c.args.self.now c.enter_raw.new.self
     c.in-CodeIndented.is (λ given one supplies there. e)) c.enter_raw.result c.enter_raw.ensures
 
 pub returns-in-CodeFenced : goal.returns-in-CodeFenced
 returns-in-CodeFenced c =
-    on_ok _ _ (λ e. enters-by c.args.given.now c.args.index c.args.name names.CodeFenced c.args.self.now c.enter_raw-in-CodeFenced.new.self
-    c.in-CodeFenced.is (λ given one supplies there. e)) c.enter_raw-in-CodeFenced.result c.enter_raw-in-CodeFenced.ensures
+    on_ok _ _ (λ e. enters-by c.args.given.now c.args.index c.args.name names.CodeFenced
+    c.args.self.now c.enter_raw-in-CodeFenced.new.self
+    c.in-CodeFenced.is (λ given one supplies there. e)) c.enter_raw-in-CodeFenced.result
+    c.enter_raw-in-CodeFenced.ensures
 
 pub returns-in-MathFlow : goal.returns-in-MathFlow
 returns-in-MathFlow c =
-    on_ok _ _ (λ e. enters-by c.args.given.now c.args.index c.args.name names.MathFlow c.args.self.now c.enter_raw-in-MathFlow.new.self
-    c.in-MathFlow.is (λ given one supplies there. e)) c.enter_raw-in-MathFlow.result c.enter_raw-in-MathFlow.ensures
+    on_ok _ _ (λ e. enters-by c.args.given.now c.args.index c.args.name names.MathFlow
+    c.args.self.now c.enter_raw-in-MathFlow.new.self
+    c.in-MathFlow.is (λ given one supplies there. e)) c.enter_raw-in-MathFlow.result
+    c.enter_raw-in-MathFlow.ensures
 
 pub returns-in_ok-enter_line-in-GfmTable : goal.returns-in_ok-enter_line-in-GfmTable
 returns-in_ok-enter_line-in-GfmTable c =

@@ -1,5 +1,6 @@
 -- What is told is what the check found.
-use Rattle.std.proofs.Common.{◌≡◌, ◌∷◌, ◌++◌, [], ℕ, List, Bool, true, false, not, Option, Some, None, refl, ap, sym, ◌∙◌}
+use Rattle.std.proofs.Common.{◌≡◌, ◌∷◌, ◌++◌, [], ℕ, List, Bool, true, false, not, Option, Some}
+use Rattle.std.proofs.Common.{None, refl, ap, sym, ◌∙◌}
 use Rattle.std.specs.Prelude.{codes, if◌then◌else◌, unwrap_or, ◌||◌, ◌&&◌}
 use Rattle.md_base.specs.declared.event.Name.TheVariants as names
 use Rattle.md_shape.specs.Steps as steps
@@ -20,7 +21,8 @@ returns-in-LineEnding c =
       ended = Some names.LineEnding;
       marker = 38;
     } in
-    on_ok _ _ (λ e. leaves-by code c.args.index c.args.name names.LineEnding old c.leave_line_ending.new.self
+    on_ok _ _
+    (λ e. leaves-by code c.args.index c.args.name names.LineEnding old c.leave_line_ending.new.self
     c.in-LineEnding.is (λ given one supplies there.
     e code.ending.now ∙ ap after (c.text_left_at-in-LineEnding.ensures one there
     ∙ ap (λ bytes. text_in bytes one.told.place) (sym supplies.bytes))))
@@ -28,9 +30,11 @@ returns-in-LineEnding c =
 
 pub returns-in-ListItem : goal.returns-in-ListItem
 returns-in-ListItem c =
-    on_ok _ _ (λ e. leaves-by c.args.given.now c.args.index c.args.name names.ListItem c.args.self.now
+    on_ok _ _
+    (λ e. leaves-by c.args.given.now c.args.index c.args.name names.ListItem c.args.self.now
     c.leave_item.new.self c.in-ListItem.is (λ given one supplies there.
-    e one.told (sym (c.contributing_left_at.ensures one there)))) c.leave_item.result c.leave_item.ensures
+    e one.told (sym (c.contributing_left_at.ensures one there)))) c.leave_item.result
+    c.leave_item.ensures
 
 pub returns-in-Strong : goal.returns-in-Strong
 returns-in-Strong c =

@@ -1,5 +1,6 @@
 -- What is told is what the check found.
-use Rattle.std.proofs.Common.{◌≡◌, ◌∷◌, ◌++◌, [], ℕ, List, Bool, true, false, not, Option, Some, None, refl, ap, sym, ◌∙◌}
+use Rattle.std.proofs.Common.{◌≡◌, ◌∷◌, ◌++◌, [], ℕ, List, Bool, true, false, not, Option, Some}
+use Rattle.std.proofs.Common.{None, refl, ap, sym, ◌∙◌}
 use Rattle.std.specs.Prelude.{codes, if◌then◌else◌, unwrap_or, ◌||◌}
 use Rattle.md_base.specs.declared.event.Name.TheVariants as names
 use Rattle.md_shape.specs.Steps as steps
@@ -19,8 +20,10 @@ returns-in-BlankLineEnding c =
       ended = Some names.BlankLineEnding;
       marker = 38;
     } in
-    on_ok _ _ (λ e. leaves-by code c.args.index c.args.name names.BlankLineEnding old c.leave_blank.new.self
-    c.in-BlankLineEnding.is (λ given one supplies there. e ∙ ap last (c.is_last_at.ensures one there)))
+    on_ok _ _
+    (λ e. leaves-by code c.args.index c.args.name names.BlankLineEnding old c.leave_blank.new.self
+    c.in-BlankLineEnding.is
+    (λ given one supplies there. e ∙ ap last (c.is_last_at.ensures one there)))
     c.leave_blank.result c.leave_blank.ensures
 
 pub returns-in-BlockQuote : goal.returns-in-BlockQuote
@@ -37,8 +40,9 @@ returns-in-HeadingAtx c =
       ended = Some names.HeadingAtx;
       marker = 38;
     } in
-    on_ok _ _ (λ e. leaves-by c.args.given.now c.args.index c.args.name names.HeadingAtx old c.leave_heading.new.self
-    c.in-HeadingAtx.is (λ given one supplies there. e ∙ ap ranked (c.rank_left_at.ensures one there)))
+    on_ok _ _ (λ e. leaves-by c.args.given.now c.args.index c.args.name names.HeadingAtx old
+    c.leave_heading.new.self c.in-HeadingAtx.is
+    (λ given one supplies there. e ∙ ap ranked (c.rank_left_at.ensures one there)))
     c.leave_heading.result c.leave_heading.ensures
 
 pub returns-in-GfmTable : goal.returns-in-GfmTable
@@ -49,8 +53,10 @@ returns-in-GfmTable c =
       ended = Some names.GfmTable;
       marker = 38;
     } in
-    on_ok _ _ (λ e. leaves-by code c.args.index c.args.name names.GfmTable c.args.self.now c.leave_line-in-GfmTable.new.self
-    c.in-GfmTable.is (λ given one supplies there. e ∙ ap tagged c.turn_back.ensures)) c.leave_line-in-GfmTable.result c.leave_line-in-GfmTable.ensures
+    on_ok _ _ (λ e. leaves-by code c.args.index c.args.name names.GfmTable c.args.self.now
+    c.leave_line-in-GfmTable.new.self
+    c.in-GfmTable.is (λ given one supplies there. e ∙ ap tagged c.turn_back.ensures))
+    c.leave_line-in-GfmTable.result c.leave_line-in-GfmTable.ensures
 
 pub returns-in-GfmTableHead : goal.returns-in-GfmTableHead
 returns-in-GfmTableHead c =
@@ -60,11 +66,14 @@ returns-in-GfmTableHead c =
       ended = Some names.GfmTableHead;
       marker = 38;
     } in
-    on_ok _ _ (λ e. leaves-by code c.args.index c.args.name names.GfmTableHead c.args.self.now c.leave_line-in-GfmTableHead.new.self
-    c.in-GfmTableHead.is (λ given one supplies there. e ∙ ap tagged c.turn_back-in-GfmTableHead.ensures)) c.leave_line-in-GfmTableHead.result c.leave_line-in-GfmTableHead.ensures
+    on_ok _ _ (λ e. leaves-by code c.args.index c.args.name names.GfmTableHead c.args.self.now
+    c.leave_line-in-GfmTableHead.new.self c.in-GfmTableHead.is
+    (λ given one supplies there. e ∙ ap tagged c.turn_back-in-GfmTableHead.ensures))
+    c.leave_line-in-GfmTableHead.result c.leave_line-in-GfmTableHead.ensures
 
 pub returns-in-GfmTableBody : goal.returns-in-GfmTableBody
 returns-in-GfmTableBody c =
-    on_ok _ _ (λ e. leaves-by c.args.given.now c.args.index c.args.name names.GfmTableBody c.args.self.now
+    on_ok _ _
+    (λ e. leaves-by c.args.given.now c.args.index c.args.name names.GfmTableBody c.args.self.now
     c.leave_line-in-GfmTableBody.new.self c.in-GfmTableBody.is (λ given one supplies there. e))
     c.leave_line-in-GfmTableBody.result c.leave_line-in-GfmTableBody.ensures

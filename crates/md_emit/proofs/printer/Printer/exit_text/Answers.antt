@@ -1,5 +1,6 @@
 -- The clause of the call.
-use Rattle.std.proofs.Common.{◌≡◌, ◌∷◌, ◌++◌, [], ℕ, List, Bool, true, false, not, Option, Some, None, refl, ap, sym, ◌∙◌}
+use Rattle.std.proofs.Common.{◌≡◌, ◌∷◌, ◌++◌, [], ℕ, List, Bool, true, false, not, Option, Some}
+use Rattle.std.proofs.Common.{None, refl, ap, sym, ◌∙◌}
 use Rattle.std.specs.Prelude.{codes, if◌then◌else◌, unwrap_or, ◌||◌}
 use Rattle.md_base.specs.declared.event.Name.TheVariants as names
 use Rattle.md_shape.specs.Steps as steps
@@ -10,5 +11,6 @@ use Rattle.md_emit.proofs.printer.Printer.exit_text.Goals as goal
 pub returns-in-GfmTaskListItemValueChecked : goal.returns-in-GfmTaskListItemValueChecked
 returns-in-GfmTaskListItemValueChecked c =
     on_ok _ _ (λ e given one supplies there. e given.ending
-    ∙ ap (λ n. steps.exited given one.told n c.args.self.now) (sym c.in-GfmTaskListItemValueChecked.is))
-    c.leave_span-in-GfmTaskListItemValueChecked.result c.leave_span-in-GfmTaskListItemValueChecked.ensures
+    ∙ ap (λ n. steps.exited given one.told n c.args.self.now)
+    (sym c.in-GfmTaskListItemValueChecked.is)) c.leave_span-in-GfmTaskListItemValueChecked.result
+    c.leave_span-in-GfmTaskListItemValueChecked.ensures

@@ -1,5 +1,6 @@
 -- The section comes after the text.
-use Rattle.std.proofs.Common.{◌≡◌, ◌∷◌, ◌++◌, [], ℕ, List, Bool, true, false, not, Option, Some, None, refl, ap, sym, ◌∙◌}
+use Rattle.std.proofs.Common.{◌≡◌, ◌∷◌, ◌++◌, [], ℕ, List, Bool, true, false, not, Option, Some}
+use Rattle.std.proofs.Common.{None, refl, ap, sym, ◌∙◌}
 use Rattle.std.specs.Prelude.{codes, if◌then◌else◌, unwrap_or, ◌||◌, ◌&&◌}
 use Rattle.md_shape.specs.Steps as steps
 use Rattle.md_shape.specs.Steps.{State, Told}
@@ -14,11 +15,14 @@ pub returns : goal.returns
 returns c = λ given options-same ending-same calls-same.
     let all = c.args.self in
     let text : List ℕ → List ℕ → CompileOptions → List (List ℕ) → List Footnote → List ℕ =
-    λ ending before options calls footnotes. laid_after ending before (section (given_by options calls) footnotes) in
+    λ ending before options calls footnotes.
+    laid_after ending before (section (given_by options calls) footnotes) in
     c.in_ok-push_section.ensures
-    ∙ ap (λ t. text c.args.ending.now t c.args.options.now c.self.inside.footnotes.calls c.self.inside.footnotes.footnotes)
+    ∙ ap (λ t. text c.args.ending.now t c.args.options.now c.self.inside.footnotes.calls
+    c.self.inside.footnotes.footnotes)
     (c.in_ok-text.ensures ∙ ap (λ (s : State). s.text) c.self.view_is)
-    ∙ ap (λ (s : State). text c.args.ending.now all.text c.args.options.now s.calls s.footnotes) c.self.view_is
+    ∙ ap (λ (s : State). text c.args.ending.now all.text c.args.options.now s.calls s.footnotes)
+    c.self.view_is
     ∙ ap (λ e. text e all.text c.args.options.now all.calls all.footnotes) (sym ending-same)
     ∙ ap (λ o. text given.ending all.text o all.calls all.footnotes) (sym options-same)
     ∙ ap (λ l. text given.ending all.text given.options l all.footnotes) (sym calls-same)

@@ -1,5 +1,6 @@
 -- The text that is told.
-use Rattle.std.proofs.Common.{◌≡◌, ◌∷◌, ◌++◌, [], ℕ, List, Bool, true, false, not, Option, Some, None, refl, ap, sym, ◌∙◌}
+use Rattle.std.proofs.Common.{◌≡◌, ◌∷◌, ◌++◌, [], ℕ, List, Bool, true, false, not, Option, Some}
+use Rattle.std.proofs.Common.{None, refl, ap, sym, ◌∙◌}
 use Rattle.std.specs.Prelude.{codes, if◌then◌else◌, unwrap_or, ◌||◌}
 use Rattle.md_shape.specs.Steps as steps
 use Rattle.md_shape.specs.Steps.{State, Told}
@@ -16,7 +17,8 @@ pub returns : goal.returns
 returns c =
     let old = c.args.self.now in
     let link : CompileOptions → List ℕ → List Piece = λ options text.
-    anchor options (record { destination = c.args.prefix.now ++ text; title = None }) (encoded true text) in
+    anchor options (record { destination = c.args.prefix.now ++ text; title = None })
+    (encoded true text) in
     on_ok _ _ (λ e all one supplies there.
     let after : List Piece → State = λ pieces. record old {
       text = laid_after all.ending old.text pieces;
@@ -26,10 +28,11 @@ returns c =
     let text = text_in all.bytes one.told.place in
     e all.ending
     ∙ ap (λ (s : State). record s {
-      text = laid_after all.ending s.text (link c.args.given.now.options.now c.text_left_at-text.result.now);
+      text = laid_after all.ending s.text
+          (link c.args.given.now.options.now c.text_left_at-text.result.now);
     }) c.ends.ensures
     ∙ ap (λ t. after (link c.args.given.now.options.now t)) (c.text_left_at-text.ensures one there
     ∙ ap (λ bytes. text_in bytes one.told.place) (sym supplies.bytes))
     ∙ ap (λ o. after (link o text)) (sym supplies.options)
-    ∙ ap (λ b. after (if b then said (encoded true text) else link all.options text)) (sym c.if-plain.false))
-    c.put_anchor.result c.put_anchor.ensures
+    ∙ ap (λ b. after (if b then said (encoded true text) else link all.options text))
+    (sym c.if-plain.false)) c.put_anchor.result c.put_anchor.ensures

@@ -1,5 +1,6 @@
 -- It is counted under the identifier that is told.
-use Rattle.std.proofs.Common.{◌≡◌, ◌∷◌, ◌++◌, [], ℕ, List, Bool, true, false, not, Option, Some, None, refl, ap, sym, ◌∙◌}
+use Rattle.std.proofs.Common.{◌≡◌, ◌∷◌, ◌++◌, [], ℕ, List, Bool, true, false, not, Option, Some}
+use Rattle.std.proofs.Common.{None, refl, ap, sym, ◌∙◌}
 use Rattle.std.specs.Prelude.{codes, if◌then◌else◌, unwrap_or, ◌||◌, string_bytes}
 use Rattle.md_base.specs.declared.event.Name.TheVariants as names
 use Rattle.md_shape.specs.Steps as steps
@@ -23,9 +24,10 @@ returns c =
       text = laid_after code.ending.now s.text (when (not s.around.in_image)
           (steps.call_pieces options s.calls identifier));
     } in
-    let counted : State → List ℕ → State = λ s identifier. record s { calls = s.calls ++ identifier ∷ [] } in
-    on_ok _ _ (λ e. leaves-by code c.args.index names.GfmFootnoteCall names.GfmFootnoteCall old c.count_call.new.self refl
-    (λ given one supplies there.
+    let counted : State → List ℕ → State =
+    λ s identifier. record s { calls = s.calls ++ identifier ∷ [] } in
+    on_ok _ _ (λ e. leaves-by code c.args.index names.GfmFootnoteCall names.GfmFootnoteCall old
+    c.count_call.new.self refl (λ given one supplies there.
     let identifier = one.told.identifier in
     let own = string_bytes c.in_ok-identifier.identifier in
     e ∙ ap (λ s. counted s own) (c.in_ok-put_call.ensures code.ending.now

@@ -1,5 +1,6 @@
 -- The line that is told.
-use Rattle.std.proofs.Common.{◌≡◌, ◌∷◌, ◌++◌, [], ℕ, List, Bool, true, false, not, Option, Some, None, refl, ap, sym, ◌∙◌}
+use Rattle.std.proofs.Common.{◌≡◌, ◌∷◌, ◌++◌, [], ℕ, List, Bool, true, false, not, Option, Some}
+use Rattle.std.proofs.Common.{None, refl, ap, sym, ◌∙◌}
 use Rattle.std.specs.Prelude.{codes, if◌then◌else◌, unwrap_or, ◌||◌}
 use Rattle.md_shape.specs.Steps as steps
 use Rattle.md_shape.specs.Steps.{State, Told}

@@ -1,5 +1,6 @@
 -- The code, and its tag outside images.
-use Rattle.std.proofs.Common.{◌≡◌, ◌∷◌, ◌++◌, [], ℕ, List, Bool, true, false, not, Option, Some, None, refl, ap, sym, ◌∙◌}
+use Rattle.std.proofs.Common.{◌≡◌, ◌∷◌, ◌++◌, [], ℕ, List, Bool, true, false, not, Option, Some}
+use Rattle.std.proofs.Common.{None, refl, ap, sym, ◌∙◌}
 use Rattle.std.specs.Prelude.{codes, if◌then◌else◌, unwrap_or, ◌||◌, ◌&&◌}
 use Rattle.md_base.specs.declared.event.Name.TheVariants as names
 use Rattle.md_shape.specs.Steps as steps
@@ -19,9 +20,11 @@ returns c =
       marker = 38;
     } in
     let came : c.ends.new.self ≡ left =
-    c.ends.ensures ∙ ap (λ (s : State). record s { ended = Some c.args.name; marker = 38 }) c.turn_back.ensures in
+    c.ends.ensures
+    ∙ ap (λ (s : State). record s { ended = Some c.args.name; marker = 38 }) c.turn_back.ensures in
     let coded : State → State = λ s. record s {
-      text = steps.first_or [] s.below ++ trimmed (if s.around.in_table then without_escapes s.text else s.text);
+      text = steps.first_or [] s.below
+          ++ trimmed (if s.around.in_table then without_escapes s.text else s.text);
       below = steps.others_of s.below;
     } in
     on_ok _ _ (λ e ending. e ending

@@ -1,5 +1,6 @@
 -- It is kept under the identifier that is told.
-use Rattle.std.proofs.Common.{◌≡◌, ◌∷◌, ◌++◌, [], ℕ, List, Bool, true, false, not, Option, Some, None, refl, ap, sym, ◌∙◌}
+use Rattle.std.proofs.Common.{◌≡◌, ◌∷◌, ◌++◌, [], ℕ, List, Bool, true, false, not, Option, Some}
+use Rattle.std.proofs.Common.{None, refl, ap, sym, ◌∙◌}
 use Rattle.std.specs.Prelude.{codes, if◌then◌else◌, unwrap_or, ◌||◌, string_bytes}
 use Rattle.md_base.specs.declared.event.Name.TheVariants as names
 use Rattle.md_shape.specs.Steps as steps
@@ -18,18 +19,22 @@ returns c =
       marker = 38;
     } in
     let came : c.ends.new.self ≡ back =
-    c.ends.ensures ∙ ap (λ (s : State). record s { ended = Some names.GfmFootnoteDefinition; marker = 38 })
+    c.ends.ensures
+    ∙ ap (λ (s : State). record s { ended = Some names.GfmFootnoteDefinition; marker = 38 })
     c.turn_back.ensures in
-    let left : State = record back { text = steps.first_or [] old.below; below = steps.others_of old.below } in
+    let left : State =
+    record back { text = steps.first_or [] old.below; below = steps.others_of old.below } in
     let noting : State → List ℕ → List ℕ → State = λ s identifier text. record s {
       footnotes = steps.noted s.footnotes (record { identifier = identifier; text = text });
     } in
     let own = string_bytes c.in_ok-identifier.identifier in
     let inner = string_bytes c.in_ok-text.text in
-    on_ok _ _ (λ e. leaves-by code c.args.index names.GfmFootnoteDefinition names.GfmFootnoteDefinition old
+    on_ok _ _
+    (λ e. leaves-by code c.args.index names.GfmFootnoteDefinition names.GfmFootnoteDefinition old
     c.note_footnote.new.self refl (λ given one supplies there.
-    e ∙ ap (λ s. noting s own inner) (c.in_ok-text.ensures.left
-    ∙ ap (λ (s : State). record s { text = steps.first_or [] s.below; below = steps.others_of s.below }) came)
+    e ∙ ap (λ s. noting s own inner) (c.in_ok-text.ensures.left ∙ ap (λ (s : State).
+    record s { text = steps.first_or [] s.below; below = steps.others_of s.below }) came)
     ∙ ap (λ i. noting left i inner) (c.in_ok-identifier.ensures one there)
-    ∙ ap (λ t. noting left one.told.identifier t) (c.in_ok-text.ensures.text ∙ ap (λ (s : State). s.text) came)))
+    ∙ ap (λ t. noting left one.told.identifier t)
+    (c.in_ok-text.ensures.text ∙ ap (λ (s : State). s.text) came)))
     c.note_footnote.result c.note_footnote.ensures

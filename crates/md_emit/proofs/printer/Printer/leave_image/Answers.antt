@@ -1,5 +1,6 @@
 -- It leads where its resource says, or its definition.
-use Rattle.std.proofs.Common.{◌≡◌, ◌∷◌, ◌++◌, [], ℕ, List, Bool, true, false, not, Option, Some, None, refl, ap, sym, ◌∙◌}
+use Rattle.std.proofs.Common.{◌≡◌, ◌∷◌, ◌++◌, [], ℕ, List, Bool, true, false, not, Option, Some}
+use Rattle.std.proofs.Common.{None, refl, ap, sym, ◌∙◌}
 use Rattle.std.specs.Prelude.{codes, if◌then◌else◌, unwrap_or, ◌||◌}
 use Rattle.md_base.specs.declared.event.Name.TheVariants as names
 use Rattle.md_shape.specs.Steps as steps
@@ -26,21 +27,26 @@ returns c =
       marker = 38;
     } in
     let came : c.ends.new.self ≡ left =
-    c.ends.ensures ∙ ap (λ (s : State). record s { ended = Some names.Image; marker = 38 }) c.turn_back.ensures in
+    c.ends.ensures
+    ∙ ap (λ (s : State). record s { ended = Some names.Image; marker = 38 }) c.turn_back.ensures in
     let printed : State → CompileOptions → Target → State = λ s options target. record s {
-      text = steps.first_or [] s.below ++ (picture_head options target.destination ++ (s.text ++ picture_tail target.title));
+      text = steps.first_or [] s.below
+          ++ (picture_head options target.destination ++ (s.text ++ picture_tail target.title));
       below = steps.others_of s.below;
     } in
     let laid : List ℕ → State = λ t. record left { text = t; below = steps.others_of old.below } in
     let shown : around.in_image ≡ false =
-    sym (ap (λ (s : State). s.around.in_image) came) ∙ sym c.is_in_image-is_text_alone.ensures ∙ c.if-is_text_alone.false in
-    on_ok _ _ (λ e. leaves-by code c.args.index names.Image names.Image old c.put_picture.new.self refl
+    sym (ap (λ (s : State). s.around.in_image) came) ∙ sym c.is_in_image-is_text_alone.ensures
+    ∙ c.if-is_text_alone.false in
+    on_ok _ _
+    (λ e. leaves-by code c.args.index names.Image names.Image old c.put_picture.new.self refl
     (λ given one supplies there.
     let target = steps.leads given left one.told in
     let pieces = picture given.options target old.text in
-    e ∙ ap (λ t. printed c.ends.new.self code.options.now t) (c.in_ok-found.ensures given one supplies there)
+    e ∙ ap (λ t. printed c.ends.new.self code.options.now t)
+    (c.in_ok-found.ensures given one supplies there)
     ∙ ap (λ s. printed s code.options.now (steps.leads given s one.told)) came
     ∙ ap (λ o. printed left o target) (sym supplies.options)
     ∙ ap laid (sym (picture-laid code.ending.now under given.options target old.text))
-    ∙ ap (λ b. laid (laid_after code.ending.now under (if b then said old.text else pieces))) (sym shown)))
-    c.put_picture.result c.put_picture.ensures
+    ∙ ap (λ b. laid (laid_after code.ending.now under (if b then said old.text else pieces)))
+    (sym shown))) c.put_picture.result c.put_picture.ensures

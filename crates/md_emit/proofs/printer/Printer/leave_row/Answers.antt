@@ -1,5 +1,6 @@
 -- The tag comes after the empty cells.
-use Rattle.std.proofs.Common.{◌≡◌, ◌∷◌, ◌++◌, [], ℕ, List, Bool, true, false, not, Option, Some, None, refl, ap, sym, ◌∙◌}
+use Rattle.std.proofs.Common.{◌≡◌, ◌∷◌, ◌++◌, [], ℕ, List, Bool, true, false, not, Option, Some}
+use Rattle.std.proofs.Common.{None, refl, ap, sym, ◌∙◌}
 use Rattle.std.specs.Prelude.{codes, if◌then◌else◌, unwrap_or, ◌||◌, ◌&&◌}
 use Rattle.md_base.specs.declared.event.Name.TheVariants as names
 use Rattle.md_shape.specs.Steps as steps
@@ -17,11 +18,14 @@ returns c =
     let old = c.args.self.now in
     let ending = c.args.ending.now in
     let cells = flat_map (cell_of old.around.in_head []) (drop old.cells old.around.columns) in
-    let left : List ℕ → State = λ t. record old { text = t; ended = Some names.GfmTableRow; marker = 38 } in
+    let left : List ℕ → State =
+    λ t. record old { text = t; ended = Some names.GfmTableRow; marker = 38 } in
     on_ok _ _ (λ e.
-    e ∙ ap (λ (s : State). record s { text = laid_after ending s.text (on_own_line (codes "</tr>")) })
+    e
+    ∙ ap (λ (s : State). record s { text = laid_after ending s.text (on_own_line (codes "</tr>")) })
     (c.in_ok-put_empty_cells.ensures ∙ ap (λ (s : State). record s {
-      text = laid_after ending s.text (flat_map (cell_of s.around.in_head []) (drop s.cells s.around.columns));
+      text = laid_after ending s.text
+          (flat_map (cell_of s.around.in_head []) (drop s.cells s.around.columns));
     }) c.ends.ensures)
     ∙ ap left (sym (laid-append ending old.text cells (on_own_line (codes "</tr>")))))
     c.line.result c.line.ensures

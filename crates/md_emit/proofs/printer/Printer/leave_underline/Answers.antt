@@ -1,5 +1,6 @@
 -- The underline that is told.
-use Rattle.std.proofs.Common.{◌≡◌, ◌∷◌, ◌++◌, [], ℕ, List, Bool, true, false, not, Option, Some, None, refl, ap, sym, ◌∙◌}
+use Rattle.std.proofs.Common.{◌≡◌, ◌∷◌, ◌++◌, [], ℕ, List, Bool, true, false, not, Option, Some}
+use Rattle.std.proofs.Common.{None, refl, ap, sym, ◌∙◌}
 use Rattle.std.specs.Prelude.{codes, if◌then◌else◌, unwrap_or, ◌||◌}
 use Rattle.md_base.specs.declared.event.Name.TheVariants as names
 use Rattle.md_shape.specs.Steps as steps
@@ -17,14 +18,17 @@ returns c =
     let code = c.args.given.now in
     let place = c.place_left_at-place.result in
     let heading : State → Bool → State = λ s dashed. record s {
-      text = laid_after code.ending.now s.text (on_own_line (heading_tag (codes "<h") (if dashed then 2 else 1))
+      text = laid_after code.ending.now s.text
+          (on_own_line (heading_tag (codes "<h") (if dashed then 2 else 1))
           ++ (said s.heading ++ said (heading_tag (codes "</h") (if dashed then 2 else 1))));
     } in
-    let ended : State = record old { ended = Some names.HeadingSetextUnderlineSequence; marker = 38 } in
+    let ended : State =
+    record old { ended = Some names.HeadingSetextUnderlineSequence; marker = 38 } in
     on_ok _ _ (λ e. leaves-by code c.args.index names.HeadingSetextUnderlineSequence
     names.HeadingSetextUnderlineSequence old c.put_setext.new.self refl (λ given one supplies there.
     e ∙ ap (λ s. heading s c.is_dash_at.result) c.ends.ensures
     ∙ ap (heading ended) (c.is_dash_at.ensures
     ∙ ap (λ bytes. is_at 45 bytes place.start.index) (c.bytes.ensures ∙ sym supplies.bytes)
-    ∙ ap (λ (p : Position). is_at 45 given.bytes p.start.index) (c.place_left_at-place.ensures one there))))
+    ∙ ap (λ (p : Position). is_at 45 given.bytes p.start.index)
+    (c.place_left_at-place.ensures one there))))
     c.put_setext.result c.put_setext.ensures

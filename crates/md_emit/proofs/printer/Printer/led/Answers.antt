@@ -1,5 +1,6 @@
 -- What is looked up is what is found by the identifier.
-use Rattle.std.proofs.Common.{◌≡◌, ◌∷◌, ◌++◌, [], ℕ, List, Bool, true, false, not, Option, Some, None, refl, ap, sym, ◌∙◌}
+use Rattle.std.proofs.Common.{◌≡◌, ◌∷◌, ◌++◌, [], ℕ, List, Bool, true, false, not, Option, Some}
+use Rattle.std.proofs.Common.{None, refl, ap, sym, ◌∙◌}
 use Rattle.std.specs.Prelude.{codes, if◌then◌else◌, unwrap_or, ◌||◌}
 use Rattle.md_shape.specs.Steps as steps
 use Rattle.md_shape.specs.Steps.{State, Told}
@@ -7,5 +8,5 @@ use Rattle.md_emit.proofs.printer.Printer.led.Goals as goal
 
 pub returns : goal.returns
 returns c = λ all one supplies there.
-    ap (λ t. unwrap_or c.args.self.now.resource t)
-    (c.target_of.ensures ∙ supplies.finds c.args.index one c.in_ok-place.place there c.in_ok-place.ensures)
+    ap (λ t. unwrap_or c.args.self.now.resource t) (c.target_of.ensures
+    ∙ supplies.finds c.args.index one c.in_ok-place.place there c.in_ok-place.ensures)

@@ -16,7 +16,9 @@ returns c =
     let tag = if old.around.in_head then codes "<th" else codes "<td" in
     let here = laid_after ending old.text (Needed ∷ []) in
     on_ok _ _ (λ e.
-    e ∙ ap (λ tag. record old { text = laid_after ending old.text (on_own_line tag) }) (c.cell_start-tag.ensures
+    e ∙ ap (λ tag. record old { text = laid_after ending old.text (on_own_line tag) })
+    (c.cell_start-tag.ensures
     ∙ ap (λ (s : State). cell_start s.around.in_head c.args.kind) c.self.view_is)
-    ∙ ap (λ text. record old { text = text }) (started here tag (align_attribute c.args.kind) (codes ">")))
+    ∙ ap (λ text. record old { text = text })
+    (started here tag (align_attribute c.args.kind) (codes ">")))
     c.line.result c.line.ensures

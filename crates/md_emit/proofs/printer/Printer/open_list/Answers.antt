@@ -1,5 +1,6 @@
 -- The tag with the number in it.
-use Rattle.std.proofs.Common.{◌≡◌, ◌∷◌, ◌++◌, [], ℕ, List, Bool, true, false, not, Option, Some, None, refl, ap, sym, ◌∙◌}
+use Rattle.std.proofs.Common.{◌≡◌, ◌∷◌, ◌++◌, [], ℕ, List, Bool, true, false, not, Option, Some}
+use Rattle.std.proofs.Common.{None, refl, ap, sym, ◌∙◌}
 use Rattle.std.specs.Prelude.{codes, if◌then◌else◌, unwrap_or, ◌||◌}
 use Rattle.md_shape.specs.Steps as steps
 use Rattle.md_shape.specs.Steps.{State, Told}
@@ -16,7 +17,9 @@ returns c =
     let entered : List ℕ → State = λ t. record old { text = t; ended = None; marker = 38 } in
     on_ok _ _ (λ e all one supplies there.
     let more = steps.list_opening all one.told in
-    e ∙ ap (λ (s : State). record s { text = s.text ++ codes ">" }) (c.in_ok-open_start.ensures all one supplies there ending
-    ∙ ap (λ (s : State). record s { text = laid_after ending s.text more }) c.in_ok-enter_line.ensures)
+    e ∙ ap (λ (s : State). record s { text = s.text ++ codes ">" })
+    (c.in_ok-open_start.ensures all one supplies there ending
+    ∙ ap (λ (s : State). record s { text = laid_after ending s.text more })
+    c.in_ok-enter_line.ensures)
     ∙ ap entered (sym (laid-append ending tag more (said (codes ">")))))
     c.put.result c.put.ensures

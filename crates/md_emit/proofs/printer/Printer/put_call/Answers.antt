@@ -1,5 +1,6 @@
 -- Outside images it is shown.
-use Rattle.std.proofs.Common.{◌≡◌, ◌∷◌, ◌++◌, [], ℕ, List, Bool, true, false, not, Option, Some, None, refl, ap, sym, ◌∙◌}
+use Rattle.std.proofs.Common.{◌≡◌, ◌∷◌, ◌++◌, [], ℕ, List, Bool, true, false, not, Option, Some}
+use Rattle.std.proofs.Common.{None, refl, ap, sym, ◌∙◌}
 use Rattle.std.specs.Prelude.{codes, if◌then◌else◌, unwrap_or, ◌||◌, ◌&&◌}
 use Rattle.md_shape.specs.Steps as steps
 use Rattle.md_shape.specs.Steps.{State, Told}
@@ -11,6 +12,7 @@ pub returns : goal.returns
 returns c =
     let old = c.args.self.now in
     let pieces = steps.call_pieces c.args.options.now old.calls c.args.identifier.now in
-    on_ok _ _ (λ e ending. e ∙ ap (λ b. record old { text = laid_after ending old.text (when (not b) pieces) })
+    on_ok _ _ (λ e ending. e
+    ∙ ap (λ b. record old { text = laid_after ending old.text (when (not b) pieces) })
     (sym (sym c.is_in_image-is_hidden.ensures ∙ c.if-is_hidden.false)))
     c.put_shown_call.result c.put_shown_call.ensures

@@ -17,7 +17,9 @@ returns c =
     let end = if old.around.in_head then codes "</th>" else codes "</td>" in
     let here = laid_after ending old.text (Needed ∷ []) in
     on_ok _ _ (λ e.
-    e ∙ ap (λ tag. record old { text = laid_after ending old.text (on_own_line tag) }) (c.empty_cell-cell.ensures
+    e ∙ ap (λ tag. record old { text = laid_after ending old.text (on_own_line tag) })
+    (c.empty_cell-cell.ensures
     ∙ ap (λ (s : State). empty_cell s.around.in_head c.args.kind) c.self.view_is)
-    ∙ ap (λ text. record old { text = text }) (emptied here tag (align_attribute c.args.kind) (codes ">") end))
+    ∙ ap (λ text. record old { text = text })
+    (emptied here tag (align_attribute c.args.kind) (codes ">") end))
     c.line.result c.line.ensures

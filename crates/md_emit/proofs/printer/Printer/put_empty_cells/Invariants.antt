@@ -9,10 +9,12 @@ use Rattle.md_emit.proofs.printer.Printer.put_empty_cells.Given as goal
 abbrev pub invariant-loop-kind : goal.invariant-loop-kind
 invariant-loop-kind l =
     record l.self {
-      text = laid_after l.fn.ending l.self.text (flat_map (cell_of l.self.around.in_head []) l.rest);
+      text =
+          laid_after l.fn.ending l.self.text (flat_map (cell_of l.self.around.in_head []) l.rest);
     }
     ≡ record l.initial.self {
-      text = laid_after l.fn.ending l.initial.self.text (flat_map (cell_of l.initial.self.around.in_head []) l.initial.rest);
+      text = laid_after l.fn.ending l.initial.self.text
+          (flat_map (cell_of l.initial.self.around.in_head []) l.initial.rest);
     }
 
 abbrev pub decreases-loop-kind : goal.decreases-loop-kind

@@ -1,6 +1,7 @@
--- What stands at an index of the entries is what stands there among the distinct identifiers, with its count.
--- By itself the search does no induction over the entries.
-use Rattle.std.proofs.Common.{◌≡◌, ℕ, ◌+◌, suc, List, String, Global, Some, length, refl, ap, sym, ◌∙◌, arith, string_bytes}
+-- What stands at an index of the entries is what stands there among the distinct identifiers, with
+-- its count. By itself the search does no induction over the entries.
+use Rattle.std.proofs.Common.{◌≡◌, ℕ, ◌+◌, suc, List, String, Global, Some, length, refl, ap, sym}
+use Rattle.std.proofs.Common.{◌∙◌, arith, string_bytes}
 use Rattle.std.specs.Prelude.{slice_get}
 use Rattle.std.proofs.lemmas.Option.{slice_get_read}
 use Rattle.md_meaning.specs.Meaning.Footnotes.{distinct, count_of, place_among}
@@ -17,7 +18,8 @@ returns-clause-identifier c =
     let entries = c.self.inside.counts.items in
     let calls : List (List ℕ) = calls_in entries c.self.inside.order.items in
     let e : String Global × ℕ = c.in_ok-identifier.field-0.now in
-    let called = entry-called entries (count_of calls) (distinct calls) c.args.index e c.self.invariant.1
+    let called =
+    entry-called entries (count_of calls) (distinct calls) c.args.index e c.self.invariant.1
     (ap (λ es. slice_get es c.args.index) (sym c.deref.ensures.value)
     ∙ slice_get_read c.deref.result.now (length c.deref.result.now) c.args.index e refl
     c.in_ok-identifier.ensures.lookup.3.0 c.in_ok-identifier.ensures.lookup.1) in
@@ -29,7 +31,8 @@ returns-clause-number c =
     let entries = c.self.inside.counts.items in
     let calls : List (List ℕ) = calls_in entries c.self.inside.order.items in
     let e : String Global × ℕ = c.in_ok-identifier.field-0.now in
-    let called = entry-called entries (count_of calls) (distinct calls) c.args.index e c.self.invariant.1
+    let called =
+    entry-called entries (count_of calls) (distinct calls) c.args.index e c.self.invariant.1
     (ap (λ es. slice_get es c.args.index) (sym c.deref.ensures.value)
     ∙ slice_get_read c.deref.result.now (length c.deref.result.now) c.args.index e refl
     c.in_ok-identifier.ensures.lookup.3.0 c.in_ok-identifier.ensures.lookup.1) in
@@ -42,7 +45,8 @@ returns-clause-count c =
     let entries = c.self.inside.counts.items in
     let calls : List (List ℕ) = calls_in entries c.self.inside.order.items in
     let e : String Global × ℕ = c.in_ok-identifier.field-0.now in
-    let called = entry-called entries (count_of calls) (distinct calls) c.args.index e c.self.invariant.1
+    let called =
+    entry-called entries (count_of calls) (distinct calls) c.args.index e c.self.invariant.1
     (ap (λ es. slice_get es c.args.index) (sym c.deref.ensures.value)
     ∙ slice_get_read c.deref.result.now (length c.deref.result.now) c.args.index e refl
     c.in_ok-identifier.ensures.lookup.3.0 c.in_ok-identifier.ensures.lookup.1) in

@@ -1,5 +1,5 @@
--- The count at an identifier's place is how often it is called; without a place that is 0. None passes the number of
--- all calls, and the list of these is shorter than 2 ^ 63.
+-- The count at an identifier's place is how often it is called; without a place that is 0. None
+-- passes the number of all calls, and the list of these is shorter than 2 ^ 63.
 -- By itself the search can't go from places in a map to the list of calls.
 use Rattle.std.proofs.Common.{◌≡◌, ℕ, List, arith, ap, sym, ◌∙◌}
 use Rattle.std.specs.Option.{option_map_or}

@@ -1,5 +1,5 @@
--- An identifier's number is one more than its place, which is below the length of the list: so it fits.
--- By itself the search can't go from places in a map to the list of calls.
+-- An identifier's number is one more than its place, which is below the length of the list: so it
+-- fits. By itself the search can't go from places in a map to the list of calls.
 use Rattle.std.proofs.Common.{ℕ, List, [], ◌∷◌, ◌++◌, ◌+◌, ap, sym, ◌∙◌, arith, length}
 use Rattle.std.specs.Option.{option_map_or}
 use Rattle.md_meaning.specs.Meaning.Footnotes.{distinct, place_among}

@@ -1,5 +1,5 @@
--- A footnote whose identifier has a place changes nothing, a new one comes last: both as `noted` says.
--- By itself the search can't go from places in a map to the list of footnotes.
+-- A footnote whose identifier has a place changes nothing, a new one comes last: both as `noted`
+-- says. By itself the search can't go from places in a map to the list of footnotes.
 use Rattle.std.proofs.Common.{ap, sym, ◌∙◌, string_bytes}
 use Rattle.std.specs.BTreeMap.{get_by_text}
 use Rattle.std.proofs.lemmas.Result.{on_ok_weaker}
@@ -15,8 +15,8 @@ returns-in-Some c =
     let told : Footnote = record { identifier = q; text = string_bytes c.args.text } in
     sym c.self.view_is
     ∙ noted-present c.self.inside.texts.items q (string_bytes c.args.text) c.in-Some.field-0
-    (sym (c.self.invariant q) ∙ ap (λ text. get_by_text c.self.inside.places text) (sym c.as_str.ensures.value)
-    ∙ sym c.place_under.ensures ∙ c.in-Some.is)
+    (sym (c.self.invariant q) ∙ ap (λ text. get_by_text c.self.inside.places text)
+    (sym c.as_str.ensures.value) ∙ sym c.place_under.ensures ∙ c.in-Some.is)
     ∙ ap (λ fs. noted fs told) c.self.view_is
 
 pub returns-in-None : goal.returns-in-None
@@ -25,8 +25,8 @@ returns-in-None c =
     let told : Footnote = record { identifier = q; text = string_bytes c.args.text } in
     on_ok_weaker c.put_last.result
     (λ put. ap (λ es. footnotes_in es) put
-    ∙ noted-new c.self.inside.texts.items c.args.identifier c.args.text
-    (sym (c.self.invariant q) ∙ ap (λ text. get_by_text c.self.inside.places text) (sym c.as_str.ensures.value)
+    ∙ noted-new c.self.inside.texts.items c.args.identifier c.args.text (sym (c.self.invariant q)
+    ∙ ap (λ text. get_by_text c.self.inside.places text) (sym c.as_str.ensures.value)
     ∙ sym c.place_under.ensures ∙ c.in-None.is)
     ∙ ap (λ fs. noted fs told) c.self.view_is)
     c.put_last.ensures.entries

@@ -13,8 +13,8 @@ pub range_from-requires : goal.range_from-requires
 range_from-requires c =
     let o = c.self.inside in
     let outers : List Start = reverse o.outers.items in
-    let k = sound.boundary (string_bytes o.bytes) (string_bytes o.heads) o.waiting.items o.start outers
-    (IsUtf8-string_bytes o.bytes) c.self.invariant in
+    let k = sound.boundary (string_bytes o.bytes) (string_bytes o.heads) o.waiting.items o.start
+    outers (IsUtf8-string_bytes o.bytes) c.self.invariant in
     λ positive. search (rules, k)
 
 pub returns : goal.returns
@@ -23,5 +23,6 @@ returns c =
     let outers : List Start = reverse o.outers.items in
     c.begins_line.ensures ∙ ap (λ t. begins_line t) c.range_from.ensures.value
     ∙ ap (λ t. begins_line (drop o.start.place t)) c.as_str.ensures.value
-    ∙ sym (sound.begins (string_bytes o.bytes) (string_bytes o.heads) o.waiting.items o.start outers c.self.invariant)
+    ∙ sym (sound.begins (string_bytes o.bytes) (string_bytes o.heads) o.waiting.items o.start
+    outers c.self.invariant)
     ∙ ap (λ (t : Texts). begins_line t.text) c.self.view_is

@@ -13,11 +13,13 @@ pub invariant_of-self-2 : goal.invariant_of-self-2
 invariant_of-self-2 c =
     let o = c.self.inside in
     let outers : List Start = reverse o.outers.items in
-    let next : Start = record { place = c.len.result; first = c.len-2.result; heads = c.len-3.result } in
+    let next : Start =
+    record { place = c.len.result; first = c.len-2.result; heads = c.len-3.result } in
     let place : c.len.result ≡ length (string_bytes o.bytes) = search rules in
     let first : c.len-2.result ≡ length o.waiting.items = search rules in
     let many : c.len-3.result ≡ length (string_bytes o.heads) = search rules in
-    subst (λ (os : List Start). IsSound (string_bytes o.bytes) (string_bytes o.heads) o.waiting.items next os)
+    subst (λ (os : List Start). IsSound (string_bytes o.bytes) (string_bytes o.heads)
+    o.waiting.items next os)
     (sym (sound.popped c.push.new.self.items o.outers.items o.start c.in_ok-push.ensures.items))
     (sound.capture (string_bytes o.bytes) (string_bytes o.heads) o.waiting.items o.start next outers
     (IsUtf8-string_bytes o.bytes) (IsUtf8-string_bytes o.heads) place first many c.self.invariant)
@@ -26,12 +28,13 @@ pub returns : goal.returns
 returns c =
     let o = c.self.inside in
     let outers : List Start = reverse o.outers.items in
-    let next : Start = record { place = c.len.result; first = c.len-2.result; heads = c.len-3.result } in
+    let next : Start =
+    record { place = c.len.result; first = c.len-2.result; heads = c.len-3.result } in
     let place : c.len.result ≡ length (string_bytes o.bytes) = search rules in
     let first : c.len-2.result ≡ length o.waiting.items = search rules in
     let many : c.len-3.result ≡ length (string_bytes o.heads) = search rules in
-    ap (λ (os : List Start). texts_of (string_bytes o.bytes) (string_bytes o.heads) o.waiting.items next os)
-    (sound.popped c.push.new.self.items o.outers.items o.start c.in_ok-push.ensures.items)
-    ∙ sound.capture_texts (string_bytes o.bytes) (string_bytes o.heads) o.waiting.items o.start next outers place first
-    many
+    ap (λ (os : List Start). texts_of (string_bytes o.bytes) (string_bytes o.heads) o.waiting.items
+    next os) (sound.popped c.push.new.self.items o.outers.items o.start c.in_ok-push.ensures.items)
+    ∙ sound.capture_texts (string_bytes o.bytes) (string_bytes o.heads) o.waiting.items o.start next
+    outers place first many
     ∙ ap (λ (t : Texts). record { text = []; below = t.text ∷ t.below }) c.self.view_is

@@ -14,9 +14,11 @@ pub invariant_of-self : goal.invariant_of-self
 invariant_of-self c =
     let o = c.self.inside in
     let outers : List Start = reverse o.outers.items in
-    subst (λ (ws : List Head). IsSound (string_bytes o.bytes) (string_bytes o.heads) ws o.start outers)
+    subst (λ (ws : List Head). IsSound (string_bytes o.bytes)
+    (string_bytes o.heads) ws o.start outers)
     (sym c.truncate.ensures.items)
-    (sound.close (string_bytes o.bytes) (string_bytes o.heads) o.waiting.items o.start outers c.self.invariant)
+    (sound.close (string_bytes o.bytes) (string_bytes o.heads) o.waiting.items o.start
+    outers c.self.invariant)
 
 pub returns-then-not-waits : goal.returns-then-not-waits
 returns-then-not-waits c =
@@ -26,9 +28,11 @@ returns-then-not-waits c =
     let slice : List Head = c.as_slice.result.now in
     let none = none_waits (drop first o.waiting.items)
     (ap (λ (ws : List Head). waits (drop first ws)) (sym c.as_slice.ensures.value)
-    ∙ ap (λ (ws : List Head). waits ws) (sym (take_rest slice first)) ∙ sym c.waits.ensures ∙ c.if-not-waits.true) in
-    ap (λ (ws : List Head). texts_of (string_bytes o.bytes) (string_bytes o.heads) ws o.start outers)
+    ∙ ap (λ (ws : List Head). waits ws) (sym (take_rest slice first)) ∙ sym c.waits.ensures
+    ∙ c.if-not-waits.true) in
+    ap
+    (λ (ws : List Head). texts_of (string_bytes o.bytes) (string_bytes o.heads) ws o.start outers)
     c.truncate.ensures.items
-    ∙ sound.close_texts (string_bytes o.bytes) (string_bytes o.heads) o.waiting.items o.start outers none
-    c.self.invariant
+    ∙ sound.close_texts (string_bytes o.bytes) (string_bytes o.heads) o.waiting.items o.start outers
+    none c.self.invariant
     ∙ c.self.view_is

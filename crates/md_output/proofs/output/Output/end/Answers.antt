@@ -13,16 +13,21 @@ invariant_of-self c =
     let o = c.self.inside in
     sound.join (string_bytes o.bytes) (string_bytes o.heads) o.waiting.items o.start c.in-Some.outer
     (reverse c.pop.new.self.items)
-    (subst (λ (os : List Start). IsSound (string_bytes o.bytes) (string_bytes o.heads) o.waiting.items o.start os)
-    (sound.popped o.outers.items c.pop.new.self.items c.in-Some.outer c.in-Some.ensures.items) c.self.invariant)
+    (subst (λ (os : List Start). IsSound (string_bytes o.bytes) (string_bytes o.heads)
+    o.waiting.items o.start os)
+    (sound.popped o.outers.items c.pop.new.self.items c.in-Some.outer c.in-Some.ensures.items)
+    c.self.invariant)
 
 pub returns-in-Some : goal.returns-in-Some
 returns-in-Some c =
     let o = c.self.inside in
     let bytes = string_bytes o.bytes in
     let heads = string_bytes o.heads in
-    let e = sound.popped o.outers.items c.pop.new.self.items c.in-Some.outer c.in-Some.ensures.items in
-    sound.join_texts bytes heads o.waiting.items o.start c.in-Some.outer (reverse c.pop.new.self.items)
+    let e =
+    sound.popped o.outers.items c.pop.new.self.items c.in-Some.outer c.in-Some.ensures.items in
+    sound.join_texts bytes heads o.waiting.items o.start c.in-Some.outer
+    (reverse c.pop.new.self.items)
     (subst (λ (os : List Start). IsSound bytes heads o.waiting.items o.start os) e c.self.invariant)
     ∙ ap (λ (t : Texts). record { text = first_or [] t.below ++ t.text; below = others_of t.below })
-    (ap (λ (os : List Start). texts_of bytes heads o.waiting.items o.start os) (sym e) ∙ c.self.view_is)
+    (ap (λ (os : List Start). texts_of bytes heads o.waiting.items o.start os) (sym e)
+    ∙ c.self.view_is)

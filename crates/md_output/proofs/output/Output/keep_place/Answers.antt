@@ -15,7 +15,8 @@ invariant_of-self-2 c =
     let outers : List Start = reverse o.outers.items in
     let head : Head = record { place = c.len-place.result; from = 0; to = 0 } in
     let place : c.len-place.result ≡ length (string_bytes o.bytes) = search rules in
-    subst (λ (ws : List Head). IsSound (string_bytes o.bytes) (string_bytes o.heads) ws o.start outers)
+    subst (λ (ws : List Head). IsSound (string_bytes o.bytes)
+    (string_bytes o.heads) ws o.start outers)
     (sym c.in_ok-push.ensures.items)
     (sound.keep (string_bytes o.bytes) (string_bytes o.heads) o.waiting.items head o.start outers
     (IsUtf8-string_bytes o.bytes) place refl refl c.self.invariant)
@@ -26,8 +27,9 @@ returns c =
     let outers : List Start = reverse o.outers.items in
     let head : Head = record { place = c.len-place.result; from = 0; to = 0 } in
     let place : c.len-place.result ≡ length (string_bytes o.bytes) = search rules in
-    ap (λ (ws : List Head). texts_of (string_bytes o.bytes) (string_bytes o.heads) ws o.start outers)
+    ap
+    (λ (ws : List Head). texts_of (string_bytes o.bytes) (string_bytes o.heads) ws o.start outers)
     c.in_ok-push.ensures.items
-    ∙ sound.keep_texts (string_bytes o.bytes) (string_bytes o.heads) o.waiting.items head o.start outers
-    (IsUtf8-string_bytes o.bytes) place refl refl c.self.invariant
+    ∙ sound.keep_texts (string_bytes o.bytes) (string_bytes o.heads) o.waiting.items head o.start
+    outers (IsUtf8-string_bytes o.bytes) place refl refl c.self.invariant
     ∙ c.self.view_is

@@ -11,7 +11,8 @@ pub overflow_sub-result : goal.overflow_sub-result
 overflow_sub-result c =
     let o = c.self.inside in
     let outers : List Start = reverse o.outers.items in
-    let k = sound.within (string_bytes o.bytes) (string_bytes o.heads) o.waiting.items o.start outers
+    let k =
+    sound.within (string_bytes o.bytes) (string_bytes o.heads) o.waiting.items o.start outers
     c.self.invariant in
     search (rules, k)
 
@@ -20,7 +21,8 @@ returns c =
     let o = c.self.inside in
     let outers : List Start = reverse o.outers.items in
     let all : c.len.result ≡ length (string_bytes o.bytes) = search rules in
-    let long = sound.long (string_bytes o.bytes) (string_bytes o.heads) o.waiting.items o.start outers
+    let long =
+    sound.long (string_bytes o.bytes) (string_bytes o.heads) o.waiting.items o.start outers
     c.self.invariant in
     let same = ap (λ (t : Texts). length t.text) c.self.view_is in
     omega arith

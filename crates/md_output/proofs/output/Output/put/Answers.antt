@@ -14,14 +14,16 @@ invariant_of-self-2 c =
     let outers : List Start = reverse o.outers.items in
     subst (λ bs. IsSound bs (string_bytes o.heads) o.waiting.items o.start outers)
     (sym c.in_ok-push_str.ensures.bytes)
-    (sound.put (string_bytes o.bytes) c.args.text.now (string_bytes o.heads) o.waiting.items o.start outers
-    c.self.invariant)
+    (sound.put (string_bytes o.bytes) c.args.text.now (string_bytes o.heads) o.waiting.items o.start
+    outers c.self.invariant)
 
 pub returns : goal.returns
 returns c =
     let o = c.self.inside in
     let outers : List Start = reverse o.outers.items in
-    ap (λ bs. texts_of bs (string_bytes o.heads) o.waiting.items o.start outers) c.in_ok-push_str.ensures.bytes
-    ∙ sound.put_texts (string_bytes o.bytes) c.args.text.now (string_bytes o.heads) o.waiting.items o.start outers
-    c.self.invariant
-    ∙ ap (λ (t : Texts). record { text = t.text ++ c.args.text.now; below = t.below }) c.self.view_is
+    ap (λ bs. texts_of bs (string_bytes o.heads) o.waiting.items o.start outers)
+    c.in_ok-push_str.ensures.bytes
+    ∙ sound.put_texts (string_bytes o.bytes) c.args.text.now (string_bytes o.heads) o.waiting.items
+    o.start outers c.self.invariant
+    ∙ ap (λ (t : Texts). record { text = t.text ++ c.args.text.now; below = t.below })
+    c.self.view_is

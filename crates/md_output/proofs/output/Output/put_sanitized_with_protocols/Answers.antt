@@ -15,15 +15,18 @@ invariant_of-self c =
     let outers : List Start = reverse o.outers.items in
     subst (λ bs. IsSound bs (string_bytes o.heads) o.waiting.items o.start outers)
     (sym c.in-Ok.ensures)
-    (sound.put (string_bytes o.bytes) (sanitized_with (map {A = Bor (List ℕ)} {B = List ℕ} (λ protocol. protocol.now) c.args.protocols.now) c.args.url.now) (string_bytes o.heads) o.waiting.items o.start outers
-    c.self.invariant)
+    (sound.put (string_bytes o.bytes) (sanitized_with (map {A = Bor (List ℕ)} {B = List ℕ}
+    (λ protocol. protocol.now) c.args.protocols.now) c.args.url.now) (string_bytes o.heads)
+    o.waiting.items o.start outers c.self.invariant)
 
 pub returns-in-Ok : goal.returns-in-Ok
 returns-in-Ok c =
     let o = c.self.inside in
     let outers : List Start = reverse o.outers.items in
-    let more : List ℕ = sanitized_with (map {A = Bor (List ℕ)} {B = List ℕ} (λ protocol. protocol.now) c.args.protocols.now) c.args.url.now in
+    let more : List ℕ = sanitized_with (map {A = Bor (List ℕ)} {B = List ℕ}
+    (λ protocol. protocol.now) c.args.protocols.now) c.args.url.now in
     ap (λ bs. texts_of bs (string_bytes o.heads) o.waiting.items o.start outers) c.in-Ok.ensures
-    ∙ sound.put_texts (string_bytes o.bytes) more (string_bytes o.heads) o.waiting.items o.start outers
+    ∙ sound.put_texts (string_bytes o.bytes) more (string_bytes o.heads)
+    o.waiting.items o.start outers
     c.self.invariant
     ∙ ap (λ (t : Texts). record { text = t.text ++ more; below = t.below }) c.self.view_is

@@ -1,6 +1,8 @@
--- What `leaf` leaves is the pass after an entry and its exit, in an open node and in the document itself. The search
--- can't see that two steps of the definition are the one of the code, nor which open node changes.
-use Rattle.std.proofs.Common.{rules, ◌≡◌, ◌<◌, ◌+◌, ◌-◌, ◌++◌, ◌∷◌, [], length, get_or, refl, sym, ap, ◌∙◌, subst}
+-- What `leaf` leaves is the pass after an entry and its exit, in an open node and in the document
+-- itself. The search can't see that two steps of the definition are the one of the code, nor which
+-- open node changes.
+use Rattle.std.proofs.Common.{rules, ◌≡◌, ◌<◌, ◌+◌, ◌-◌, ◌++◌, ◌∷◌, [], length, get_or, refl, sym}
+use Rattle.std.proofs.Common.{ap, ◌∙◌, subst}
 use Rattle.std.specs.Prelude.{set}
 use Rattle.md_pattern.specs.contracts.facts.Pass.{the_view}
 use Rattle.md_pattern.specs.Facts.{opens, next_outer, others_outer, partner_alone}
@@ -23,12 +25,14 @@ returns-in-Some c =
     let twice_is : c.push_leaf.new.facts.items ≡ once ++ partner_alone entry ∷ [] = search rules in
     let here_is = c.in-Some.ensures.value ∙ ap (λ n. get_or items (n - 1) here) counted
     ∙ opens-last items document here some in
-    let stack_is = ap (λ n. opens (set items (n - 1) after) document) counted ∙ opens-set items document after some in
+    let stack_is = ap (λ n. opens (set items (n - 1) after) document) counted
+    ∙ opens-set items document after some in
     rw (← c.self.view_is) (on_answer _ _ _ _ (λ after_is columns_is definitions_is.
-    passed_leaf-by name pass entry here after c.follow_leaf.new.ended.columns once c.push_leaf.new.facts.items
-    c.follow_leaf.new.ended.definitions.items _ c.requires entry_is refl twice_is here_is stack_is columns_is definitions_is
-    after_is)
-    c.follow_leaf.result c.follow_leaf.ensures.here c.follow_leaf.ensures.columns c.follow_leaf.ensures.definitions)
+    passed_leaf-by name pass entry here after c.follow_leaf.new.ended.columns once
+    c.push_leaf.new.facts.items c.follow_leaf.new.ended.definitions.items _ c.requires entry_is refl
+    twice_is here_is stack_is columns_is definitions_is after_is)
+    c.follow_leaf.result c.follow_leaf.ensures.here c.follow_leaf.ensures.columns
+    c.follow_leaf.ensures.definitions)
 
 pub returns-in-None : goal.returns-in-None
 returns-in-None c =
@@ -47,6 +51,7 @@ returns-in-None c =
     let stack_is = opens-alone items after none ∙ ap (λ o. after ∷ others_outer o) (sym alone) in
     rw (← c.self.view_is) (on_answer _ _ _ _ (λ after_is columns_is definitions_is.
     passed_leaf-by name pass entry document after c.follow_leaf-in-None.new.ended.columns once
-    c.push_leaf.new.facts.items c.follow_leaf-in-None.new.ended.definitions.items _ c.requires entry_is refl twice_is
-    here_is stack_is columns_is definitions_is after_is) c.follow_leaf-in-None.result c.follow_leaf-in-None.ensures.here
+    c.push_leaf.new.facts.items c.follow_leaf-in-None.new.ended.definitions.items _ c.requires
+    entry_is refl twice_is here_is stack_is columns_is definitions_is after_is)
+    c.follow_leaf-in-None.result c.follow_leaf-in-None.ensures.here
     c.follow_leaf-in-None.ensures.columns c.follow_leaf-in-None.ensures.definitions)

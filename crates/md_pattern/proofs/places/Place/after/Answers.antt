@@ -1,12 +1,13 @@
--- What the letter tells is where the spine is, with the symbol as its last; and a letter that leads to a row stays within
--- a byte.
+-- What the letter tells is where the spine is, with the symbol as its last; and a letter that leads
+-- to a row stays within a byte.
 use Rattle.std.proofs.Common.{◌+◌, ◌<◌, ◌≤◌, arith, rules}
 use Rattle.md_pattern.proofs.PlaceLemmas.{leads-some}
 use Rattle.md_pattern.proofs.places.Place.after.Goals as goal
 
 pub overflow_add-result : goal.overflow_add-result
 overflow_add-result c =
-    let led = leads-some c.args.self.number c.in_ok-letter.letter c.if-letter-eq46.false c.in_ok-letter.ensures.leads in
+    let led = leads-some c.args.self.number c.in_ok-letter.letter c.if-letter-eq46.false
+    c.in_ok-letter.ensures.leads in
     let few : c.in_ok-letter.letter ≤ 122 = led.0 in
     let within : c.args.self.number < 114 = c.in_ok-letter.ensures.within in
     let small : c.args.self.number + c.in_ok-letter.letter < 256 = omega (arith, within, few) in

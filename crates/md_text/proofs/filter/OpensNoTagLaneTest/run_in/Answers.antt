@@ -13,5 +13,6 @@ returns g c =
     let at = c.args.at in
     let block = chunk at n bytes in
     let long = length-chunk at n bytes c.requires.1 in
-    run_is opens_no_tag bytes at n _ _ c.requires.1 c.requires.0 c.type_inv.bytes c.first_set.ensures _
+    run_is opens_no_tag bytes at n _ _ c.requires.1 c.requires.0 c.type_inv.bytes
+    c.first_set.ensures _
     (zip2_splat {Z = ℕ} (λ a b. cond (eqb a b) 255 0) block n _ long) refl

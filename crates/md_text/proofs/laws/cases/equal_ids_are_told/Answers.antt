@@ -13,12 +13,14 @@ with tag name value inner rest = Element tag (record { name = name; value = valu
 item : List ℕ → Forest → Forest → Forest
 item value inner rest = with (codes "li") (codes "id") value inner rest
 
-distinct-by : (text : List ℕ) (forest : Forest) → IsReading text forest → are_distinct (ids forest) ≡ true →
+distinct-by : (text : List ℕ) (forest : Forest) → IsReading text forest →
+    are_distinct (ids forest) ≡ true →
     HasDistinctIds text
 distinct-by text forest reading are other also =
     subst (λ f. are_distinct (ids f) ≡ true) (one_reading text forest other reading also) are
 
-equal-by : (text : List ℕ) (forest : Forest) → IsReading text forest → are_distinct (ids forest) ≡ false →
+equal-by : (text : List ℕ) (forest : Forest) → IsReading text forest →
+    are_distinct (ids forest) ≡ false →
     HasDistinctIds text → ⊥
 equal-by text forest reading equal h = true≢false (sym (h forest reading) ∙ equal)
 
@@ -30,7 +32,8 @@ returns-clause-differ c = distinct-by _ (item (codes "a") Empty (item (codes "b"
 pub returns-clause-other_attribute : goal.returns-clause-other_attribute
 returns-clause-other_attribute c =
     distinct-by _ (with (codes "a") (codes "title") (codes "a") Empty
-    (with (codes "a") (codes "title") (codes "a") Empty Empty)) (record { in_grammar = refl; written_so = refl }) refl
+    (with (codes "a") (codes "title") (codes "a") Empty Empty))
+    (record { in_grammar = refl; written_so = refl }) refl
 
 pub returns-clause-equal : goal.returns-clause-equal
 unfolding item
@@ -51,7 +54,8 @@ link place value rest = Element (codes "a") (record { name = codes "href"; value
 
 pub returns-clause-after_others : goal.returns-clause-after_others
 unfolding link
-returns-clause-after_others c = equal-by _ (link (codes "#x") (codes "a") (link (codes "#y") (codes "a") Empty))
+returns-clause-after_others c =
+    equal-by _ (link (codes "#x") (codes "a") (link (codes "#y") (codes "a") Empty))
     (record { in_grammar = refl; written_so = refl }) refl
 
 pub returns-clause-headings : goal.returns-clause-headings
@@ -63,5 +67,6 @@ returns-clause-headings c =
 pub returns-clause-referenced : goal.returns-clause-referenced
 unfolding item
 returns-clause-referenced c =
-    equal-by _ (item (codes "&amp;a") Empty (Text (codes "&lt;") (item (codes "&amp;a") Empty Empty)))
+    equal-by _
+    (item (codes "&amp;a") Empty (Text (codes "&lt;") (item (codes "&amp;a") Empty Empty)))
     (record { in_grammar = refl; written_so = refl }) refl

@@ -13,4 +13,5 @@ table = codes "`````````````````````````````````!`#$``'()*+,-./0123456789:;`=`?"
 pub returns : goal.returns
 returns c =
     ap (λ n. not (nat_eq (get_or table n 0) 96)) c.from.ensures
-    ∙ agree_below_at (λ b. not (nat_eq (get_or table b 0) 96)) is_plain 256 c.args.byte refl c.ranges.byte.fits
+    ∙ agree_below_at (λ b. not (nat_eq (get_or table b 0) 96)) is_plain 256 c.args.byte
+    refl c.ranges.byte.fits

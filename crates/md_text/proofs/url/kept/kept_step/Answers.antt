@@ -17,7 +17,8 @@ returns-then-few-eq-FEW-clause-kept c =
 pub returns-else-few-eq-FEW-clause-kept : goal.returns-else-few-eq-FEW-clause-kept
 returns-else-few-eq-FEW-clause-kept c =
     let bytes = c.args.bytes.now in
-    let more = c.first_plain-few.ensures ∙ ap (λ after. min 3 (prefix_len is_plain after)) (take_rest bytes 1) in
+    let more = c.first_plain-few.ensures
+    ∙ ap (λ after. min 3 (prefix_len is_plain after)) (take_rest bytes 1) in
     let few = first-plain bytes c.first_plain-few.result c.in-len1-up.len_at_least
     (sym c.is_plain_byte.ensures ∙ c.if-is_plain_byte.true) more in
     kept-plain _ bytes (omega (arith, few))

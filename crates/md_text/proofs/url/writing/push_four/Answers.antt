@@ -7,9 +7,10 @@ abbrev IsAsciiByte : ℕ → Type 0
 IsAsciiByte b = b < 128
 
 pub push_ascii-requires : goal.push_ascii-requires
-push_ascii-requires c = All-from_recursion IsAsciiByte
-    (37 ∷ c.hex_digit.result ∷ c.hex_digit-2.result ∷ 37 ∷ c.hex_digit-3.result ∷ c.hex_digit-4.result
-    ∷ 37 ∷ c.hex_digit-5.result ∷ c.hex_digit-6.result ∷ 37 ∷ c.hex_digit-7.result ∷ c.hex_digit-8.result ∷ []) (
+push_ascii-requires c = All-from_recursion IsAsciiByte (37 ∷ c.hex_digit.result
+    ∷ c.hex_digit-2.result ∷ 37 ∷ c.hex_digit-3.result ∷ c.hex_digit-4.result
+    ∷ 37 ∷ c.hex_digit-5.result ∷ c.hex_digit-6.result ∷ 37 ∷ c.hex_digit-7.result
+    ∷ c.hex_digit-8.result ∷ []) (
       lit< tt,
       (
         c.hex_digit.ensures.ascii,

@@ -1,12 +1,14 @@
 -- What is kept, and what becomes of the byte behind it.
-use Rattle.std.proofs.Common.{◌≡◌, ◌++◌, ◌-◌, ℕ, List, false, length, get_or, take, drop, ap, ◌∙◌, arith, append_assoc, string_bytes}
+use Rattle.std.proofs.Common.{◌≡◌, ◌++◌, ◌-◌, ℕ, List, false, length, get_or, take, drop, ap, ◌∙◌}
+use Rattle.std.proofs.Common.{arith, append_assoc, string_bytes}
 use Rattle.std.proofs.lemmas.List.{take_rest}
 use Rattle.md_text.specs.Kept.{begins_kept, changed_byte}
 use Rattle.md_text.specs.Url.{sanitized}
 use Rattle.md_text.proofs.PlainLemmas.{sanitized-changed_first}
 use Rattle.md_text.proofs.url.writing.push_run.Goals as goal
 
-pub returns-in_ok-push_changed-in-len1-up-clause-value : goal.returns-in_ok-push_changed-in-len1-up-clause-value
+pub returns-in_ok-push_changed-in-len1-up-clause-value :
+    goal.returns-in_ok-push_changed-in-len1-up-clause-value
 returns-in_ok-push_changed-in-len1-up-clause-value c =
     let rest : List ℕ = c.args.rest.now in
     let before : List ℕ = string_bytes c.args.out.now in
@@ -20,8 +22,7 @@ returns-in_ok-push_changed-in-len1-up-clause-value c =
     (c.in_ok-push_kept.ensures ∙ ap (λ x. before ++ x) c.split_at.ensures.front))
     ∙ ap (λ x. ((before ++ take n rest) ++ first) ++ sanitized x) (take_rest left 1)
     ∙ append_assoc (before ++ take n rest) first (sanitized (drop 1 left))
-    ∙ ap (λ x. (before ++ take n rest) ++ x)
-    (sanitized-changed_first left c.in-len1-up.len_at_least (omega (arith, c.if-byte-lt128.true)) changes
-    ∙ ap sanitized c.split_at.ensures.back)
+    ∙ ap (λ x. (before ++ take n rest) ++ x) (sanitized-changed_first left c.in-len1-up.len_at_least
+    (omega (arith, c.if-byte-lt128.true)) changes ∙ ap sanitized c.split_at.ensures.back)
     ∙ append_assoc before (take n rest) (sanitized (drop n rest))
     ∙ ap (λ x. before ++ x) c.requires.0.2

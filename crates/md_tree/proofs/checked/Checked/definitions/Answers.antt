@@ -1,5 +1,5 @@
--- The indices that are kept are those of the document's definitions, and at each an event enters one. The search
--- doesn't know what a `Checked` keeps: `Kept` says it.
+-- The indices that are kept are those of the document's definitions, and at each an event enters
+-- one. The search doesn't know what a `Checked` keeps: `Kept` says it.
 use Rattle.std.proofs.Common.{subst, sym}
 use Rattle.std.specs.List.{All}
 use Rattle.md_base.specs.declared.event.Name.TheVariants.{Definition}
@@ -15,5 +15,6 @@ returns-clause-definitions c =
 
 pub returns-clause-entered : goal.returns-clause-entered
 returns-clause-entered c =
-    subst (λ ds. All (λ i. EntersAt c.args.self.now.events i Definition) ds) (sym c.as_slice.ensures.value)
+    subst (λ ds. All (λ i. EntersAt c.args.self.now.events i Definition) ds)
+    (sym c.as_slice.ensures.value)
     (definitions-enter c.self.inside c.args.self.now 0 c.self.invariant c.self.view_is)

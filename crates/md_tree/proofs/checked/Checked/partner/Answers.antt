@@ -1,5 +1,5 @@
--- The partner in the fact is the one that the tree of the events gives. The search doesn't name that tree, the one
--- that the check has read.
+-- The partner in the fact is the one that the tree of the events gives. The search doesn't name
+-- that tree, the one that the check has read.
 use Rattle.std.proofs.Common.{◌≡◌, ℕ, Option, ap, ◌∙◌, refl}
 use Rattle.std.specs.Prelude.{option_map, slice_get}
 use Rattle.md_tree.specs.declared.checked.Checked.TheInside.{Inside}
@@ -14,7 +14,8 @@ use Rattle.md_tree.proofs.Entering.{partners_there}
 use Rattle.md_tree.proofs.checked.Checked.partner.Goals as goal
 
 partner_is : (inside : Inside) (given : Handed) (index : ℕ) (partner : Option ℕ) → IsKept inside →
-    handed_of inside ≡ given → partner ≡ option_map (λ (f : Fact). f.partner) (slice_get inside.facts.items index) →
+    handed_of inside ≡ given →
+    partner ≡ option_map (λ (f : Fact). f.partner) (slice_get inside.facts.items index) →
     IsPartnerAt given index partner
 partner_is inside given index partner kept same found =
     let flattened = IsReadAs.flattened kept.0.1 ∙ ap (λ (g : Handed). g.events) same in (
@@ -28,6 +29,7 @@ partner_is inside given index partner kept same found =
 
 pub returns : goal.returns
 returns c =
-    partner_is c.self.inside c.args.self.now c.args.index c.partner_at.result c.self.invariant c.self.view_is
-    (c.partner_at.ensures ∙ ap (λ fs. option_map (λ (f : Fact). f.partner) (slice_get fs c.args.index))
+    partner_is c.self.inside c.args.self.now c.args.index c.partner_at.result c.self.invariant
+    c.self.view_is (c.partner_at.ensures
+    ∙ ap (λ fs. option_map (λ (f : Fact). f.partner) (slice_get fs c.args.index))
     c.deref.ensures.value)

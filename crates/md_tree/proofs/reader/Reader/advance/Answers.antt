@@ -1,5 +1,6 @@
--- One event was read, or two, and no more than there are: the last of them is there. The search doesn't see that both
--- sums are the same index, nor that an index with an event is within the list.
+-- One event was read, or two, and no more than there are: the last of them is there. The
+-- search doesn't see that both sums are the same index, nor that an index with an event is
+-- within the list.
 use Rattle.std.proofs.Common.{◌≡◌, suc, ◌+◌, ◌<◌, arith, subst, length, ℕ}
 use Rattle.std.proofs.lemmas.Option.{slice_get_within}
 use Rattle.md_base.specs.Reference.{name_table}
@@ -14,10 +15,12 @@ one_more n = omega arith
 
 pub returns-in_ok-read_leaf-in-Some-clause-read : goal.returns-in_ok-read_leaf-in-Some-clause-read
 returns-in_ok-read_leaf-in-Some-clause-read c =
-    subst (λ n. HasRead c.args.input.bytes.now (name_table c.args.input.names.now) c.args.input.events.now n
+    subst (λ n. HasRead c.args.input.bytes.now (name_table c.args.input.names.now)
+    c.args.input.events.now n
     c.read_leaf.new.self) (two_more c.args.index) c.in_ok-read_leaf-in-Some.ensures.read
 
-pub returns-in_ok-read_leaf-in-Some-clause-counted : goal.returns-in_ok-read_leaf-in-Some-clause-counted
+pub returns-in_ok-read_leaf-in-Some-clause-counted :
+    goal.returns-in_ok-read_leaf-in-Some-clause-counted
 returns-in_ok-read_leaf-in-Some-clause-counted c =
     let inside : suc c.args.index < length c.args.input.events.now
     = slice_get_within c.args.input.events.now (suc c.args.index) _ c.in-Some.ensures.after in
@@ -25,7 +28,8 @@ returns-in_ok-read_leaf-in-Some-clause-counted c =
 
 pub returns-in_ok-read-in-None-clause-read : goal.returns-in_ok-read-in-None-clause-read
 returns-in_ok-read-in-None-clause-read c =
-    subst (λ n. HasRead c.args.input.bytes.now (name_table c.args.input.names.now) c.args.input.events.now n
+    subst (λ n. HasRead c.args.input.bytes.now (name_table c.args.input.names.now)
+    c.args.input.events.now n
     c.read.new.self) (one_more c.args.index) c.in_ok-read-in-None.ensures.read
 
 pub returns-in_ok-read-in-None-clause-counted : goal.returns-in_ok-read-in-None-clause-counted

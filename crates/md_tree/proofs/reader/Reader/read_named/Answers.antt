@@ -1,5 +1,6 @@
 -- As in `read_one`, of two events at once, an entry and its own exit; and the exit's index doesn't
--- overflow, as an event is there. The search doesn't go through the first event to the second: `LeafRuns` does.
+-- overflow, as an event is there. The search doesn't go through the first event to the second:
+-- `LeafRuns` does.
 use Rattle.std.proofs.Common.{rules, ◌≡◌, suc, ◌<◌, add-one, sym, ap, subst, ◌∙◌, length}
 use Rattle.std.proofs.lemmas.Option.{slice_get_within}
 use Rattle.std.proofs.lemmas.Result.{err_from_is_err_and}
@@ -16,18 +17,19 @@ returns-in_err-leaf-clause-refused c =
     let p = err_from_is_err_and c.from_residual.result c.from_residual.ensures.1 in
     let events = c.args.input.events.now in
     rw (p.1, p.2)
-    (IsRefusal-leaf (handed events c.args.input.bytes.now c.args.input.names.now) c.args.index c.args.event
-    c.args.exit.now c.requires.leaf c.requires.here c.requires.after
-    (course_of events c.args.index c.args.self.now.walk) c.requires.before.walked c.in_err-leaf.field-0.0
-    (subst (λ name. IsStopAtLeaf c.args.input.bytes.now (name_table c.args.input.names.now) c.args.index name
-    (point_at events c.args.index) (point_at events (suc c.args.index))
-    (course_of events c.args.index c.args.self.now.walk) c.in_err-leaf.field-0.0) (sym c.requires.named)
-    c.in_err-leaf.ensures.refused))
+    (IsRefusal-leaf (handed events c.args.input.bytes.now c.args.input.names.now) c.args.index
+    c.args.event c.args.exit.now c.requires.leaf c.requires.here c.requires.after
+    (course_of events c.args.index c.args.self.now.walk) c.requires.before.walked
+    c.in_err-leaf.field-0.0
+    (subst (λ name. IsStopAtLeaf c.args.input.bytes.now (name_table c.args.input.names.now)
+    c.args.index name (point_at events c.args.index) (point_at events (suc c.args.index))
+    (course_of events c.args.index c.args.self.now.walk) c.in_err-leaf.field-0.0)
+    (sym c.requires.named) c.in_err-leaf.ensures.refused))
 
 pub overflow_add-index : goal.overflow_add-index
 overflow_add-index c =
-    let inside : suc c.args.index < length c.args.input.events.now
-    = slice_get_within c.args.input.events.now (suc c.args.index) c.args.exit.now c.requires.after in
+    let inside : suc c.args.index < length c.args.input.events.now =
+    slice_get_within c.args.input.events.now (suc c.args.index) c.args.exit.now c.requires.after in
     search (rules, inside)
 
 pub returns-clause-read : goal.returns-clause-read
@@ -41,16 +43,17 @@ returns-clause-read c =
     record {
       walked = Runs-leaf given index entry exit c.requires.leaf c.requires.here c.requires.after
           (course_of events index self.walk) c.requires.before.walked
-          (course_of events (suc (suc index)) c.leaf.new.self)
-          (subst (λ name. Passes (Unbroken c.args.input.bytes.now (name_table c.args.input.names.now)) name
+          (course_of events (suc (suc index)) c.leaf.new.self) (subst (λ name.
+          Passes (Unbroken c.args.input.bytes.now (name_table c.args.input.names.now)) name
           (point_at events index) (point_at events (suc index)) (course_of events index self.walk)
-          (course_of events (suc (suc index)) c.leaf.new.self)) (sym c.requires.named) c.in_ok-leaf.ensures.ok);
-      passed = passed-leaf_more given index entry exit c.requires.leaf c.requires.here c.requires.after self.pass
-          c.leaf-2.new.self c.requires.before.passed
-          (subst (λ name. c.leaf-2.new.self ≡ passed_exit name (passed_entry name self.pass)) (sym c.requires.named)
-          c.in_ok-leaf-2.ensures);
+          (course_of events (suc (suc index)) c.leaf.new.self)) (sym c.requires.named)
+          c.in_ok-leaf.ensures.ok);
+      passed = passed-leaf_more given index entry exit c.requires.leaf c.requires.here
+          c.requires.after self.pass c.leaf-2.new.self c.requires.before.passed
+          (subst (λ name. c.leaf-2.new.self ≡ passed_exit name (passed_entry name self.pass))
+          (sym c.requires.named) c.in_ok-leaf-2.ensures);
       first_ending = c.note_ending.ensures exit (rw (add-one index) c.requires.after)
           ∙ ap (λ n. ending_after self.first_ending n exit) (add-one index)
-          ∙ first_index-leaf given index entry exit c.requires.leaf c.requires.here c.requires.after self.first_ending
-          c.requires.before.first_ending;
+          ∙ first_index-leaf given index entry exit c.requires.leaf c.requires.here c.requires.after
+          self.first_ending c.requires.before.first_ending;
     }

@@ -10,6 +10,8 @@ returns c =
     let low_end : s ≤ c.args.end = search rules in
     let from : c.in_ok-from.from ≡ c.args.start - s = search rules in
     let to : c.in_ok-to.to ≡ c.args.end - s = search rules in
-    some-weaken _ _ (λ part is bytes run. run-part bytes c.args.self.now.text.now part.now s c.args.start c.args.end
-    run.0 run.1 low low_end (omega (arith, from, to, is.0)) (omega (arith, to, is.1)) (rw (← from, ← to) is.2) is.3)
+    some-weaken _ _
+    (λ part is bytes run. run-part bytes c.args.self.now.text.now part.now s c.args.start c.args.end
+    run.0 run.1 low low_end (omega (arith, from, to, is.0)) (omega (arith, to, is.1))
+    (rw (← from, ← to) is.2) is.3)
     c.part.result c.part.ensures

@@ -1,5 +1,5 @@
--- A node whose spine may end, but which breaks a rule, stops the walk. The search doesn't go through the rules: one
--- that is broken here is never that of the order.
+-- A node whose spine may end, but which breaks a rule, stops the walk. The search doesn't go
+-- through the rules: one that is broken here is never that of the order.
 use Rattle.std.proofs.Common.{refl, sym, ◌∙◌}
 use Rattle.std.specs.Prelude.{reverse}
 use Rattle.md_base.specs.Reference.{name_table}
@@ -15,5 +15,6 @@ returns-in-Some-clause-refused c =
       StopsInside-broken c.args.input.bytes.now (name_table c.args.input.names.now) c.in-Some.rule
           (outer_of events (reverse c.args.self.now.targets.items) c.args.open_node.now)
           (point_at events c.args.open_node.now.entry) (point_at events c.args.index)
-          (course_of events c.args.index c.args.self.now) c.requires (sym c.in_ok-rule.ensures.broken ∙ c.in-Some.is),
+          (course_of events c.args.index c.args.self.now) c.requires
+          (sym c.in_ok-rule.ensures.broken ∙ c.in-Some.is),
     )

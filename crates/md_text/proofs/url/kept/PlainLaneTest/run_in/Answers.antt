@@ -19,8 +19,8 @@ returns g c =
     let above = λ (x : ℕ). zip2_splat_left {Z = ℕ} (λ a b. cond (ltb a b) 255 0) x n v long in
     run_is is_plain bytes at n _ _ c.requires.1 c.requires.0 c.type_inv.bytes c.first_set.ensures _
     (zip2_of_maps bit_or _ _ v (zip2_of_maps bit_or _ _ v (zip2_of_maps bit_or _ _ v
-    (zip2_of_maps bit_or _ _ v (zip2_of_maps bit_or _ _ v (zip2_of_maps bit_or _ _ v (equal _) (equal _)) (equal _))
-    (equal _))
+    (zip2_of_maps bit_or _ _ v
+    (zip2_of_maps bit_or _ _ v (zip2_of_maps bit_or _ _ v (equal _) (equal _)) (equal _)) (equal _))
     (zip2_of_maps bit_or _ _ v (below _) (equal _)))
     (zip2_of_maps bit_and _ _ v (zip2_of_maps bit_and _ _ v (above _) (below _)) (other _)))
     (zip2_of_maps bit_and _ _ v (above _) (other _)))

@@ -15,5 +15,6 @@ returns g c =
     let long = length-chunk at n bytes c.requires.1 in
     let equal = λ (x : ℕ). zip2_splat {Z = ℕ} (λ a b. cond (eqb a b) 255 0) v n x long in
     run_is goes_on bytes at n _ _ c.requires.1 c.requires.0 c.type_inv.bytes c.first_set.ensures _
-    (zip2_of_maps bit_or _ _ v (zip2_of_maps bit_or _ _ v (zip2_of_maps bit_or _ _ v (equal _) (equal _)) (equal _))
+    (zip2_of_maps bit_or _ _ v
+    (zip2_of_maps bit_or _ _ v (zip2_of_maps bit_or _ _ v (equal _) (equal _)) (equal _))
     (equal _)) refl
