@@ -7,7 +7,8 @@ PROGRAM is the built `mdevents`. The original is built from the folder `speed` b
 isn't there, this says so, and `bench/bench.py` measures the program alone. Instructions are counted by valgrind, where
 it is there: they are steady where the machine is busy. The realistic script is that of the folder's examples, one after
 another; `reader` is the same script with a line that can't be read before its document, `compile` the rest. Times are
-the least of some runs, in ms. The picture shows the times of the shapes, and is drawn where matplotlib is there.
+the least of some runs, in ms, which go by turns over both scripts and both programs. The picture
+shows the times of the shapes, and is drawn where matplotlib is there.
 """
 
 import argparse
@@ -40,18 +41,33 @@ def put(path, data):
 
 
 # Runs a command on a file from a small process: what a process took at most counts the one that it was forked from.
-PEAK = """
-import os, subprocess, sys
+USED = """
+import os, sys
+from subprocess import DEVNULL, Popen
 with open(sys.argv[1], "rb") as file:
-    process = subprocess.Popen(sys.argv[2:], stdin=file, stdout=subprocess.DEVNULL)
-print(os.wait4(process.pid, 0)[2].ru_maxrss * 1024)
+    process = Popen(sys.argv[2:], stdin=file, stdout=DEVNULL, stderr=DEVNULL)
+used = os.wait4(process.pid, 0)[2]
+print(used.ru_utime + used.ru_stime, used.ru_minflt, used.ru_maxrss * 1024)
 """
 
 
-def peak(command, path):
-    """The most memory that a run takes, in bytes."""
-    words = [sys.executable, "-I", "-S", "-c", PEAK, path, *command]
-    return int(subprocess.run(words, stdout=subprocess.PIPE, check=True).stdout)
+def used(command, path):
+    """The seconds of a run, its page faults, and the most memory that it takes, in bytes."""
+    words = [sys.executable, "-I", "-S", "-c", USED, path, *command]
+    said = subprocess.run(words, stdout=subprocess.PIPE, check=True).stdout
+    seconds, faults, memory = said.split()
+    return float(seconds), int(faults), int(memory)
+
+
+def least_used(commands, paths, runs):
+    """For each path the least that each command uses, by turns: a busy while touches all alike."""
+    best = {}
+    for _ in range(runs):
+        for path in paths:
+            for at, command in enumerate(commands):
+                now = used(command, path)
+                best[path, at] = tuple(map(min, now, best.get((path, at), now)))
+    return best
 
 
 def row(*cells):
@@ -101,16 +117,22 @@ def instructions_table(compare, commands, path):
 
 def times_table(compare, commands, path, runs):
     lines, document = compare.realistic(100)
-    whole, reader = whole_and_reader(lambda at: compare.least(commands, at, runs), path, lines, document, compare)
+    unread = path + "-unreadable"
     put(path, compare.written(lines, document))
+    put(unread, compare.written(lines + [b"unreadable"], document))
+    best = least_used(commands, (path, unread), runs)
+    whole, reader = ([best[at_path, at] for at in (0, 1)] for at_path in (path, unread))
     text = [len(compare.text_of(command, path)) for command in commands]
     size = os.path.getsize(path)
     row(f"{len(lines):,} events", "the original", "ours", "beside it")
     row("---", "---", "---", "---")
     rest = [whole[at][0] - reader[at][0] for at in (0, 1)]
     row("check, compile, write, ms", f"{rest[1] * 1000:.1f}", f"{rest[0] * 1000:.1f}", ratio(*rest))
-    row("the whole program, ms", f"{whole[1][0] * 1000:.1f}", f"{whole[0][0] * 1000:.1f}", ratio(whole[0][0], whole[1][0]))
-    memory = [(peak(command, path) - size - text[at]) / len(lines) for at, command in enumerate(commands)]
+    faults = [whole[at][1] - reader[at][1] for at in (0, 1)]
+    row("of these, page faults", f"{faults[1]:,}", f"{faults[0]:,}", ratio(*faults))
+    both = ratio(whole[0][0], whole[1][0])
+    row("the whole program, ms", f"{whole[1][0] * 1000:.1f}", f"{whole[0][0] * 1000:.1f}", both)
+    memory = [(whole[at][2] - size - text[at]) / len(lines) for at in (0, 1)]
     row("memory beyond script and text, bytes an event", f"{memory[1]:.0f}", f"{memory[0]:.0f}", ratio(*memory))
     print()
 
