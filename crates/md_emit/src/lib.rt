@@ -2,15 +2,23 @@
 #![tactic(auto)]
 
 mod around;
+mod autolinks;
+mod blocks;
+mod calls;
 mod captured;
 mod code;
 mod entering;
 mod finishing;
 mod given;
+mod headings;
 mod leaves;
 mod leaving;
+mod links;
+mod lists;
 mod media;
 mod printer;
+mod spans;
+mod tables;
 mod target;
 mod told;
 

@@ -3,7 +3,7 @@ use Rattle.std.proofs.Common.{◌≡◌, length}
 use denote.Text.{Utf8}
 use denote.Shadow.{shadow}
 use Rattle.md_emit.specs.Parts.{unpadded}
-use Rattle.md_emit.proofs.entering.unpadded.Given as goal
+use Rattle.md_emit.proofs.lists.unpadded.Given as goal
 
 abbrev pub invariant-loop-digits : goal.invariant-loop-digits
 invariant-loop-digits l = (unpadded l.digits ≡ unpadded l.initial.digits) × shadow (Utf8 l.digits)

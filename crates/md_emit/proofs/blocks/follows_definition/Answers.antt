@@ -1,7 +1,7 @@
 -- The search that proves it, and no other: a wrong body is refused by it in a second, where all
 -- that is tried without an answer takes ten.
 use Rattle.std.proofs.Common.{rules}
-use Rattle.md_emit.proofs.leaving.ends_in_line.Goals as goal
+use Rattle.md_emit.proofs.blocks.follows_definition.Goals as goal
 
-pub returns-in-Some-Paragraph : goal.returns-in-Some-Paragraph
-returns-in-Some-Paragraph c = search rules
+pub returns-in-Some : goal.returns-in-Some
+returns-in-Some c = search rules

@@ -5,7 +5,7 @@ use Rattle.std.proofs.lemmas.Bool.{eqb-true}
 use Rattle.std.specs.Bool.{OnTrue}
 use Rattle.std.specs.Str.{IsCharBoundary, IsUtf8}
 use Rattle.std.proofs.lemmas.Str.{IsCharBoundary-after_ascii}
-use Rattle.md_emit.proofs.entering.has_leading_zero.Goals as goal
+use Rattle.md_emit.proofs.lists.has_leading_zero.Goals as goal
 
 zero_cut : (text : List ℕ) → IsUtf8 text → 1 < length text → (b : Bool) →
     nat_eq (get_or text 0 0) 48 ≡ b →

@@ -8,7 +8,7 @@ use Rattle.md_meaning.specs.Meaning.Layout.{Needed, Text, laid_after, said, on_o
 use Rattle.md_output.specs.Texts.{Texts}
 use Rattle.md_emit.proofs.LinkHeads.{call-laid}
 use Rattle.md_emit.proofs.Answering.{on_ok}
-use Rattle.md_emit.proofs.captured.put_call_on.Goals as goal
+use Rattle.md_emit.proofs.calls.put_call_on.Goals as goal
 
 pub returns : goal.returns
 returns c =

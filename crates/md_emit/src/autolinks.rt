@@ -1,0 +1,121 @@
+//! What is printed of autolinks.
+
+ghost use Rattle.std.specs.Prelude.{◌≡◌, ◌++◌, OnOk, Some, None, true, false, ℕ, List, ◌+◌, ◌<◌};
+ghost use Rattle.std.specs.Prelude.{◌||◌, IfOk, string_bytes};
+ghost use Rattle.md_meaning.specs.Meaning.At as At;
+ghost use Rattle.md_shape.specs.Run.{Noticed};
+ghost use Rattle.md_meaning.specs.Meaning.Layout.{laid_after};
+ghost use Rattle.md_shape.specs.Steps as steps;
+ghost use Rattle.md_emit.specs.Supplies.{Supplies};
+ghost use Rattle.md_told.specs.Told.{IsNoticedAt};
+ghost use Rattle.md_base.specs.NameTests.{is_transparent};
+ghost use Rattle.md_meaning.specs.Meaning.Spans.{marker};
+ghost use Rattle.md_text.specs.Encode.{encoded};
+ghost use Rattle.md_tree.specs.Texts.{ExitsAt};
+ghost use Rattle.md_meaning.specs.Meaning.Media.{anchor};
+ghost use Rattle.md_emit.specs.Heads.{anchor_head};
+
+use crate::given::Given;
+use crate::media::{Lead, put_anchor_head};
+use crate::printer::Printer;
+use md_base::Name;
+use md_told::text_left_at;
+use std::alloc::{AllocError, Global};
+
+impl<'a> Printer<'a> {
+    /// Leaves an autolink: its text, which leads to itself after a prefix unless it is plain.
+    pub(crate) fn leave_autolink(
+        &mut self,
+        given: &Given,
+        index: usize,
+        prefix: &str,
+        plain: bool,
+        name: Name,
+    ) -> Result<(), AllocError>
+        requires there { ExitsAt given.now.checked.now.events index name }
+        requires solid { is_transparent name ≡ false }
+        requires plain { marker name ≡ 38 }
+        ensures { OnOk result ((all : At.Given) (one : Noticed) → Supplies given.now all
+            → IsNoticedAt given.now.checked.now index one → self.new ≡ record self.old {
+              text = laid_after all.ending self.old.text
+                  (steps.autolink_closing all one.told plain prefix.now);
+              ended = Some name;
+              marker = 38;
+            }) }
+    {
+        let text = text_left_at(given.checked, index);
+        self.ends(name);
+        if plain {
+            return self.put_encoded(text, true);
+        }
+        self.put_anchor(given, prefix, text)
+    }
+
+    /// Prints a link to a prefix and a text, with that text as its label.
+    fn put_anchor(&mut self, given: &Given, prefix: &str, text: &str) -> Result<(), AllocError>
+        ensures { OnOk result ((ending : List ℕ) → self.new ≡ record self.old {
+          text = laid_after ending self.old.text (anchor given.now.options.now
+              (record { destination = prefix.now ++ text.now; title = None })
+              (encoded true text.now));
+        }) }
+    {
+        self.put_self_head(given, prefix, text)?;
+        self.put_encoded(text, true)?;
+        self.put("</a>")
+    }
+
+    /// Prints what stands before the label of a link to a prefix and a text.
+    fn put_self_head(&mut self, given: &Given, prefix: &str, text: &str) -> Result<(), AllocError>
+        ensures { OnOk result (self.new ≡ record self.old {
+          text = self.old.text ++ anchor_head given.now.options.now
+              (record { destination = prefix.now ++ text.now; title = None });
+        }) }
+    {
+        if prefix.is_empty() {
+            let lead = Lead {
+                destination: text,
+                title: None,
+            };
+            return put_anchor_head(&mut self.output, given.options, &lead);
+        }
+        let destination = joined(given.alloc, prefix, text)?;
+        let lead = Lead {
+            destination: destination.as_str(),
+            title: None,
+        };
+        put_anchor_head(&mut self.output, given.options, &lead)
+    }
+
+    /// Leaves a literal autolink, which is plain in a link as well.
+    pub(crate) fn leave_literal(
+        &mut self,
+        given: &Given,
+        index: usize,
+        prefix: &str,
+        name: Name,
+    ) -> Result<(), AllocError>
+        requires there { ExitsAt given.now.checked.now.events index name }
+        requires solid { is_transparent name ≡ false }
+        requires plain { marker name ≡ 38 }
+        ensures { OnOk result ((all : At.Given) (one : Noticed) → Supplies given.now all
+            → IsNoticedAt given.now.checked.now index one → self.new ≡ record self.old {
+              text = laid_after all.ending self.old.text (steps.autolink_closing all one.told
+                  (self.old.around.in_image || self.old.around.in_link) prefix.now);
+              ended = Some name;
+              marker = 38;
+            }) }
+    {
+        let plain = self.around.in_image || self.around.in_link;
+        self.leave_autolink(given, index, prefix, plain, name)
+    }
+}
+
+/// A prefix and a text, as one.
+fn joined(alloc: Global, prefix: &str, text: &str) -> Result<String, AllocError>
+    ensures { IfOk result (λ all. string_bytes all ≡ prefix.now ++ text.now) }
+{
+    let mut all = String::with_capacity(alloc, prefix.len().saturating_add(text.len()))?;
+    all.push_str(prefix)?;
+    all.push_str(text)?;
+    Ok(all)
+}

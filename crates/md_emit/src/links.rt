@@ -1,0 +1,228 @@
+//! What is printed of links and images, and kept of where they lead.
+
+ghost use Rattle.std.specs.Prelude.{◌≡◌, ◌∷◌, ◌++◌, [], OnOk, Some, None, true, false, codes};
+ghost use Rattle.std.specs.Prelude.{unwrap_or, ◌+◌, ◌<◌, IfOk, option_copied};
+ghost use Rattle.md_meaning.specs.Meaning.At as At;
+ghost use Rattle.md_shape.specs.Run.{Noticed};
+ghost use Rattle.md_shape.specs.Steps as steps;
+ghost use Rattle.md_emit.specs.Supplies.{Supplies, Leaves, target_at};
+ghost use Rattle.md_told.specs.Told.{IsNoticedAt};
+ghost use Rattle.md_base.specs.declared.event.Name.TheVariants as names;
+ghost use Rattle.md_base.specs.NameTests.{is_transparent};
+ghost use Rattle.md_meaning.specs.Meaning.Spans.{marker};
+ghost use Rattle.md_tree.specs.Texts.{ExitsAt};
+ghost use Rattle.md_tree.specs.Numbers.{ExitsOf, is_of_definitions};
+ghost use Rattle.md_emit.specs.Heads.{anchor_head, picture_head, picture_tail};
+
+use crate::around::Around;
+use crate::given::Given;
+use crate::media::{Lead, put_anchor_before, put_picture_before, put_picture_tail};
+use crate::printer::Printer;
+use crate::target::Target;
+use md_base::Name;
+use md_text::CompileOptions;
+use md_told::definition_led_at;
+use std::alloc::AllocError;
+use std::mem::swap;
+
+impl<'a> Printer<'a> {
+    /// Begins what stands around a label.
+    pub(crate) fn enter_label(&mut self) -> Result<(), AllocError>
+        ensures { OnOk result (self.new ≡ record self.old {
+          text = [];
+          below = self.old.text ∷ self.old.below;
+          resource = None;
+        }) }
+    {
+        self.forget_resource();
+        self.output.capture_label()
+    }
+
+    /// Begins where a resource or a definition leads, in which nothing is escaped yet.
+    pub(crate) fn enter_destination(&mut self) -> Result<(), AllocError>
+        ensures { OnOk result (self.new ≡ record self.old {
+          text = [];
+          below = self.old.text ∷ self.old.below;
+          around = record self.old.around { is_escaping = false };
+          arounds = self.old.around ∷ self.old.arounds;
+        }) }
+    {
+        self.capture()?;
+        self.turn(Around {
+            is_escaping: false,
+            ..self.around
+        })
+    }
+
+    /// Begins what tells where something leads.
+    pub(crate) fn enter_target(&mut self) -> Result<(), AllocError>
+        ensures { OnOk result (self.new ≡ record self.old {
+          text = [];
+          below = self.old.text ∷ self.old.below;
+          target = steps.nowhere;
+        }) }
+    {
+        self.target.clear();
+        self.capture()
+    }
+
+    /// Leaves a link: what stands before its label, and its end; in an image its label alone.
+    pub(crate) fn leave_link(&mut self, given: &Given, index: usize) -> Result<(), AllocError>
+        requires { ExitsAt given.now.checked.now.events index names.Link }
+        ensures { OnOk result (Leaves given.now index names.Link self.old self.new) }
+    {
+        self.turn_back();
+        self.ends(Name::Link);
+        let is_label_alone = self.is_in_image();
+        if is_label_alone {
+            self.output.join();
+            return Ok(());
+        }
+        let found = self.led(given, index)?;
+        self.put_link(given.options, found)
+    }
+
+    /// Puts what stands around a link's label.
+    fn put_link(
+        &mut self,
+        options: &CompileOptions,
+        found: Option<&Target>,
+    ) -> Result<(), AllocError>
+        ensures { OnOk result (self.new ≡ record self.old {
+          text = steps.first_or [] self.old.below ++ (anchor_head options.now
+              (unwrap_or self.old.resource (unwrap_or (option_copied found.entry) steps.nowhere))
+              ++ (self.old.text ++ codes "</a>"));
+          below = steps.others_of self.old.below;
+        }) }
+    {
+        let lead = Lead::of(self.has_resource, &self.resource, found);
+        put_anchor_before(&mut self.output, &mut self.scratch, options, &lead)?;
+        self.output.join();
+        self.output.put("</a>")
+    }
+
+    /// Leaves an image: what stands around its alternative text; in another image that text alone.
+    pub(crate) fn leave_image(&mut self, given: &Given, index: usize) -> Result<(), AllocError>
+        requires { ExitsAt given.now.checked.now.events index names.Image }
+        ensures { OnOk result (Leaves given.now index names.Image self.old self.new) }
+    {
+        self.turn_back();
+        self.ends(Name::Image);
+        let is_text_alone = self.is_in_image();
+        if is_text_alone {
+            self.output.join();
+            return Ok(());
+        }
+        let found = self.led(given, index)?;
+        self.put_picture(given.options, found)
+    }
+
+    /// Where a link or an image leads by its identifier: it is looked up where there is no
+    /// resource.
+    fn led<'b>(&self, given: &Given<'b>, index: usize) -> Result<Option<&'b Target>, AllocError>
+        requires { ExitsOf is_of_definitions given.now.checked.now.events index }
+        ensures { IfOk result (λ found. (all : At.Given) (one : Noticed) → Supplies given.now all
+            → IsNoticedAt given.now.checked.now index one
+            → unwrap_or self.now.resource (unwrap_or (option_copied found) steps.nowhere)
+            ≡ steps.leads all self.now one.told) }
+    {
+        if self.has_resource {
+            return Ok(None);
+        }
+        let place = definition_led_at(given.alloc, given.checked, index)?;
+        Ok(target_of(given.definitions, place))
+    }
+
+    /// Puts what stands around an image's alternative text.
+    fn put_picture(
+        &mut self,
+        options: &CompileOptions,
+        found: Option<&Target>,
+    ) -> Result<(), AllocError>
+        ensures { OnOk result (self.new ≡ record self.old {
+          text = steps.first_or [] self.old.below
+              ++ (picture_head options.now (unwrap_or self.old.resource
+              (unwrap_or (option_copied found.entry) steps.nowhere)).destination
+              ++ (self.old.text ++ picture_tail (unwrap_or self.old.resource
+              (unwrap_or (option_copied found.entry) steps.nowhere)).title));
+          below = steps.others_of self.old.below;
+        }) }
+    {
+        let lead = Lead::of(self.has_resource, &self.resource, found);
+        put_picture_before(
+            &mut self.output,
+            &mut self.scratch,
+            options,
+            lead.destination,
+        )?;
+        self.output.join();
+        put_picture_tail(&mut self.output, lead.title)
+    }
+
+    /// Leaves a resource: where it leads is kept.
+    pub(crate) fn leave_resource(&mut self) -> Result<(), AllocError>
+        ensures { OnOk result (self.new ≡ record self.old {
+          text = steps.first_or [] self.old.below;
+          below = steps.others_of self.old.below;
+          ended = Some names.Resource;
+          marker = 38;
+          target = steps.nowhere;
+          resource = Some self.old.target;
+        }) }
+    {
+        self.ends(Name::Resource);
+        self.discard();
+        swap(&mut self.resource, &mut self.target);
+        self.target.clear();
+        self.has_resource = true;
+        Ok(())
+    }
+
+    /// Leaves a destination, which is kept.
+    pub(crate) fn leave_destination(&mut self, name: Name) -> Result<(), AllocError>
+        requires solid { is_transparent name ≡ false }
+        requires plain { marker name ≡ 38 }
+        ensures { OnOk result (self.new ≡ record self.old {
+          text = steps.first_or [] self.old.below;
+          below = steps.others_of self.old.below;
+          around = steps.first_or steps.outside self.old.arounds;
+          arounds = steps.others_of self.old.arounds;
+          ended = Some name;
+          marker = 38;
+          target = record self.old.target { destination = self.old.text };
+        }) }
+    {
+        self.turn_back();
+        self.ends(name);
+        self.target.destination.clear();
+        self.output.move_into(&mut self.target.destination)
+    }
+
+    /// Leaves a title, which is kept.
+    pub(crate) fn leave_title(&mut self, name: Name) -> Result<(), AllocError>
+        requires solid { is_transparent name ≡ false }
+        requires plain { marker name ≡ 38 }
+        ensures { OnOk result (self.new ≡ record self.old {
+          text = steps.first_or [] self.old.below;
+          below = steps.others_of self.old.below;
+          ended = Some name;
+          marker = 38;
+          target = record self.old.target { title = Some self.old.text };
+        }) }
+    {
+        self.ends(name);
+        self.target.has_title = true;
+        self.target.title.clear();
+        self.output.move_into(&mut self.target.title)
+    }
+}
+
+/// The definition at a place, if there is one.
+fn target_of(targets: &[Target], place: Option<usize>) -> Option<&Target>
+    ensures { unwrap_or (option_copied result) steps.nowhere ≡ target_at targets.now place }
+{
+    match place {
+        Some(place) => targets.get(place),
+        None => None,
+    }
+}

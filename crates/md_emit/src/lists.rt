@@ -1,0 +1,195 @@
+//! What is printed of lists and their items.
+
+ghost use Rattle.std.specs.Prelude.{◌≡◌, ◌∷◌, ◌++◌, [], ◌==◌, OnOk, Some, None, true, false, not};
+ghost use Rattle.std.specs.Prelude.{ℕ, List, if◌then◌else◌, codes, bytes_eq, ◌+◌, ◌<◌, ◌&&◌};
+ghost use Rattle.std.specs.Bool.{OnTrue};
+ghost use Rattle.std.specs.Str.{IsCharBoundary};
+ghost use Rattle.md_base.specs.declared.event.Name.TheVariants.{ListOrdered};
+ghost use Rattle.md_meaning.specs.Meaning.At as At;
+ghost use Rattle.md_shape.specs.Run.{Noticed};
+ghost use Rattle.md_meaning.specs.Meaning.Layout.{Needed, Text, laid_after, said, on_own_line};
+ghost use Rattle.md_meaning.specs.Meaning.Layout.{when};
+ghost use Rattle.md_meaning.specs.Meaning.Blocks.{without_zeros};
+ghost use Rattle.md_tree.specs.Texts.{EntersAt};
+ghost use Rattle.md_shape.specs.Steps as steps;
+ghost use Rattle.md_emit.specs.Supplies.{Supplies};
+ghost use Rattle.md_told.specs.Told.{IsNoticedAt};
+ghost use Rattle.md_emit.specs.Parts as parts;
+ghost use Rattle.md_base.specs.declared.event.Name.TheVariants as names;
+ghost use Rattle.md_base.specs.NameTests.{is_transparent};
+ghost use Rattle.md_meaning.specs.Meaning.Spans.{marker};
+
+use crate::around::Around;
+use crate::given::Given;
+use crate::printer::Printer;
+use md_base::Name;
+use md_told::{number_at, text_of_leaf};
+use std::alloc::AllocError;
+
+impl<'a> Printer<'a> {
+    /// Goes on in a list.
+    pub(crate) fn turn_list(&mut self, loose: bool) -> Result<(), AllocError>
+        ensures { OnOk result (self.new ≡ record self.old {
+          around = record self.old.around { is_contained = true; is_tight = not loose };
+          arounds = self.old.around ∷ self.old.arounds;
+        }) }
+    {
+        self.turn(Around {
+            is_contained: true,
+            is_tight: !loose,
+            ..self.around
+        })
+    }
+
+    /// The tag of an ordered list, with its number unless that is 1.
+    pub(crate) fn open_list(&mut self, given: &Given, index: usize) -> Result<(), AllocError>
+        requires { EntersAt given.now.checked.now.events index ListOrdered }
+        ensures { OnOk result ((all : At.Given) (one : Noticed) → Supplies given.now all
+            → IsNoticedAt given.now.checked.now index one → self.new ≡ record self.old {
+              text = laid_after given.now.ending.now self.old.text (on_own_line (codes "<ol")
+                  ++ (steps.list_opening all one.told ++ said (codes ">")));
+              ended = None;
+              marker = 38;
+            }) }
+    {
+        self.enter_line(given.ending, "<ol")?;
+        self.open_start(given, index)?;
+        self.put(">")
+    }
+
+    /// The number of the ordered list that is entered, unless it is 1.
+    fn open_start(&mut self, given: &Given, index: usize) -> Result<(), AllocError>
+        requires { EntersAt given.now.checked.now.events index ListOrdered }
+        ensures { OnOk result ((all : At.Given) (one : Noticed) → Supplies given.now all
+            → IsNoticedAt given.now.checked.now index one → (ending : List ℕ)
+            → self.new ≡ record self.old {
+              text = laid_after ending self.old.text (steps.list_opening all one.told);
+            }) }
+    {
+        match number_at(given.checked, index) {
+            Some(place) => {
+                let digits = text_of_leaf(given.checked, place.start, place.end);
+                self.open_number(without_zeros(digits))
+            }
+            None => Ok(()),
+        }
+    }
+
+    /// The number of an ordered list, unless it is 1.
+    fn open_number(&mut self, digits: &str) -> Result<(), AllocError>
+        ensures { OnOk result ((ending : List ℕ) → self.new ≡ record self.old {
+          text = laid_after ending self.old.text (when (not (bytes_eq digits.now (codes "1")))
+              (Text (codes " start=\"") ∷ Text digits.now ∷ Text (codes "\"") ∷ []));
+        }) }
+    {
+        if digits == "1" {
+            return Ok(());
+        }
+        self.put(" start=\"")?;
+        self.put(digits)?;
+        self.put("\"")
+    }
+
+    /// Enters a task's box, up to whether it is checked.
+    pub(crate) fn enter_task(&mut self, checkable: bool) -> Result<(), AllocError>
+        ensures { OnOk result ((ending : List ℕ) → self.new ≡ record self.old {
+          text = laid_after ending self.old.text (when (not self.old.around.in_image)
+              (Text (codes "<input type=\"checkbox\" ")
+              ∷ when (not checkable) (said (codes "disabled=\"\" "))));
+          ended = None;
+          marker = 38;
+        }) }
+    {
+        self.enters();
+        if self.around.in_image {
+            return Ok(());
+        }
+        self.put("<input type=\"checkbox\" ")?;
+        if checkable {
+            Ok(())
+        } else {
+            self.put("disabled=\"\" ")
+        }
+    }
+
+    /// Leaves an item, on a line of its own unless its last child says otherwise.
+    pub(crate) fn leave_item(&mut self, ending: &str, last: Option<Name>) -> Result<(), AllocError>
+        ensures { OnOk result
+            ((told : steps.Told) → told.contributing ≡ last → self.new ≡ record self.old {
+              text = laid_after ending.now self.old.text
+                  ((if steps.item_ends_in_line self.old told then [] else Needed ∷ [])
+                  ++ said (codes "</li>"));
+              slurps = if self.old.around.in_definition then self.old.slurps else false;
+              ended = Some names.ListItem;
+              marker = 38;
+            }) }
+    {
+        self.ends_unslurped(Name::ListItem);
+        if ends_in_line(self.around.is_tight, last) {
+            self.put("</li>")
+        } else {
+            self.line(ending, "</li>")
+        }
+    }
+
+    /// Leaves a list: its tag comes after a line ending in any case.
+    pub(crate) fn leave_list(
+        &mut self,
+        ending: &str,
+        tag: &str,
+        name: Name,
+    ) -> Result<(), AllocError>
+        requires solid { is_transparent name ≡ false }
+        requires plain { marker name ≡ 38 }
+        ensures { OnOk result (self.new ≡ record self.old {
+          text = (self.old.text ++ ending.now) ++ tag.now;
+          around = steps.first_or steps.outside self.old.arounds;
+          arounds = steps.others_of self.old.arounds;
+          ended = Some name;
+          marker = 38;
+        }) }
+    {
+        self.turn_back();
+        self.ends(name);
+        self.put(ending)?;
+        self.put(tag)
+    }
+}
+
+/// Digits without the zeros before the number that they write.
+fn without_zeros(digits: &str) -> &str
+    ensures { result.now ≡ without_zeros digits.now }
+{
+    unpadded(digits)
+}
+
+/// The same, zero after zero.
+fn unpadded(mut digits: &str) -> &str
+    ensures { result.now ≡ parts.unpadded digits.entry.now }
+{
+    while has_leading_zero(digits) {
+        digits = &digits[1..];
+    }
+    digits
+}
+
+/// A zero before other digits.
+fn has_leading_zero(digits: &str) -> bool
+    ensures value { result ≡ parts.has_leading_zero digits.now }
+    ensures cut { OnTrue result (IsCharBoundary digits.now 1) }
+{
+    digits.len() > 1 && digits.as_bytes()[0] == b'0'
+}
+
+/// An item's last child that contributes ends its line: its prefix, or a paragraph of a tight list.
+fn ends_in_line(is_tight: bool, last: Option<Name>) -> bool
+    ensures { (state : steps.State) (told : steps.Told) → state.around.is_tight ≡ is_tight
+        → told.contributing ≡ last
+        → result ≡ steps.item_ends_in_line state told }
+{
+    match last {
+        Some(Name::ListItemPrefix) => true,
+        Some(Name::Paragraph) => is_tight,
+        _ => false,
+    }
+}
