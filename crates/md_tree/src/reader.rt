@@ -87,36 +87,12 @@ impl Reader {
     /// Reads the event at an index.
     fn read(&mut self, input: Input, index: usize, event: Event) -> Result<(), CompileError>
         requires here { slice_get input.events.now index ≡ Some event }
-        requires before { HasRead input.bytes.now (name_table input.names.now) input.events.now
-            index self.old }
+        requires before { HasRead input.bytes.now (name_table input.names.now) input.events.now index self.old }
         ensures read { OnOk result
             (HasRead input.entry.bytes.now (name_table input.entry.names.now) input.entry.events.now
             (suc index) self.new) }
         ensures refused { IfErr result
-            (IsRefusal (handed input.entry.events.now input.entry.bytes.now
-            input.entry.names.now)) }
-    {
-        // Many nodes with children have such a name: for them, too, it is written.
-        match event.name {
-            Name::Other(number) => {
-                self.read_one(input, index, with_name(event, Name::Other(number)))
-            }
-            name => self.read_one(input, index, with_name(event, name)),
-        }
-    }
-
-    /// The same, of an event whose name may be written at the call.
-    #[inline(always)]
-    fn read_one(&mut self, input: Input, index: usize, event: Event) -> Result<(), CompileError>
-        requires here { slice_get input.events.now index ≡ Some event }
-        requires before { HasRead input.bytes.now (name_table input.names.now) input.events.now
-            index self.old }
-        ensures read { OnOk result
-            (HasRead input.entry.bytes.now (name_table input.entry.names.now) input.entry.events.now
-            (suc index) self.new) }
-        ensures refused { IfErr result
-            (IsRefusal (handed input.entry.events.now input.entry.bytes.now
-            input.entry.names.now)) }
+            (IsRefusal (handed input.entry.events.now input.entry.bytes.now input.entry.names.now)) }
     {
         self.walk.step(input, index, &event)?;
         self.pass.find(input.alloc, &event)?;
@@ -186,18 +162,6 @@ impl Reader {
         self.pass.leaf(input.alloc, name)?;
         note_ending(&mut self.first_ending, input.events, index + 1);
         Ok(())
-    }
-}
-
-/// An event, with its name as it is written at the call.
-#[inline(always)]
-fn with_name(event: Event, name: Name) -> Event
-    ensures { name ≡ event.name → result ≡ event }
-{
-    Event {
-        kind: event.kind,
-        name,
-        point: event.point,
     }
 }
 
