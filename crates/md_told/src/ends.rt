@@ -181,7 +181,7 @@ fn entered_from(checked: &Checked, index: usize) -> Point
     requires { EntersSome checked.now.events index }
     ensures { (one : Noticed) → IsNoticedAt checked.now index one → result ≡ one.told.place.start }
 {
-    point_at(checked.events(), index)
+    event_point(checked.events(), index)
 }
 
 /// Where the node begins that the event at the index exits.
@@ -190,7 +190,7 @@ fn start_of(checked: &Checked, index: usize) -> Point
     requires { ExitsSome checked.now.events index }
     ensures { (one : Noticed) → IsNoticedAt checked.now index one → result ≡ one.told.place.start }
 {
-    point_at(checked.events(), entry_of(checked, index))
+    event_point(checked.events(), entry_of(checked, index))
 }
 
 /// Where the node ends that the event at the index exits.
@@ -199,12 +199,12 @@ fn end_of(checked: &Checked, index: usize) -> Point
     requires { ExitsSome checked.now.events index }
     ensures { (one : Noticed) → IsNoticedAt checked.now index one → result ≡ one.told.place.end }
 {
-    point_at(checked.events(), index)
+    event_point(checked.events(), index)
 }
 
 /// The point of the event at an index.
 #[inline(always)]
-fn point_at(events: &[Event], index: usize) -> Point
+fn event_point(events: &[Event], index: usize) -> Point
     requires { index < length events.now }
     ensures { (event : AnyEvent) → slice_get events.now index ≡ Some event → result ≡ event.point }
 {

@@ -35,7 +35,7 @@ pub(crate) fn identifier_at(
     ensures { IfOk result (λ identifier. (one : Noticed) → IsNoticedAt checked.now index one
         → string_bytes identifier ≡ one.told.identifier) }
 {
-    identifier_of(alloc, checked.bytes(), label_at(checked, index))
+    identifier_of(alloc, checked.bytes(), label_read_at(checked, index))
 }
 
 /// The same of the node that the event at the index exits.
@@ -63,7 +63,7 @@ pub fn identifier_left_at(
 }
 
 /// The place of the label by which the node refers or is referred to; None where it has none.
-fn label_at(checked: &Checked, index: usize) -> Option<Position>
+fn label_read_at(checked: &Checked, index: usize) -> Option<Position>
     requires { EntersOf is_labelled checked.now.events index }
     ensures { (one : Noticed) → IsNoticedAt checked.now index one
         → one.told.identifier ≡ places.identifier_at checked.now.bytes result }

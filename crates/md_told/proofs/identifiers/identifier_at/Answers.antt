@@ -7,5 +7,6 @@ use Rattle.md_told.proofs.identifiers.identifier_at.Goals as goal
 pub returns : goal.returns
 returns c =
     on_answer _ _ (λ identifier is one there.
-    is ∙ ap (λ bytes. identifier_at bytes c.label_at.result) c.bytes.ensures
-    ∙ sym (c.label_at.ensures one there)) c.identifier_of.result c.identifier_of.ensures
+    is ∙ ap (λ bytes. identifier_at bytes c.label_read_at.result) c.bytes.ensures
+    ∙ sym (c.label_read_at.ensures one there))
+    c.identifier_of.result c.identifier_of.ensures

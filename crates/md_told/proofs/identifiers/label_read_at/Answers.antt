@@ -10,7 +10,7 @@ use Rattle.md_shape.specs.Run.{Noticed}
 use Rattle.md_told.specs.Told.{is_labelled}
 use Rattle.md_told.proofs.Nodes.{entered}
 use Rattle.md_told.proofs.Labelled.{labelled}
-use Rattle.md_told.proofs.identifiers.label_at.Goals as goal
+use Rattle.md_told.proofs.identifiers.label_read_at.Goals as goal
 
 reader : (name : Name) → is_labelled name ≡ true → is_reader name ≡ true
 reader GfmFootnoteCall h = refl
