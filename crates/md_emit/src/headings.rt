@@ -45,7 +45,7 @@ impl<'a> Printer<'a> {
         }) }
     {
         self.put(begin)?;
-        match digit(rank) {
+        match rank_digit(rank) {
             Some(digit) => self.put(digit)?,
             None => self.put(rank.to_string(alloc)?.as_str())?,
         }
@@ -110,7 +110,7 @@ impl<'a> Printer<'a> {
 }
 
 /// A number of one digit that a heading's rank may be.
-fn digit(rank: usize) -> Option<&'static str>
+fn rank_digit(rank: usize) -> Option<&'static str>
     ensures { IfSome result (λ digits. digits.now ≡ decimal rank) }
 {
     match rank {

@@ -133,7 +133,7 @@ impl<'a> Printer<'a> {
               (drop self.old.cells self.old.around.columns));
         }) }
     {
-        let mut rest = columns_from(self.around.columns, self.cells);
+        let mut rest = columns_past(self.around.columns, self.cells);
         while let Some((kind, others)) = rest.split_first() {
             self.put_empty_cell(ending, *kind)?;
             rest = others;
@@ -192,7 +192,7 @@ fn cell_end(in_head: bool) -> &'static str
 }
 
 /// The columns from an index on.
-fn columns_from(columns: &[AlignKind], first: usize) -> &[AlignKind]
+fn columns_past(columns: &[AlignKind], first: usize) -> &[AlignKind]
     ensures { result.now ≡ drop first columns.now }
 {
     if first < columns.len() {

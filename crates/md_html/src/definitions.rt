@@ -12,7 +12,7 @@ ghost use Rattle.md_told.specs.Told.{IsNoticedAt};
 ghost use Rattle.md_told.specs.Definitions.{within, own_defined};
 ghost use Rattle.md_emit.specs.Supplies.{Supplies};
 
-use crate::running::run;
+use crate::running::run_events;
 use md_base::Name;
 use md_emit::{Given, Printer, Target};
 use md_told::inside_at;
@@ -92,7 +92,7 @@ fn run_definition<'a>(
     let _events = given.checked.events();
     printer.enter(given, index, Name::Definition)?;
     let inside = inside_at(given.checked, index);
-    run(printer, given, index + 1, index + inside)?;
+    run_events(printer, given, index + 1, index + inside)?;
     Ok(())
 }
 

@@ -10,7 +10,7 @@ ghost use Rattle.md_html.specs.Printed.{text_of};
 
 use crate::definitions::targets;
 use crate::ending::ending_of;
-use crate::running::run;
+use crate::running::run_events;
 use md_emit::{Given, Printer};
 use md_shape::laws::steps_print_what_is_meant;
 use md_text::CompileOptions;
@@ -69,7 +69,7 @@ fn print(given: &Given) -> Result<String, AllocError>
 {
     let mut printer = Printer::new(given.alloc);
     printer.reserve(given.checked.bytes().len());
-    let ran = run(&mut printer, given, 0, given.checked.events().len());
+    let ran = run_events(&mut printer, given, 0, given.checked.events().len());
     // The printer is used up before the run's error is answered, so that no path has its
     // many parts to drop.
     let text = printer.into_text(given.alloc, given.options, given.ending)?;

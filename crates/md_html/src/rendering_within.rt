@@ -12,7 +12,7 @@ ghost use Rattle.md_html.specs.Printed.{text_of};
 
 use crate::definitions::targets;
 use crate::ending::ending_of;
-use crate::running::run;
+use crate::running::run_events;
 use md_emit::{Given, Printer};
 use md_shape::laws::steps_print_what_is_meant;
 use md_text::CompileOptions;
@@ -90,7 +90,7 @@ fn print_within(given: &Given, limit: usize) -> Result<Option<String>, AllocErro
 {
     let mut printer = Printer::new(given.alloc);
     printer.reserve(given.checked.bytes().len());
-    let ran = run_within(&mut printer, given, limit);
+    let ran = run_events_within(&mut printer, given, limit);
     // The printer is used up before the run's answer is looked at, so that no path has its
     // many parts to drop.
     let text = printer.into_text(given.alloc, given.options, given.ending)?;
@@ -104,7 +104,7 @@ fn print_within(given: &Given, limit: usize) -> Result<Option<String>, AllocErro
 
 /// Prints all events, until the text is longer than a limit for sure; answers whether
 /// all were printed.
-fn run_within<'a>(
+fn run_events_within<'a>(
     printer: &mut Printer<'a>,
     given: &Given<'a>,
     limit: usize,
@@ -123,7 +123,7 @@ fn run_within<'a>(
     let mut index = 0;
     while index < count {
         let to = count.min(index.saturating_add(AT_ONCE));
-        index = run(printer, given, index, to)?;
+        index = run_events(printer, given, index, to)?;
         if printer.is_longer(limit) {
             return Ok(false);
         }

@@ -24,7 +24,7 @@ use std::alloc::AllocError;
 /// # Errors
 ///
 /// Only where memory runs out.
-pub(crate) fn run<'a>(
+pub(crate) fn run_events<'a>(
     printer: &mut Printer<'a>,
     given: &Given<'a>,
     from: usize,
@@ -118,7 +118,7 @@ fn open<'a>(
     requires { EntersAt given.now.checked.now.events index name }
     ensures { IfOk result (λ more. Opens given.now index name more printer.old printer.new) }
 {
-    if is_definition(name) {
+    if is_passed_over(name) {
         printer.pass_definition();
         Ok(inside_at(given.checked, index))
     } else {
@@ -129,7 +129,7 @@ fn open<'a>(
 
 /// Whether it is a definition, which is printed ahead of all else.
 #[inline(always)]
-fn is_definition(name: Name) -> bool
+fn is_passed_over(name: Name) -> bool
     ensures { result ≡ is_passed name }
 {
     matches!(name, Name::Definition)

@@ -37,8 +37,8 @@ overflow_add-index-2 c =
 none : (n m : ℕ) → n ≡ 0 → n ≤ m + 1
 none n m e = omega (arith, e)
 
-pub run-requires-clause-cells : goal.run-requires-clause-cells
-run-requires-clause-cells c =
+pub run_events-requires-clause-cells : goal.run_events-requires-clause-cells
+run_events-requires-clause-cells c =
     let checked = c.events-events.ensures.grammatical in
     let found = inside-within c.args.given.now.checked.now checked.0 c.args.index Definition
     (IsReadAs.flattened checked.1) c.requires.enters in
@@ -47,8 +47,8 @@ run-requires-clause-cells c =
     (ap (λ (s : State). s.cells) (c.in_ok-enter.ensures at found.0 c.requires.supplied.1 found.2
     ∙ ap (λ s. entered at found.0.told Definition s) c.requires.new))
 
-pub run-requires-clause-fences : goal.run-requires-clause-fences
-run-requires-clause-fences c =
+pub run_events-requires-clause-fences : goal.run_events-requires-clause-fences
+run_events-requires-clause-fences c =
     let checked = c.events-events.ensures.grammatical in
     let found = inside-within c.args.given.now.checked.now checked.0 c.args.index Definition
     (IsReadAs.flattened checked.1) c.requires.enters in
@@ -57,8 +57,8 @@ run-requires-clause-fences c =
     (ap (λ (s : State). s.fences) (c.in_ok-enter.ensures at found.0 c.requires.supplied.1 found.2
     ∙ ap (λ s. entered at found.0.told Definition s) c.requires.new))
 
-pub run-requires-clause-within : goal.run-requires-clause-within
-run-requires-clause-within c =
+pub run_events-requires-clause-within : goal.run_events-requires-clause-within
+run_events-requires-clause-within c =
     let checked = c.events-events.ensures.grammatical in
     let found = inside-within c.args.given.now.checked.now checked.0 c.args.index Definition
     (IsReadAs.flattened checked.1) c.requires.enters in
@@ -76,7 +76,7 @@ returns c =
     let handed = c.args.given.now.checked.now in
     λ at document one supplies flat there.
     let same = c.inside_at-inside.ensures one there in
-    c.in_ok-run.ensures.ran at document supplies flat
+    c.in_ok-run_events.ensures.ran at document supplies flat
     ∙ ap (λ es. run at 0 es (window (c.args.index + 1) (c.args.index + c.inside_at-inside.result)
     (noticed handed.bytes true document)) c.enter.new.self)
     (window-within handed.events c.args.index one.inside c.inside_at-inside.result same)

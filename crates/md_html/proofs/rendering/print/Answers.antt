@@ -14,7 +14,7 @@ use Rattle.md_html.proofs.rendering.print.Goals as goal
 pub returns : goal.returns
 returns c = λ at document supplies flat.
     let handed = c.args.given.now.checked.now in
-    let after : State = c.run-ran.new.printer in
+    let after : State = c.run_events-ran.new.printer in
     let count : length c.events.result.now ≡ length handed.events =
     ap (λ es. length es) c.events.ensures.events in
     let ran : after ≡ run at 0 (flatten document) (noticed at.bytes true document) beginning =

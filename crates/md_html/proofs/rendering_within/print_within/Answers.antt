@@ -15,7 +15,7 @@ use Rattle.md_html.proofs.rendering_within.print_within.Goals.{else-is_whole-via
 
 pub returns-then-len-limit-clause-text : goal.returns-then-len-limit-clause-text
 returns-then-len-limit-clause-text c = λ at document supplies flat.
-    let after : State = c.run_within-ran.new.printer in
+    let after : State = c.run_events_within-ran.new.printer in
     let ran : after ≡ run at 0 (flatten document) (noticed at.bytes true document) beginning =
     c.in_ok-is_whole.ensures.whole c.if-is_whole.true at document supplies flat in
     c.in_ok-text.ensures (record at { calls = after.calls }) (Supplies.options supplies)
@@ -27,7 +27,7 @@ pub returns-else-is_whole-clause-too_long : goal.returns-else-is_whole-clause-to
 returns-else-is_whole-clause-too_long c = λ none at document supplies flat.
     elim c.else-is_whole.branch [
       | else-is_whole-via-then-is_whole+else-len-limit w ↦
-          let after : State = c.run_within-ran.new.printer in
+          let after : State = c.run_events_within-ran.new.printer in
           let ran : after ≡ run at 0 (flatten document) (noticed at.bytes true document) beginning =
           c.in_ok-is_whole.ensures.whole w.if-is_whole.true at document supplies flat in
           let same : string_bytes c.in_ok-text.text ≡ text_of at document =

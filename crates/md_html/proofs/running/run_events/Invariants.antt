@@ -2,7 +2,7 @@
 -- passed the index.
 use Rattle.std.proofs.Common.{◌≤◌, ◌-◌}
 use Rattle.md_html.specs.Stepping.{Goes}
-use Rattle.md_html.proofs.running.run.Given as goal
+use Rattle.md_html.proofs.running.run_events.Given as goal
 
 abbrev pub invariant-loop-index : goal.invariant-loop-index
 invariant-loop-index l =

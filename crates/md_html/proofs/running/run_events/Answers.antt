@@ -11,7 +11,7 @@ use Rattle.md_shape.specs.Steps.{State}
 use Rattle.md_html.specs.Stepping.{Goes}
 use Rattle.md_html.proofs.Turns.{turn-within, turn-cells, turn-fences, leaf-cells, leaf-fences}
 use Rattle.md_html.proofs.Turns.{goes-turn, goes-leaf}
-use Rattle.md_html.proofs.running.run.Goals as goal
+use Rattle.md_html.proofs.running.run_events.Goals as goal
 
 inner : (index to n : ℕ) → index < to → to ≤ n → index < n
 inner index to n lt le = omega (arith, lt, le)

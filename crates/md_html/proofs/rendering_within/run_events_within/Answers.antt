@@ -3,7 +3,7 @@
 use Rattle.std.proofs.Common.{rules, ◌≡◌, ◌≤◌, length, ap, arith}
 use Rattle.md_html.specs.Stepping.{Goes}
 use Rattle.md_html.proofs.Long.{goes-on, whole-run, longer-run}
-use Rattle.md_html.proofs.rendering_within.run_within.Goals as goal
+use Rattle.md_html.proofs.rendering_within.run_events_within.Goals as goal
 
 pub returns-then-is_longer-clause-too_long : goal.returns-then-is_longer-clause-too_long
 returns-then-is_longer-clause-too_long c = λ no at document supplies flat.
@@ -11,12 +11,12 @@ returns-then-is_longer-clause-too_long c = λ no at document supplies flat.
     let count = length c.events-count.result.now in
     let first = c.args.printer.now in
     let most : c.min-to.result ≤ count = search rules in
-    let on : Goes code 0 c.in_ok-index.index count first c.run.new.printer =
+    let on : Goes code 0 c.in_ok-index.index count first c.run_events.new.printer =
     goes-on code 0 c.loop-index.index c.in_ok-index.index c.min-to.result count first
     c.loop-index.printer
-    c.run.new.printer most c.loop-index.invariant.2 c.in_ok-index.ensures.goes in
+    c.run_events.new.printer most c.loop-index.invariant.2 c.in_ok-index.ensures.goes in
     let long = c.is_longer.ensures c.if-is_longer.true in
-    longer-run code at document c.in_ok-index.index count first c.run.new.printer supplies flat
+    longer-run code at document c.in_ok-index.index count first c.run_events.new.printer supplies flat
     (ap (λ es. length es) c.events-count.ensures.events) c.requires.new on
     c.args.limit long.0 long.1
 
@@ -28,7 +28,7 @@ loop-index-preserved c =
       c.in_ok-index.ensures.fences,
       goes-on c.args.given.now 0 c.loop-index.index c.in_ok-index.index c.min-to.result
           count c.args.printer.now
-          c.loop-index.printer c.run.new.printer most c.loop-index.invariant.2
+          c.loop-index.printer c.run_events.new.printer most c.loop-index.invariant.2
           c.in_ok-index.ensures.goes,
     )
 

@@ -2,7 +2,7 @@
 use Rattle.std.proofs.Common.{ap, sym, ◌∙◌, arith}
 use Rattle.std.specs.Fmt.{decimal}
 use Rattle.std.proofs.lemmas.Fmt.{decimal_digit}
-use Rattle.md_emit.proofs.headings.digit.Goals as goal
+use Rattle.md_emit.proofs.headings.rank_digit.Goals as goal
 
 pub returns-in-1 : goal.returns-in-1
 returns-in-1 c = sym (ap decimal c.in-1.is ∙ decimal_digit 1 (omega arith))

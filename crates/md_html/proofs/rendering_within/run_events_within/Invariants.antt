@@ -2,7 +2,7 @@
 -- passed the index.
 use Rattle.std.proofs.Common.{◌≤◌, ◌-◌}
 use Rattle.md_html.specs.Stepping.{Goes}
-use Rattle.md_html.proofs.rendering_within.run_within.Given as goal
+use Rattle.md_html.proofs.rendering_within.run_events_within.Given as goal
 
 abbrev pub invariant-loop-index : goal.invariant-loop-index
 invariant-loop-index l =
