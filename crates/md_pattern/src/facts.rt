@@ -205,7 +205,7 @@ fn push_fact(facts: &mut Vec<Fact>, fact: Fact) -> Result<(), AllocError>
 
 /// Adds an open node, likewise.
 #[inline(always)]
-fn push_open(open_nodes: &mut Vec<OpenNode>, node: OpenNode) -> Result<(), AllocError>
+fn push_node(open_nodes: &mut Vec<OpenNode>, node: OpenNode) -> Result<(), AllocError>
     ensures { OnOk result (open_nodes.new.items ≡ open_nodes.old.items ++ node ∷ []) }
 {
     if open_nodes.len() == open_nodes.capacity() {
@@ -358,7 +358,7 @@ impl Pass {
         push_fact(&mut self.facts, partner_alone(0))?;
         self.ended.columns.enter(name)?;
         let inside = opened(entry, name, innermost(&self.open_nodes, &self.document));
-        push_open(&mut self.open_nodes, inside)
+        push_node(&mut self.open_nodes, inside)
     }
 
     /// The exit of a node.
