@@ -1,6 +1,7 @@
 //! Scripts read apart from the program's own reader, so that the calls that `run` makes
 //! are asked as well.
 
+use md_base::names_by_length;
 use md_html::{CompileOptions, Event, Kind, LineEnding, Name, Point};
 use std::alloc::{AllocError, Global};
 
@@ -152,26 +153,7 @@ pub(crate) fn name_of(text: &str) -> Option<Name> {
     if let Some(number) = text.strip_prefix("Other") {
         return Some(Name::Other(number.parse().ok()?));
     }
-    block_name(text)
-        .or(code_name(text))
-        .or(medium_name(text))
-        .or(text_name(text))
-}
-
-fn block_name(text: &str) -> Option<Name> {
-    listed(&BLOCKS, text)
-}
-
-fn code_name(text: &str) -> Option<Name> {
-    listed(&CODE, text)
-}
-
-fn medium_name(text: &str) -> Option<Name> {
-    listed(&MEDIA, text)
-}
-
-fn text_name(text: &str) -> Option<Name> {
-    listed(&TEXTS, text)
+    listed(names_by_length().get(text.len())?, text)
 }
 
 /// The name beside a spelling.
@@ -183,140 +165,3 @@ fn listed(names: &[(&str, Name)], text: &str) -> Option<Name> {
     }
     None
 }
-
-// bench/names.py: begin
-/// The names of containers, headings and lines.
-static BLOCKS: [(&str, Name); 22] = [
-    ("LineEnding", Name::LineEnding),
-    ("BlankLineEnding", Name::BlankLineEnding),
-    ("BlockQuote", Name::BlockQuote),
-    ("BlockQuotePrefix", Name::BlockQuotePrefix),
-    ("ListOrdered", Name::ListOrdered),
-    ("ListUnordered", Name::ListUnordered),
-    ("ListItem", Name::ListItem),
-    ("ListItemPrefix", Name::ListItemPrefix),
-    ("ListItemValue", Name::ListItemValue),
-    ("ListItemMarker", Name::ListItemMarker),
-    ("GfmFootnoteDefinition", Name::GfmFootnoteDefinition),
-    (
-        "GfmFootnoteDefinitionPrefix",
-        Name::GfmFootnoteDefinitionPrefix,
-    ),
-    (
-        "GfmFootnoteDefinitionLabelString",
-        Name::GfmFootnoteDefinitionLabelString,
-    ),
-    ("HeadingAtx", Name::HeadingAtx),
-    ("HeadingAtxSequence", Name::HeadingAtxSequence),
-    ("HeadingAtxText", Name::HeadingAtxText),
-    ("HeadingSetextText", Name::HeadingSetextText),
-    (
-        "HeadingSetextUnderlineSequence",
-        Name::HeadingSetextUnderlineSequence,
-    ),
-    ("Paragraph", Name::Paragraph),
-    ("ThematicBreak", Name::ThematicBreak),
-    ("Frontmatter", Name::Frontmatter),
-    ("SpaceOrTab", Name::SpaceOrTab),
-];
-// bench/names.py: end
-
-// bench/names.py: begin
-/// The names of code, math, HTML and MDX.
-static CODE: [(&str, Name); 23] = [
-    ("CodeIndented", Name::CodeIndented),
-    ("CodeFenced", Name::CodeFenced),
-    ("CodeFencedFence", Name::CodeFencedFence),
-    ("CodeFencedFenceInfo", Name::CodeFencedFenceInfo),
-    ("CodeFencedFenceMeta", Name::CodeFencedFenceMeta),
-    ("CodeFlowChunk", Name::CodeFlowChunk),
-    ("MathFlow", Name::MathFlow),
-    ("MathFlowFence", Name::MathFlowFence),
-    ("MathFlowFenceMeta", Name::MathFlowFenceMeta),
-    ("MathFlowChunk", Name::MathFlowChunk),
-    ("CodeText", Name::CodeText),
-    ("CodeTextData", Name::CodeTextData),
-    ("MathText", Name::MathText),
-    ("MathTextData", Name::MathTextData),
-    ("HtmlFlow", Name::HtmlFlow),
-    ("HtmlFlowData", Name::HtmlFlowData),
-    ("HtmlText", Name::HtmlText),
-    ("HtmlTextData", Name::HtmlTextData),
-    ("MdxEsm", Name::MdxEsm),
-    ("MdxFlowExpression", Name::MdxFlowExpression),
-    ("MdxTextExpression", Name::MdxTextExpression),
-    ("MdxJsxFlowTag", Name::MdxJsxFlowTag),
-    ("MdxJsxTextTag", Name::MdxJsxTextTag),
-];
-// bench/names.py: end
-
-// bench/names.py: begin
-/// The names of links, images, definitions and calls of footnotes.
-static MEDIA: [(&str, Name); 20] = [
-    ("AutolinkEmail", Name::AutolinkEmail),
-    ("AutolinkProtocol", Name::AutolinkProtocol),
-    ("GfmAutolinkLiteralEmail", Name::GfmAutolinkLiteralEmail),
-    ("GfmAutolinkLiteralMailto", Name::GfmAutolinkLiteralMailto),
-    (
-        "GfmAutolinkLiteralProtocol",
-        Name::GfmAutolinkLiteralProtocol,
-    ),
-    ("GfmAutolinkLiteralWww", Name::GfmAutolinkLiteralWww),
-    ("GfmAutolinkLiteralXmpp", Name::GfmAutolinkLiteralXmpp),
-    ("Definition", Name::Definition),
-    ("DefinitionLabelString", Name::DefinitionLabelString),
-    (
-        "DefinitionDestinationString",
-        Name::DefinitionDestinationString,
-    ),
-    ("DefinitionTitleString", Name::DefinitionTitleString),
-    ("Link", Name::Link),
-    ("Image", Name::Image),
-    ("Label", Name::Label),
-    ("LabelText", Name::LabelText),
-    ("Resource", Name::Resource),
-    ("ResourceDestinationString", Name::ResourceDestinationString),
-    ("ResourceTitleString", Name::ResourceTitleString),
-    ("ReferenceString", Name::ReferenceString),
-    ("GfmFootnoteCall", Name::GfmFootnoteCall),
-];
-// bench/names.py: end
-
-// bench/names.py: begin
-/// The names of tables, and of what else stands in a text.
-static TEXTS: [(&str, Name); 21] = [
-    ("Data", Name::Data),
-    ("CharacterEscapeValue", Name::CharacterEscapeValue),
-    ("CharacterReferenceMarker", Name::CharacterReferenceMarker),
-    (
-        "CharacterReferenceMarkerNumeric",
-        Name::CharacterReferenceMarkerNumeric,
-    ),
-    (
-        "CharacterReferenceMarkerHexadecimal",
-        Name::CharacterReferenceMarkerHexadecimal,
-    ),
-    ("CharacterReferenceValue", Name::CharacterReferenceValue),
-    ("GfmTable", Name::GfmTable),
-    ("GfmTableHead", Name::GfmTableHead),
-    ("GfmTableBody", Name::GfmTableBody),
-    ("GfmTableRow", Name::GfmTableRow),
-    ("GfmTableCell", Name::GfmTableCell),
-    ("GfmTableDelimiterRow", Name::GfmTableDelimiterRow),
-    (
-        "GfmTableDelimiterCellValue",
-        Name::GfmTableDelimiterCellValue,
-    ),
-    ("GfmTableDelimiterMarker", Name::GfmTableDelimiterMarker),
-    ("Emphasis", Name::Emphasis),
-    ("Strong", Name::Strong),
-    ("GfmStrikethrough", Name::GfmStrikethrough),
-    ("GfmTaskListItemCheck", Name::GfmTaskListItemCheck),
-    (
-        "GfmTaskListItemValueChecked",
-        Name::GfmTaskListItemValueChecked,
-    ),
-    ("HardBreakEscape", Name::HardBreakEscape),
-    ("HardBreakTrailing", Name::HardBreakTrailing),
-];
-// bench/names.py: end
