@@ -1,15 +1,14 @@
 //! One text in which captured texts begin one after another.
 
-ghost use Rattle.std.specs.Prelude.{◌≡◌, ◌≤◌, ◌<◌, ◌∷◌, ◌++◌, [], OnOk, IfOk, true, if◌then◌else◌};
-ghost use Rattle.std.specs.Prelude.{length, map, string_bytes};
+ghost use Rattle.std.specs.Prelude.{◌≡◌, ◌<◌, ◌∷◌, ◌++◌, [], OnOk, IfOk, true, if◌then◌else◌};
+ghost use Rattle.std.specs.Prelude.{length, string_bytes};
 ghost use Rattle.md_output.specs.Texts as texts;
-ghost use Rattle.md_output.specs.Texts.{first_or, others_of};
 ghost use Rattle.md_meaning.specs.Meaning.Layout.{Needed, laid_after, begins_line};
-ghost use Rattle.md_text.specs.Encode.{encoded};
-ghost use Rattle.md_text.specs.Url.{sanitized, sanitized_with};
 
-use crate::heads::{Head, forget_from, push_merged, wait_first, waits};
-use md_text::{push_encoded, push_sanitized, push_sanitized_with_protocols};
+mod ends;
+mod urls;
+
+use crate::heads::{Head, wait_first, waits};
 use std::alloc::{AllocError, Global};
 use std::marker::Model;
 
@@ -130,82 +129,6 @@ impl Output {
         Ok(())
     }
 
-    /// Puts a text, made safe to stand in HTML where `escaping` says so, and without
-    /// NUL in any case.
-    ///
-    /// # Errors
-    ///
-    /// Only where memory runs out.
-    #[inline(always)]
-    pub fn put_encoded(&mut self, text: &str, escaping: bool) -> Result<(), AllocError>
-        ensures { OnOk result (self.new ≡ record {
-          text = self.old.text ++ encoded escaping text.now;
-          below = self.old.below;
-        }) }
-    {
-        push_encoded(&mut self.bytes, text, escaping)?;
-        Ok(())
-    }
-
-    /// Puts a URL, normalized and escaped. Where memory runs out no text is left, and so no
-    /// beginning of a URL.
-    ///
-    /// # Errors
-    ///
-    /// Only where memory runs out.
-    pub fn put_sanitized(&mut self, url: &str) -> Result<(), AllocError>
-        ensures { OnOk result (self.new ≡ record {
-          text = self.old.text ++ sanitized url.now;
-          below = self.old.below;
-        }) }
-    {
-        match push_sanitized(&mut self.bytes, url) {
-            Ok(()) => Ok(()),
-            Err(error) => {
-                empty(
-                    &mut self.bytes,
-                    &mut self.heads,
-                    &mut self.waiting,
-                    &mut self.start,
-                    &mut self.outers,
-                );
-                Err(error)
-            }
-        }
-    }
-
-    /// Puts a URL in the same way, or nothing if its protocol isn't among these. Where memory runs
-    /// out no text is left.
-    ///
-    /// # Errors
-    ///
-    /// Only where memory runs out.
-    pub fn put_sanitized_with_protocols(
-        &mut self,
-        url: &str,
-        protocols: &[&str],
-    ) -> Result<(), AllocError>
-        ensures { OnOk result (self.new ≡ record {
-          text = self.old.text
-              ++ sanitized_with (map (λ protocol. protocol.now) protocols.now) url.now;
-          below = self.old.below;
-        }) }
-    {
-        match push_sanitized_with_protocols(&mut self.bytes, url, protocols) {
-            Ok(()) => Ok(()),
-            Err(error) => {
-                empty(
-                    &mut self.bytes,
-                    &mut self.heads,
-                    &mut self.waiting,
-                    &mut self.start,
-                    &mut self.outers,
-                );
-                Err(error)
-            }
-        }
-    }
-
     /// Puts a line ending, unless a line starts here.
     ///
     /// # Errors
@@ -323,155 +246,6 @@ impl Output {
         };
         wait_first(&mut self.waiting, self.start.first, waiting)?;
         Ok(())
-    }
-
-    /// How long the innermost text is, without the heads that wait in it.
-    #[inline(always)]
-    fn length(&self) -> usize
-        ensures { result ≤ length self.now.text }
-    {
-        self.bytes.len() - self.start.place
-    }
-
-    /// Whether no text is captured and the only one is longer than this, even without the heads
-    /// that wait in it.
-    #[inline(always)]
-    pub fn is_longer(&self, limit: usize) -> bool
-        ensures { result ≡ true → (self.now.below ≡ []) × (limit < length self.now.text) }
-    {
-        self.length() > limit && self.outers.is_empty()
-    }
-
-    /// Ends the innermost text, which stays where it is.
-    #[inline(always)]
-    pub fn join(&mut self)
-        ensures { self.new ≡ record {
-          text = first_or [] self.old.below ++ self.old.text;
-          below = others_of self.old.below;
-        } }
-    {
-        if self.waiting.len() > self.start.first {
-            self.close_label();
-        }
-        self.end();
-    }
-
-    /// Gives up the place of a head that wasn't put.
-    #[inline(never)]
-    fn close_label(&mut self)
-        ensures { self.new ≡ self.old }
-    {
-        if !waits(&self.waiting.as_slice()[self.start.first..]) {
-            self.waiting.truncate(self.start.first);
-        }
-    }
-
-    /// Ends the innermost text, which stays where it is.
-    #[inline(always)]
-    fn end(&mut self)
-        ensures { self.new ≡ record {
-          text = first_or [] self.old.below ++ self.old.text;
-          below = others_of self.old.below;
-        } }
-    {
-        if let Some(outer) = self.outers.pop() {
-            self.start = outer;
-        }
-    }
-
-    /// Ends the innermost text, which goes.
-    #[inline(always)]
-    pub fn discard(&mut self)
-        ensures { self.new
-            ≡ record { text = first_or [] self.old.below; below = others_of self.old.below } }
-    {
-        self.take_away();
-        self.end();
-    }
-
-    /// Ends the innermost text, and adds it to another.
-    ///
-    /// # Errors
-    ///
-    /// Only where memory runs out.
-    pub fn move_into(&mut self, out: &mut String) -> Result<(), AllocError>
-        ensures moved { OnOk result (string_bytes out.new ≡ string_bytes out.old ++ self.old.text) }
-        ensures left { OnOk result (self.new
-            ≡ record { text = first_or [] self.old.below; below = others_of self.old.below }) }
-    {
-        self.move_text(out)?;
-        self.end();
-        Ok(())
-    }
-
-    /// Takes the innermost text away, and adds it to another.
-    fn move_text(&mut self, out: &mut String) -> Result<(), AllocError>
-        ensures moved { OnOk result (string_bytes out.new ≡ string_bytes out.old ++ self.old.text) }
-        ensures left { OnOk result (self.new ≡ record { text = []; below = self.old.below }) }
-    {
-        let added = self.add_to(out);
-        if added.is_ok() {
-            self.take_away()
-        }
-        added
-    }
-
-    /// The innermost text, as it is where nothing is captured and no head waits.
-    ///
-    /// # Errors
-    ///
-    /// Only where memory runs out.
-    pub fn into_text(self, alloc: Global) -> Result<String, AllocError>
-        ensures { IfOk result (λ text. string_bytes text ≡ self.text) }
-    {
-        if self.start.place == 0 && self.waiting.is_empty() {
-            let Output {
-                bytes,
-                heads: _,
-                waiting: _,
-                start: _,
-                outers: _,
-            } = self;
-            return Ok(bytes);
-        }
-        self.to_text(alloc)
-    }
-
-    /// A copy of the innermost text.
-    fn to_text(&self, alloc: Global) -> Result<String, AllocError>
-        ensures { IfOk result (λ text. string_bytes text ≡ self.now.text) }
-    {
-        let length = self.length().saturating_add(self.heads.len());
-        let mut text = String::with_capacity(alloc, length)?;
-        self.add_to(&mut text)?;
-        Ok(text)
-    }
-
-    /// Adds the innermost text to another.
-    fn add_to(&self, out: &mut String) -> Result<(), AllocError>
-        ensures { OnOk result (string_bytes out.new ≡ string_bytes out.old ++ self.now.text) }
-    {
-        push_merged(
-            out,
-            self.bytes.as_str(),
-            self.heads.as_str(),
-            &self.waiting.as_slice()[self.start.first..],
-            self.start.place,
-        )
-    }
-
-    /// Takes the innermost text away, and with it the heads that wait in it.
-    #[inline(always)]
-    fn take_away(&mut self)
-        ensures { self.new ≡ record { text = []; below = self.old.below } }
-    {
-        forget_from(
-            &mut self.heads,
-            &mut self.waiting,
-            self.start.first,
-            self.start.heads,
-        );
-        self.bytes.truncate(self.start.place);
     }
 }
 

@@ -1,11 +1,9 @@
 //! The rules that are judged where a node ends.
 
-ghost use Rattle.std.specs.Prelude.{◌≡◌, ◌&&◌, None, List, length, nat_lt, nat_le, is_some};
-ghost use Rattle.std.specs.Prelude.{option_copied, IfOk, if◌then◌else◌};
-ghost use Rattle.md_base.specs.Place.{fits, text_between, label_between};
-ghost use Rattle.md_base.specs.Reference.{name_table, is_number, decoded};
-ghost use Rattle.md_tree.specs.Rules.{is_line_ending, is_decodable, is_list_number, is_rank};
-ghost use Rattle.md_tree.specs.Rules.{marker_after, columns, unless, broken_by, broken_by_target};
+ghost use Rattle.std.specs.Prelude.{◌≡◌, None, List};
+ghost use Rattle.std.specs.Prelude.{IfOk};
+ghost use Rattle.md_base.specs.Reference.{name_table};
+ghost use Rattle.md_tree.specs.Rules.{unless};
 ghost use Rattle.md_tree.specs.Rules.{broken_rule, target_at};
 ghost use Rattle.md_pattern.specs.Places.{state_of};
 ghost use Rattle.md_tree.specs.Mentions.{mention_of};
@@ -14,12 +12,18 @@ ghost use Rattle.md_base.specs.declared.event.Event.{Event};
 ghost use Rattle.md_tree.specs.declared.mention.Referral.TheVariants.{Label, Missing};
 ghost use Rattle.md_tree.specs.declared.rule.Rule.TheVariants as rule;
 
+mod broken;
+
+use self::broken::{
+    broken_ending, broken_identifier, broken_mark, broken_number, broken_target, broken_text,
+    broken_underline, broken_value,
+};
 use crate::input::{Input, place_at, point_at, text_of};
 use crate::mention::Mention;
 use crate::open_nodes::{Aim, Open};
 use crate::rule::Rule;
-use md_base::{Point, Position, Slice, decode_character_reference};
-use md_pattern::{Place, Reading, Role, Symbol};
+use md_base::Position;
+use md_pattern::{Place, Reading, Symbol};
 use md_text::LineEnding;
 use std::alloc::AllocError;
 
@@ -28,182 +32,6 @@ pub fn rule_unless(condition: bool, rule: Rule) -> Option<Rule>
     ensures { result ≡ unless condition rule }
 {
     if condition { None } else { Some(rule) }
-}
-
-/// A place that is a text.
-#[inline(always)]
-fn broken_text(text: Option<&str>) -> Option<Rule>
-    ensures { result ≡ broken_by (option_copied text.entry) (λ _. None) }
-{
-    match text {
-        None => Some(Rule::Place),
-        Some(_) => None,
-    }
-}
-
-/// The text of a line ending.
-#[inline(always)]
-fn broken_ending(text: Option<&str>) -> Option<Rule>
-    ensures { result
-        ≡ broken_by (option_copied text.entry) (λ t. unless (is_line_ending t) rule.LineEnding) }
-{
-    match text {
-        None => Some(Rule::Place),
-        Some(text) => rule_unless(is_ending(text), Rule::LineEnding),
-    }
-}
-
-/// Whether a text is a line ending's.
-fn is_ending(text: &str) -> bool
-    ensures { result ≡ is_line_ending text.now }
-{
-    text.parse::<LineEnding>().is_ok()
-}
-
-/// The value of an item, which is a number in the first one of an ordered list.
-#[inline(always)]
-fn broken_number(around: Role, before: Option<Symbol>, text: Option<&str>) -> Option<Rule>
-    ensures { result ≡ broken_by (option_copied text.entry)
-        (λ t. unless (is_list_number around before t) rule.ListNumber) }
-{
-    match text {
-        None => Some(Rule::Place),
-        Some(text) => rule_unless(is_list_number(around, before, text), Rule::ListNumber),
-    }
-}
-
-/// Whether a text is the number that it has to be in a node of this role, after a symbol.
-fn is_list_number(around: Role, before: Option<Symbol>, text: &str) -> bool
-    ensures { result ≡ is_list_number around before text.now }
-{
-    match (around, before) {
-        (Role::FirstOrderedPrefix, None) => is_decimal(text),
-        _ => true,
-    }
-}
-
-/// Whether a text is one or more ASCII digits whose number fits a `u32`.
-fn is_decimal(text: &str) -> bool
-    ensures { result ≡ is_number 10 text.now }
-{
-    // `from_str_radix` takes a plus sign, which a list's number can't have.
-    if text.starts_with('+') {
-        return false;
-    }
-    u32::from_str_radix(text, 10).is_ok()
-}
-
-/// The value of a character reference.
-#[inline(always)]
-fn broken_value(
-    input: Input,
-    before: Option<Symbol>,
-    text: Option<&str>,
-) -> Result<Option<Rule>, AllocError>
-    ensures { IfOk result
-        (λ broken. broken ≡ broken_by (option_copied text.entry)
-        (λ t. unless (is_decodable (name_table input.entry.names.now) before t)
-        rule.CharacterReference)) }
-{
-    let Some(text) = text else {
-        return Ok(Some(Rule::Place));
-    };
-    let Some(marker) = marker(before) else {
-        return Ok(None);
-    };
-    let decodes = is_decodable(input, marker, text)?;
-    Ok(rule_unless(decodes, Rule::CharacterReference))
-}
-
-/// Whether the value of a character reference with this marker stands for a text.
-fn is_decodable(input: Input, marker: u8, value: &str) -> Result<bool, AllocError>
-    ensures { IfOk result
-        (λ decodes.
-        decodes ≡ is_some (decoded (name_table input.entry.names.now) marker value.now)) }
-{
-    let text = decode_character_reference(input.alloc, value, marker, input.names)?;
-    Ok(text.is_some())
-}
-
-/// The marker of the reference whose value stands after a symbol, where it is one of its marks.
-fn marker(before: Option<Symbol>) -> Option<u8>
-    ensures { result ≡ marker_after before }
-{
-    match before {
-        Some(Symbol::ReferenceMarker) => Some(b'&'),
-        Some(Symbol::ReferenceNumeric) => Some(b'#'),
-        Some(Symbol::ReferenceHexadecimal) => Some(b'x'),
-        _ => None,
-    }
-}
-
-/// A mark of a heading that is entered and exited at two indices: the first one is its rank.
-#[inline(always)]
-fn broken_mark(
-    input: Input,
-    around: Role,
-    before: Option<Symbol>,
-    entry: usize,
-    exit: usize,
-) -> Option<Rule>
-    ensures { (start end : Point) → start ≡ point_at input.entry.events.now entry
-        → end ≡ point_at input.entry.events.now exit
-        → result ≡ (if fits input.entry.bytes.now start end
-        then unless (is_rank around before (columns start end)) rule.HeadingMark
-        else Some rule.Place) }
-{
-    let position = place_at(input.events, entry, exit);
-    match Slice::from_position(input.bytes.bytes(), &position) {
-        None => Some(Rule::Place),
-        Some(slice) => rule_unless(is_rank(around, before, slice.len()), Rule::HeadingMark),
-    }
-}
-
-/// What identifies a link, an image, a footnote call or a definition, and is entered and
-/// exited at two indices.
-#[inline(always)]
-fn broken_identifier(input: Input, entry: usize, exit: usize) -> Option<Rule>
-    ensures { result
-        ≡ broken_by (label_between input.entry.bytes.now (point_at input.entry.events.now entry)
-        (point_at input.entry.events.now exit)) (λ _. None) }
-{
-    let position = place_at(input.events, entry, exit);
-    broken_text(input.bytes.label_at(&position))
-}
-
-/// Whether a mark of this length may stand in a node of this role, after a symbol.
-fn is_rank(around: Role, before: Option<Symbol>, length: usize) -> bool
-    ensures { result ≡ is_rank around before length }
-{
-    match (around, before) {
-        (Role::Heading, None) => is_heading_rank(length),
-        _ => true,
-    }
-}
-
-/// Whether headings have this rank.
-fn is_heading_rank(rank: usize) -> bool
-    ensures { result ≡ (nat_le 1 rank && nat_le rank 6) }
-{
-    1 <= rank && rank <= 6
-}
-
-/// The first byte of an underline.
-#[inline(always)]
-fn broken_underline(bytes: &[u8], start: Point) -> Option<Rule>
-    ensures { result ≡ unless (nat_lt start.index (length bytes.now)) rule.Place }
-{
-    rule_unless(start.index < bytes.len(), Rule::Place)
-}
-
-/// The target of a link or an image.
-fn broken_target(target: Aim) -> Option<Rule>
-    ensures { (events : List Event) → result ≡ broken_by_target (target_seen events target) }
-{
-    match target {
-        Aim::Missing => Some(Rule::Target),
-        Aim::Resource | Aim::Label(_, _) => None,
-    }
 }
 
 /// What a node mentions that has a label.

@@ -5,15 +5,16 @@ ghost use Rattle.std.specs.Prelude.{OnOk, IfOk, reverse};
 ghost use Rattle.md_pattern.specs.declared.kinds.Reading.TheVariants.{Free};
 ghost use Rattle.md_tree.specs.declared.open_nodes.Aim.TheVariants.{Missing};
 ghost use Rattle.md_tree.specs.declared.rule.CompileError.TheVariants as error;
-ghost use Rattle.md_tree.specs.Mentions.{mention_of, mentions_with};
-ghost use Rattle.md_tree.specs.Walk.{target_seen, target_of, targets_around, misplaced};
+ghost use Rattle.md_tree.specs.Walk.{target_of, targets_around, misplaced};
+
+mod leaving;
 
 use crate::input::{Input, place_at};
-use crate::judge::{mention_of, read_ended, read_node};
-use crate::mention::{Mention, Mentioned};
+use crate::judge::read_node;
+use crate::mention::Mentioned;
 use crate::open_nodes::{Aim, Open, Outer};
 use crate::rule::{CompileError, Rule};
-use md_base::{Event, Kind, Name, is_same_name};
+use md_base::{Event, Kind, Name};
 use md_pattern::{Place, Reading, Role, Standing, Symbol, standing_of};
 use std::alloc::{AllocError, Global};
 
@@ -36,21 +37,18 @@ pub struct Walk {
 
 impl Walk {
     ghost use Rattle.std.specs.Prelude.{◌≡◌, ◌<◌, ◌+◌, List, suc, true, false, None, Some, length};
-    ghost use Rattle.std.specs.Prelude.{reverse, IfOk, IfErr, OnOk};
+    ghost use Rattle.std.specs.Prelude.{IfErr, OnOk};
     ghost use Rattle.md_base.specs.NameTests.{is_table};
     ghost use Rattle.md_base.specs.Reference.{name_table};
     ghost use Rattle.md_base.specs.declared.event.Event.{Event};
     ghost use Rattle.md_base.specs.declared.event.Kind.TheVariants as kind;
-    ghost use Rattle.md_pattern.specs.Steps.{is_complete};
-    ghost use Rattle.md_pattern.specs.Places.{state_of};
-    ghost use Rattle.md_tree.specs.Rules.{broken_rule, target_at};
-    ghost use Rattle.md_tree.specs.Machine.{Steps, Enters, Exits, ExitsWhere, after_entry};
+    ghost use Rattle.md_tree.specs.Machine.{Steps, Enters, after_entry};
     ghost use Rattle.md_tree.specs.Machine.{beginning};
     ghost use Rattle.md_tree.specs.declared.open_nodes.Aim.TheVariants.{Missing};
     ghost use Rattle.md_tree.specs.declared.rule.CompileError.TheVariants.{Memory};
-    ghost use Rattle.md_tree.specs.Walk.{point_at, place_at, outer_seen, outer_of, opens_seen};
-    ghost use Rattle.md_tree.specs.Walk.{target_of, targets_around, course_of, entered_at, Passes};
-    ghost use Rattle.md_tree.specs.Walk.{Unbroken, IsStop, IsStopAtLeaf, IsStopInside};
+    ghost use Rattle.md_tree.specs.Walk.{point_at, outer_seen};
+    ghost use Rattle.md_tree.specs.Walk.{course_of, entered_at, Passes};
+    ghost use Rattle.md_tree.specs.Walk.{Unbroken, IsStop, IsStopAtLeaf};
 
     /// Before any event.
     pub fn new(alloc: Global) -> Walk
@@ -231,100 +229,6 @@ impl Walk {
             }
         }
     }
-
-    /// Leaves the innermost open node.
-    fn exit(&mut self, input: Input, index: usize, name: Name) -> Result<(), CompileError>
-        ensures ok { OnOk result
-            (Exits (Unbroken input.entry.bytes.now (name_table input.entry.names.now))
-            (course_of input.entry.events.now index self.old).open_nodes name
-            (point_at input.entry.events.now index)
-            (course_of input.entry.events.now index self.old)
-            (course_of input.entry.events.now (suc index) self.new)) }
-        ensures refused { IfErr result
-            (IsStop input.entry.bytes.now (name_table input.entry.names.now) index kind.Exit name
-            (point_at input.entry.events.now index)
-            (course_of input.entry.events.now index self.old)) }
-    {
-        let Some(open_node) = self.open_nodes.pop() else {
-            return refuse(index, Rule::Order);
-        };
-        if !is_same_name(open_node.name, name) {
-            return refuse(index, Rule::Order);
-        }
-        if open_node.stands {
-            self.leave(input, index, &open_node)
-        } else {
-            Ok(())
-        }
-    }
-
-    /// Leaves a node that has a spine of its own, which was read so far.
-    #[inline(always)]
-    fn leave(&mut self, input: Input, index: usize, open_node: &Open) -> Result<(), CompileError>
-        ensures ok { OnOk result
-            (ExitsWhere (Unbroken input.entry.bytes.now (name_table input.entry.names.now))
-            (Some (outer_of input.entry.events.now (reverse self.old.targets.items)
-            open_node.entry.now)) (point_at input.entry.events.now open_node.entry.now.entry)
-            (point_at input.entry.events.now index) (opens_seen input.entry.events.now
-            (targets_around open_node.entry.now.aimed (reverse self.old.targets.items))
-            self.old.open_nodes.items) (course_of input.entry.events.now index self.old)
-            (course_of input.entry.events.now (suc index) self.new)) }
-        ensures refused { IfErr result
-            (IsStopInside input.entry.bytes.now (name_table input.entry.names.now) index
-            (outer_of input.entry.events.now (reverse self.old.targets.items) open_node.entry.now)
-            (place_at input.entry.events.now open_node.entry.now.entry index)
-            (course_of input.entry.events.now index self.old)) }
-    {
-        if !self.place.may_end() {
-            return refuse(index, Rule::Order);
-        }
-        if is_plain(open_node, self.target) {
-            self.place = open_node.outer.place;
-            self.before = open_node.outer.last;
-            return Ok(());
-        }
-        self.leave_read(input, index, open_node)
-    }
-
-    /// The same where something is read of the node, or it or the spine around it has a target.
-    fn leave_read(
-        &mut self,
-        input: Input,
-        index: usize,
-        open_node: &Open,
-    ) -> Result<(), CompileError>
-        requires { is_complete (state_of self.now.place self.now.before) ≡ true }
-        ensures ok { OnOk result
-            (ExitsWhere (Unbroken input.entry.bytes.now (name_table input.entry.names.now))
-            (Some (outer_of input.entry.events.now (reverse self.old.targets.items)
-            open_node.entry.now)) (point_at input.entry.events.now open_node.entry.now.entry)
-            (point_at input.entry.events.now index) (opens_seen input.entry.events.now
-            (targets_around open_node.entry.now.aimed (reverse self.old.targets.items))
-            self.old.open_nodes.items) (course_of input.entry.events.now index self.old)
-            (course_of input.entry.events.now (suc index) self.new)) }
-        ensures refused { IfErr result
-            (IsStopInside input.entry.bytes.now (name_table input.entry.names.now) index
-            (outer_of input.entry.events.now (reverse self.old.targets.items) open_node.entry.now)
-            (place_at input.entry.events.now open_node.entry.now.entry index)
-            (course_of input.entry.events.now index self.old)) }
-    {
-        let inner = self.target;
-        self.target = take_back(open_node.aimed, &mut self.targets);
-        if let Some(rule) = read_ended(input, open_node, index, inner, &mut self.target)? {
-            return refuse(index, rule);
-        }
-        let outer = &open_node.outer;
-        keep(
-            &mut self.mentions,
-            input.events,
-            index,
-            outer.reading,
-            inner,
-        )?;
-        self.place = outer.place;
-        self.before = outer.last;
-        Ok(())
-    }
 }
 
 /// Adds an open node. Mostly there is room, and no call is made.
@@ -368,20 +272,6 @@ fn put_aside(target: &mut Aim, targets: &mut Vec<Aim>) -> Result<bool, AllocErro
     Ok(true)
 }
 
-/// The target of the spine around a node that ends, if it was put aside.
-fn take_back(aimed: bool, targets: &mut Vec<Aim>) -> Aim
-    ensures target { result ≡ target_of aimed (reverse targets.old.items) }
-    ensures around { reverse targets.new.items ≡ targets_around aimed (reverse targets.old.items) }
-{
-    if !aimed {
-        return Aim::Missing;
-    }
-    match targets.pop() {
-        Some(target) => target,
-        None => Aim::Missing,
-    }
-}
-
 /// Refuses the event at an index.
 #[inline(always)]
 fn refuse(index: usize, rule: Rule) -> Result<(), CompileError>
@@ -397,28 +287,5 @@ fn misplaced(name: Name) -> Rule
     match standing_of(name) {
         Standing::Mdx => Rule::Mdx,
         _ => Rule::Order,
-    }
-}
-
-/// Keeps what a node mentions that exits at the index, if it mentions anything.
-fn keep(
-    mentions: &mut Vec<Mentioned>,
-    events: &[Event],
-    index: usize,
-    reading: Reading,
-    target: Aim,
-) -> Result<(), AllocError>
-    ensures { OnOk result (mentions.new.items ≡ mentions_with index
-        (mention_of reading (target_seen events.now target)) mentions.old.items) }
-{
-    let Aim::Label(entry, exit) = target else {
-        return Ok(());
-    };
-    match mention_of(reading, place_at(events, entry, exit)) {
-        Mention::Nothing => Ok(()),
-        mention => {
-            mentions.push(Mentioned { index, mention })?;
-            Ok(())
-        }
     }
 }

@@ -1,0 +1,88 @@
+//! Escaped texts and URLs.
+
+ghost use Rattle.std.specs.Prelude.{◌≡◌, ◌<◌, ◌++◌, OnOk};
+ghost use Rattle.std.specs.Prelude.{map};
+ghost use Rattle.md_text.specs.Encode.{encoded};
+ghost use Rattle.md_text.specs.Url.{sanitized, sanitized_with};
+
+use super::{Output, empty};
+use md_text::{push_encoded, push_sanitized, push_sanitized_with_protocols};
+use std::alloc::AllocError;
+
+impl Output {
+    /// Puts a text, made safe to stand in HTML where `escaping` says so, and without
+    /// NUL in any case.
+    ///
+    /// # Errors
+    ///
+    /// Only where memory runs out.
+    #[inline(always)]
+    pub fn put_encoded(&mut self, text: &str, escaping: bool) -> Result<(), AllocError>
+        ensures { OnOk result (self.new ≡ record {
+          text = self.old.text ++ encoded escaping text.now;
+          below = self.old.below;
+        }) }
+    {
+        push_encoded(&mut self.bytes, text, escaping)?;
+        Ok(())
+    }
+
+    /// Puts a URL, normalized and escaped. Where memory runs out no text is left, and so no
+    /// beginning of a URL.
+    ///
+    /// # Errors
+    ///
+    /// Only where memory runs out.
+    pub fn put_sanitized(&mut self, url: &str) -> Result<(), AllocError>
+        ensures { OnOk result (self.new ≡ record {
+          text = self.old.text ++ sanitized url.now;
+          below = self.old.below;
+        }) }
+    {
+        match push_sanitized(&mut self.bytes, url) {
+            Ok(()) => Ok(()),
+            Err(error) => {
+                empty(
+                    &mut self.bytes,
+                    &mut self.heads,
+                    &mut self.waiting,
+                    &mut self.start,
+                    &mut self.outers,
+                );
+                Err(error)
+            }
+        }
+    }
+
+    /// Puts a URL in the same way, or nothing if its protocol isn't among these. Where memory runs
+    /// out no text is left.
+    ///
+    /// # Errors
+    ///
+    /// Only where memory runs out.
+    pub fn put_sanitized_with_protocols(
+        &mut self,
+        url: &str,
+        protocols: &[&str],
+    ) -> Result<(), AllocError>
+        ensures { OnOk result (self.new ≡ record {
+          text = self.old.text
+              ++ sanitized_with (map (λ protocol. protocol.now) protocols.now) url.now;
+          below = self.old.below;
+        }) }
+    {
+        match push_sanitized_with_protocols(&mut self.bytes, url, protocols) {
+            Ok(()) => Ok(()),
+            Err(error) => {
+                empty(
+                    &mut self.bytes,
+                    &mut self.heads,
+                    &mut self.waiting,
+                    &mut self.start,
+                    &mut self.outers,
+                );
+                Err(error)
+            }
+        }
+    }
+}

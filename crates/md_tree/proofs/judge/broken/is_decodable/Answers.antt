@@ -1,0 +1,12 @@
+-- A text is there exactly where the definition has its bytes. The search reads into what a
+-- reference stands for before it sees that.
+use Rattle.std.proofs.Common.{◌≡◌, Option, Some, None, refl, ap, ◌∙◌}
+use Rattle.std.specs.Prelude.{is_some, option_map}
+use Rattle.md_tree.proofs.judge.broken.is_decodable.Goals as goal
+
+mapped : {A B : Type 0} (f : A → B) (o : Option A) → is_some o ≡ is_some (option_map f o)
+mapped f None = refl
+mapped f (Some x) = refl
+
+pub returns : goal.returns
+returns c = c.is_some.ensures ∙ mapped _ c.in_ok-text.text ∙ ap is_some c.in_ok-text.ensures

@@ -1,6 +1,0 @@
--- Each step goes on.
-use Rattle.std.proofs.Common.{◌-◌, length}
-use Rattle.md_tree.proofs.texts.looks_ascii.Given as goal
-
-abbrev pub decreases-loop-at : goal.decreases-loop-at
-decreases-loop-at l = length l.bytes - l.at
