@@ -1,18 +1,23 @@
 //! The pass over the events from the first to the last, which finds what is read or
 //! inferred of each node.
 
-ghost use Rattle.std.specs.Prelude.{◌≡◌, ℕ, ◌+◌, true, false, OnOk, [], ◌∷◌, ◌++◌, length, map};
-ghost use Rattle.std.specs.Prelude.{set, not, ◌&&◌, IfOk};
-ghost use Rattle.md_base.specs.NameTests.{is_transparent, is_table, contributes};
+ghost use Rattle.std.specs.Prelude.{◌≡◌, false, OnOk, map};
+ghost use Rattle.std.specs.Prelude.{◌&&◌, IfOk};
+ghost use Rattle.md_base.specs.NameTests.{is_table};
 ghost use Rattle.md_pattern.specs.Facts as spec;
 ghost use Rattle.md_pattern.specs.Ending.{exits_line_ending, ending_after};
-ghost use Rattle.md_pattern.specs.Columns.{columns_exited};
-ghost use Rattle.md_pattern.specs.Told.{nothing_told};
 
-use crate::columns::{Columns, collects_in};
-use crate::seeking::{NOTHING_SOUGHT, Sought, is_idle, search_of, see};
-use crate::told::{Last, Looseness, NOT_LOOSE, NOTHING_TOLD, Told, spaced, tell, told_looseness};
-use md_base::name_tests::{contributes, is_link_definition, is_transparent};
+mod following;
+mod nodes;
+
+use self::following::{follow, follow_leaf};
+use self::nodes::{
+    document_node, fact_of, opened, partner_alone, push_fact, push_leaf, push_node, put,
+};
+use crate::columns::Columns;
+use crate::seeking::Sought;
+use crate::told::{Looseness, Told};
+use md_base::name_tests::is_link_definition;
 use md_base::{AlignKind, Event, Kind, Name};
 use std::alloc::{AllocError, Global};
 use std::marker::Model;
@@ -43,206 +48,6 @@ pub struct OpenNode {
     pub told: Told,
     /// A value in it is one of the table around it.
     pub collects: bool,
-}
-
-/// The document itself.
-fn document_node() -> OpenNode
-    ensures { result ≡ spec.document_node }
-{
-    OpenNode {
-        entry: 0,
-        contributing: 0,
-        collects: false,
-        sought: NOTHING_SOUGHT,
-        told: NOTHING_TOLD,
-    }
-}
-
-/// A spine on which a search begins, or goes on where the node is transparent.
-#[inline(always)]
-fn sought_inside(name: Name, around: Sought) -> Sought
-    ensures { result ≡ spec.sought_inside name around }
-{
-    if is_transparent(name) {
-        around
-    } else {
-        search_of(name)
-    }
-}
-
-/// A node that has been entered at an index, in one that is open.
-#[inline(always)]
-fn opened(entry: usize, name: Name, around: &OpenNode) -> OpenNode
-    ensures { result ≡ spec.opened entry name around.now }
-{
-    match name {
-        Name::BlockQuotePrefix
-        | Name::Definition
-        | Name::GfmFootnoteCall
-        | Name::GfmFootnoteDefinition
-        | Name::GfmFootnoteDefinitionPrefix
-        | Name::GfmTable
-        | Name::GfmTableDelimiterRow
-        | Name::GfmTableHead
-        | Name::HeadingAtx
-        | Name::Image
-        | Name::Label
-        | Name::Link
-        | Name::ListItem
-        | Name::ListItemPrefix
-        | Name::ListOrdered
-        | Name::SpaceOrTab => OpenNode {
-            entry,
-            contributing: 0,
-            collects: collects_in(name, around.collects),
-            sought: sought_inside(name, around.sought),
-            told: NOTHING_TOLD,
-        },
-        // What is sought and collected around it is in it as well.
-        Name::Other(_) => OpenNode {
-            entry,
-            contributing: 0,
-            collects: around.collects,
-            sought: around.sought,
-            told: NOTHING_TOLD,
-        },
-        // Nothing is sought or collected in any other.
-        _ => OpenNode {
-            entry,
-            ..document_node()
-        },
-    }
-}
-
-/// Notes a child that exits: as the last contributing one of the node around it, or among
-/// the definitions.
-#[inline(always)]
-fn note_child(
-    contributing: &mut usize,
-    definitions: &mut Vec<usize>,
-    name: Name,
-    entry: usize,
-) -> Result<(), AllocError>
-    ensures contributing { OnOk result
-        (contributing.new ≡ spec.contributing_after name entry contributing.old) }
-    ensures definitions { OnOk result
-        (definitions.new.items ≡ spec.definitions_with name entry definitions.old.items) }
-{
-    if contributes(name) {
-        *contributing = entry;
-        Ok(())
-    } else {
-        define(definitions, name, entry)
-    }
-}
-
-/// Goes on with a search after a child, given that in it.
-#[inline(always)]
-fn search_after(sought: &mut Sought, name: Name, entry: usize, own: &Sought)
-    ensures { sought.new ≡ spec.sought_after name entry own.now sought.old }
-{
-    if is_transparent(name) {
-        // Each field by itself, for then what lies between them isn't copied.
-        *sought = Sought {
-            read_at: own.read_at,
-            wanted: own.wanted,
-            found: own.found,
-        };
-    } else if !is_idle(*sought) {
-        see(sought, name, entry, own.read_at);
-    }
-}
-
-/// Where what is read of a node is found: which table it is, the last contributing child, or
-/// what was sought.
-#[inline(always)]
-fn read_at_of(name: Name, table: usize, own: &OpenNode) -> usize
-    ensures { result ≡ spec.read_at_of name table own.now.contributing own.now.sought }
-{
-    match name {
-        Name::GfmTable => table,
-        Name::ListItem => own.contributing,
-        Name::BlockQuotePrefix | Name::SpaceOrTab | Name::Other(_) => 0,
-        _ => own.sought.read_at,
-    }
-}
-
-/// What is found of a node that exits at an index.
-#[inline(always)]
-fn fact_of(name: Name, exit: usize, table: usize, own: &OpenNode) -> Fact
-    ensures { result
-        ≡ spec.fact_of name exit table own.now.contributing own.now.sought own.now.told }
-{
-    Fact {
-        partner: exit,
-        read_at: read_at_of(name, table, own),
-        looseness: told_looseness(own.told),
-    }
-}
-
-/// What is known of an exit, and of an entry before its exit.
-fn partner_alone(partner: usize) -> Fact
-    ensures { result ≡ spec.partner_alone partner }
-{
-    Fact {
-        partner,
-        read_at: 0,
-        looseness: NOT_LOOSE,
-    }
-}
-
-/// Adds what is known of an event. Mostly there is room, and no call is made.
-#[inline(always)]
-fn push_fact(facts: &mut Vec<Fact>, fact: Fact) -> Result<(), AllocError>
-    ensures { OnOk result (facts.new.items ≡ facts.old.items ++ fact ∷ []) }
-{
-    if facts.len() == facts.capacity() {
-        facts.reserve(1)?;
-    }
-    facts.push_reserved(fact);
-    Ok(())
-}
-
-/// Adds an open node, likewise.
-#[inline(always)]
-fn push_node(open_nodes: &mut Vec<OpenNode>, node: OpenNode) -> Result<(), AllocError>
-    ensures { OnOk result (open_nodes.new.items ≡ open_nodes.old.items ++ node ∷ []) }
-{
-    if open_nodes.len() == open_nodes.capacity() {
-        open_nodes.reserve(1)?;
-    }
-    open_nodes.push_reserved(node);
-    Ok(())
-}
-
-/// Adds what is known of an entry and of its own exit, which comes right after; answers the
-/// index of the entry.
-#[inline(always)]
-fn push_leaf(facts: &mut Vec<Fact>) -> Result<usize, AllocError>
-    ensures entry { IfOk result (λ entry. entry ≡ length facts.old.items) }
-    ensures facts { IfOk result
-        (λ entry. facts.new.items ≡ (facts.old.items ++ spec.partner_alone (entry + 1) ∷ [])
-        ++ spec.partner_alone entry ∷ []) }
-{
-    let entry = facts.len();
-    if facts.capacity() - entry < 2 {
-        facts.reserve(2)?;
-    }
-    facts.push_reserved(partner_alone(entry + 1));
-    facts.push_reserved(partner_alone(entry));
-    Ok(entry)
-}
-
-/// Goes on with a search after a node without children.
-#[inline(always)]
-fn search_leaf(sought: &mut Sought, name: Name, entry: usize)
-    ensures { sought.new
-        ≡ spec.sought_after name entry (spec.sought_inside name sought.old) sought.old }
-{
-    if is_idle(*sought) || is_transparent(name) {
-        return;
-    }
-    see(sought, name, entry, 0);
 }
 
 /// What is found at each event, the alignments of the tables and the entries of the
@@ -445,116 +250,6 @@ fn leave_innermost(open_nodes: &mut Vec<OpenNode>, document: &mut OpenNode) -> O
     }
 }
 
-/// Goes on with an open node after a child.
-#[inline(always)]
-fn follow(
-    alloc: Global,
-    here: &mut OpenNode,
-    ended: &mut Ended,
-    name: Name,
-    own: &OpenNode,
-) -> Result<(), AllocError>
-    ensures here { OnOk result (here.new ≡ spec.followed name own.now here.old) }
-    ensures columns { OnOk result (ended.new.columns
-        ≡ columns_exited name own.now.told here.old.collects ended.old.columns) }
-    ensures definitions { OnOk result (ended.new.definitions.items
-        ≡ spec.definitions_with name own.now.entry ended.old.definitions.items) }
-{
-    search_after(&mut here.sought, name, own.entry, &own.sought);
-    if is_common(name) {
-        here.contributing = own.entry;
-        here.told.last = Last::Plain;
-        return Ok(());
-    }
-    ended.columns.exit(alloc, name, own.told, here.collects)?;
-    note_child(
-        &mut here.contributing,
-        &mut ended.definitions,
-        name,
-        own.entry,
-    )?;
-    tell(&mut here.told, name, own.told);
-    Ok(())
-}
-
-/// The same after a child without children of its own.
-#[inline(always)]
-fn follow_leaf(
-    alloc: Global,
-    here: &mut OpenNode,
-    ended: &mut Ended,
-    name: Name,
-    entry: usize,
-) -> Result<(), AllocError>
-    ensures here { OnOk result
-        (here.new ≡ spec.followed name (spec.opened entry name here.old) here.old) }
-    ensures columns { OnOk result (ended.new.columns
-        ≡ columns_exited name nothing_told here.old.collects ended.old.columns) }
-    ensures definitions { OnOk result (ended.new.definitions.items
-        ≡ spec.definitions_with name entry ended.old.definitions.items) }
-{
-    if is_simple(name) {
-        follow_simple(here, name, entry);
-        return Ok(());
-    }
-    ended
-        .columns
-        .exit(alloc, name, NOTHING_TOLD, here.collects)?;
-    note_child(&mut here.contributing, &mut ended.definitions, name, entry)?;
-    search_leaf(&mut here.sought, name, entry);
-    tell(&mut here.told, name, NOTHING_TOLD);
-    Ok(())
-}
-
-/// The same after one that is simple.
-#[inline(always)]
-fn follow_simple(here: &mut OpenNode, name: Name, entry: usize)
-    requires { spec.is_simple name ≡ true }
-    ensures { here.new ≡ spec.followed name (spec.opened entry name here.old) here.old }
-{
-    match name {
-        Name::SpaceOrTab => here.told.last = spaced(here.told.last),
-        Name::LineEnding => here.told.last = Last::Plain,
-        _ => {
-            here.contributing = entry;
-            here.told.last = Last::Plain;
-        }
-    }
-}
-
-/// Whether a node is as most are: it contributes, and is nothing that the node around it looks at.
-#[inline(always)]
-fn is_common(name: Name) -> bool
-    ensures { result ≡ spec.is_common name }
-{
-    match name {
-        Name::LineEnding
-        | Name::BlankLineEnding
-        | Name::BlockQuote
-        | Name::BlockQuotePrefix
-        | Name::ListItem
-        | Name::ListItemPrefix
-        | Name::GfmFootnoteDefinition
-        | Name::Definition
-        | Name::GfmTable
-        | Name::GfmTableDelimiterCellValue
-        | Name::GfmTableDelimiterMarker
-        | Name::SpaceOrTab => false,
-        _ => true,
-    }
-}
-
-/// Whether a node, where it has no children, tells no more than what the last child is.
-#[inline(always)]
-fn is_simple(name: Name) -> bool
-    ensures { result ≡ spec.is_simple name }
-{
-    matches!(
-        name,
-        Name::Data | Name::LineEnding | Name::SpaceOrTab | Name::Other(_)
-    )
-}
-
 /// The exit of the first line ending, blank or not, after one more event.
 pub fn ending_after(found: Option<usize>, index: usize, event: &Event) -> Option<usize>
     ensures { result ≡ ending_after found index event.now }
@@ -586,13 +281,4 @@ fn define(definitions: &mut Vec<usize>, name: Name, entry: usize) -> Result<(), 
         definitions.push(entry)?;
     }
     Ok(())
-}
-
-/// Puts a fact at an index, where there is one.
-fn put(facts: &mut [Fact], index: usize, fact: Fact)
-    ensures { facts.new ≡ set facts.old index fact }
-{
-    if index < facts.len() {
-        facts[index] = fact;
-    }
 }

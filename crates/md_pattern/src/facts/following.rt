@@ -1,0 +1,175 @@
+//! What a node that ends tells the one around it.
+
+ghost use Rattle.std.specs.Prelude.{◌≡◌, true, false, OnOk};
+ghost use Rattle.md_base.specs.NameTests.{is_transparent, contributes};
+ghost use Rattle.md_pattern.specs.Facts as spec;
+ghost use Rattle.md_pattern.specs.Columns.{columns_exited};
+ghost use Rattle.md_pattern.specs.Told.{nothing_told};
+
+use super::{Ended, OpenNode, define};
+use crate::seeking::{Sought, is_idle, see};
+use crate::told::{Last, NOTHING_TOLD, spaced, tell};
+use md_base::Name;
+use md_base::name_tests::{contributes, is_transparent};
+use std::alloc::{AllocError, Global};
+
+/// Notes a child that exits: as the last contributing one of the node around it, or among
+/// the definitions.
+#[inline(always)]
+fn note_child(
+    contributing: &mut usize,
+    definitions: &mut Vec<usize>,
+    name: Name,
+    entry: usize,
+) -> Result<(), AllocError>
+    ensures contributing { OnOk result
+        (contributing.new ≡ spec.contributing_after name entry contributing.old) }
+    ensures definitions { OnOk result
+        (definitions.new.items ≡ spec.definitions_with name entry definitions.old.items) }
+{
+    if contributes(name) {
+        *contributing = entry;
+        Ok(())
+    } else {
+        define(definitions, name, entry)
+    }
+}
+
+/// Goes on with a search after a child, given that in it.
+#[inline(always)]
+fn search_after(sought: &mut Sought, name: Name, entry: usize, own: &Sought)
+    ensures { sought.new ≡ spec.sought_after name entry own.now sought.old }
+{
+    if is_transparent(name) {
+        // Each field by itself, for then what lies between them isn't copied.
+        *sought = Sought {
+            read_at: own.read_at,
+            wanted: own.wanted,
+            found: own.found,
+        };
+    } else if !is_idle(*sought) {
+        see(sought, name, entry, own.read_at);
+    }
+}
+
+/// Goes on with a search after a node without children.
+#[inline(always)]
+fn search_leaf(sought: &mut Sought, name: Name, entry: usize)
+    ensures { sought.new
+        ≡ spec.sought_after name entry (spec.sought_inside name sought.old) sought.old }
+{
+    if is_idle(*sought) || is_transparent(name) {
+        return;
+    }
+    see(sought, name, entry, 0);
+}
+
+/// Goes on with an open node after a child.
+#[inline(always)]
+pub(super) fn follow(
+    alloc: Global,
+    here: &mut OpenNode,
+    ended: &mut Ended,
+    name: Name,
+    own: &OpenNode,
+) -> Result<(), AllocError>
+    ensures here { OnOk result (here.new ≡ spec.followed name own.now here.old) }
+    ensures columns { OnOk result (ended.new.columns
+        ≡ columns_exited name own.now.told here.old.collects ended.old.columns) }
+    ensures definitions { OnOk result (ended.new.definitions.items
+        ≡ spec.definitions_with name own.now.entry ended.old.definitions.items) }
+{
+    search_after(&mut here.sought, name, own.entry, &own.sought);
+    if is_common(name) {
+        here.contributing = own.entry;
+        here.told.last = Last::Plain;
+        return Ok(());
+    }
+    ended.columns.exit(alloc, name, own.told, here.collects)?;
+    note_child(
+        &mut here.contributing,
+        &mut ended.definitions,
+        name,
+        own.entry,
+    )?;
+    tell(&mut here.told, name, own.told);
+    Ok(())
+}
+
+/// The same after a child without children of its own.
+#[inline(always)]
+pub(super) fn follow_leaf(
+    alloc: Global,
+    here: &mut OpenNode,
+    ended: &mut Ended,
+    name: Name,
+    entry: usize,
+) -> Result<(), AllocError>
+    ensures here { OnOk result
+        (here.new ≡ spec.followed name (spec.opened entry name here.old) here.old) }
+    ensures columns { OnOk result (ended.new.columns
+        ≡ columns_exited name nothing_told here.old.collects ended.old.columns) }
+    ensures definitions { OnOk result (ended.new.definitions.items
+        ≡ spec.definitions_with name entry ended.old.definitions.items) }
+{
+    if is_simple(name) {
+        follow_simple(here, name, entry);
+        return Ok(());
+    }
+    ended
+        .columns
+        .exit(alloc, name, NOTHING_TOLD, here.collects)?;
+    note_child(&mut here.contributing, &mut ended.definitions, name, entry)?;
+    search_leaf(&mut here.sought, name, entry);
+    tell(&mut here.told, name, NOTHING_TOLD);
+    Ok(())
+}
+
+/// The same after one that is simple.
+#[inline(always)]
+fn follow_simple(here: &mut OpenNode, name: Name, entry: usize)
+    requires { spec.is_simple name ≡ true }
+    ensures { here.new ≡ spec.followed name (spec.opened entry name here.old) here.old }
+{
+    match name {
+        Name::SpaceOrTab => here.told.last = spaced(here.told.last),
+        Name::LineEnding => here.told.last = Last::Plain,
+        _ => {
+            here.contributing = entry;
+            here.told.last = Last::Plain;
+        }
+    }
+}
+
+/// Whether a node is as most are: it contributes, and is nothing that the node around it looks at.
+#[inline(always)]
+fn is_common(name: Name) -> bool
+    ensures { result ≡ spec.is_common name }
+{
+    match name {
+        Name::LineEnding
+        | Name::BlankLineEnding
+        | Name::BlockQuote
+        | Name::BlockQuotePrefix
+        | Name::ListItem
+        | Name::ListItemPrefix
+        | Name::GfmFootnoteDefinition
+        | Name::Definition
+        | Name::GfmTable
+        | Name::GfmTableDelimiterCellValue
+        | Name::GfmTableDelimiterMarker
+        | Name::SpaceOrTab => false,
+        _ => true,
+    }
+}
+
+/// Whether a node, where it has no children, tells no more than what the last child is.
+#[inline(always)]
+fn is_simple(name: Name) -> bool
+    ensures { result ≡ spec.is_simple name }
+{
+    matches!(
+        name,
+        Name::Data | Name::LineEnding | Name::SpaceOrTab | Name::Other(_)
+    )
+}

@@ -1,0 +1,172 @@
+//! What is known of an open node, and the fact of one that ends.
+
+ghost use Rattle.std.specs.Prelude.{◌≡◌, ◌+◌, false, OnOk, [], ◌∷◌, ◌++◌, length};
+ghost use Rattle.std.specs.Prelude.{set, IfOk};
+ghost use Rattle.md_base.specs.NameTests.{is_transparent};
+ghost use Rattle.md_pattern.specs.Facts as spec;
+
+use super::{Fact, OpenNode};
+use crate::columns::collects_in;
+use crate::seeking::{NOTHING_SOUGHT, Sought, search_of};
+use crate::told::{NOT_LOOSE, NOTHING_TOLD, told_looseness};
+use md_base::Name;
+use md_base::name_tests::is_transparent;
+use std::alloc::AllocError;
+
+/// The document itself.
+pub(super) fn document_node() -> OpenNode
+    ensures { result ≡ spec.document_node }
+{
+    OpenNode {
+        entry: 0,
+        contributing: 0,
+        collects: false,
+        sought: NOTHING_SOUGHT,
+        told: NOTHING_TOLD,
+    }
+}
+
+/// A spine on which a search begins, or goes on where the node is transparent.
+#[inline(always)]
+fn sought_inside(name: Name, around: Sought) -> Sought
+    ensures { result ≡ spec.sought_inside name around }
+{
+    if is_transparent(name) {
+        around
+    } else {
+        search_of(name)
+    }
+}
+
+/// A node that has been entered at an index, in one that is open.
+#[inline(always)]
+pub(super) fn opened(entry: usize, name: Name, around: &OpenNode) -> OpenNode
+    ensures { result ≡ spec.opened entry name around.now }
+{
+    match name {
+        Name::BlockQuotePrefix
+        | Name::Definition
+        | Name::GfmFootnoteCall
+        | Name::GfmFootnoteDefinition
+        | Name::GfmFootnoteDefinitionPrefix
+        | Name::GfmTable
+        | Name::GfmTableDelimiterRow
+        | Name::GfmTableHead
+        | Name::HeadingAtx
+        | Name::Image
+        | Name::Label
+        | Name::Link
+        | Name::ListItem
+        | Name::ListItemPrefix
+        | Name::ListOrdered
+        | Name::SpaceOrTab => OpenNode {
+            entry,
+            contributing: 0,
+            collects: collects_in(name, around.collects),
+            sought: sought_inside(name, around.sought),
+            told: NOTHING_TOLD,
+        },
+        // What is sought and collected around it is in it as well.
+        Name::Other(_) => OpenNode {
+            entry,
+            contributing: 0,
+            collects: around.collects,
+            sought: around.sought,
+            told: NOTHING_TOLD,
+        },
+        // Nothing is sought or collected in any other.
+        _ => OpenNode {
+            entry,
+            ..document_node()
+        },
+    }
+}
+
+/// Where what is read of a node is found: which table it is, the last contributing child, or
+/// what was sought.
+#[inline(always)]
+fn read_at_of(name: Name, table: usize, own: &OpenNode) -> usize
+    ensures { result ≡ spec.read_at_of name table own.now.contributing own.now.sought }
+{
+    match name {
+        Name::GfmTable => table,
+        Name::ListItem => own.contributing,
+        Name::BlockQuotePrefix | Name::SpaceOrTab | Name::Other(_) => 0,
+        _ => own.sought.read_at,
+    }
+}
+
+/// What is found of a node that exits at an index.
+#[inline(always)]
+pub(super) fn fact_of(name: Name, exit: usize, table: usize, own: &OpenNode) -> Fact
+    ensures { result
+        ≡ spec.fact_of name exit table own.now.contributing own.now.sought own.now.told }
+{
+    Fact {
+        partner: exit,
+        read_at: read_at_of(name, table, own),
+        looseness: told_looseness(own.told),
+    }
+}
+
+/// What is known of an exit, and of an entry before its exit.
+pub(super) fn partner_alone(partner: usize) -> Fact
+    ensures { result ≡ spec.partner_alone partner }
+{
+    Fact {
+        partner,
+        read_at: 0,
+        looseness: NOT_LOOSE,
+    }
+}
+
+/// Adds what is known of an event. Mostly there is room, and no call is made.
+#[inline(always)]
+pub(super) fn push_fact(facts: &mut Vec<Fact>, fact: Fact) -> Result<(), AllocError>
+    ensures { OnOk result (facts.new.items ≡ facts.old.items ++ fact ∷ []) }
+{
+    if facts.len() == facts.capacity() {
+        facts.reserve(1)?;
+    }
+    facts.push_reserved(fact);
+    Ok(())
+}
+
+/// Adds an open node, likewise.
+#[inline(always)]
+pub(super) fn push_node(open_nodes: &mut Vec<OpenNode>, node: OpenNode) -> Result<(), AllocError>
+    ensures { OnOk result (open_nodes.new.items ≡ open_nodes.old.items ++ node ∷ []) }
+{
+    if open_nodes.len() == open_nodes.capacity() {
+        open_nodes.reserve(1)?;
+    }
+    open_nodes.push_reserved(node);
+    Ok(())
+}
+
+/// Adds what is known of an entry and of its own exit, which comes right after; answers the
+/// index of the entry.
+#[inline(always)]
+pub(super) fn push_leaf(facts: &mut Vec<Fact>) -> Result<usize, AllocError>
+    ensures entry { IfOk result (λ entry. entry ≡ length facts.old.items) }
+    ensures facts { IfOk result
+        (λ entry. facts.new.items ≡ (facts.old.items ++ spec.partner_alone (entry + 1) ∷ [])
+        ++ spec.partner_alone entry ∷ []) }
+{
+    let entry = facts.len();
+    if facts.capacity() - entry < 2 {
+        facts.reserve(2)?;
+    }
+    facts.push_reserved(partner_alone(entry + 1));
+    facts.push_reserved(partner_alone(entry));
+    Ok(entry)
+}
+
+/// Puts a fact at an index, where there is one.
+pub(super) fn put(facts: &mut [Fact], index: usize, fact: Fact)
+    ensures { facts.new ≡ set facts.old index fact }
+{
+    if index < facts.len() {
+        facts[index] = fact;
+    }
+}
