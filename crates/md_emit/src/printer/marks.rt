@@ -1,0 +1,94 @@
+//! What a node that ends leaves behind.
+
+ghost use Rattle.std.specs.Prelude.{◌≡◌, Some, None, true};
+ghost use Rattle.std.specs.Prelude.{false, if◌then◌else◌};
+ghost use Rattle.md_meaning.specs.Meaning.Spans.{marker};
+ghost use Rattle.md_base.specs.NameTests.{is_transparent};
+
+use super::Printer;
+use md_base::Name;
+use md_base::name_tests::is_transparent;
+
+impl<'a> Printer<'a> {
+    /// The next line ending is slurped, outside definitions.
+    #[inline(always)]
+    pub(crate) fn slurp(&mut self)
+        ensures { self.new ≡ record self.old {
+          slurps = if self.old.around.in_definition then self.old.slurps else true;
+        } }
+    {
+        if !self.around.in_definition {
+            self.is_slurping = true;
+        }
+    }
+
+    /// The next line ending isn't slurped, outside definitions.
+    #[inline(always)]
+    pub(crate) fn stop_slurping(&mut self)
+        ensures { self.new ≡ record self.old {
+          slurps = if self.old.around.in_definition then self.old.slurps else false;
+        } }
+    {
+        if !self.around.in_definition {
+            self.is_slurping = false;
+        }
+    }
+
+    /// A node has been entered.
+    #[inline(always)]
+    pub(crate) fn enters(&mut self)
+        ensures { self.new ≡ record self.old { ended = None; marker = 38 } }
+    {
+        self.ended = None;
+        self.marker = b'&';
+    }
+
+    /// A node has ended.
+    #[inline(always)]
+    pub(crate) fn ends(&mut self, name: Name)
+        requires solid { is_transparent name ≡ false }
+        requires plain { marker name ≡ 38 }
+        ensures { self.new ≡ record self.old { ended = Some name; marker = 38 } }
+    {
+        self.ended = Some(name);
+        self.marker = b'&';
+    }
+
+    /// A node has ended after which the next line ending is slurped, outside definitions.
+    #[inline(always)]
+    pub(crate) fn ends_slurping(&mut self, name: Name)
+        requires solid { is_transparent name ≡ false }
+        requires plain { marker name ≡ 38 }
+        ensures { self.new ≡ record self.old {
+          slurps = if self.old.around.in_definition then self.old.slurps else true;
+          ended = Some name;
+          marker = 38;
+        } }
+    {
+        self.slurp();
+        self.ends(name);
+    }
+
+    /// A node has ended after which the next line ending isn't slurped, outside definitions.
+    #[inline(always)]
+    pub(crate) fn ends_unslurped(&mut self, name: Name)
+        requires solid { is_transparent name ≡ false }
+        requires plain { marker name ≡ 38 }
+        ensures { self.new ≡ record self.old {
+          slurps = if self.old.around.in_definition then self.old.slurps else false;
+          ended = Some name;
+          marker = 38;
+        } }
+    {
+        self.stop_slurping();
+        self.ends(name);
+    }
+
+    /// No resource comes after a label.
+    #[inline(always)]
+    pub(crate) fn forget_resource(&mut self)
+        ensures { self.new ≡ record self.old { resource = None } }
+    {
+        self.has_resource = false;
+    }
+}
