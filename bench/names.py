@@ -146,7 +146,8 @@ def text_of(lines):
 def name_tables(names):
     """The tables of `md_base`: the names by their lengths, and by their numbers."""
     numbered = (f"Name::{text}" for text in by_number(names))
-    tables = (table([name for name in names if len(name.text) == length])
+    # Each in the order of numbers, as the definition that `names_by_length` is proved of has them.
+    tables = (table([name for name in sorted(names) if len(name.text) == length])
               for length in range(LENGTHS))
     return text_of([
         "//! Tables of all names of events but `Other`.",
