@@ -1,14 +1,18 @@
 //! The calls over documents.
 
+mod judging;
+mod scripts;
+
 use super::log::{Log, again};
 use super::plain;
-use super::rows::{NAMES, Row, Wanted, documents, named};
+use super::rows::{NAMES, Row, documents, named};
+use judging::is_in_page;
+pub use judging::{is_refusal, is_text};
 use md_html::{
     AlignKind, Checked, CompileError, CompileOptions, Counted, Name, SafeError, SafeHtml, check,
     compile, compile_checked, compile_counted, compile_safe, gfm_table_align,
 };
-use md_page::page;
-use md_script::{RunError, SafeRunError, run, run_safe};
+use scripts::{runs, runs_safely, tells_unreadable_line, tells_unsafe_options};
 use std::alloc::{AllocError, Global};
 use std::io;
 
@@ -104,8 +108,7 @@ fn ask_checked<R: Print + AllocGlobal>(
     plain::ask_of_checked(rt, log, row, checked)
 }
 
-/// Checks each document and compiles it as safe; then, where asked, makes the calls that read
-/// what these answered.
+/// Checks each document and compiles it as safe; then, where asked, makes the calls that read what these answered.
 pub fn check_each<R: Print + AllocGlobal>(
     rt: &R,
     log: &mut Log,
@@ -188,69 +191,6 @@ fn checked_of<'a>(
     )
 }
 
-/// Whether `run` answers what is wanted.
-fn runs(alloc: Global, log: &mut Log, row: &Row) -> bool {
-    match again!(
-        log,
-        Err(RunError::Memory),
-        run(alloc, row.script.as_bytes())
-    ) {
-        Ok(text) => is_text(text.as_str(), &row.wanted),
-        Err(RunError::Event { index, rule }) => {
-            is_refusal(&CompileError::Event { index, rule }, &row.wanted)
-        }
-        Err(_) => false,
-    }
-}
-
-/// The answer of `run_safe`; where it is out of memory, that of the same call made again.
-fn ran_safely(alloc: Global, log: &mut Log, script: &[u8]) -> Result<SafeHtml, SafeRunError> {
-    again!(
-        log,
-        Err(SafeRunError::Run(RunError::Memory)),
-        run_safe(alloc, script)
-    )
-}
-
-/// Whether `run_safe` answers what is wanted.
-fn runs_safely(alloc: Global, log: &mut Log, row: &Row) -> bool {
-    match ran_safely(alloc, log, row.script.as_bytes()) {
-        Ok(html) => is_text(html.as_str(), &row.wanted),
-        Err(SafeRunError::Run(RunError::Event { index, rule })) => {
-            is_refusal(&CompileError::Event { index, rule }, &row.wanted)
-        }
-        Err(_) => false,
-    }
-}
-
-/// Whether `run_safe` tells that a script's options aren't safe.
-fn tells_unsafe_options(alloc: Global, log: &mut Log) -> bool {
-    match ran_safely(alloc, log, b"!allow_dangerous_html\n--\n") {
-        Err(SafeRunError::Options) => {
-            is_written(alloc, log, &SafeRunError::Options, "unsafe options")
-        }
-        _ => false,
-    }
-}
-
-/// Whether `run_safe` tells that the first line can't be read.
-fn tells_unreadable_line(alloc: Global, log: &mut Log) -> bool {
-    match ran_safely(alloc, log, b"*\n--\n") {
-        Err(SafeRunError::Run(cause)) => {
-            is_written(alloc, log, &SafeRunError::Run(cause), "line 1: unreadable")
-        }
-        _ => false,
-    }
-}
-
-/// Whether an error is written so.
-fn is_written(alloc: Global, log: &mut Log, error: &SafeRunError, wanted: &str) -> bool {
-    match again!(log, Err(AllocError), format!(in alloc; "{error}")) {
-        Ok(text) => text.as_str() == wanted,
-        Err(AllocError) => false,
-    }
-}
-
 /// Whether `compile` answers what is wanted.
 fn compiles(alloc: Global, log: &mut Log, row: &Row, names: &[(&str, &str)]) -> bool {
     match again!(log, Err(CompileError::Memory), compiled(alloc, row, names)) {
@@ -292,8 +232,7 @@ fn compiled_checked(alloc: Global, checked: &Checked) -> Result<String, AllocErr
     compile_checked(alloc, checked, &CompileOptions::default())
 }
 
-/// Whether `gfm_table_align` answers one column without an alignment, where the first
-/// node is a table.
+/// Whether `gfm_table_align` answers one column without an alignment, where the first node is a table.
 fn aligns(alloc: Global, log: &mut Log, checked: &Checked) -> bool {
     if !checked.enters(0, Name::GfmTable) {
         return true;
@@ -301,49 +240,5 @@ fn aligns(alloc: Global, log: &mut Log, checked: &Checked) -> bool {
     match again!(log, Err(AllocError), gfm_table_align(alloc, checked, 0)) {
         Ok(columns) => columns.as_slice() == [AlignKind::None].as_slice(),
         Err(AllocError) => false,
-    }
-}
-
-/// What stands before the text of a page that has the title `<`.
-const BEFORE: &str =
-    "<!doctype html>\n<html><head><meta charset=\"utf-8\" /><title>&lt;</title></head><body>";
-
-/// What stands after it.
-const AFTER: &str = "</body></html>\n";
-
-/// Whether `page` puts the text that is wanted into a page.
-fn is_in_page(alloc: Global, log: &mut Log, html: &SafeHtml, wanted: &Wanted) -> bool {
-    match again!(log, Err(AllocError), page(alloc, "<", html)) {
-        Ok(page) => is_between(page.as_str(), wanted),
-        Err(AllocError) => false,
-    }
-}
-
-/// Whether the text that is wanted stands between the two.
-fn is_between(page: &str, wanted: &Wanted) -> bool {
-    let inside = page
-        .strip_prefix(BEFORE)
-        .and_then(|rest| rest.strip_suffix(AFTER));
-    match inside {
-        Some(text) => is_text(text, wanted),
-        None => false,
-    }
-}
-
-/// Whether this text is wanted.
-pub fn is_text(text: &str, wanted: &Wanted) -> bool {
-    match wanted {
-        Wanted::Text(wanted) => text == *wanted,
-        Wanted::Refusal(_, _) => false,
-    }
-}
-
-/// Whether this refusal is wanted.
-pub fn is_refusal(cause: &CompileError, wanted: &Wanted) -> bool {
-    match (cause, wanted) {
-        (CompileError::Event { index, rule }, Wanted::Refusal(at, by)) => {
-            *index == *at && *rule == *by
-        }
-        _ => false,
     }
 }

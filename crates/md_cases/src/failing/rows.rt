@@ -48,7 +48,10 @@ macro_rules! event {
 
 /// A document by its name, its bytes, its answer, and its events, each with a semicolon.
 macro_rules! row {
-    ($name:literal, $document:literal, $wanted:expr; $($sign:tt $node:ident $index:literal $(. $vs:literal)?;)*) => {
+    (
+        $name:literal, $document:literal, $wanted:expr;
+        $($sign:tt $node:ident $index:literal $(. $vs:literal)?;)*
+    ) => {
         Row {
             name: $name,
             events: &[$(event!($sign $node $index (0 $(+ $vs)?))),*],
@@ -110,43 +113,47 @@ pub fn attributed() -> &'static Row {
 
 static LINKS: [Row; 2] = [
     row! {
-        "a chunk that is cut within a tab", "\ta\t", Wanted::Text("<pre><code>  a\t  \n</code></pre>");
+        "a chunk that is cut within a tab", "\ta\t",
+        Wanted::Text("<pre><code>  a\t  \n</code></pre>");
         + CodeIndented 0; + CodeFlowChunk 0 . 2; - CodeFlowChunk 2 . 3; - CodeIndented 3;
     },
     row! {
-        "two definitions of one label", "[a]\n\n[a]: b\n[A]: c", Wanted::Text("<p><a href=\"b\">a</a></p>\n");
-        + Paragraph 0; + Link 0; + Label 0; + LabelText 1; + Data 1; - Data 2; - LabelText 2; - Label 3;
-        - Link 3; - Paragraph 3; + LineEnding 3; - LineEnding 4; + BlankLineEnding 4; - BlankLineEnding 5;
-        + Definition 5; + DefinitionLabelString 6; + Data 6; - Data 7; - DefinitionLabelString 7;
-        + DefinitionDestinationString 10; + Data 10; - Data 11; - DefinitionDestinationString 11;
-        - Definition 11; + LineEnding 11; - LineEnding 12; + Definition 12; + DefinitionLabelString 13;
-        + Data 13; - Data 14; - DefinitionLabelString 14; + DefinitionDestinationString 17; + Data 17;
-        - Data 18; - DefinitionDestinationString 18; - Definition 18;
+        "two definitions of one label", "[a]\n\n[a]: b\n[A]: c",
+        Wanted::Text("<p><a href=\"b\">a</a></p>\n");
+        + Paragraph 0; + Link 0; + Label 0; + LabelText 1; + Data 1; - Data 2; - LabelText 2;
+        - Label 3; - Link 3; - Paragraph 3; + LineEnding 3; - LineEnding 4; + BlankLineEnding 4;
+        - BlankLineEnding 5; + Definition 5; + DefinitionLabelString 6; + Data 6; - Data 7;
+        - DefinitionLabelString 7; + DefinitionDestinationString 10; + Data 10; - Data 11;
+        - DefinitionDestinationString 11; - Definition 11; + LineEnding 11; - LineEnding 12;
+        + Definition 12; + DefinitionLabelString 13; + Data 13; - Data 14;
+        - DefinitionLabelString 14; + DefinitionDestinationString 17; + Data 17; - Data 18;
+        - DefinitionDestinationString 18; - Definition 18;
     },
 ];
 
 static TABLES: [Row; 1] = [row! {
     "a table", "|a|\n|-|\n|b|c|",
-    Wanted::Text("<table>\n<thead>\n<tr>\n<th>a</th>\n</tr>\n</thead>\n<tbody>\n<tr>\n<td>b</td>\n</tr>\n\
-        </tbody>\n</table>");
+    Wanted::Text("<table>\n<thead>\n<tr>\n<th>a</th>\n</tr>\n</thead>\n<tbody>\n<tr>\n<td>b</td>\n\
+        </tr>\n</tbody>\n</table>");
     + GfmTable 0; + GfmTableHead 0; + GfmTableRow 0; + GfmTableCell 0; + Data 1; - Data 2;
     - GfmTableCell 3; - GfmTableRow 3; + LineEnding 3; - LineEnding 4; + GfmTableDelimiterRow 4;
     + GfmTableDelimiterCellValue 5; - GfmTableDelimiterCellValue 6; - GfmTableDelimiterRow 7;
     - GfmTableHead 7; + LineEnding 7; - LineEnding 8; + GfmTableBody 8; + GfmTableRow 8;
-    + GfmTableCell 8; + Data 9; - Data 10; - GfmTableCell 10; + GfmTableCell 10; + Data 11; - Data 12;
-    - GfmTableCell 13; - GfmTableRow 13; - GfmTableBody 13; - GfmTable 13;
+    + GfmTableCell 8; + Data 9; - Data 10; - GfmTableCell 10; + GfmTableCell 10; + Data 11;
+    - Data 12; - GfmTableCell 13; - GfmTableRow 13; - GfmTableBody 13; - GfmTable 13;
 }];
 
 static FOOTNOTES: [Row; 1] = [row! {
     "two calls of a footnote", "[^b][^b][^b]:c",
-    Wanted::Text("<p><sup><a href=\"#user-content-fn-b\" id=\"user-content-fnref-b\" data-footnote-ref=\"\" \
-        aria-describedby=\"footnote-label\">1</a></sup><sup><a href=\"#user-content-fn-b\" \
-        id=\"user-content-fnref-b-2\" data-footnote-ref=\"\" \
+    Wanted::Text("<p><sup><a href=\"#user-content-fn-b\" id=\"user-content-fnref-b\" \
+        data-footnote-ref=\"\" aria-describedby=\"footnote-label\">1</a></sup><sup><a \
+        href=\"#user-content-fn-b\" id=\"user-content-fnref-b-2\" data-footnote-ref=\"\" \
         aria-describedby=\"footnote-label\">1</a></sup></p>\n<section data-footnotes=\"\" \
         class=\"footnotes\"><h2 id=\"footnote-label\" class=\"sr-only\">Footnotes</h2>\n<ol>\n<li \
-        id=\"user-content-fn-b\">\n<p>c <a href=\"#user-content-fnref-b\" data-footnote-backref=\"\" \
-        aria-label=\"Back to content\" class=\"data-footnote-backref\">↩</a> <a \
-        href=\"#user-content-fnref-b-2\" data-footnote-backref=\"\" aria-label=\"Back to content\" \
+        id=\"user-content-fn-b\">\n<p>c <a href=\"#user-content-fnref-b\" \
+        data-footnote-backref=\"\" aria-label=\"Back to content\" \
+        class=\"data-footnote-backref\">↩</a> <a href=\"#user-content-fnref-b-2\" \
+        data-footnote-backref=\"\" aria-label=\"Back to content\" \
         class=\"data-footnote-backref\">↩<sup>2</sup></a></p>\n</li>\n</ol>\n</section>\n");
     + Paragraph 0; + GfmFootnoteCall 0; + Label 0; + LabelText 2; - LabelText 3; - Label 4;
     - GfmFootnoteCall 4; + GfmFootnoteCall 4; + Label 4; + LabelText 6; - LabelText 7; - Label 8;
@@ -233,26 +240,29 @@ static NAMED: Row = row! {
 
 static ATTRIBUTED: Row = row! {
     "a heading with a link", "# [a](b)", Wanted::Text("<h1><a href=\"b\">a</a></h1>");
-    + HeadingAtx 0; + HeadingAtxSequence 0; - HeadingAtxSequence 1; + HeadingAtxText 2; + Link 2; + Label 2;
-    + LabelText 3; + Data 3; - Data 4; - LabelText 4; - Label 5; + Resource 5; + ResourceDestinationString 6;
-    + Data 6; - Data 7; - ResourceDestinationString 7; - Resource 8; - Link 8; - HeadingAtxText 8; - HeadingAtx 8;
+    + HeadingAtx 0; + HeadingAtxSequence 0; - HeadingAtxSequence 1; + HeadingAtxText 2; + Link 2;
+    + Label 2; + LabelText 3; + Data 3; - Data 4; - LabelText 4; - Label 5; + Resource 5;
+    + ResourceDestinationString 6; + Data 6; - Data 7; - ResourceDestinationString 7; - Resource 8;
+    - Link 8; - HeadingAtxText 8; - HeadingAtx 8;
 };
 
 static NESTED: Row = row! {
     "a link in a link", "[[a](b)](c)", Wanted::Text("<a href=\"c\"><a href=\"b\">a</a></a>");
-    + Link 0; + Label 0; + LabelText 1; + Link 1; + Label 1; + LabelText 2; + Data 2; - Data 3; - LabelText 3;
-    - Label 4; + Resource 4; + ResourceDestinationString 5; + Data 5; - Data 6; - ResourceDestinationString 6;
-    - Resource 7; - Link 7; - LabelText 7; - Label 8; + Resource 8; + ResourceDestinationString 9; + Data 9;
-    - Data 10; - ResourceDestinationString 10; - Resource 11; - Link 11;
+    + Link 0; + Label 0; + LabelText 1; + Link 1; + Label 1; + LabelText 2; + Data 2; - Data 3;
+    - LabelText 3; - Label 4; + Resource 4; + ResourceDestinationString 5; + Data 5; - Data 6;
+    - ResourceDestinationString 6; - Resource 7; - Link 7; - LabelText 7; - Label 8; + Resource 8;
+    + ResourceDestinationString 9; + Data 9; - Data 10; - ResourceDestinationString 10;
+    - Resource 11; - Link 11;
 };
 
 static IN_IMAGE: Row = row! {
     "a link in an image in a link", "[![[a](b)](c)](d)",
     Wanted::Text("<a href=\"d\"><img src=\"c\" alt=\"a\" /></a>");
-    + Link 0; + Label 0; + LabelText 1; + Image 1; + Label 1; + LabelText 3; + Link 3; + Label 3; + LabelText 4;
-    + Data 4; - Data 5; - LabelText 5; - Label 6; + Resource 6; + ResourceDestinationString 7; + Data 7; - Data 8;
-    - ResourceDestinationString 8; - Resource 9; - Link 9; - LabelText 9; - Label 10; + Resource 10;
-    + ResourceDestinationString 11; + Data 11; - Data 12; - ResourceDestinationString 12; - Resource 13; - Image 13;
-    - LabelText 13; - Label 14; + Resource 14; + ResourceDestinationString 15; + Data 15; - Data 16;
+    + Link 0; + Label 0; + LabelText 1; + Image 1; + Label 1; + LabelText 3; + Link 3; + Label 3;
+    + LabelText 4; + Data 4; - Data 5; - LabelText 5; - Label 6; + Resource 6;
+    + ResourceDestinationString 7; + Data 7; - Data 8; - ResourceDestinationString 8; - Resource 9;
+    - Link 9; - LabelText 9; - Label 10; + Resource 10; + ResourceDestinationString 11; + Data 11;
+    - Data 12; - ResourceDestinationString 12; - Resource 13; - Image 13; - LabelText 13;
+    - Label 14; + Resource 14; + ResourceDestinationString 15; + Data 15; - Data 16;
     - ResourceDestinationString 16; - Resource 17; - Link 17;
 };

@@ -1,124 +1,18 @@
 //! `serve` over readers and writers, of which a read or a write fails.
 
+mod messages;
+mod streams;
+
 use super::appending::append_text;
 use super::log::Log;
-use md_html::{CompileError, Rule};
+use md_html::Rule;
 use md_script::{RunError, ServeError, serve};
+use messages::have_messages;
 use std::alloc::{AllocError, Global};
-use std::io::{self, ErrorKind, Read, Write};
-
-/// How many bytes are read or written at once.
-const STEP: usize = 3;
-
-/// How many bytes a script has that is read byte by byte.
-const MEGABYTE: usize = 1_048_576;
-
-/// Some bytes, of which one read fails; 0 for none.
-#[derive(Drop)]
-struct FailingReader<'a> {
-    bytes: &'a [u8],
-    reads: usize,
-    fails_at: usize,
-}
-
-impl Read for FailingReader<'_> {
-    fn read(&mut self, buffer: &mut [u8]) -> io::Result<usize> {
-        self.reads = self.reads.saturating_add(1);
-        if self.reads == self.fails_at {
-            return Err(ErrorKind::BrokenPipe.into());
-        }
-        let count = self.bytes.len().min(buffer.len()).min(STEP);
-        buffer[..count].copy_from_slice(&self.bytes[..count]);
-        self.bytes = &self.bytes[count..];
-        Ok(count)
-    }
-}
-
-/// What was written, where one write fails; 0 for none.
-#[derive(Drop)]
-struct FailingWriter {
-    written: Vec<u8>,
-    writes: usize,
-    fails_at: usize,
-}
-
-impl Write for FailingWriter {
-    fn write(&mut self, bytes: &[u8]) -> io::Result<usize> {
-        self.writes = self.writes.saturating_add(1);
-        if self.writes == self.fails_at {
-            return Err(ErrorKind::BrokenPipe.into());
-        }
-        let count = bytes.len().min(STEP);
-        if self.written.extend_from_slice(&bytes[..count]).is_err() {
-            return Err(ErrorKind::OutOfMemory.into());
-        }
-        Ok(count)
-    }
-
-    fn flush(&mut self) -> io::Result<()> {
-        Ok(())
-    }
-}
-
-/// A script, with more after its end until there is a megabyte; a byte at each read.
-#[derive(Drop)]
-struct SlowReader<'a> {
-    script: &'a [u8],
-    reads: usize,
-}
-
-impl Read for SlowReader<'_> {
-    fn read(&mut self, buffer: &mut [u8]) -> io::Result<usize> {
-        let at = self.reads;
-        self.reads = self.reads.saturating_add(1);
-        if buffer.is_empty() || at >= MEGABYTE {
-            return Ok(0);
-        }
-        buffer[0] = self.script.get(at).copied().unwrap_or(b'*');
-        Ok(1)
-    }
-}
-
-/// A reader that gives a byte at each read, and never ends.
-#[derive(Drop)]
-struct EndlessReader {
-    reads: usize,
-    /// How much the last read had room for.
-    room: usize,
-}
-
-impl Read for EndlessReader {
-    fn read(&mut self, buffer: &mut [u8]) -> io::Result<usize> {
-        self.reads = self.reads.saturating_add(1);
-        self.room = buffer.len();
-        if buffer.is_empty() {
-            return Ok(0);
-        }
-        buffer[0] = b'-';
-        Ok(1)
-    }
-}
-
-/// A writer that takes so many bytes at each write, and may fail to flush them.
-#[derive(Drop)]
-struct StuckWriter {
-    takes: usize,
-    flushes: bool,
-}
-
-impl Write for StuckWriter {
-    fn write(&mut self, bytes: &[u8]) -> io::Result<usize> {
-        Ok(bytes.len().min(self.takes))
-    }
-
-    fn flush(&mut self) -> io::Result<()> {
-        if self.flushes {
-            Ok(())
-        } else {
-            Err(ErrorKind::BrokenPipe.into())
-        }
-    }
-}
+use std::io;
+use streams::{
+    EndlessReader, FailingReader, FailingWriter, MEGABYTE, STEP, SlowReader, StuckWriter,
+};
 
 /// A break, of two events over three bytes, and its text.
 const BREAK: &[u8] = b"+ThematicBreak 0\n-ThematicBreak 3\n--\n***";
@@ -150,8 +44,7 @@ fn ask_of_failures<R: Print + AllocGlobal>(rt: &R, log: &Log) -> io::Result<()> 
     log.tell(rt, endless_is_told(alloc), "serve", "an endless reader")
 }
 
-/// What `serve` answers, and what it wrote, where these reads and writes fail, and
-/// how often it read.
+/// What `serve` answers, and what it wrote, where these reads and writes fail, and how often it read.
 fn served(
     alloc: Global,
     script: &[u8],
@@ -201,8 +94,7 @@ fn is_appended(alloc: Global) -> Result<bool, AllocError> {
     Ok(answer == Ok(()) && texts.as_slice() == b"<p>a</p><hr />".as_slice())
 }
 
-/// Whether each read that fails is told, also where the bytes before it are a script
-/// that can be read.
+/// Whether each read that fails is told, also where the bytes before it are a script that can be read.
 fn reads_are_told(alloc: Global) -> bool {
     let reads = reads_of(alloc, BREAK);
     let told = Err(ServeError::Input);
@@ -227,8 +119,7 @@ fn stuck_is_told(alloc: Global) -> bool {
         && stuck_answers(alloc, 1, true, &Ok(()))
 }
 
-/// Whether `serve` answers this over a writer that takes so many bytes, and flushes
-/// them or doesn't.
+/// Whether `serve` answers this over a writer that takes so many bytes, and flushes them or doesn't.
 fn stuck_answers(
     alloc: Global,
     takes: usize,
@@ -292,75 +183,4 @@ fn endless_is_told(alloc: Global) -> bool {
         && reader.reads == 16_777_216
         && reader.room >= 4096
         && writer.writes == 0
-}
-
-/// Whether each error has its status and its line.
-fn have_messages(alloc: Global) -> Result<bool, AllocError> {
-    Ok(
-        serve_errors_say(alloc)?
-            && run_errors_say(alloc)?
-            && CompileError::Memory.to_string(alloc)?.as_str() == "out of memory",
-    )
-}
-
-/// Errors of `serve`, with their statuses and their lines.
-static SERVE_ERRORS: [(ServeError, u8, &str); 4] = [
-    (ServeError::Run(RunError::Memory), 3, "out of memory"),
-    (ServeError::Run(RunError::Line(4)), 2, "line 4: unreadable"),
-    (ServeError::Input, 4, "input or output failed"),
-    (ServeError::Output, 4, "input or output failed"),
-];
-
-/// Errors of `run`, likewise.
-static RUN_ERRORS: [(RunError, u8, &str); 3] = [
-    (RunError::Memory, 3, "out of memory"),
-    (RunError::Line(4), 2, "line 4: unreadable"),
-    (
-        RunError::Event {
-            index: 3,
-            rule: Rule::Place,
-        },
-        1,
-        "event 3: Place",
-    ),
-];
-
-/// Whether each error of `serve` has its status and its line.
-fn serve_errors_say(alloc: Global) -> Result<bool, AllocError> {
-    for (error, status, message) in &SERVE_ERRORS {
-        if !serve_says(alloc, error, *status, message)? {
-            return Ok(false);
-        }
-    }
-    Ok(true)
-}
-
-/// Whether each error of `run` has its status and its line.
-fn run_errors_say(alloc: Global) -> Result<bool, AllocError> {
-    for (error, status, message) in &RUN_ERRORS {
-        if !run_says(alloc, error, *status, message)? {
-            return Ok(false);
-        }
-    }
-    Ok(true)
-}
-
-/// Whether an error of `serve` has this status and this line.
-fn serve_says(
-    alloc: Global,
-    error: &ServeError,
-    status: u8,
-    message: &str,
-) -> Result<bool, AllocError> {
-    Ok(error.status() == status && error.to_string(alloc)?.as_str() == message)
-}
-
-/// Whether an error of `run` has this status and this line.
-fn run_says(
-    alloc: Global,
-    error: &RunError,
-    status: u8,
-    message: &str,
-) -> Result<bool, AllocError> {
-    Ok(error.status() == status && error.to_string(alloc)?.as_str() == message)
 }
