@@ -1,11 +1,13 @@
 #!/usr/bin/env python3
-"""Asks two builds of a program for the answers to random scripts, whole, broken and with bytes in no character.
+"""Asks two builds of a program for the answers to random scripts, whole, broken and with bytes
+in no character.
 
     bench/alike.py OLD NEW [COUNT [SEED]]
 
-OLD and NEW are programs that read a script, as crates/mdevents/out/mdevents. The scripts are those of crates/md_cases
-(once bench/cases.py --write has written them), one or two of them put together and changed in some places by chance. It prints how many of each status there were, and
-stops with status 1 at the first script on which outputs, messages or statuses differ, which it then prints.
+OLD and NEW are programs that read a script, as crates/mdevents/out/mdevents. The scripts are those
+of crates/md_cases (once bench/cases.py --write has written them), one or two of them put together
+and changed in some places by chance. It prints how many of each status there were, and stops with
+status 1 at the first script on which outputs, messages or statuses differ, which it then prints.
 """
 
 import collections
@@ -18,8 +20,10 @@ import sys
 from concurrent.futures import ThreadPoolExecutor
 
 CASES = pathlib.Path(__file__).parents[1] / "crates" / "md_cases" / "stdin"
-OPTIONS = ["allow_dangerous_html", "allow_dangerous_protocol", "gfm_tagfilter", "allow_any_img_src", "gfm_task_list_item_checkable"]
-INSERTED = [b"\xff", b"\x80", b"\xe2\x82", b"\xf0\x9f\xa6\x80", "Ж".encode(), b"\t", b"\n", b"&", b"%41", b"<script>", b"\0", b" "]
+OPTIONS = ["allow_dangerous_html", "allow_dangerous_protocol", "gfm_tagfilter", "allow_any_img_src",
+           "gfm_task_list_item_checkable"]
+INSERTED = [b"\xff", b"\x80", b"\xe2\x82", b"\xf0\x9f\xa6\x80", "Ж".encode(), b"\t", b"\n", b"&",
+            b"%41", b"<script>", b"\0", b" "]
 
 
 def cases():
@@ -27,7 +31,8 @@ def cases():
     for case in re.split(rb"^%%%% .*\n", CASES.read_bytes(), flags=re.MULTILINE)[1:]:
         head, found, document = case.partition(b"\n--\n")
         if found and len(case) < 4_000:
-            yield [line for line in head.split(b"\n") if line[:1] not in (b"?", b"=")], document[:-1]
+            yield ([line for line in head.split(b"\n") if line[:1] not in (b"?", b"=")],
+                   document[:-1])
 
 
 def moved(line, by):
@@ -38,9 +43,11 @@ def moved(line, by):
 def joined(chance, first, second):
     """Two scripts, one after the other, with a line ending between them or none."""
     (lines, document), (others, more) = first, second
-    ending = [b"+LineEnding %d" % len(document), b"-LineEnding %d" % (len(document) + 1)] if chance.random() < 0.8 else []
+    ending = [b"+LineEnding %d" % len(document),
+              b"-LineEnding %d" % (len(document) + 1)] if chance.random() < 0.8 else []
     after = len(document) + (1 if ending else 0)
-    return lines + ending + [moved(line, after) for line in others], document + (b"\n" if ending else b"") + more
+    return lines + ending + [moved(line, after) for line in others], document + (b"\n" if ending
+                                                                                 else b"") + more
 
 
 def changed_line(chance, lines):
@@ -59,7 +66,8 @@ def changed_line(chance, lines):
         other = chance.randrange(len(lines))
         lines[at], lines[other] = lines[other], lines[at]
     elif kind == 5:
-        lines[at] = lines[at].replace(chance.choice((b"e", b"+", b" ", b"T")), chance.choice((b"-", b"  ", b"E", b"")), 1)
+        lines[at] = lines[at].replace(chance.choice((b"e", b"+", b" ", b"T")),
+                                      chance.choice((b"-", b"  ", b"E", b"")), 1)
     else:
         lines.insert(0, b"!" + chance.choice(OPTIONS).encode())
     return lines
@@ -77,7 +85,8 @@ def scripts(count, seed):
         for _ in range(chance.choice((0, 0, 0, 1, 2, 20))):
             at = chance.randrange(len(document) + 1)
             put, taken = chance.choice(INSERTED), chance.choice((0, 1, 1))
-            document = document[:at] + put * chance.choice((1, 1, 1, 30)) + document[at + taken * len(put):]
+            document = document[:at] + put * chance.choice((1, 1, 1, 30)) + document[at + taken
+                                                                                     * len(put):]
         yield b"\n".join([*lines, b"--", document])
 
 
@@ -96,7 +105,8 @@ def main():
     seed = int(sys.argv[4]) if len(sys.argv) > 4 else 1
     statuses = collections.Counter()
     with ThreadPoolExecutor(os.cpu_count()) as pool:
-        for script, (old, new) in pool.map(lambda given: answers(programs, given), scripts(count, seed)):
+        for script, (old, new) in pool.map(lambda given: answers(programs, given),
+                                           scripts(count, seed)):
             statuses[old[0]] += 1
             if old != new:
                 sys.stdout.buffer.write(script)

@@ -4,10 +4,11 @@
     bench/api.py
 
 Of md_base, md_text, md_tree, md_html, md_script and md_page: the names at the root and the methods
-of the types among them are those of the crate's table, and of the last table, and no others. md_html hands on exactly the names of the
-tables of md_base, md_text and md_tree. The C headers have each name of their table, and declare no function but these
-and those that their own functions call. Each other crate's README says that it is internal. The status is 1 where
-something differs, and it says what.
+of the types among them are those of the crate's table, and of the last table, and no others.
+md_html hands on exactly the names of the tables of md_base, md_text and md_tree. The C headers
+have each name of their table, and declare no function but these and those that their own functions
+call. Each other crate's README says that it is internal. The status is 1 where something differs,
+and it says what.
 """
 
 import pathlib
@@ -19,11 +20,13 @@ CRATES = ["md_base", "md_text", "md_tree", "md_html", "md_script", "md_page"]
 BELOW_HTML = ["md_base", "md_text", "md_tree"]
 # Crates whose own table has what they hand on of a crate below.
 HANDED_ON = {"md_script": "md_html"}
-# The C interface, the program and the benchmark, whose folder stays as it is; what the README of each other crate says.
+# The C interface, the program and the benchmark, whose folder stays as it is; what the README of
+# each other crate says.
 OTHERS = ["md_ffi", "mdevents", "md_bench"]
 INTERNAL = "Internal: users call nothing of it ([docs/API.md](../../docs/API.md))."
 # What the inline functions of the headers call.
-HELPERS = {"bivdrazo_answer_memory", "bivdrazo_is_too_long", "bivdrazo_first_size", "bivdrazo_grow", "bivdrazo_settle"}
+HELPERS = {"bivdrazo_answer_memory", "bivdrazo_is_too_long", "bivdrazo_first_size", "bivdrazo_grow",
+           "bivdrazo_settle"}
 
 
 def named(cell):
@@ -49,25 +52,30 @@ def sources(crate):
 
 
 def exported(crate):
-    """The names that a crate's root makes public itself, and those that it hands on from the crates below, by crate."""
+    """The names that a crate's root makes public itself, and those that it hands on from the crates
+    below, by crate.
+    """
     root = re.sub(r"//.*", "", (ROOT / "crates" / crate / "src" / "lib.rt").read_text())
     own, handed = set(), {}
     for path, names in re.findall(r"^pub use ([\w:]+)::(\{[^}]*\}|\w+);", root, re.MULTILINE):
         below = path.split("::")[0]
         into = handed.setdefault(below, set()) if below.startswith("md_") else own
         into.update(re.findall(r"\w+", names))
-    own.update(re.findall(r"^pub (?:const fn|fn|struct|enum|trait|type|const|static|mod) (\w+)", root, re.MULTILINE))
+    own.update(re.findall(r"^pub (?:const fn|fn|struct|enum|trait|type|const|static|mod) (\w+)",
+                          root, re.MULTILINE))
     return own, handed
 
 
 def methods(crate, types):
     """The public methods of these types that a crate writes."""
-    blocks = re.compile(r"^impl(?:<[^{]*?>)? (\w+)(?:<[^{]*?>)? \{\n(.*?)^\}", re.MULTILINE | re.DOTALL)
+    blocks = re.compile(r"^impl(?:<[^{]*?>)? (\w+)(?:<[^{]*?>)? \{\n(.*?)^\}",
+                        re.MULTILINE | re.DOTALL)
     found = set()
     for _, text in sources(crate):
         for kind, body in blocks.findall(text):
             if kind in types:
-                found |= {f"{kind}::{name}" for name in re.findall(r"^    pub (?:const )?fn (\w+)", body, re.MULTILINE)}
+                found |= {f"{kind}::{name}" for name in re.findall(r"^    pub (?:const )?fn (\w+)",
+                                                                   body, re.MULTILINE)}
     return found
 
 
@@ -98,11 +106,13 @@ def crates_faults(found):
 
 def header_faults(found):
     """What differs of the C headers, and of what the library exports to them."""
-    headers = [(ROOT / "clients" / "c" / name).read_text() for name in ("bivdrazo.h", "bivdrazo_numbers.h")]
+    headers = [(ROOT / "clients" / "c" / name).read_text()
+               for name in ("bivdrazo.h", "bivdrazo_numbers.h")]
     header = re.sub(r"/\*.*?\*/", "", "\n".join(headers), flags=re.DOTALL)
     expected = {name for row in found["The C interface"] for name in named(row[0])}
     types = set(re.findall(r"^\} (bivdrazo_\w+);", header, re.MULTILINE))
-    functions = set(re.findall(r"^(?:static inline )?[\w ]+?[ *](bivdrazo_\w+)\(", header, re.MULTILINE))
+    functions = set(re.findall(r"^(?:static inline )?[\w ]+?[ *](bivdrazo_\w+)\(", header,
+                               re.MULTILINE))
     faults = told("C headers", expected, types | functions - HELPERS)
     made = "".join(text for _, text in sources("md_ffi"))
     given = set(re.findall(r'extern "C" fn (\w+)', made))
@@ -113,7 +123,8 @@ def header_faults(found):
 def readme_faults():
     """The READMEs of internal crates that don't say that they are."""
     for folder in sorted((ROOT / "crates").iterdir()):
-        if folder.name not in [*CRATES, *OTHERS] and INTERNAL not in (folder / "README.md").read_text():
+        if folder.name not in [*CRATES,
+                               *OTHERS] and INTERNAL not in (folder / "README.md").read_text():
             yield f"crates/{folder.name}/README.md lacks: {INTERNAL}"
 
 

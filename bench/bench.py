@@ -3,10 +3,10 @@
 
     python3 bench/bench.py PROGRAM [WORD..]
 
-PROGRAM is the built `mdevents`; words keep the shapes whose names have one of them. The scripts are written into a
-temporary folder. Each is run three times; the one of the best wall time counts. Growth is that of the processor time
-over the size before. Memory is the program's peak, as the system counts it: never less than what this script itself
-takes, some 16 MiB.
+PROGRAM is the built `mdevents`; words keep the shapes whose names have one of them. The scripts are
+written into a temporary folder. Each is run three times; the one of the best wall time counts.
+Growth is that of the processor time over the size before. Memory is the program's peak, as the
+system counts it: never less than what this script itself takes, some 16 MiB.
 """
 
 import contextlib
@@ -399,7 +399,8 @@ SHAPES = [
     ("nested images", doubled(to=100_000, times=3), partial(nested_media, "Image")),
     ("links, each to a definition of its own", doubled(to=80_000, times=3), links_to_definitions),
     ("calls, each of a footnote of its own", doubled(to=80_000, times=3), calls_of_footnotes),
-    ("the same, their identifiers alike in sixty bytes", doubled(to=80_000, times=2), calls_of_like_footnotes),
+    ("the same, their identifiers alike in sixty bytes", doubled(to=80_000, times=2),
+     calls_of_like_footnotes),
     ("calls of one footnote", doubled(to=80_000, times=3), calls_of_one_footnote),
     ("n columns and n empty rows", doubled(to=4_000, times=2), empty_rows),
     ("n links to one destination of n bytes", doubled(to=10_000, times=2), long_destination),
@@ -444,10 +445,13 @@ def write(path, make, n):
 
 
 def measure(program, folder, make, n):
-    """The script's events, the sizes of the document and the HTML, and the best of the runs; None past the limit."""
+    """The script's events, the sizes of the document and the HTML, and the best of the runs;
+    None past the limit.
+    """
     source = os.path.join(folder, "script")
     target = os.path.join(folder, "html")
-    # In a process of its own, since what this one takes counts as the least of the program's memory.
+    # In a process of its own, since what this one takes counts as the least of the
+    # program's memory.
     with multiprocessing.Pool(1) as pool:
         events, size = pool.apply(write, (source, make, n))
     results = []
@@ -464,7 +468,8 @@ def measured(program, folder, make, sizes):
     last = measure(program, folder, make, sizes[-1])
     if last is None:
         return measured(program, folder, make, [size // 2 for size in sizes])
-    return [(size, measure(program, folder, make, size)) for size in sizes[:-1]] + [(sizes[-1], last)]
+    return [(size, measure(program, folder, make, size))
+            for size in sizes[:-1]] + [(sizes[-1], last)]
 
 
 def print_shape(name, rows):

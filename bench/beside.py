@@ -3,12 +3,13 @@
 
     python3 bench/beside.py PROGRAM [--picture FILE] [--runs R] [--shapes NAME,..|none]
 
-PROGRAM is the built `mdevents`. The original is built from the folder `speed` beside the clone, in `../shared`; where it
-isn't there, this says so, and `bench/bench.py` measures the program alone. Instructions are counted by valgrind, where
-it is there: they are steady where the machine is busy. The realistic script is that of the folder's examples, one after
-another; `reader` is the same script with a line that can't be read before its document, `compile` the rest. Times are
-the least of some runs, in ms, which go by turns over both scripts and both programs. The picture
-shows the times of the shapes, and is drawn where matplotlib is there.
+PROGRAM is the built `mdevents`. The original is built from the folder `speed` beside the clone, in
+`../shared`; where it isn't there, this says so, and `bench/bench.py` measures the program alone.
+Instructions are counted by valgrind, where it is there: they are steady where the machine is busy.
+The realistic script is that of the folder's examples, one after another; `reader` is the same
+script with a line that can't be read before its document, `compile` the rest. Times are the least
+of some runs, in ms, which go by turns over both scripts and both programs. The picture shows the
+times of the shapes, and is drawn where matplotlib is there.
 """
 
 import argparse
@@ -40,7 +41,8 @@ def put(path, data):
         file.write(data)
 
 
-# Runs a command on a file from a small process: what a process took at most counts the one that it was forked from.
+# Runs a command on a file from a small process: what a process took at most counts the one that it
+# was forked from.
 USED = """
 import os, sys
 from subprocess import DEVNULL, Popen
@@ -79,7 +81,9 @@ def ratio(ours, theirs):
 
 
 def whole_and_reader(measure, path, lines, document, compare):
-    """What `measure` answers for a script, and for the same with a line that can't be read before its document."""
+    """What `measure` answers for a script, and for the same with a line that can't be read
+    before its document.
+    """
     put(path, compare.written(lines, document))
     whole = measure(path)
     put(path, compare.written(lines + [b"unreadable"], document))
@@ -88,7 +92,8 @@ def whole_and_reader(measure, path, lines, document, compare):
 
 def of_check(command, path):
     """The instructions of the check, with what it calls."""
-    words = ["valgrind", "--tool=callgrind", "--callgrind-out-file=/dev/null", f"--toggle-collect={CHECK}", *command]
+    words = ["valgrind", "--tool=callgrind", "--callgrind-out-file=/dev/null",
+             f"--toggle-collect={CHECK}", *command]
     with open(path, "rb") as file:
         ran = subprocess.run(words, stdin=file, stdout=subprocess.DEVNULL, stderr=subprocess.PIPE)
     return int(re.search(rb"Collected\s*:\s*(\d+)", ran.stderr).group(1))
@@ -108,7 +113,8 @@ def instructions_table(compare, commands, path):
     rest = [whole[at] - reader[at] for at in (0, 1)]
     row(f"instructions an event, {len(lines):,} events", "the original", "ours", "beside it")
     row("---", "---", "---", "---")
-    for name, (ours, theirs) in (("check, compile, write", rest), ("reading the script", reader), ("the whole program", whole)):
+    for name, (ours, theirs) in (("check, compile, write", rest), ("reading the script", reader),
+                                 ("the whole program", whole)):
         row(name, f"{theirs:.0f}", f"{ours:.0f}", ratio(ours, theirs))
     put(path, compare.written(lines, document))
     row("of these the check", "–", f"{of_check(commands[0], path) / len(lines):.0f}", "–")
@@ -133,12 +139,15 @@ def times_table(compare, commands, path, runs):
     both = ratio(whole[0][0], whole[1][0])
     row("the whole program, ms", f"{whole[1][0] * 1000:.1f}", f"{whole[0][0] * 1000:.1f}", both)
     memory = [(whole[at][2] - size - text[at]) / len(lines) for at in (0, 1)]
-    row("memory beyond script and text, bytes an event", f"{memory[1]:.0f}", f"{memory[0]:.0f}", ratio(*memory))
+    row("memory beyond script and text, bytes an event", f"{memory[1]:.0f}", f"{memory[0]:.0f}",
+        ratio(*memory))
     print()
 
 
 def shape_times(compare, commands, path, shape, runs):
-    """The least times of a shape at each size, ours and the original's, None where a run was killed."""
+    """The least times of a shape at each size, ours and the original's, None where a run was
+    killed.
+    """
     times = []
     for size in SIZES:
         put(path, compare.shapes.script(shape, size))
@@ -161,7 +170,8 @@ def shapes_table(compare, commands, path, names, runs):
         found[name] = shape_times(compare, commands, path, name, runs)
         size, ours, theirs = found[name][-1]
         known = ours is not None and theirs
-        row(name, f"{size:,}", milliseconds(theirs), milliseconds(ours), ratio(ours, theirs) if known else "–")
+        row(name, f"{size:,}", milliseconds(theirs), milliseconds(ours), ratio(ours, theirs)
+            if known else "–")
         sys.stdout.flush()
     print()
     return found
@@ -179,13 +189,15 @@ def draw(found, file):
         return
     columns = 4
     rows = -(-len(found) // columns)
-    figure, axes = pyplot.subplots(rows, columns, figsize=(3.2 * columns, 2.4 * rows), squeeze=False)
+    figure, axes = pyplot.subplots(rows, columns, figsize=(3.2 * columns, 2.4 * rows),
+                                   squeeze=False)
     for axis in axes.flat[len(found):]:
         axis.axis("off")
     for axis, (name, times) in zip(axes.flat, found.items()):
         for at, label, colour in ((2, "the original", "#b0b0b0"), (1, "ours", "#1f5fa8")):
             known = [(time[0], time[at] * 1000) for time in times if time[at] is not None]
-            axis.plot([size for size, _ in known], [time for _, time in known], "o-", color=colour, label=label, markersize=3)
+            axis.plot([size for size, _ in known], [time for _, time in known], "o-", color=colour,
+                      label=label, markersize=3)
         axis.set_title(name, fontsize=8)
         axis.set_ylim(bottom=0)
         axis.tick_params(labelsize=6)
@@ -209,7 +221,8 @@ def main():
         print("bench/bench.py measures the program alone.")
         return 0
     commands = [[os.path.abspath(given.program)], [compare.original_path()]]
-    names = [] if given.shapes == "none" else list(compare.shapes.SHAPES) if given.shapes == "all" else given.shapes.split(",")
+    names = ([] if given.shapes == "none" else list(compare.shapes.SHAPES) if given.shapes == "all"
+             else given.shapes.split(","))
     with tempfile.TemporaryDirectory(prefix="md-beside-") as folder:
         path = os.path.join(folder, "script")
         instructions_table(compare, commands, path)

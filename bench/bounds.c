@@ -209,7 +209,8 @@ static long peak(void) {
     FILE *status = fopen("/proc/self/status", "r");
     char line[256];
     long most = 0;
-    while (status != NULL && fgets(line, sizeof line, status) != NULL) sscanf(line, "VmHWM: %ld", &most);
+    while (status != NULL && fgets(line, sizeof line, status) != NULL)
+        sscanf(line, "VmHWM: %ld", &most);
     if (status != NULL) fclose(status);
     return most;
 }
@@ -224,10 +225,11 @@ int main(int given, char **words) {
     bivdrazo_limits limits = {strtoull(words[4], NULL, 10), strtoull(words[5], NULL, 10)};
     long before = peak();
     clock_t began = clock();
-    bivdrazo_answer answer =
-        bivdrazo_compile_within_alloc(events, count, document, length, NULL, NULL, 0, &limits, &text);
+    bivdrazo_answer answer = bivdrazo_compile_within_alloc(events, count, document, length, NULL,
+                                                           NULL, 0, &limits, &text);
     double seconds = (double)(clock() - began) / CLOCKS_PER_SEC;
-    printf("%u %zu %.6f %ld %ld %zu\n", answer.status, answer.length, seconds, before, peak(), count);
+    printf("%u %zu %.6f %ld %ld %zu\n", answer.status, answer.length, seconds, before, peak(),
+           count);
     free(text);
     return 0;
 }

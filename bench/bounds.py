@@ -3,11 +3,12 @@
 
 usage: bench/bounds.py ARCHIVE [--each]     (crates/md_ffi/out/libmd_ffi.a, once clients/link has linked it)
 
-Each shape of bench/bounds.c is compiled by `bivdrazo_compile_within` in a process of its own, with some 1 kB to 1 MB of
-document and events, texts of at most 10 kB and 1 MB, and four times as much work as input and text together may have:
-with as many nodes, up to that size, as give no more work. Prints the most that any took for a byte of input and limit, and
-with --each what each took. Inputs of up to 100 kB have an address space of 64 MB. Ends with status 1 where a process dies
-or a text is longer than its limit.
+Each shape of bench/bounds.c is compiled by `bivdrazo_compile_within` in a process of its own, with
+some 1 kB to 1 MB of document and events, texts of at most 10 kB and 1 MB, and four times as much
+work as input and text together may have: with as many nodes, up to that size, as give no more work.
+Prints the most that any took for a byte of input and limit, and with --each what each took. Inputs
+of up to 100 kB have an address space of 64 MB. Ends with status 1 where a process dies or a text is
+longer than its limit.
 """
 
 import os
@@ -17,7 +18,8 @@ import sys
 import tempfile
 
 SHAPES = [
-    "texts", "title", "code", "dropped-texts", "footnote-texts", "links", "label-images", "dropped-links",
+    "texts", "title", "code", "dropped-texts", "footnote-texts", "links", "label-images",
+    "dropped-links",
     "footnote-links", "table", "footnote-table", "calls", "short-calls", "labels", "images",
 ]
 SIZES = [1_000, 10_000, 100_000, 1_000_000]
@@ -35,13 +37,16 @@ def built(archive, folder):
     program = os.path.join(folder, "bounds")
     page = subprocess.run(["rt", "doc"], capture_output=True, text=True, check=True).stdout.strip()
     libraries = [archive, f"{os.path.dirname(page)}/c/liblibc_c.a", "-lm"]
-    command = [os.environ.get("CC", "cc"), "-O2", f"-I{here}/../clients/c", "-o", program, f"{here}/bounds.c"]
+    command = [os.environ.get("CC", "cc"), "-O2", f"-I{here}/../clients/c", "-o", program,
+               f"{here}/bounds.c"]
     subprocess.run([*command, *libraries], check=True)
     return program
 
 
 def asked(program, shape, length, nodes, text, held):
-    """One call: its status, the text's length, seconds, bytes of memory that it took, and bytes of input."""
+    """One call: its status, the text's length, seconds, bytes of memory that it took,
+    and bytes of input.
+    """
 
     def limit():
         if held:
@@ -56,7 +61,8 @@ def asked(program, shape, length, nodes, text, held):
 
     given = length + EVENT * int(call(0)[5])
     answer = call(WORK * (given + text))
-    return int(answer[0]), int(answer[1]), float(answer[2]), 1024 * (int(answer[4]) - int(answer[3])), given
+    return int(answer[0]), int(answer[1]), float(answer[2]), 1024 * (int(answer[4])
+                                                                     - int(answer[3])), given
 
 
 def most_nodes(program, shape, length, most, text, held):
@@ -82,7 +88,8 @@ def main():
                     held = HELD if size <= 100_000 else 0
                     length = size // 2
                     nodes = most_nodes(program, shape, length, length // (4 * EVENT), text, held)
-                    status, printed, seconds, memory, given = asked(program, shape, length, nodes, text, held)
+                    status, printed, seconds, memory, given = asked(program, shape, length, nodes,
+                                                                    text, held)
                     what = f"{shape} of {given:,} bytes, at most {text:,}"
                     calls += 1
                     if status not in STATUSES or printed > text:

@@ -1,13 +1,15 @@
 #!/usr/bin/env python3
-"""Compiles scripts that would show it if memory were kept, and looks at the memory that each takes at most.
+"""Compiles scripts that would show it if memory were kept, and looks at the memory that
+each takes at most.
 
 usage: bench/held.py PROGRAM      (crates/mdevents/out/mdevents, once `rt run < stdin` there has built it)
 
-That memory is given back no clause says. Of the first three scripts each prints or drops some hundreds of texts as long
-as its document, few of them at once, and may take what some sixty of them take. The others have a limit of their own, a
-few hundredths above what was measured: definitions keep what their texts fill and no more, the list of a document's texts
-is gone when its labels are looked up, and a script's events have no more room than where it grows by doubling, so that
-all is answered in an address space of so many bytes. Ends with status 1 where one takes more.
+That memory is given back no clause says. Of the first three scripts each prints or drops some
+hundreds of texts as long as its document, few of them at once, and may take what some sixty of them
+take. The others have a limit of their own, a few hundredths above what was measured: definitions
+keep what their texts fill and no more, the list of a document's texts is gone when its labels are
+looked up, and a script's events have no more room than where it grows by doubling, so that all is
+answered in an address space of so many bytes. Ends with status 1 where one takes more.
 """
 
 import os
@@ -37,7 +39,8 @@ def images(count):
 def definitions(count):
     """Definitions with the document as label, and one byte as destination."""
     label = ["+DefinitionLabelString 0", *leaf("Data", 0, LENGTH), "-DefinitionLabelString 1"]
-    destination = ["+DefinitionDestinationString 0", *leaf("Data", 0, 1), "-DefinitionDestinationString 1"]
+    destination = ["+DefinitionDestinationString 0", *leaf("Data", 0, 1),
+                   "-DefinitionDestinationString 1"]
     return ["+Definition 0", *label, *destination, "-Definition 1"] * count
 
 
@@ -46,7 +49,8 @@ def footnotes(count):
     events = []
     for number in range(count):
         label = [*leaf("Data", 0, LENGTH), f"-GfmFootnoteDefinitionLabelString {number + 1}"]
-        events += ["+GfmFootnoteDefinition 0", "+GfmFootnoteDefinitionPrefix 0", "+GfmFootnoteDefinitionLabelString 0"]
+        events += ["+GfmFootnoteDefinition 0", "+GfmFootnoteDefinitionPrefix 0",
+                   "+GfmFootnoteDefinitionLabelString 0"]
         events += [*label, f"-GfmFootnoteDefinitionPrefix {number + 1}"]
         events += ["+Paragraph 0", *leaf("Data", 0, 1), "-Paragraph 1", "-GfmFootnoteDefinition 1"]
     return events
@@ -65,7 +69,8 @@ def labels(count, first, size):
     """Definitions with labels of some such size each, no two alike, that begin at an index."""
     events = []
     for last in range(first + size, first + size + count):
-        label = [f"+DefinitionLabelString {first}", *leaf("Data", first, last), f"-DefinitionLabelString {last}"]
+        label = [f"+DefinitionLabelString {first}", *leaf("Data", first, last),
+                 f"-DefinitionLabelString {last}"]
         events += [f"+Definition {first}", *label, f"-Definition {last}"]
     return events
 
@@ -77,14 +82,15 @@ def data(count):
 
 BAD = 2_000_000
 
-# Each script: its name, its events, made when it is run, its document, the most memory that it may take, and its address
-# space, if it has one.
+# Each script: its name, its events, made when it is run, its document, the most memory that it may
+# take, and its address space, if it has one.
 SCRIPTS = [
     ("images", lambda: images(400), LONG, 64_000_000, None),
     ("definitions", lambda: definitions(200), LONG, 64_000_000, None),
     ("footnotes", lambda: footnotes(200), LONG, 64_000_000, None),
     ("definitions of 65 bytes", lambda: kept_targets(30_000, 65), b"a" * 65, 45_500_000, None),
-    ("labels behind bad bytes", lambda: labels(100, BAD, 250_000), b"\xff" * BAD + b"a" * 500_000, 57_000_000, None),
+    ("labels behind bad bytes", lambda: labels(100, BAD, 250_000), b"\xff" * BAD + b"a" * 500_000,
+     57_000_000, None),
     ("events in 26,000 kB", lambda: data(66_000), b"ab", 64_000_000, 26_000 * 1024),
     ("events in 28,000 kB", lambda: data(66_000), b"ab", 64_000_000, 28_000 * 1024),
     # The longest comes last, since a program's peak begins with this script's own memory.
@@ -95,8 +101,10 @@ SCRIPTS = [
 def taken(program, events, document, space):
     """The status of a run over these events, and the memory that it took at most, in bytes."""
     script = "\n".join([*events, "--\n"]).encode("ascii") + document
-    limit = None if space is None else lambda: resource.setrlimit(resource.RLIMIT_AS, (space, space))
-    with subprocess.Popen([program], stdin=subprocess.PIPE, stdout=subprocess.DEVNULL, preexec_fn=limit) as child:
+    limit = None if space is None else lambda: resource.setrlimit(resource.RLIMIT_AS,
+                                                                  (space, space))
+    with subprocess.Popen([program], stdin=subprocess.PIPE, stdout=subprocess.DEVNULL,
+                          preexec_fn=limit) as child:
         child.stdin.write(script)
         child.stdin.close()
         _, status, usage = os.wait4(child.pid, 0)

@@ -3,11 +3,12 @@
 
     /usr/bin/python3 bench/html5.py PROGRAM
 
-PROGRAM is the built `mdevents`; html5lib comes with Debian's python3-html5lib, or from pip. The attacks, and the
-ways on which each comes into the text, are in attacks.json; they are cases of crates/md_cases, with their answers. Each
-text is read inside a `div` and as a whole page. It fails, with status 1, on an element, an attribute or a comment
-that compiled Markdown never has, and, but where an option lets them, on a link or an image that leads to another
-protocol as a browser takes it.
+PROGRAM is the built `mdevents`; html5lib comes with Debian's python3-html5lib, or from pip. The
+attacks, and the ways on which each comes into the text, are in attacks.json; they are cases of
+crates/md_cases, with their answers. Each text is read inside a `div` and as a whole page. It
+fails, with status 1, on an element, an attribute or a comment that compiled Markdown never has,
+and, but where an option lets them, on a link or an image that leads to another protocol as a
+browser takes it.
 """
 
 import json
@@ -22,7 +23,8 @@ ATTACKS = json.loads(pathlib.Path(__file__).with_name("attacks.json").read_text(
 
 ELEMENTS = {
     name: set()
-    for name in "blockquote pre p ul em strong del sup table thead tbody tr h1 h3 h4 h5 h6 br hr".split()
+    for name
+    in "blockquote pre p ul em strong del sup table thead tbody tr h1 h3 h4 h5 h6 br hr".split()
 } | {
     "code": {"class"},
     "ol": {"start"},
@@ -52,7 +54,9 @@ def attacks():
 
 
 def script(lines, text, nodes):
-    """The script of a way over an attack, or nothing where an option would have to hold a line feed."""
+    """The script of a way over an attack, or nothing where an option would have to
+    hold a line feed.
+    """
     if "[text]" in lines and "\n" in text:
         return None
     length = str(len(text.encode()))
@@ -93,7 +97,8 @@ def read(text, is_any):
 
 def is_sharp():
     """Whether the reading finds what it looks for."""
-    bad = ["<script>x</script>", "<p onclick='x'>", "<!-- x -->", "<a href='java\nscript:x'>", "<img src='irc:x'>"]
+    bad = ["<script>x</script>", "<p onclick='x'>", "<!-- x -->", "<a href='java\nscript:x'>",
+           "<img src='irc:x'>"]
     return all(read(text, False) for text in bad) and not read('<p><a href="x:y">a</a></p>', True)
 
 
@@ -108,7 +113,8 @@ def main():
             if source is None:
                 continue
             ran = subprocess.run([program], input=source, capture_output=True, check=False)
-            wrong = read(ran.stdout.decode(), LETS_ANY in lines) if ran.returncode == 0 else [ran.stderr.decode()]
+            wrong = read(ran.stdout.decode(),
+                         LETS_ANY in lines) if ran.returncode == 0 else [ran.stderr.decode()]
             count += 1
             failures += bool(wrong)
             for fault in wrong:

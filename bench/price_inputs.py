@@ -1,7 +1,8 @@
-"""Event scripts on which a change for speed may cost: one function for each kind, and their list, `INPUTS`.
+"""Event scripts on which a change for speed may cost: one function for each kind, and
+their list, `INPUTS`.
 
-Each entry of `INPUTS` is a name and the script's bytes, made when it is asked for. They are kinds that the six jobs of
-`bench/run` have few of, and some that they have many of.
+Each entry of `INPUTS` is a name and the script's bytes, made when it is asked for. They are kinds
+that the six jobs of `bench/run` have few of, and some that they have many of.
 """
 
 TEXTS = {
@@ -51,7 +52,8 @@ def lines(line, count):
     """A paragraph of so many lines, each a text of its own."""
     events, at = [], 0
     for _ in range(count):
-        events += leaf("Data", at, at + len(line)) + leaf("LineEnding", at + len(line), at + len(line) + 1)
+        events += leaf("Data", at, at + len(line)) + leaf("LineEnding", at + len(line),
+                                                          at + len(line) + 1)
         at += len(line) + 1
     return script(node("Paragraph", 0, at - 1, events[:-2]), (line + b"\n") * (count - 1) + line)
 
@@ -60,16 +62,19 @@ def code(chunk, count):
     """Indented code of so many lines."""
     events, at = [], 0
     for _ in range(count):
-        events += leaf("CodeFlowChunk", at, at + len(chunk)) + leaf("LineEnding", at + len(chunk), at + len(chunk) + 1)
+        events += leaf("CodeFlowChunk", at, at + len(chunk)) + leaf("LineEnding", at + len(chunk),
+                                                                    at + len(chunk) + 1)
         at += len(chunk) + 1
-    return script(node("CodeIndented", 0, at - 1, events[:-2]), (chunk + b"\n") * (count - 1) + chunk)
+    return script(node("CodeIndented", 0, at - 1, events[:-2]),
+                  (chunk + b"\n") * (count - 1) + chunk)
 
 
 def html(tag, count):
     """HTML in a document that is printed as it is, but for what the tag filter escapes."""
     text = tag * count
     events = ["!allow_dangerous_html", "!gfm_tagfilter"]
-    return script([*events, *node("HtmlFlow", 0, len(text), leaf("HtmlFlowData", 0, len(text)))], text)
+    return script([*events, *node("HtmlFlow", 0, len(text), leaf("HtmlFlowData", 0, len(text)))],
+                  text)
 
 
 # Bytes that are in no character.
@@ -112,14 +117,17 @@ def both_tab_lines(count):
 
 def long_names(count):
     """Names of more than thirty-one bytes, beside others."""
-    marks = [*leaf("CharacterReferenceMarker", 0, 1), *leaf("CharacterReferenceMarkerNumeric", 1, 2)]
-    marks += [*leaf("CharacterReferenceMarkerHexadecimal", 2, 3), *leaf("CharacterReferenceValue", 3, 5)]
+    marks = [*leaf("CharacterReferenceMarker", 0, 1),
+             *leaf("CharacterReferenceMarkerNumeric", 1, 2)]
+    marks += [*leaf("CharacterReferenceMarkerHexadecimal", 2, 3),
+              *leaf("CharacterReferenceValue", 3, 5)]
     return script(node("Paragraph", 0, 6, marks * count), b"&#x41;")
 
 
 def other_names(count):
     """Names of nodes that aren't known."""
-    return script(node("Paragraph", 0, 1, [*leaf("Other12345", 0, 1), *leaf("Other7", 0, 1)] * count), b"a")
+    return script(node("Paragraph", 0, 1, [*leaf("Other12345", 0, 1), *leaf("Other7", 0, 1)]
+                       * count), b"a")
 
 
 def plain_lines(count):
@@ -137,7 +145,8 @@ def links(url, count):
         at = len(document)
         document += b"[a](" + url + b")\n"
         start, end = at + 4, at + 4 + len(url)
-        label = node("Label", at, at + 3, node("LabelText", at + 1, at + 2, leaf("Data", at + 1, at + 2)))
+        label = node("Label", at, at + 3,
+                     node("LabelText", at + 1, at + 2, leaf("Data", at + 1, at + 2)))
         destination = node("ResourceDestinationString", start, end, leaf("Data", start, end))
         link = node("Link", at, end + 1, label + node("Resource", at + 3, end + 1, destination))
         events += node("Paragraph", at, end + 1, link) + leaf("LineEnding", end + 1, end + 2)
@@ -146,14 +155,18 @@ def links(url, count):
 
 def encoded(text):
     """A text with each byte past ASCII as a percent triple."""
-    return "".join(c if ord(c) < 128 else "".join(f"%{byte:02X}" for byte in c.encode()) for c in text).encode()
+    return "".join(c if ord(c) < 128 else "".join(f"%{byte:02X}" for byte in c.encode())
+                   for c in text).encode()
 
 
 def definition(label, end, destination, title):
-    """The events of a definition: its label between two indices; destination and title are pairs of such, or None."""
+    """The events of a definition: its label between two indices; destination and title are pairs
+    of such, or None.
+    """
     inside = node("DefinitionLabelString", label, end, leaf("Data", label, end))
     last = end
-    for name, place in (("DefinitionDestinationString", destination), ("DefinitionTitleString", title)):
+    for name, place in (("DefinitionDestinationString", destination),
+                        ("DefinitionTitleString", title)):
         if place is not None:
             inside += node(name, *place, leaf("Data", *place))
             last = place[1]
@@ -161,7 +174,9 @@ def definition(label, end, destination, title):
 
 
 def definitions(count, size, label=b"key %06d"):
-    """So many definitions, each with a label, a destination and a title of its own of so many bytes."""
+    """So many definitions, each with a label, a destination and a title of its own
+    of so many bytes.
+    """
     document, events = bytearray(), []
     for number in range(count):
         name = (label.replace(b"%06d", b"%06d" % number))[:200]
@@ -199,7 +214,8 @@ def cells(columns, rows, text):
     inside = leaf("Data", 0, size) if text else []
     cell = node("GfmTableCell", 0, size, inside)
     row = node("GfmTableRow", 0, size, cell * columns)
-    delimiter = node("GfmTableDelimiterRow", 0, size, node("GfmTableDelimiterCellValue", 0, size) * columns)
+    delimiter = node("GfmTableDelimiterRow", 0, size,
+                     node("GfmTableDelimiterCellValue", 0, size) * columns)
     head = node("GfmTableHead", 0, size, node("GfmTableRow", 0, size, cell * columns) + delimiter)
     return script(node("GfmTable", 0, size, head + node("GfmTableBody", 0, size, row * rows)), text)
 
@@ -207,8 +223,10 @@ def cells(columns, rows, text):
 ENCODED = encoded(TEXTS["Cyrillic"].replace(" ", "_").replace(",", "").replace(".", ""))
 
 INPUTS = {
-    **{f"200 kB of {kind}": lambda text=text: paragraph(characters(text, 200_000)) for kind, text in TEXTS.items()},
-    **{f"2,000 lines of {kind}": lambda text=text: lines(characters(text, 75), 2_000) for kind, text in TEXTS.items()},
+    **{f"200 kB of {kind}": lambda text=text: paragraph(characters(text, 200_000))
+       for kind, text in TEXTS.items()},
+    **{f"2,000 lines of {kind}": lambda text=text: lines(characters(text, 75), 2_000)
+       for kind, text in TEXTS.items()},
     "5,000 lines of six bytes, Cyrillic": lambda: lines("три".encode(), 5_000),
     "5,000 lines of three bytes": lambda: lines(b"abc", 5_000),
     "every byte escaped": lambda: paragraph(b"&" * 50_000),
@@ -220,11 +238,15 @@ INPUTS = {
     "HTML, tags": lambda: html(b"<b>bold</b> <i>x</i>\n", 2_000),
     "HTML, filtered tags": lambda: html(b"<script>x</script>\n", 2_000),
     "Cyrillic, one bad byte first": lambda: bad_at(characters(TEXTS["Cyrillic"], 200_000), 0),
-    "Cyrillic, one bad byte in the middle": lambda: bad_at(characters(TEXTS["Cyrillic"], 200_000), 0.5),
-    "Cyrillic, one bad byte near the end": lambda: bad_at(characters(TEXTS["Cyrillic"], 200_000), 0.99),
-    "a megabyte of ASCII, one bad byte first": lambda: bad_at(characters(TEXTS["ASCII"], 1_000_000), 0),
+    "Cyrillic, one bad byte in the middle": lambda: bad_at(characters(TEXTS["Cyrillic"], 200_000),
+                                                           0.5),
+    "Cyrillic, one bad byte near the end": lambda: bad_at(characters(TEXTS["Cyrillic"], 200_000),
+                                                          0.99),
+    "a megabyte of ASCII, one bad byte first": lambda: bad_at(characters(TEXTS["ASCII"], 1_000_000),
+                                                              0),
     "CJK, a bad byte in each kilobyte": lambda: bad_every(characters(TEXTS["CJK"], 1_000), 200_000),
-    "ASCII, a bad byte in each hundred": lambda: bad_every(characters(TEXTS["ASCII"], 100), 200_000),
+    "ASCII, a bad byte in each hundred": lambda: bad_every(characters(TEXTS["ASCII"], 100),
+                                                           200_000),
     "every second byte bad": lambda: bad_every(b"a", 1_000_000),
     "all bytes bad": lambda: script([], b"\xff" * 500_000),
     "a last character cut": lambda: script([], characters(TEXTS["CJK"], 200_000) + b"\xd0"),
@@ -235,25 +257,32 @@ INPUTS = {
     "lines with unknown names": lambda: other_names(5_000),
     "lines as most are": lambda: plain_lines(20_000),
     **{
-        f"200 links, Cyrillic encoded, {size:,} bytes": lambda size=size: links(repeated(ENCODED, size, b"/wiki/")[:size], 200)
+        f"200 links, Cyrillic encoded, {size:,} bytes": lambda size=size: links(repeated(ENCODED,
+                                                                                         size,
+                                                                                         b"/wiki/")[:size], 200)
         for size in (54, 200, 630, 1_830, 10_000)
     },
     **{
         f"a URL of 50 kB of {part.decode()!r}": lambda part=part: links(repeated(part, 50_000), 1)
-        for part in (b"%41", b"a%41", b"a&", b"a ", b"a%", b"aa&", b"[a]", b"&", b" ", b"%zz", b"%%41", b"&key=value")
+        for part in (b"%41", b"a%41", b"a&", b"a ", b"a%", b"aa&", b"[a]", b"&", b" ", b"%zz",
+                     b"%%41", b"&key=value")
     },
     **{
-        f"a path of 50 kB of {part.decode()!r}": lambda part=part: links(repeated(part, 50_000, b"/w/"), 1)
+        f"a path of 50 kB of {part.decode()!r}": lambda part=part: links(repeated(part, 50_000,
+                                                                                  b"/w/"), 1)
         for part in (b"%41", b"a&", b"a ", b"a%", b"aa&", b"[a]", b"&", b" ")
     },
-    **{f"200 links, {kind}, 200 bytes": lambda text=text: links(characters(text.replace(" ", "-"), 200), 200)
+    **{f"200 links, {kind}, 200 bytes": lambda text=text: links(characters(text.replace(" ", "-"),
+                                                                           200), 200)
        for kind, text in TEXTS.items()},
     "2,000 links of 10 bytes": lambda: links(b"/a/b?c=d#e", 2_000),
     "2,000 definitions of 20 bytes": lambda: definitions(2_000, 20),
     "2,000 definitions of 65 bytes": lambda: definitions(2_000, 65),
-    "2,000 definitions, labels in capitals past ASCII": lambda: definitions(2_000, 20, "ПРИВЕТ МИР %06d".encode()),
+    "2,000 definitions, labels in capitals past ASCII": lambda: definitions(2_000, 20,
+                                                                            "ПРИВЕТ МИР %06d".encode()),
     "1,000 references, a short label": lambda: references(1_000, b"label"),
-    "1,000 references, a label with spaces": lambda: references(1_000, b"  a   label  of many   words "),
+    "1,000 references, a label with spaces": lambda: references(1_000,
+                                                                b"  a   label  of many   words "),
     "1,000 references, a label past ASCII": lambda: references(1_000, "Метка ПРИМЕР".encode()),
     "1,000 references, a label of 500 bytes": lambda: references(1_000, b"l" * 500),
     "1,000 images in one another, a label of 10 bytes": lambda: images(1_000, b"l" * 10),

@@ -1,12 +1,13 @@
 #!/usr/bin/env python3
-"""Counts the instructions of two builds of a program on each input of price_inputs.py, by callgrind.
+"""Counts the instructions of two builds of a program on each input of
+price_inputs.py, by callgrind.
 
     bench/prices.py OLD NEW [--limit R] [--only WORD] [--jobs N]
 
-OLD and NEW are programs that read a script, as crates/mdevents/out/mdevents, once `rt run < stdin` there has built it. It
-prints, for each input, millions of instructions of both, and new over old. The counts are steady however busy the
-machine is. The status is 1 where the two answer otherwise, or one takes more than R times the old count (no limit where
-R isn't given). It needs valgrind.
+OLD and NEW are programs that read a script, as crates/mdevents/out/mdevents, once `rt run < stdin`
+there has built it. It prints, for each input, millions of instructions of both, and new over old.
+The counts are steady however busy the machine is. The status is 1 where the two answer otherwise,
+or one takes more than R times the old count (no limit where R isn't given). It needs valgrind.
 """
 
 import argparse
@@ -21,17 +22,20 @@ from price_inputs import INPUTS
 
 def counted(program, script):
     """The instructions of a run over a script, its status and what it writes."""
-    command = ["valgrind", "--tool=callgrind", "--callgrind-out-file=/dev/null", os.path.abspath(program)]
+    command = ["valgrind", "--tool=callgrind", "--callgrind-out-file=/dev/null",
+               os.path.abspath(program)]
     done = subprocess.run(command, input=script, capture_output=True)
     return int(re.search(rb"Collected : (\d+)", done.stderr).group(1)), done.returncode, done.stdout
 
 
 def compared(old, new, name):
-    """Both counts of an input, with a fault where the answers differ or the input isn't compiled."""
+    """Both counts of an input, with a fault where the answers differ or the input isn't compiled.
+    """
     script = INPUTS[name]()
     before, status, text = counted(old, script)
     after, new_status, new_text = counted(new, script)
-    fault = "the answers differ" if (status, text) != (new_status, new_text) else f"status {status}" if status else ""
+    fault = "the answers differ" if (status, text) != (new_status,
+                                                       new_text) else f"status {status}" if status else ""
     return name, before, after, fault
 
 
@@ -48,7 +52,8 @@ def main():
     print("| input | old, million | new, million | new over old |\n|---|--:|--:|--:|")
     names = [name for name in INPUTS if given.only in name]
     with ThreadPoolExecutor(given.jobs) as pool:
-        for name, before, after, fault in pool.map(lambda name: compared(given.old, given.new, name), names):
+        for name, before, after, fault in pool.map(lambda name: compared(given.old, given.new,
+                                                                         name), names):
             ratio = after / before
             print(f"| {name} | {before / 1e6:.2f} | {after / 1e6:.2f} | {ratio:.2f} |", flush=True)
             if fault:

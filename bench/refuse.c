@@ -1,6 +1,7 @@
-/* Refuses one request of a program for memory. Loaded before the C library (LD_PRELOAD), it counts what a program asks
-   of malloc, calloc and realloc, and refuses the request whose number stands in REFUSE (0: none; "all": each). At the
-   end it writes the number of requests into the file that stands in COUNT. */
+/* Refuses one request of a program for memory. Loaded before the C library (LD_PRELOAD), it counts
+   what a program asks of malloc, calloc and realloc, and refuses the request whose number stands in
+   REFUSE (0: none; "all": each). At the end it writes the number of requests into the file that
+   stands in COUNT. */
 #define _GNU_SOURCE
 #include <errno.h>
 #include <stdio.h>
@@ -47,4 +48,6 @@ void *malloc(size_t size) { return is_refused() ? NULL : __libc_malloc(size); }
 
 void *calloc(size_t count, size_t size) { return is_refused() ? NULL : __libc_calloc(count, size); }
 
-void *realloc(void *block, size_t size) { return is_refused() ? NULL : __libc_realloc(block, size); }
+void *realloc(void *block, size_t size) {
+    return is_refused() ? NULL : __libc_realloc(block, size);
+}

@@ -3,9 +3,10 @@
 
 usage: bench/refuse.py PROGRAM      (crates/md_cases/out/md_cases, once `rt run` there has built it)
 
-The Nth request is refused, N from 1 upwards until a run meets no refusal: each run must end with status 0 and write
-that each call was made. The calls that need nothing that takes memory must answer where each request is
-refused, and those that read what was checked must make no request more. Ends with status 1 where one of these fails.
+The Nth request is refused, N from 1 upwards until a run meets no refusal: each run must end with
+status 0 and write that each call was made. The calls that need nothing that takes memory must
+answer where each request is refused, and those that read what was checked must make no request
+more. Ends with status 1 where one of these fails.
 """
 
 import os
@@ -19,9 +20,11 @@ MOST_RUNS = 5000
 
 
 def run(program, folder, refused, asked=b""):
-    """The status and the output of a run, and how many requests it made, the most where it crashed."""
+    """The status and the output of a run, and how many requests it made, the most where it crashed.
+    """
     count = os.path.join(folder, "count")
-    given = {"LD_PRELOAD": os.path.join(folder, "refuse.so"), "REFUSE": str(refused), "COUNT": count}
+    given = {"LD_PRELOAD": os.path.join(folder, "refuse.so"), "REFUSE": str(refused),
+             "COUNT": count}
     ran = subprocess.run([program], input=asked, env=given, capture_output=True, timeout=60)
     if not os.path.exists(count):
         return ran.returncode, ran.stdout, MOST_RUNS

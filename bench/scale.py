@@ -3,10 +3,11 @@
 
     python3 bench/scale.py PROGRAM [N]
 
-PROGRAM is the built `mdevents`, and N how many nodes there are, if not 1,000,000. There is a script for each name
-that can stand in itself, so many levels deep, and one for each that can stand in a document, so many times. All
-their nodes lie over the same few bytes. Each text is compared with one that is put together here. It fails, with
-status 1, where another text comes, or none. Memory is the program's peak, as the system counts it.
+PROGRAM is the built `mdevents`, and N how many nodes there are, if not 1,000,000. There is a script
+for each name that can stand in itself, so many levels deep, and one for each that can stand in a
+document, so many times. All their nodes lie over the same few bytes. Each text is compared with one
+that is put together here. It fails, with status 1, where another text comes, or none. Memory is the
+program's peak, as the system counts it.
 """
 
 import multiprocessing
@@ -21,7 +22,8 @@ from functools import partial
 
 @dataclass(frozen=True)
 class Shape:
-    """A script in lines that are repeated, and the text that it should give for a number of nodes."""
+    """A script in lines that are repeated, and the text that it should give for a number of nodes.
+    """
 
     name: str
     opening: str
@@ -117,7 +119,8 @@ def levels_of_lists(name, tag):
 
 
 def levels_of_spans(name, tag):
-    return Shape(name, lines(f"+{name}"), lines(f"-{name}"), partial(between, f"<{tag}>", "", f"</{tag}>"))
+    return Shape(name, lines(f"+{name}"), lines(f"-{name}"),
+                 partial(between, f"<{tag}>", "", f"</{tag}>"))
 
 
 def levels_of_nothing(name):
@@ -173,7 +176,8 @@ def link_to(name, url):
 FENCES = node("CodeFencedFence") * 2
 MATH_FENCES = node("MathFlowFence") * 2
 HEAD = node("GfmTableHead", node("GfmTableRow"), node("GfmTableDelimiterRow"))
-REFERENCE = node("CharacterReferenceMarker") + "+CharacterReferenceValue 0\n-CharacterReferenceValue 2\n"
+REFERENCE = (node("CharacterReferenceMarker")
+             + "+CharacterReferenceValue 0\n-CharacterReferenceValue 2\n")
 MEDIA = node("Label", LABEL_TEXT) + node("Resource")
 
 SIBLINGS = [
@@ -206,13 +210,17 @@ SIBLINGS = [
     link_to("GfmAutolinkLiteralXmpp", "a"),
     sibling("HardBreakEscape", node("HardBreakEscape"), "<br />"),
     sibling("HardBreakTrailing", node("HardBreakTrailing"), "<br />"),
-    sibling("GfmTaskListItemCheck", node("GfmTaskListItemCheck"), '<input type="checkbox" disabled="" />'),
+    sibling("GfmTaskListItemCheck", node("GfmTaskListItemCheck"),
+            '<input type="checkbox" disabled="" />'),
     block("BlockQuote", node("BlockQuote"), "<blockquote>\n</blockquote>"),
-    block("ListUnordered", node("ListUnordered", node("ListItem", ITEM_PREFIX)), "<ul>\n<li></li>\n</ul>"),
-    block("ListOrdered", node("ListOrdered", node("ListItem", ITEM_PREFIX)), "<ol>\n<li></li>\n</ol>"),
+    block("ListUnordered", node("ListUnordered", node("ListItem", ITEM_PREFIX)),
+          "<ul>\n<li></li>\n</ul>"),
+    block("ListOrdered", node("ListOrdered", node("ListItem", ITEM_PREFIX)),
+          "<ol>\n<li></li>\n</ol>"),
     block("Paragraph", node("Paragraph"), "<p></p>"),
     block("HeadingAtx", node("HeadingAtx", node("HeadingAtxSequence")), "<h1></h1>"),
-    block("HeadingSetextText", node("HeadingSetextText") + node("HeadingSetextUnderlineSequence"), "<h1></h1>"),
+    block("HeadingSetextText", node("HeadingSetextText") + node("HeadingSetextUnderlineSequence"),
+          "<h1></h1>"),
     block("CodeIndented", node("CodeIndented"), "<pre><code></code></pre>"),
     block("CodeFenced", node("CodeFenced", FENCES), "<pre><code></code></pre>"),
     block(
@@ -235,7 +243,8 @@ def write(path, place, n):
     """Writes the script of the shape at a place; how many events it has."""
     shape = SHAPES[place][1]
     with open(path, "w", encoding="utf-8") as file:
-        for part, times in ((shape.opening, n), (shape.middle, 1), (shape.closing, n), (shape.after, 1)):
+        for part, times in ((shape.opening, n), (shape.middle, 1), (shape.closing, n),
+                            (shape.after, 1)):
             file.write(part * times)
         file.write(f"--\n{shape.document}")
     ends = shape.opening.count("\n") + shape.closing.count("\n")
@@ -249,7 +258,9 @@ def is_right(path, place, n):
 
 
 def apart(function, *arguments):
-    """Calls in a process of its own, since what this one takes counts as the least of the program's memory."""
+    """Calls in a process of its own, since what this one takes counts as the least of the
+    program's memory.
+    """
     with multiprocessing.Pool(1) as pool:
         return pool.apply(function, arguments)
 

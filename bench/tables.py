@@ -58,7 +58,8 @@ def patterns(source):
 
     made = {}
     for role, items in re.findall(r"^pattern_of role\.(\w+) = (.*)$", text, re.M):
-        made[role] = [(kind, taken(word)) for kind, word in re.findall(r"(Once|Maybe|Many) (\([^)]*\)|\w+)", items)]
+        made[role] = [(kind, taken(word))
+                      for kind, word in re.findall(r"(Once|Maybe|Many) (\([^)]*\)|\w+)", items)]
     return made
 
 
@@ -82,7 +83,9 @@ def may_end(items, place):
 
 
 def places_of(items, symbols):
-    """The places to which a spine comes: first those outside groups, each kind by position and stage."""
+    """The places to which a spine comes: first those outside groups, each kind by
+    position and stage.
+    """
     found, new = {(0, "Whole")}, [(0, "Whole")]
     while new:
         place = new.pop()
@@ -132,7 +135,8 @@ def place_tables():
     source = replaced(source, r'static ENDS: \[u8; \d+\] = \*b"[^"]*";',
                       f'static ENDS: [u8; {len(every)}] = *b"\\\n    {listed}";')
     source = replaced(source, r"static ROLES: \[Role; \d+\] = \[\n.*?\n\];",
-                      f"static ROLES: [Role; {len(every)}] = [\n" + "".join(f"    Role::{role},\n" for role, _ in every) + "];")
+                      f"static ROLES: [Role; {len(every)}] = [\n"
+                      + "".join(f"    Role::{role},\n" for role, _ in every) + "];")
     source = replaced(source, r"static ROWS: \[\[u8; \d+\]; \d+\] = \[\n.*?\n\];",
                       f"static ROWS: [[u8; {len(symbols)}]; {len(every)}] = [\n"
                       + "".join(f'    *b"{row}",\n' for row in rows) + "];")
@@ -145,8 +149,10 @@ def place_tables():
     spec = read(PATTERN, "specs", "Places.antt")
     spec = replaced(spec, r"(?<=\nplaces =\n).*?(?=\n\n)",
                     list_of([f"at role.{role} {place[0]} {place[1]}" for role, place in every]))
-    spec = replaced(spec, r"(?<=\nsymbols =\n).*?(?=\n\n)", list_of([f"symbol.{symbol}" for symbol in symbols]))
-    spec = replaced(spec, r"(?<=\nall_roles =\n).*?(?=\n\n)", list_of([f"role.{role}" for role in roles]))
+    spec = replaced(spec, r"(?<=\nsymbols =\n).*?(?=\n\n)",
+                    list_of([f"symbol.{symbol}" for symbol in symbols]))
+    spec = replaced(spec, r"(?<=\nall_roles =\n).*?(?=\n\n)",
+                    list_of([f"role.{role}" for role in roles]))
     return [(os.path.join(PATTERN, "src", "places", "table.rt"), source),
             (os.path.join(PATTERN, "src", "places.rt"), place),
             (os.path.join(PATTERN, "specs", "Places.antt"), spec)]
@@ -172,7 +178,8 @@ def replaced(source, pattern, new):
 
 
 def main():
-    parser = argparse.ArgumentParser(description=__doc__, formatter_class=argparse.RawDescriptionHelpFormatter)
+    parser = argparse.ArgumentParser(description=__doc__,
+                                     formatter_class=argparse.RawDescriptionHelpFormatter)
     parser.add_argument("--write", action="store_true", help="write the tables")
     given = parser.parse_args()
     different = 0

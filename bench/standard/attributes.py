@@ -2,9 +2,10 @@
 
     BIVDRAZO_MARKDOWN_LIBRARY=clients/out/libbivdrazo-markdown.so.2 attributes.py
 
-Goes over the documents of clients/checks/attributes_test.py. In what chromium makes of a text with attributes, set by
-`innerHTML` of a `div`, there must be the same elements and texts as in that of the text without them, and exactly these
-attributes more. Wants chromium, html5lib and what `clients/build` made.
+Goes over the documents of clients/checks/attributes_test.py. In what chromium makes of a text with
+attributes, set by `innerHTML` of a `div`, there must be the same elements and texts as in that of
+the text without them, and exactly these attributes more. Wants chromium, html5lib and what
+`clients/build` made.
 """
 import sys
 
@@ -18,7 +19,9 @@ from bivdrazo import markdown_to_html, markdown_with_headings  # noqa: E402
 
 
 def parts(nodes):
-    """The texts of some nodes, and their elements with their attributes, in the order in which they begin."""
+    """The texts of some nodes, and their elements with their attributes, in the order in
+    which they begin.
+    """
     for node in nodes:
         if isinstance(node, str):
             yield node, None
@@ -46,7 +49,8 @@ def main():
     given = attributes_test.documents()
     rels = [attributes_test.RELS[at % len(attributes_test.RELS)] for at in range(len(given))]
     plain = [markdown_to_html(text, number_ids=True) for text in given]
-    made = [markdown_with_headings(text, "part-", rel=rel, number_ids=True)[0] for text, rel in zip(given, rels)]
+    made = [markdown_with_headings(text, "part-", rel=rel, number_ids=True)[0]
+            for text, rel in zip(given, rels)]
     read = by_browser([["div", text] for text in plain + made])
     faults = 0
     for text, rel, before, after in zip(given, rels, read[: len(given)], read[len(given) :]):

@@ -1,14 +1,17 @@
 #!/usr/bin/env python3
-"""Has a real browser, Debian's chromium, take what `mdevents` makes of the attacks in bench/attacks.json.
+"""Has a real browser, Debian's chromium, take what `mdevents` makes of the attacks in
+bench/attacks.json.
 
     /usr/bin/python3 bench/standard/browser.py PROGRAM CASES [CHROMIUM]
 
-PROGRAM is the built `mdevents`, and CASES the built `md_cases`, which makes pages. Each text is written into a document of its own, by the browser's parser as it reads a
-page, and set into a `div` of another. In both documents that come of it there may be no script element, no attribute
-whose name begins with `on`, and, but where an option lets them, no `href` and no `src` with a scheme that isn't
-permitted, by the browser's own `URL`; and nothing may run: no call of `alert`, `confirm`, `prompt` or `eval`. Besides,
-each attack is the title of an empty page (`md_page::page`), whose document must have exactly this title and an empty
-body. It fails, with status 1, on each of these, and where it doesn't find them in texts that have them.
+PROGRAM is the built `mdevents`, and CASES the built `md_cases`, which makes pages. Each text is
+written into a document of its own, by the browser's parser as it reads a page, and set into a `div`
+of another. In both documents that come of it there may be no script element, no attribute whose
+name begins with `on`, and, but where an option lets them, no `href` and no `src` with a scheme that
+isn't permitted, by the browser's own `URL`; and nothing may run: no call of `alert`, `confirm`,
+`prompt` or `eval`. Besides, each attack is the title of an empty page (`md_page::page`), whose
+document must have exactly this title and an empty body. It fails, with status 1, on each of these,
+and where it doesn't find them in texts that have them.
 """
 
 import itertools
@@ -86,12 +89,16 @@ const judged = async (texts) => {
 
 
 def faults_of(texts, chromium):
-    """What the browser finds in each text; it comes with whether its option lets any protocol, and a page's title."""
+    """What the browser finds in each text; it comes with whether its option lets any protocol,
+    and a page's title.
+    """
     with tempfile.TemporaryDirectory() as folder:
         page = pathlib.Path(folder) / "page.html"
         given = json.dumps(texts).replace("<", "\\u003c")
-        page.write_text(PAGE.replace("<script>", f"<script>\nconst TEXTS = {given};", 1), encoding="utf-8")
-        options = ["--headless", "--no-sandbox", "--disable-gpu", f"--user-data-dir={folder}/profile"]
+        page.write_text(PAGE.replace("<script>", f"<script>\nconst TEXTS = {given};", 1),
+                        encoding="utf-8")
+        options = ["--headless", "--no-sandbox", "--disable-gpu",
+                   f"--user-data-dir={folder}/profile"]
         command = [chromium, *options, "--virtual-time-budget=600000", "--dump-dom", page.as_uri()]
         ran = subprocess.run(command, capture_output=True, text=True, check=True, timeout=600)
     inside = ran.stdout.split("<body>", 1)[1].split("</body>", 1)[0]
@@ -101,9 +108,11 @@ def faults_of(texts, chromium):
 def pages_of(titles, program):
     """The empty page with each title, as the program of the worked cases answers it."""
     arguments = [title.replace("\n", "\\n") for title in titles]
-    asked = [f"%%%% {number}: page\n? compiled page {argument}\n--\n\n" for number, argument in enumerate(arguments)]
+    asked = [f"%%%% {number}: page\n? compiled page {argument}\n--\n\n"
+             for number, argument in enumerate(arguments)]
     given = "worked cases\n" + "".join(asked)
-    answers = subprocess.run([program], input=given.encode(), capture_output=True, check=True).stdout.decode()
+    answers = subprocess.run([program], input=given.encode(), capture_output=True,
+                             check=True).stdout.decode()
     for number, argument in enumerate(arguments):
         head = f"%%%% {number}: page\ncompiled page {argument}: "
         yield answers.split(head, 1)[1].split("</html>", 1)[0] + "</html>"
@@ -124,7 +133,8 @@ def main():
     for title, page in zip(titles, pages_of(titles, cases), strict=True):
         texts.append([page, False, title.replace("\r\n", "\n").replace("\r", "\n")])
         sources.append(title.encode())
-    bad = [([text, False, None], word) for text, word in BAD] + [([BAD_PAGE[0], False, BAD_PAGE[1]], BAD_PAGE[2])]
+    bad = [([text, False, None], word) for text, word in BAD] + [([BAD_PAGE[0], False, BAD_PAGE[1]],
+                                                                  BAD_PAGE[2])]
     found = faults_of([text for text, _ in bad] + texts, chromium)
     assert len(found) == len(bad) + len(texts)
     for (text, word), faults in zip(bad, found, strict=False):

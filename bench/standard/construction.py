@@ -1,4 +1,6 @@
-"""crates/md_safe/specs once more in Python, by hand: tree construction of tokens, None where it is stuck."""
+"""crates/md_safe/specs once more in Python, by hand: tree construction of tokens, None
+where it is stuck.
+"""
 
 SPECIAL = set("address article blockquote body br div h1 h2 h3 h4 h5 h6 hr html img input li main ol p".split())
 SPECIAL |= set("pre section table tbody td th thead tr ul".split())
@@ -90,7 +92,8 @@ class Parser:
         return entries
 
     def push(self, identity, name, attributes):
-        same = [e for e in self.after_marker() if e[1] == name and sorted(e[2]) == sorted(attributes)]
+        same = [e for e in self.after_marker()
+                if e[1] == name and sorted(e[2]) == sorted(attributes)]
         if len(same) > 2:
             self.active.remove(same[-1])
         self.active.append((identity, name, attributes))
@@ -109,7 +112,8 @@ class Parser:
 
     def end_formatting(self, name):
         node = self.stack[-1]
-        if node.name == name and not any(e is not MARKER and e[0] == node.identity for e in self.active):
+        if node.name == name and not any(e is not MARKER and e[0] == node.identity
+                                         for e in self.active):
             return self.pop()
         identity = self.last_active(name)
         if identity is None:
@@ -515,7 +519,8 @@ def built(mode, names, tokens):
 
 
 def document(tokens):
-    """The name of the doctype, None where there is none, and the root, of the tokens of a document."""
+    """The name of the doctype, None where there is none, and the root, of the tokens of a document.
+    """
     parser, doctype = Parser("initial", []), None
     try:
         for token in tokens:

@@ -1,20 +1,23 @@
 #!/usr/bin/env python3
-"""Compares the documents that construction.py builds with html5lib's, or with those of published tests.
+"""Compares the documents that construction.py builds with html5lib's, or with those of
+published tests.
 
     /usr/bin/python3 bench/standard/documents.py COUNT SEED
     /usr/bin/python3 bench/standard/documents.py --browser COUNT SEED
     /usr/bin/python3 bench/standard/documents.py --prove COUNT SEED
     /usr/bin/python3 bench/standard/documents.py --tests FOLDER [--prove]
 
-COUNT random documents: each second one is a page as `md_page` writes it around a text of the content model of
-crates/md_safe/specs/Contents.antt without a link in a link, and has to be built as its own document; the others are such pages with any
-elements anywhere, pages with a few characters changed, and pieces of documents put together. With --browser they are
-compared with what chromium's `DOMParser` builds, and forests of the content model with what it builds of them by
-`innerHTML` of a div, a td, a list's item and a section. FOLDER has tests of tree construction in the format of
-html5lib's (`*.dat`). With --prove the definitions themselves answer: each document under 300 characters, or each test
-that tokenizer.py and construction.py aren't stuck on, becomes an equation of a copy of crates/md_safe, which the prover
-closes by computing: what is built of it, or that they are stuck. Status 1, where one answers otherwise, or where they
-are stuck on a page of the content model.
+COUNT random documents: each second one is a page as `md_page` writes it around a text of the
+content model of crates/md_safe/specs/Contents.antt without a link in a link, and has to be built
+as its own document; the others are such pages with any elements anywhere, pages with a few
+characters changed, and pieces of documents put together. With --browser they are compared with
+what chromium's `DOMParser` builds, and forests of the content model with what it builds of them by
+`innerHTML` of a div, a td, a list's item and a section. FOLDER has tests of tree construction in
+the format of html5lib's (`*.dat`). With --prove the definitions themselves answer: each document
+under 300 characters, or each test that tokenizer.py and construction.py aren't stuck on, becomes
+an equation of a copy of crates/md_safe, which the prover closes by computing: what is built of it,
+or that they are stuck. Status 1, where one answers otherwise, or where they are stuck on a page of
+the content model.
 """
 
 import collections
@@ -37,14 +40,20 @@ import trees
 
 ROOT = pathlib.Path(__file__).parents[2]
 PIECES = [
-    *["<!doctype html>", "<html>", "<head>", "<title>", "</title>", "</head>", "<body>", "</body>", "</html>", "\n"],
-    *[" ", '<meta charset="utf-8" />', "<p>", "</p>", "<em>", "</em>", "<ul>", "<li>", "</ul>", "<br />", "<pre>"],
+    *["<!doctype html>", "<html>", "<head>", "<title>", "</title>", "</head>", "<body>", "</body>",
+      "</html>", "\n"],
+    *[" ", '<meta charset="utf-8" />', "<p>", "</p>", "<em>", "</em>", "<ul>", "<li>", "</ul>",
+      "<br />", "<pre>"],
     "</pre>",
-    *["a", "b", "&lt;", "</title>", "<table>", "<thead>", "<tr>", "<td>", "</td>", "</tr>", "</thead>", "</table>"],
-    *["</br>", "</body>", "</html>", "</head>", "\n", "\t", "<head>", "<a>", "</a>", "<h1>", "</h1>", "<del>", "</p>"],
+    *["a", "b", "&lt;", "</title>", "<table>", "<thead>", "<tr>", "<td>", "</td>", "</tr>",
+      "</thead>", "</table>"],
+    *["</br>", "</body>", "</html>", "</head>", "\n", "\t", "<head>", "<a>", "</a>", "<h1>",
+      "</h1>", "<del>", "</p>"],
 ]
-# Contexts of fragments in which the insertion mode is "in body", and the tokenizer begins in the data state.
-CONTEXTS = {"div", "td", "th", "p", "span", "li", "section", "body", "button", "a", "b", "blockquote"}
+# Contexts of fragments in which the insertion mode is "in body", and the tokenizer begins
+# in the data state.
+CONTEXTS = {"div", "td", "th", "p", "span", "li", "section", "body", "button", "a", "b",
+            "blockquote"}
 
 
 def page(nodes):
@@ -59,7 +68,8 @@ def page(nodes):
     return text, ("html", ("html", [], [("head", [], [meta, told]), ("body", [], body)]))
 
 
-# There html5lib drops a line feed that doesn't stand directly after `<pre>`, where the Standard has it drop none.
+# There html5lib drops a line feed that doesn't stand directly after `<pre>`, where the Standard
+# has it drop none.
 DROPPED = re.compile(r"<pre[^>]*>(?!</pre)(<[^>]*>)+\n", re.IGNORECASE)
 
 
@@ -100,7 +110,8 @@ def constructed(tokens, fragment=False):
         if kind == "char":
             given.append(("character", chr(parts[0])))
         elif kind in ("start", "end", "doctype"):
-            attributes = [[(n.decode("latin-1"), v.decode("latin-1")) for n, v in parts[1]]] if kind == "start" else []
+            attributes = ([[(n.decode("latin-1"), v.decode("latin-1")) for n, v in parts[1]]]
+                          if kind == "start" else [])
             given.append((kind, parts[0].decode("latin-1"), *attributes))
         else:
             given.append((kind,))
@@ -124,7 +135,8 @@ def of_html5lib(node):
             else:
                 out.append(bytewise(child.data))
         elif child.nodeType == child.ELEMENT_NODE:
-            attributes = sorted((bytewise(name), bytewise(value)) for name, value in child.attributes.items())
+            attributes = sorted((bytewise(name), bytewise(value))
+                                for name, value in child.attributes.items())
             out.append((bytewise(child.nodeName), attributes, of_html5lib(child)))
         else:
             out.append(child.nodeType)
@@ -134,7 +146,8 @@ def of_html5lib(node):
 def by_html5lib(text):
     """The document that html5lib builds: a doctype's name and a root."""
     document = html5lib.parse(text, treebuilder="dom")
-    doctypes = [child.name for child in document.childNodes if child.nodeType == child.DOCUMENT_TYPE_NODE]
+    doctypes = [child.name for child in document.childNodes
+                if child.nodeType == child.DOCUMENT_TYPE_NODE]
     roots = [node for node in of_html5lib(document) if isinstance(node, tuple)]
     return (doctypes[0] if doctypes else None), roots[0]
 
@@ -158,12 +171,16 @@ document.body.textContent = JSON.stringify(answers).replace(/[^ -%'-;=?-~]/g,
 
 
 def by_browser(given):
-    """What chromium builds of each: of a text a document, of a name and a text an element's nodes."""
+    """What chromium builds of each: of a text a document, of a name and a text an element's nodes.
+    """
     with tempfile.TemporaryDirectory() as folder:
         file = pathlib.Path(folder) / "documents.html"
-        file.write_text(BROWSER.replace("GIVEN", json.dumps(given).replace("<", "\\u003c")), encoding="utf-8")
-        options = ["--headless", "--no-sandbox", "--disable-gpu", f"--user-data-dir={folder}/profile"]
-        command = ["chromium", *options, "--virtual-time-budget=600000", "--dump-dom", file.as_uri()]
+        file.write_text(BROWSER.replace("GIVEN", json.dumps(given).replace("<", "\\u003c")),
+                        encoding="utf-8")
+        options = ["--headless", "--no-sandbox", "--disable-gpu",
+                   f"--user-data-dir={folder}/profile"]
+        command = ["chromium", *options, "--virtual-time-budget=600000", "--dump-dom",
+                   file.as_uri()]
         ran = subprocess.run(command, capture_output=True, text=True, check=True, timeout=600)
     return json.loads(ran.stdout.split("<body>", 1)[1].split("</body>", 1)[0])
 
@@ -193,7 +210,8 @@ def compare(count, seed, is_browser):
     if is_browser:
         names = random.choices(["div", "td", "li", "section"], k=count)
         forests = [trees.forest("flow", random.randint(1, 6), 0) for _ in names]
-        answers = by_browser([(name, trees.written(nodes)) for name, nodes in zip(names, forests, strict=True)])
+        answers = by_browser([(name, trees.written(nodes))
+                              for name, nodes in zip(names, forests, strict=True)])
         for name, nodes, theirs in zip(names, forests, answers, strict=True):
             is_same = trees.own_tree(nodes) == read_own(("", [], theirs))[2]
             counts["inside a " + name, "same" if is_same else "different"] += 1
@@ -201,7 +219,8 @@ def compare(count, seed, is_browser):
                 print(f"inside a {name}: {trees.written(nodes)!r}\n  {theirs}")
     for (kind, told), number in sorted(counts.items()):
         print(f"{kind}: {number} {told}")
-    faults = counts["page", "stuck"] + sum(number for (_, told), number in counts.items() if told == "different")
+    faults = counts["page", "stuck"] + sum(number for (_, told), number in counts.items()
+                                           if told == "different")
     print(f"{count} documents of seed {seed}: {faults} faults")
     return 1 if faults else 0
 
@@ -226,20 +245,25 @@ def read_own(node):
     """A document's own tree in the same form."""
     if isinstance(node, str):
         return bytewise(node)
-    return node[0], sorted((n, bytewise(v)) for n, v in node[1]), [read_own(child) for child in node[2]]
+    return node[0], sorted((n, bytewise(v)) for n, v in node[1]), [read_own(child)
+                                                                   for child in node[2]]
 
 
 def tests(folder):
-    """Each test of a folder: its text, the fragment's context, if it is one, and the tree as it is written there."""
+    """Each test of a folder: its text, the fragment's context, if it is one, and the tree as it
+    is written there.
+    """
     for file in sorted(pathlib.Path(folder).glob("**/*.dat")):
-        for block in ("\n" + file.read_text(encoding="utf-8", errors="surrogateescape")).split("\n#data\n")[1:]:
+        for block in ("\n" + file.read_text(encoding="utf-8",
+                                            errors="surrogateescape")).split("\n#data\n")[1:]:
             parts, name = collections.defaultdict(list), "data"
             for line in block.split("\n"):
                 if name != "document" and line.startswith("#") and line[1:] in HEADS:
                     name = line[1:]
                 else:
                     parts[name].append(line)
-            yield file.name, "\n".join(parts["data"]), (parts["document-fragment"] or [None])[0], parts["document"]
+            yield (file.name, "\n".join(parts["data"]), (parts["document-fragment"] or [None])[0],
+                   parts["document"])
 
 
 HEADS = {"errors", "new-errors", "document-fragment", "script-on", "script-off", "document"}
@@ -254,7 +278,8 @@ def dumped(nodes, depth):
             lines += (indent + '"' + node.encode("latin-1").decode() + '"').split("\n")
             continue
         lines.append(f"{indent}<{node[0]}>")
-        lines += [f'{indent}  {name}="{value}"'.encode("latin-1").decode() for name, value in node[1]]
+        lines += [f'{indent}  {name}="{value}"'.encode("latin-1").decode()
+                  for name, value in node[1]]
         lines += dumped(node[2], depth + 1)
     return lines
 
@@ -311,7 +336,8 @@ def nodes_of(nodes):
         if isinstance(node, str):
             term = f"(Text {equations.written(map(ord, node))} {term})"
         else:
-            pairs = ([equations.written(map(ord, part)) for part in attribute] for attribute in node[1])
+            pairs = ([equations.written(map(ord, part)) for part in attribute]
+                     for attribute in node[1])
             listed = (f"attribute {key} {value}" for key, value in pairs)
             name = equations.written(map(ord, node[0]))
             term = f"(Element {name} {equations.written(listed)} {nodes_of(node[2])} {term})"
@@ -330,7 +356,9 @@ def equation(text, context, built):
 
 
 def answered(made):
-    """Whether a copy of md_safe, and what is below it, proves these equations, and refuses a wrong one."""
+    """Whether a copy of md_safe, and what is below it, proves these equations, and
+    refuses a wrong one.
+    """
     needed, lines = {"md_safe"}, (ROOT / "crates.txt").read_text().splitlines(keepends=True)
     for line in reversed(lines):
         if line.split(":")[0] in needed:
@@ -341,7 +369,8 @@ def answered(made):
             if (ROOT / "crates" / crate).exists():
                 ignored = shutil.ignore_patterns("out", "must-fail")
                 shutil.copytree(ROOT / "crates" / crate, copy / "crates" / crate, ignore=ignored)
-        (copy / "crates.txt").write_text("".join(line for line in lines if line.split(":")[0] in needed))
+        (copy / "crates.txt").write_text("".join(line for line in lines
+                                                 if line.split(":")[0] in needed))
         shutil.copy(ROOT / "HANDLES", copy / "HANDLES")
         crate = copy / "crates" / "md_safe"
         lib = (crate / "proofs" / "Lib.antt").read_text()
@@ -350,10 +379,13 @@ def answered(made):
             modules = []
             for start in range(0, len(cases), 100):
                 modules.append(f"Documents{start // 100}")
-                part = (f"\ncase{n} : {case}\ncase{n} = refl\n" for n, case in enumerate(cases[start : start + 100]))
+                part = (f"\ncase{n} : {case}\ncase{n} = refl\n"
+                        for n, case in enumerate(cases[start : start + 100]))
                 (crate / "proofs" / f"{modules[-1]}.antt").write_text(HEAD + "".join(part))
-            (crate / "proofs" / "Lib.antt").write_text(lib + "".join(f"pub mod {module}\n" for module in modules))
-            ran = subprocess.run(["rt", "check"], cwd=crate, capture_output=True, text=True, check=False)
+            (crate / "proofs" / "Lib.antt").write_text(lib + "".join(f"pub mod {module}\n"
+                                                                     for module in modules))
+            ran = subprocess.run(["rt", "check"], cwd=crate, capture_output=True, text=True,
+                                 check=False)
             return ran.returncode == 0, ran.stdout + ran.stderr
 
         told, said = is_proved(made)

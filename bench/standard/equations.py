@@ -1,12 +1,13 @@
 #!/usr/bin/env python3
-"""Has the definitions themselves answer what html5lib's tokenizer and node's `URL` answer, as equations that are proved.
+"""Has the definitions themselves answer what html5lib's tokenizer and node's `URL` answer, as
+equations that are proved.
 
     /usr/bin/python3 bench/standard/equations.py [TEXTS] [URLS] [SEED]
 
-Each text and each URL of texts.py becomes an equation of a copy of crates/md_safe, which the prover closes by
-computing: what the definitions make of it is what html5lib, or node, answers, or None where tokenizer.py is stuck. It
-fails, with status 1, where one is refused, or where it is stuck on a text of the grammar or a page. Texts are kept
-under 80 characters, pages under 300.
+Each text and each URL of texts.py becomes an equation of a copy of crates/md_safe, which the prover
+closes by computing: what the definitions make of it is what html5lib, or node, answers, or None
+where tokenizer.py is stuck. It fails, with status 1, where one is refused, or where it is stuck on
+a text of the grammar or a page. Texts are kept under 80 characters, pages under 300.
 """
 
 import collections
@@ -60,7 +61,8 @@ def of_text(random):
             break
     ours = tokenizer.run(text.encode())
     is_fragment = "page" not in kind and random.random() < 0.5
-    answer = "None" if ours is None else f"Some {written(map(token, outside.tokens(text, is_fragment)))}"
+    answer = ("None" if ours is None
+              else f"Some {written(map(token, outside.tokens(text, is_fragment)))}")
     told = "stuck" if ours is None else "answered"
     return (kind, told), f"run 1000 Data (with_line_feeds {written(text.encode())}) ≡ {answer}"
 
@@ -108,11 +110,14 @@ def checked(equations):
     """A check of such a copy."""
     with tempfile.TemporaryDirectory() as folder:
         crate = copied(pathlib.Path(folder), equations)
-        return subprocess.run(["rt", "check"], cwd=crate, capture_output=True, text=True, check=False)
+        return subprocess.run(["rt", "check"], cwd=crate, capture_output=True, text=True,
+                              check=False)
 
 
 def main():
-    count, urls, seed = (int(given) for given in [*sys.argv[1:], *["10000", "10300", "1"][len(sys.argv) - 1 :]])
+    count, urls, seed = (int(given)
+                         for given in [*sys.argv[1:],
+                                       *["10000", "10300", "1"][len(sys.argv) - 1 :]])
     made_by = random.Random(seed)
     made = [*(of_text(made_by) for _ in range(count)), *of_urls(urls, made_by)]
     counts = collections.Counter(kind for kind, _ in made)

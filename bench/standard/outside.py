@@ -14,17 +14,21 @@ def _token(token):
     """A token as compare.py writes it."""
     kind, name = token["type"], token.get("name")
     if kind in (tokenTypes["StartTag"], tokenTypes["EmptyTag"]):
-        values = [(attribute.encode(), value.encode()) for attribute, value in token["data"].items()]
+        values = [(attribute.encode(), value.encode())
+                  for attribute, value in token["data"].items()]
         return ("start", name.encode(), values, bool(token["selfClosing"]))
     if kind == tokenTypes["EndTag"]:
         return ("end", name.encode())
-    if kind == tokenTypes["Doctype"] and token["correct"] and token["publicId"] is None and token["systemId"] is None:
+    if (kind == tokenTypes["Doctype"] and token["correct"] and token["publicId"] is None
+        and token["systemId"] is None):
         return ("doctype", name.encode())
     return ("other", token)
 
 
 def _noting(self):
-    """The tokenizer of a whole parser, so that tree construction switches its state; it notes each token."""
+    """The tokenizer of a whole parser, so that tree construction switches its state; it
+    notes each token.
+    """
     for token in _plain(self):
         if token["type"] in (tokenTypes["Characters"], tokenTypes["SpaceCharacters"]):
             _noted.extend(("char", byte) for byte in token["data"].encode())
@@ -37,7 +41,8 @@ _tokenizer.HTMLTokenizer.__iter__ = _noting
 
 
 def tokens(text, is_fragment):
-    """The tokens that html5lib emits of a text, which is a document, or a fragment inside a `div`."""
+    """The tokens that html5lib emits of a text, which is a document, or a fragment inside a `div`.
+    """
     _noted.clear()
     if is_fragment:
         HTMLParser().parseFragment(text, container="div")
@@ -46,7 +51,8 @@ def tokens(text, is_fragment):
     return [*_noted, ("eof",)]
 
 
-# A URL's own scheme is the one that it has on two bases with different schemes; on neither it is one that node refuses.
+# A URL's own scheme is the one that it has on two bases with different schemes; on neither it is
+# one that node refuses.
 _NODE = """
 const told = (url, base) => { try { return new URL(url, base).protocol } catch { return null } }
 for (const line of require('fs').readFileSync(0, 'utf8').split('\\n').filter((line) => line)) {
@@ -57,7 +63,10 @@ for (const line of require('fs').readFileSync(0, 'utf8').split('\\n').filter((li
 
 
 def schemes(urls):
-    """The scheme that node finds in each URL, empty where it has none, `?` where node refuses the URL."""
+    """The scheme that node finds in each URL, empty where it has none, `?` where node
+    refuses the URL.
+    """
     lines = "".join(json.dumps(url) + "\n" for url in urls)
-    ran = subprocess.run(["node", "-e", _NODE], input=lines, text=True, capture_output=True, check=True)
+    ran = subprocess.run(["node", "-e", _NODE], input=lines, text=True, capture_output=True,
+                         check=True)
     return [json.loads(line) for line in ran.stdout.splitlines()]

@@ -1,12 +1,15 @@
-"""Texts and URLs to compare: of the HTML grammar, pages, put together of pieces, and changed ones."""
+"""Texts and URLs to compare: of the HTML grammar, pages, put together of pieces, and changed ones.
+"""
 
 import json
 import pathlib
 
-ATTACKS = json.loads((pathlib.Path(__file__).parents[1] / "attacks.json").read_text(encoding="utf-8"))
+ATTACKS = json.loads((pathlib.Path(__file__).parents[1]
+                      / "attacks.json").read_text(encoding="utf-8"))
 
 ELEMENTS = {
-    name: [] for name in "blockquote pre p ul em strong del sup table thead tbody tr h1 h3 h4 h5 h6".split()
+    name: []
+    for name in "blockquote pre p ul em strong del sup table thead tbody tr h1 h3 h4 h5 h6".split()
 } | {
     "code": ["class"],
     "ol": ["start"],
@@ -17,26 +20,36 @@ ELEMENTS = {
     "section": ["data-footnotes", "class"],
     "a": "href title id class data-footnote-ref data-footnote-backref aria-describedby aria-label".split(),
 }
-VOID = {"br": [], "hr": [], "img": ["src", "alt", "title"], "input": ["type", "disabled", "checked"]}
+VOID = {"br": [], "hr": [], "img": ["src", "alt", "title"],
+        "input": ["type", "disabled", "checked"]}
 # Escaped pieces of texts and values.
 ESCAPED = [
-    *["&amp;", "&lt;", "&gt;", "&quot;", "&amp;amp;", "&amp;#60;", "\r", "\n", "\r\n", "\t", "\f", " ", "'", "=", "/", ";"],
-    *["#", "a", "Z", "0", "javascript:", "http://x", "é", "☃", "\U0001f600", "\x0b", "\x7f", "\x01", "`", "-"],
+    *["&amp;", "&lt;", "&gt;", "&quot;", "&amp;amp;", "&amp;#60;", "\r", "\n", "\r\n", "\t", "\f",
+      " ", "'", "=", "/", ";"],
+    *["#", "a", "Z", "0", "javascript:", "http://x", "é", "☃", "\U0001f600", "\x0b", "\x7f", "\x01",
+      "`", "-"],
 ]
 # Pieces of texts that need not be of the grammar.
 BROKEN = [
-    *["<", ">", "/", "=", '"', "'", "&", "&amp;", "&lt;", "&quot", "a", "B", "href", " ", "\n", "\r", "\f", ";", "<a", "</a"],
-    *["<IMG ", 'x="', '" ', "é", " x=", "!", "-", "0", "\0", "<svg>", "<Title>", "</tiTle>", "</title", "<!docType"],
-    *["<!DOCTYPE html>", "<title>", "<img", "/>", "</", "=\"", "<p>", "<br />", "<style>", "<select>"],
+    *["<", ">", "/", "=", '"', "'", "&", "&amp;", "&lt;", "&quot", "a", "B", "href", " ", "\n",
+      "\r", "\f", ";", "<a", "</a"],
+    *["<IMG ", 'x="', '" ', "é", " x=", "!", "-", "0", "\0", "<svg>", "<Title>", "</tiTle>",
+      "</title", "<!docType"],
+    *["<!DOCTYPE html>", "<title>", "<img", "/>", "</", "=\"", "<p>", "<br />", "<style>",
+      "<select>"],
 ]
 # Pieces of URLs.
 URL = [
-    *[":", "/", "?", "#", "http", "https", "javascript", "MAILTO", "data", "x", "Z", "+", "-", ".", "1", " ", "\t", "\n"],
-    *["\r", "\x00", "\x1f", "\x0b", "é", "☃", "%", "&", ";", "\\", "@", "a", "b:c", "irc:", "\x7f", "\xa0", "zz", "//"],
+    *[":", "/", "?", "#", "http", "https", "javascript", "MAILTO", "data", "x", "Z", "+", "-", ".",
+      "1", " ", "\t", "\n"],
+    *["\r", "\x00", "\x1f", "\x0b", "é", "☃", "%", "&", ";", "\\", "@", "a", "b:c", "irc:", "\x7f",
+      "\xa0", "zz", "//"],
 ]
 URLS = [
-    *["http://example.org/a?b#c", "https:x", "mailto:a@b", "irc:x", "xmpp:a@b", "javascript:alert(1)", "data:text/html,x"],
-    *["/a:b", "a/b:c", "?x:y", "#x:y", "vbscript:x", "//h/p", "\x01 javascript:x", "java\tscript:x", "file:///x", "1a:b"],
+    *["http://example.org/a?b#c", "https:x", "mailto:a@b", "irc:x", "xmpp:a@b",
+      "javascript:alert(1)", "data:text/html,x"],
+    *["/a:b", "a/b:c", "?x:y", "#x:y", "vbscript:x", "//h/p", "\x01 javascript:x", "java\tscript:x",
+      "file:///x", "1a:b"],
 ]
 
 
@@ -81,14 +94,16 @@ def changed(random, text, of):
     for _ in range(random.randint(1, 3)):
         at = random.randint(0, len(text))
         until = min(len(text), at + random.randint(0, 3))
-        put = random.choice(["", random.choice(of), text[at:until] * 2, random.choice(of).swapcase()])
+        put = random.choice(["", random.choice(of), text[at:until] * 2,
+                             random.choice(of).swapcase()])
         text = text[:at] + put + text[until:]
     return text
 
 
 def text(random, depth):
     """One text and its kind."""
-    kind = random.choice(["grammar", "page", "pieces", "pieces", "changed grammar", "changed page", "attack"])
+    kind = random.choice(["grammar", "page", "pieces", "pieces", "changed grammar", "changed page",
+                          "attack"])
     if kind == "pieces":
         return kind, pieces(random, BROKEN, 0, 14)
     if kind == "attack":

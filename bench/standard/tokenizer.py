@@ -1,4 +1,5 @@
-"""crates/md_safe/specs/Tokenizer.antt and Scheme.antt once more in Python, state by state, written by hand.
+"""crates/md_safe/specs/Tokenizer.antt and Scheme.antt once more in Python, state by state,
+written by hand.
 
 equations.py ties this to the definitions: what it answers of a text, they compute to.
 """
@@ -223,7 +224,8 @@ def step(state, text):
             return [], ("rcdata less than",), rest
         return [("char", c) for c in in_value(b)], state, rest
     if s == "rcdata less than":
-        return ([], ("rcdata end tag open",), rest) if b == 47 else ([("char", 60)], ("rcdata",), text)
+        return ([], ("rcdata end tag open",), rest) if b == 47 else ([("char", 60)], ("rcdata",),
+                                                                     text)
     if s == "rcdata end tag open":
         if letter(b):
             return [], ("rcdata end tag name", (True, b"", []), b""), text
@@ -237,7 +239,8 @@ def step(state, text):
         if right and b == 62:
             return emitted(tag, False, rest)
         if letter(b):
-            return [], (s, (tag[0], tag[1] + bytes([lower(b)]), tag[2]), state[2] + bytes([b])), rest
+            return [], (s, (tag[0], tag[1] + bytes([lower(b)]), tag[2]),
+                        state[2] + bytes([b])), rest
         return [("char", 60), ("char", 47)] + [("char", c) for c in state[2]], ("rcdata",), text
     raise AssertionError(s)
 

@@ -1,9 +1,11 @@
-"""Compares construction.py with html5lib on random forests, in a div, a td, a list's item and a section.
+"""Compares construction.py with html5lib on random forests, in a div, a td, a list's
+item and a section.
 
-trees.py COUNT SEED: every second forest keeps to the content model of crates/md_safe/specs/Contents.antt without a link in a link, and has
-to be built as its own tree; the others are changed ones, in which elements may stand anywhere. Every fourth stands
-between two pieces of a template that construction.py doesn't know: html5lib has to build what it builds of the template
-alone, with the forest's own tree where the mark stands in that.
+trees.py COUNT SEED: every second forest keeps to the content model of
+crates/md_safe/specs/Contents.antt without a link in a link, and has to be built as its own tree;
+the others are changed ones, in which elements may stand anywhere. Every fourth stands between two
+pieces of a template that construction.py doesn't know: html5lib has to build what it builds of the
+template alone, with the forest's own tree where the mark stands in that.
 """
 
 import random
@@ -13,9 +15,11 @@ import construction
 import html5lib
 
 NAMESPACE = "{http://www.w3.org/1999/xhtml}"
-PHRASING = {name: "phrasing" for name in ("em", "strong", "del", "sup")} | {"code": "characters", "a": "linked"}
+PHRASING = {name: "phrasing" for name in ("em", "strong", "del", "sup")} | {"code": "characters",
+                                                                            "a": "linked"}
 LINKED = {name: "linked" for name in ("em", "strong", "del", "sup")} | {"code": "characters"}
-BLOCKS = {"blockquote": "flow", "section": "flow", "ul": "items", "ol": "items", "table": "parts", "pre": "preformatted"}
+BLOCKS = {"blockquote": "flow", "section": "flow", "ul": "items", "ol": "items", "table": "parts",
+          "pre": "preformatted"}
 HEADINGS = {f"h{rank}": "phrasing" for rank in range(1, 7)}
 MODEL = {
     "flow": PHRASING | BLOCKS | HEADINGS | {"p": "phrasing"},
@@ -28,9 +32,11 @@ MODEL = {
     "preformatted": {"code": "characters"},
     "characters": {},
 }
-VOIDS = {"flow": ["br", "hr", "img", "input"], "phrasing": ["br", "img", "input"], "linked": ["br", "img", "input"]}
+VOIDS = {"flow": ["br", "hr", "img", "input"], "phrasing": ["br", "img", "input"],
+         "linked": ["br", "img", "input"]}
 ATTRIBUTES = {
-    **{"a": ["href", "id"], "code": ["class"], "ol": ["start"], "li": ["id"], "th": ["align"], "td": ["align"]},
+    **{"a": ["href", "id"], "code": ["class"], "ol": ["start"], "li": ["id"], "th": ["align"],
+       "td": ["align"]},
     **{"img": ["src", "alt"], "input": ["type", "checked"]},
 }
 # Before a text, the elements that are open there, and the insertion mode.
@@ -47,11 +53,13 @@ PLACES = {
 AFTER = "<i id=after></i>"
 # Pieces before and after a text, which is set where flow content may be set.
 TEMPLATES = [
-    ("<!doctype html><!-- c --><title>a<b</title><script>if (1 < 2) {}</script><div class=c>", "</div><p>after <b>it"),
+    ("<!doctype html><!-- c --><title>a<b</title><script>if (1 < 2) {}</script><div class=c>",
+     "</div><p>after <b>it"),
     ("<!doctype html><body><table><caption>c</caption><tr><td>x<td>", "</td><td>y</table>z"),
     ("<ul><li>one<li>", "<li>three</ul>"),
     ("<!doctype html><section><h2>T</h2>", "<footer>f</footer></section>"),
-    ("<!doctype html><article><form action='/x'><div>", "</div><button>ok</button></form></article>"),
+    ("<!doctype html><article><form action='/x'><div>",
+     "</div><button>ok</button></form></article>"),
     ("<div><b>x</b>", "<i>y</i></div>"),
     ("<!doctype html><details><summary>s</summary>", "</details><p>z"),
     ("<!doctype html><main><style>p > a {}</style>", "<template><td>x</td></template></main>"),
@@ -65,7 +73,8 @@ MARK = "<hr id=mark>"
 def attributes(name):
     """Some of the attributes that a tag may have."""
     values = ["", "x", "checkbox", "y z"]
-    return [(key, random.choice(values)) for key in ATTRIBUTES.get(name, []) if random.random() < 0.3]
+    return [(key, random.choice(values)) for key in ATTRIBUTES.get(name, [])
+            if random.random() < 0.3]
 
 
 def forest(content, depth, wild):
@@ -91,9 +100,12 @@ def forest(content, depth, wild):
 
 
 def without_line_feeds(nodes):
-    """A forest whose texts have no line feed, since html5lib drops others too than the one after `<pre>`, and in cells none."""
+    """A forest whose texts have no line feed, since html5lib drops others too than the one after
+    `<pre>`, and in cells none.
+    """
     kept = [n.replace("\n", " ") if isinstance(n, str) else n for n in nodes]
-    return [n if isinstance(n, str) or n[0] == "void" else (*n[:3], without_line_feeds(n[3])) for n in kept]
+    return [n if isinstance(n, str) or n[0] == "void" else (*n[:3], without_line_feeds(n[3]))
+            for n in kept]
 
 
 def tokens(nodes):
@@ -127,7 +139,8 @@ def written(nodes):
 
 def own_tree(nodes):
     """The tree that a forest is read as."""
-    return [n if isinstance(n, str) else (n[1], sorted(n[2]), [] if n[0] == "void" else own_tree(n[3])) for n in nodes]
+    return [n if isinstance(n, str)
+            else (n[1], sorted(n[2]), [] if n[0] == "void" else own_tree(n[3])) for n in nodes]
 
 
 def built_tree(children):
@@ -188,7 +201,8 @@ def with_forest(tree, own):
 
 
 def differs_in_template(nodes):
-    """None if html5lib builds of a forest in a template what it builds of the two apart, or both."""
+    """None if html5lib builds of a forest in a template what it builds of the two apart, or both.
+    """
     before, after = random.choice(TEMPLATES)
     alone = with_forest(parsed_tree(html5lib.parse(before + MARK + after)), own_tree(nodes))
     whole = parsed_tree(html5lib.parse(before + written(nodes) + after))

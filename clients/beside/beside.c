@@ -1,5 +1,6 @@
 /*
- * Renders documents by cmark-gfm with its tag filter, as GitHub's pages are made before they are cleaned:
+ * Renders documents by cmark-gfm with its tag filter, as GitHub's pages are made before
+ * they are cleaned:
  *
  *     beside < DOCUMENTS > HTML
  *

@@ -2,8 +2,8 @@
 
     beside.py WAY < DOCUMENTS > HTML
 
-DOCUMENTS are frames: a count of bytes in decimal digits, a line feed, the document. The ways are those of WAYS. What
-bleach cleans may hold all elements that the renderers make.
+DOCUMENTS are frames: a count of bytes in decimal digits, a line feed, the document. The ways are
+those of WAYS. What bleach cleans may hold all elements that the renderers make.
 """
 
 import sys

@@ -3,9 +3,10 @@
 
     clients/beside/calls.py FOLDER ORIGINAL
 
-FOLDER has event scripts NAME.script. ORIGINAL is a program that answers `ORIGINAL --bench CALLS < SCRIPT` with
-`least_ns=` the least time of a call. clients/build has made the library. Prints a table in Markdown: the scripts that
-set no option one after another, as often as a row says, and of each call the least time.
+FOLDER has event scripts NAME.script. ORIGINAL is a program that answers
+`ORIGINAL --bench CALLS < SCRIPT` with `least_ns=` the least time of a call. clients/build has made
+the library. Prints a table in Markdown: the scripts that set no option one after another, as often
+as a row says, and of each call the least time.
 """
 
 import ctypes
@@ -27,7 +28,9 @@ def moved(line, start):
 
 
 def realistic(folder, times):
-    """The scripts that set no option as one script: its event lines, each moved to its place, and its document."""
+    """The scripts that set no option as one script: its event lines, each moved to its place,
+    and its document.
+    """
     lines, documents, start = [], [], 0
     for path in sorted(folder.glob("*.script")) * times:
         events, document = path.read_bytes().split(b"\n--\n", 1)
@@ -40,7 +43,8 @@ def realistic(folder, times):
 
 def event_of(line):
     """The event of a script's line."""
-    sign, name, other, index, columns = re.fullmatch(rb"([+-])(\D+)(\d*) (\d+)(?:\.(\d+))?", line).groups(default=b"0")
+    sign, name, other, index, columns = re.fullmatch(rb"([+-])(\D+)(\d*) (\d+)(?:\.(\d+))?",
+                                                     line).groups(default=b"0")
     kind = calls.Kind.ENTER if sign == b"+" else calls.Kind.EXIT
     member = re.sub(r"(?<=[a-z])(?=[A-Z])", "_", name.decode()).upper()
     return calls.Event(kind, numbers.Name[member], int(index), int(columns), int(other or 0))
@@ -56,7 +60,8 @@ def call_time(lines, document, times):
     least = None
     for _ in range(times):
         start = time.perf_counter_ns()
-        answer = LIBRARY.bivdrazo_compile(events, length, document, len(document), options, names, 5, buffer, room)
+        answer = LIBRARY.bivdrazo_compile(events, length, document, len(document), options, names,
+                                          5, buffer, room)
         spent = time.perf_counter_ns() - start
         least = spent if least is None else min(least, spent)
     if answer.status != 0:
@@ -66,7 +71,8 @@ def call_time(lines, document, times):
 
 def original_time(original, script, calls_):
     """The least time of the other compiler's call, in nanoseconds, and its text."""
-    bench = subprocess.run([original, "--bench", str(calls_)], input=script, capture_output=True, check=True)
+    bench = subprocess.run([original, "--bench", str(calls_)], input=script, capture_output=True,
+                           check=True)
     text = subprocess.run([original], input=script, capture_output=True, check=True).stdout
     return int(re.search(rb"least_ns=(\d+)", bench.stdout)[1]), text
 
@@ -78,7 +84,8 @@ def print_calls(folder, original):
     for times, calls_ in ((1, 5000), (10, 1000), (100, 150)):
         lines, document = realistic(folder, times)
         own, text = call_time(lines, document, calls_)
-        other, other_text = original_time(original, b"\n".join(lines) + b"\n--\n" + document, calls_)
+        other, other_text = original_time(original, b"\n".join(lines) + b"\n--\n" + document,
+                                          calls_)
         told = "" if text == other_text else " the texts differ"
         sizes = f"{times} | {len(lines):,} | {len(document):,}"
         print(f"| {sizes} | {own / 1000:.0f} | {other / 1000:.0f} | {own / other:.2f} |{told}")

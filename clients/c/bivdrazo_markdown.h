@@ -7,18 +7,20 @@
  *         fputs(html, stdout);          (prints <p><strong>a</strong> &lt;b&gt;</p>)
  *     bivdrazo_markdown_free(html);
  *
- * Link with libbivdrazo-markdown, which needs the C library and GCC's beside it. Its parser is pulldown-cmark, in Rust;
- * with it come tables, strikethrough, tasks, footnotes and bare links. Nothing is proved of the parser: whatever events
- * it makes, the library of bivdrazo.h judges them, and what is proved of that holds of the text.
+ * Link with libbivdrazo-markdown, which needs the C library and GCC's beside it. Its parser is
+ * pulldown-cmark, in Rust; with it come tables, strikethrough, tasks, footnotes and bare links.
+ * Nothing is proved of the parser: whatever events it makes, the library of bivdrazo.h judges them,
+ * and what is proved of that holds of the text.
  *
  * What a caller must keep to, since nothing checks it:
  *  - `text` points to `length` bytes, or `length` is 0. No length is past PTRDIFF_MAX.
- *  - Begin with bivdrazo_markdown_options_default(), or hand in NULL. A text that is set points to as many bytes as its
- *    length says.
- *  - `html` and `headings` aren't null, and what is written there is given back once, by bivdrazo_markdown_free().
+ *  - Begin with bivdrazo_markdown_options_default(), or hand in NULL. A text that is set points to
+ *    as many bytes as its length says.
+ *  - `html` and `headings` aren't null, and what is written there is given back once, by
+ *    bivdrazo_markdown_free().
  *
- * There is no state between calls: any number of threads may call at once. Where the parser finds no memory, the
- * process ends; BIVDRAZO_MEMORY tells that the library found none.
+ * There is no state between calls: any number of threads may call at once. Where the parser finds
+ * no memory, the process ends; BIVDRAZO_MEMORY tells that the library found none.
  */
 #ifndef BIVDRAZO_MARKDOWN_H
 #define BIVDRAZO_MARKDOWN_H
@@ -33,23 +35,29 @@ extern "C" {
 /*
  * The options. Whatever is chosen, the text is safe. Each text may be any UTF-8.
  *
- * The ids of headings are distinct from one another, and from all others where no other begins with heading_ids. Those of
- * footnotes are `footnote-label`, and what footnote_prefix says and `fn`; they are distinct from one another where
- * number_ids is 1.
+ * The ids of headings are distinct from one another, and from all others where no other begins with
+ * heading_ids. Those of footnotes are `footnote-label`, and what footnote_prefix says and `fn`;
+ * they are distinct from one another where number_ids is 1.
  */
 typedef struct bivdrazo_markdown_options {
     uint32_t version;                  /* BIVDRAZO_MARKDOWN_VERSION */
-    uint8_t number_ids;                /* 1: footnotes' ids have their numbers, so that no two ids are equal */
+    uint8_t number_ids;                /* 1: footnotes' ids have their numbers, so that no two
+                                          ids are equal */
     uint8_t hard_breaks;               /* 1: a soft break is a <br /> */
     uint8_t bare_links;                /* 1, the default: bare URLs and addresses are links */
-    uint8_t html;                      /* what becomes of HTML in the document: BIVDRAZO_MARKDOWN_HTML_TEXT, .. */
+    uint8_t html;                      /* what becomes of HTML in the document:
+                                          BIVDRAZO_MARKDOWN_HTML_TEXT, .. */
     bivdrazo_text footnote_prefix;     /* what footnotes' ids begin with; unset: user-content- */
     bivdrazo_text footnote_label;      /* the heading of the footnotes; unset: Footnotes */
     bivdrazo_text footnote_back_label; /* aria-label of a way back; unset: Back to content */
-    bivdrazo_text base;                /* the URL against which those of links and images are read; unset: none */
-    bivdrazo_text rel;                 /* the `rel` of each link whose URL isn't empty and doesn't begin with # */
-    bivdrazo_text heading_ids;         /* what the ids of headings begin with: their numbers follow; unset: no ids */
-    size_t max_input;                  /* how many bytes the Markdown may have; SIZE_MAX: any number */
+    bivdrazo_text base;                /* the URL against which those of links and images are
+                                          read; unset: none */
+    bivdrazo_text rel;                 /* the `rel` of each link whose URL isn't empty and
+                                          doesn't begin with # */
+    bivdrazo_text heading_ids;         /* what the ids of headings begin with: their numbers follow;
+                                          unset: no ids */
+    size_t max_input;                  /* how many bytes the Markdown may have;
+                                          SIZE_MAX: any number */
     size_t max_output;                 /* how many bytes the text may have; SIZE_MAX: any number */
 } bivdrazo_markdown_options;
 
@@ -59,34 +67,47 @@ BIVDRAZO_ASSERT(offsetof(bivdrazo_markdown_options, heading_ids) == 128, "the la
 BIVDRAZO_ASSERT(offsetof(bivdrazo_markdown_options, max_output) == 160, "the last bound");
 
 /*
- * The HTML of a Markdown document. Under BIVDRAZO_OK `*html` is the text, `length` bytes of which none is NUL, and a
- * NUL that isn't counted; else `*html` is null. Null options are the default ones.
+ * The HTML of a Markdown document. Under BIVDRAZO_OK `*html` is the text, `length` bytes of
+ * which none is NUL, and a NUL that isn't counted; else `*html` is null. Null options are
+ * the default ones.
  *
- * The statuses: BIVDRAZO_OK, BIVDRAZO_NO_OPTION (`index` is BIVDRAZO_MARKDOWN_OPTION_..), BIVDRAZO_MEMORY, and
- * BIVDRAZO_MARKDOWN_..; BIVDRAZO_REFUSED would be a fault of the parser.
+ * The statuses: BIVDRAZO_OK, BIVDRAZO_NO_OPTION (`index` is BIVDRAZO_MARKDOWN_OPTION_..),
+ * BIVDRAZO_MEMORY, and BIVDRAZO_MARKDOWN_..; BIVDRAZO_REFUSED would be a fault of the parser.
  */
-bivdrazo_answer bivdrazo_markdown(const uint8_t *text, size_t length, const bivdrazo_markdown_options *options,
-                                  char **html);
+bivdrazo_answer bivdrazo_markdown(const uint8_t *text, size_t length,
+                                  const bivdrazo_markdown_options *options, char **html);
 
 /*
- * As bivdrazo_markdown(), with the headings that got an id, for a table of contents. `*headings` has a line for each: its
- * level, a space, its number, a space, and its text, without tags and escaped, in which a space stands for each line
- * feed; each line ends with a line feed. It is to be given back as `*html` is, and null where that is null.
+ * As bivdrazo_markdown(), with the headings that got an id, for a table of contents. `*headings`
+ * has a line for each: its level, a space, its number, a space, and its text, without tags and
+ * escaped, in which a space stands for each line feed; each line ends with a line feed. It is to be
+ * given back as `*html` is, and null where that is null.
  */
-bivdrazo_answer bivdrazo_markdown_headings(const uint8_t *text, size_t length, const bivdrazo_markdown_options *options,
-                                           char **html, char **headings);
+bivdrazo_answer bivdrazo_markdown_headings(const uint8_t *text, size_t length,
+                                           const bivdrazo_markdown_options *options, char **html,
+                                           char **headings);
 
 /* Gives back a text that bivdrazo_markdown() or bivdrazo_markdown_headings() made, or null. */
 void bivdrazo_markdown_free(char *html);
 
-/* The number of the interface that the library was built with: it is to be BIVDRAZO_MARKDOWN_VERSION. */
+/* The number of the interface that the library was built with: it is to be
+   BIVDRAZO_MARKDOWN_VERSION. */
 uint32_t bivdrazo_markdown_version(void);
 
 /* The default options. */
 static inline bivdrazo_markdown_options bivdrazo_markdown_options_default(void) {
-    bivdrazo_markdown_options options = {BIVDRAZO_MARKDOWN_VERSION,   0,         0,         1,
-                                         BIVDRAZO_MARKDOWN_HTML_TEXT, {0, 0, 0}, {0, 0, 0}, {0, 0, 0},
-                                         {0, 0, 0},                   {0, 0, 0}, {0, 0, 0}, SIZE_MAX,
+    bivdrazo_markdown_options options = {BIVDRAZO_MARKDOWN_VERSION,
+                                         0,
+                                         0,
+                                         1,
+                                         BIVDRAZO_MARKDOWN_HTML_TEXT,
+                                         {0, 0, 0},
+                                         {0, 0, 0},
+                                         {0, 0, 0},
+                                         {0, 0, 0},
+                                         {0, 0, 0},
+                                         {0, 0, 0},
+                                         SIZE_MAX,
                                          SIZE_MAX};
     options.footnote_prefix = bivdrazo_text_unset();
     options.footnote_label = bivdrazo_text_unset();

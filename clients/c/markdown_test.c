@@ -21,8 +21,10 @@ static bivdrazo_text text_of(const char *text) {
 /* Whether a document has this text under these options. */
 static int renders(const char *text, const bivdrazo_markdown_options *options, const char *wanted) {
     char *html;
-    const bivdrazo_answer answer = bivdrazo_markdown((const uint8_t *)text, strlen(text), options, &html);
-    const int is_right = answer.status == BIVDRAZO_OK && answer.length == strlen(wanted) && strcmp(html, wanted) == 0;
+    const bivdrazo_answer answer =
+        bivdrazo_markdown((const uint8_t *)text, strlen(text), options, &html);
+    const int is_right = answer.status == BIVDRAZO_OK && answer.length == strlen(wanted) &&
+                         strcmp(html, wanted) == 0;
     if (!is_right)
         printf("status %u: %s\n", answer.status, html == NULL ? "null" : html);
     bivdrazo_markdown_free(html);
@@ -32,15 +34,16 @@ static int renders(const char *text, const bivdrazo_markdown_options *options, c
 /* Whether a document's text holds a part under these options. */
 static int holds(const char *text, const bivdrazo_markdown_options *options, const char *part) {
     char *html;
-    const bivdrazo_answer answer = bivdrazo_markdown((const uint8_t *)text, strlen(text), options, &html);
+    const bivdrazo_answer answer =
+        bivdrazo_markdown((const uint8_t *)text, strlen(text), options, &html);
     const int is_right = answer.status == BIVDRAZO_OK && strstr(html, part) != NULL;
     bivdrazo_markdown_free(html);
     return is_right;
 }
 
 /* Whether there is no text, for this cause. */
-static int fails(const void *text, size_t length, const bivdrazo_markdown_options *options, uint32_t status,
-                 size_t index) {
+static int fails(const void *text, size_t length, const bivdrazo_markdown_options *options,
+                 uint32_t status, size_t index) {
     char *html = (char *)&failures;
     const bivdrazo_answer answer = bivdrazo_markdown(text, length, options, &html);
     return html == NULL && answer.status == status && answer.index == index && answer.rule == 0;
@@ -50,11 +53,14 @@ static void test_texts(void) {
     const bivdrazo_markdown_options defaults = bivdrazo_markdown_options_default();
     check(bivdrazo_markdown_version() == BIVDRAZO_MARKDOWN_VERSION, "the version");
     check(renders("**a** <b>", NULL, "<p><strong>a</strong> &lt;b&gt;</p>\n"), "no options");
-    check(renders("**a** <b>", &defaults, "<p><strong>a</strong> &lt;b&gt;</p>\n"), "default options");
+    check(renders("**a** <b>", &defaults, "<p><strong>a</strong> &lt;b&gt;</p>\n"),
+          "default options");
     check(renders("[a](javascript:b)", NULL, "<p><a href=\"\">a</a></p>\n"), "a protocol");
     check(renders("", NULL, ""), "no Markdown");
     char *html;
-    check(bivdrazo_markdown(NULL, 0, NULL, &html).status == BIVDRAZO_OK && html != NULL && *html == 0, "null");
+    check(bivdrazo_markdown(NULL, 0, NULL, &html).status == BIVDRAZO_OK && html != NULL &&
+              *html == 0,
+          "null");
     bivdrazo_markdown_free(html);
     check(bivdrazo_markdown((const uint8_t *)"a\0b", 3, NULL, &html).length == 13, "NUL");
     check(html != NULL && strcmp(html, "<p>a\xEF\xBF\xBD" "b</p>\n") == 0, "NUL in a text");
@@ -83,25 +89,28 @@ static void test_attributes(void) {
     bivdrazo_markdown_options options = bivdrazo_markdown_options_default();
     options.rel = text_of("nofollow ugc");
     check(renders("[a](b) [c](#d)", &options,
-                  "<p><a href=\"b\" rel=\"nofollow ugc\">a</a> <a href=\"#d\">c</a></p>\n"), "a rel");
+                  "<p><a href=\"b\" rel=\"nofollow ugc\">a</a> <a href=\"#d\">c</a></p>\n"),
+          "a rel");
     options = bivdrazo_markdown_options_default();
     options.heading_ids = text_of("p\"");
     check(renders("# a", &options, "<h1 id=\"p&quot;1\">a</h1>\n"), "ids of headings");
     char *html;
     char *headings;
     static const char text[] = "a\nb <\n---\n\n# *c*\n";
-    bivdrazo_answer answer =
-        bivdrazo_markdown_headings((const uint8_t *)text, sizeof text - 1, &options, &html, &headings);
+    bivdrazo_answer answer = bivdrazo_markdown_headings((const uint8_t *)text, sizeof text - 1,
+                                                        &options, &html, &headings);
     check(answer.status == BIVDRAZO_OK && answer.length == strlen(html), "a text with headings");
     check(headings != NULL && strcmp(headings, "2 1 a b &lt;\n1 2 c\n") == 0, "headings");
     bivdrazo_markdown_free(html);
     bivdrazo_markdown_free(headings);
-    answer = bivdrazo_markdown_headings((const uint8_t *)text, sizeof text - 1, NULL, &html, &headings);
+    answer =
+        bivdrazo_markdown_headings((const uint8_t *)text, sizeof text - 1, NULL, &html, &headings);
     check(answer.status == BIVDRAZO_OK && headings != NULL && *headings == 0, "no headings");
     bivdrazo_markdown_free(html);
     bivdrazo_markdown_free(headings);
     answer = bivdrazo_markdown_headings((const uint8_t *)"\xFF", 1, NULL, &html, &headings);
-    check(answer.status == BIVDRAZO_MARKDOWN_NOT_UTF8 && html == NULL && headings == NULL, "no text, no headings");
+    check(answer.status == BIVDRAZO_MARKDOWN_NOT_UTF8 && html == NULL && headings == NULL,
+          "no text, no headings");
 }
 
 static void test_footnotes(void) {
@@ -124,7 +133,8 @@ static void test_bounds(void) {
     char *html;
     options.max_input = 2;
     check(fails("abc", 3, &options, BIVDRAZO_MARKDOWN_INPUT_TOO_LONG, 0), "a bound on the input");
-    check(bivdrazo_markdown((const uint8_t *)"abc", 3, &options, &html).length == 3, "the input's length");
+    check(bivdrazo_markdown((const uint8_t *)"abc", 3, &options, &html).length == 3,
+          "the input's length");
     check(renders("ab", &options, "<p>ab</p>\n"), "an input within its bound");
     options = bivdrazo_markdown_options_default();
     options.max_output = 9;
@@ -139,23 +149,31 @@ static void test_failures(void) {
     check(fails("a", 1, &options, BIVDRAZO_MARKDOWN_NO_VERSION, 0), "another version");
     options = bivdrazo_markdown_options_default();
     options.hard_breaks = 2;
-    check(fails("a", 1, &options, BIVDRAZO_NO_OPTION, BIVDRAZO_MARKDOWN_OPTION_HARD_BREAKS), "a flag");
+    check(fails("a", 1, &options, BIVDRAZO_NO_OPTION, BIVDRAZO_MARKDOWN_OPTION_HARD_BREAKS),
+          "a flag");
     options = bivdrazo_markdown_options_default();
     options.html = 3;
-    check(fails("a", 1, &options, BIVDRAZO_NO_OPTION, BIVDRAZO_MARKDOWN_OPTION_HTML), "a number for HTML");
+    check(fails("a", 1, &options, BIVDRAZO_NO_OPTION, BIVDRAZO_MARKDOWN_OPTION_HTML),
+          "a number for HTML");
     options = bivdrazo_markdown_options_default();
     options.rel = text_of("\xFF");
-    check(fails("a", 1, &options, BIVDRAZO_NO_OPTION, BIVDRAZO_MARKDOWN_OPTION_REL), "a rel that isn't UTF-8");
+    check(fails("a", 1, &options, BIVDRAZO_NO_OPTION, BIVDRAZO_MARKDOWN_OPTION_REL),
+          "a rel that isn't UTF-8");
     options = bivdrazo_markdown_options_default();
     options.base = text_of("\xFF");
-    check(fails("a", 1, &options, BIVDRAZO_NO_OPTION, BIVDRAZO_MARKDOWN_OPTION_BASE), "a text that isn't UTF-8");
-    check(strcmp(bivdrazo_markdown_status_text(BIVDRAZO_MARKDOWN_FAILED), "the parser failed") == 0, "a status");
-    check(strcmp(bivdrazo_markdown_status_text(BIVDRAZO_MEMORY), "out of memory") == 0, "a status of the library");
+    check(fails("a", 1, &options, BIVDRAZO_NO_OPTION, BIVDRAZO_MARKDOWN_OPTION_BASE),
+          "a text that isn't UTF-8");
+    check(strcmp(bivdrazo_markdown_status_text(BIVDRAZO_MARKDOWN_FAILED), "the parser failed") == 0,
+          "a status");
+    check(strcmp(bivdrazo_markdown_status_text(BIVDRAZO_MEMORY), "out of memory") == 0,
+          "a status of the library");
 }
 
 static void *work(void *unused) {
     for (int turn = 0; turn < 100; turn++)
-        check(renders("- a\n- **b**", NULL, "<ul>\n<li>a</li>\n<li><strong>b</strong></li>\n</ul>\n"), "a thread");
+        check(
+            renders("- a\n- **b**", NULL, "<ul>\n<li>a</li>\n<li><strong>b</strong></li>\n</ul>\n"),
+            "a thread");
     return unused;
 }
 

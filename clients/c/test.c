@@ -14,7 +14,8 @@
 
 static int failures = 0;
 
-/* How many more calls for memory are met before one is refused. The linker leads the library's calls here (--wrap).
+/* How many more calls for memory are met before one is refused. The linker leads the library's
+   calls here (--wrap).
  */
 static size_t calls_left = SIZE_MAX;
 
@@ -32,35 +33,39 @@ void *__wrap_realloc(void *old, size_t size) {
 /* How often the library was asked for a text: the linker leads the calls of this file here too. */
 static _Atomic size_t turns = 0;
 
-bivdrazo_answer __real_bivdrazo_compile(const bivdrazo_event *events, size_t events_length, const uint8_t *bytes,
-                                        size_t bytes_length, const bivdrazo_options *options,
-                                        const bivdrazo_reference *names, size_t names_length, uint8_t *buffer,
-                                        size_t buffer_length);
+bivdrazo_answer __real_bivdrazo_compile(const bivdrazo_event *events, size_t events_length,
+                                        const uint8_t *bytes, size_t bytes_length,
+                                        const bivdrazo_options *options,
+                                        const bivdrazo_reference *names, size_t names_length,
+                                        uint8_t *buffer, size_t buffer_length);
 bivdrazo_answer __real_bivdrazo_compile_within(const bivdrazo_event *events, size_t events_length,
                                                const uint8_t *bytes, size_t bytes_length,
-                                               const bivdrazo_options *options, const bivdrazo_reference *names,
-                                               size_t names_length, const bivdrazo_limits *limits, uint8_t *buffer,
+                                               const bivdrazo_options *options,
+                                               const bivdrazo_reference *names, size_t names_length,
+                                               const bivdrazo_limits *limits, uint8_t *buffer,
                                                size_t buffer_length);
 bivdrazo_answer __real_bivdrazo_run(const uint8_t *script, size_t script_length, uint8_t *buffer,
                                     size_t buffer_length);
 
-bivdrazo_answer __wrap_bivdrazo_compile(const bivdrazo_event *events, size_t events_length, const uint8_t *bytes,
-                                        size_t bytes_length, const bivdrazo_options *options,
-                                        const bivdrazo_reference *names, size_t names_length, uint8_t *buffer,
-                                        size_t buffer_length) {
+bivdrazo_answer __wrap_bivdrazo_compile(const bivdrazo_event *events, size_t events_length,
+                                        const uint8_t *bytes, size_t bytes_length,
+                                        const bivdrazo_options *options,
+                                        const bivdrazo_reference *names, size_t names_length,
+                                        uint8_t *buffer, size_t buffer_length) {
     turns++;
-    return __real_bivdrazo_compile(events, events_length, bytes, bytes_length, options, names, names_length, buffer,
-                                   buffer_length);
+    return __real_bivdrazo_compile(events, events_length, bytes, bytes_length, options, names,
+                                   names_length, buffer, buffer_length);
 }
 
 bivdrazo_answer __wrap_bivdrazo_compile_within(const bivdrazo_event *events, size_t events_length,
                                                const uint8_t *bytes, size_t bytes_length,
-                                               const bivdrazo_options *options, const bivdrazo_reference *names,
-                                               size_t names_length, const bivdrazo_limits *limits, uint8_t *buffer,
+                                               const bivdrazo_options *options,
+                                               const bivdrazo_reference *names, size_t names_length,
+                                               const bivdrazo_limits *limits, uint8_t *buffer,
                                                size_t buffer_length) {
     turns++;
-    return __real_bivdrazo_compile_within(events, events_length, bytes, bytes_length, options, names, names_length,
-                                          limits, buffer, buffer_length);
+    return __real_bivdrazo_compile_within(events, events_length, bytes, bytes_length, options,
+                                          names, names_length, limits, buffer, buffer_length);
 }
 
 bivdrazo_answer __wrap_bivdrazo_run(const uint8_t *script, size_t script_length, uint8_t *buffer,
@@ -96,9 +101,11 @@ static void paragraph(bivdrazo_event events[4], size_t length) {
 static int gives(const bivdrazo_event *events, size_t events_length, const char *document,
                  const bivdrazo_options *options, const char *text) {
     uint8_t *made;
-    bivdrazo_answer answer = bivdrazo_compile_alloc(events, events_length, (const uint8_t *)document,
-                                                    strlen(document), options, NULL, 0, &made);
-    const int same = answer.status == BIVDRAZO_OK && answer.length == strlen(text) && strcmp((char *)made, text) == 0;
+    bivdrazo_answer answer =
+        bivdrazo_compile_alloc(events, events_length, (const uint8_t *)document, strlen(document),
+                               options, NULL, 0, &made);
+    const int same = answer.status == BIVDRAZO_OK && answer.length == strlen(text) &&
+                     strcmp((char *)made, text) == 0;
     free(made);
     return same;
 }
@@ -120,36 +127,44 @@ static void test_buffer(void) {
     paragraph(events, 6);
     memset(buffer, 7, sizeof buffer);
     bivdrazo_answer answer = bivdrazo_compile(events, 4, bytes, 6, &options, &name, 0, buffer, 18);
-    CHECK(answer.status == BIVDRAZO_TOO_SHORT && answer.length == 19 && answer.rule == 0 && answer.index == 0);
+    CHECK(answer.status == BIVDRAZO_TOO_SHORT && answer.length == 19 && answer.rule == 0 &&
+          answer.index == 0);
     CHECK(buffer[0] == 7 && memcmp(buffer, buffer + 1, sizeof buffer - 1) == 0);
     answer = bivdrazo_compile(events, 4, bytes, 6, &options, &name, 0, buffer, 19);
-    CHECK(answer.status == BIVDRAZO_OK && answer.length == 19 && memcmp(buffer, "<p>Hi &lt;b&gt;</p>", 19) == 0);
+    CHECK(answer.status == BIVDRAZO_OK && answer.length == 19 &&
+          memcmp(buffer, "<p>Hi &lt;b&gt;</p>", 19) == 0);
     CHECK(buffer[19] == 7 && memcmp(buffer + 19, buffer + 20, sizeof buffer - 20) == 0);
 }
 
-/* Whether events are answered with a status, an index and a rule, no text, and an untouched buffer. */
+/* Whether events are answered with a status, an index and a rule, no text, and an
+   untouched buffer. */
 static int answers(const bivdrazo_event *events, size_t length, const bivdrazo_options *options,
                    const bivdrazo_reference *names, size_t names_length, bivdrazo_answer wanted) {
     uint8_t buffer[8] = {7, 7, 7, 7, 7, 7, 7, 7};
     uint8_t *text;
     const uint8_t *bytes = (const uint8_t *)"a";
-    bivdrazo_answer answer =
-        bivdrazo_compile(events, length, bytes, 1, options, names, names_length, buffer, sizeof buffer);
-    bivdrazo_answer again = bivdrazo_compile_alloc(events, length, bytes, 1, options, names, names_length, &text);
-    return memcmp(&answer, &wanted, sizeof answer) == 0 && memcmp(&again, &wanted, sizeof again) == 0 &&
-           text == NULL && memcmp(buffer, "\7\7\7\7\7\7\7\7", sizeof buffer) == 0;
+    bivdrazo_answer answer = bivdrazo_compile(events, length, bytes, 1, options, names,
+                                              names_length, buffer, sizeof buffer);
+    bivdrazo_answer again =
+        bivdrazo_compile_alloc(events, length, bytes, 1, options, names, names_length, &text);
+    return memcmp(&answer, &wanted, sizeof answer) == 0 &&
+           memcmp(&again, &wanted, sizeof again) == 0 && text == NULL &&
+           memcmp(buffer, "\7\7\7\7\7\7\7\7", sizeof buffer) == 0;
 }
 
 static void test_refusals(void) {
     const bivdrazo_reference none = {(const uint8_t *)"", 0, (const uint8_t *)"", 0};
-    const bivdrazo_reference names[2] = {none, {(const uint8_t *)"x", 1, (const uint8_t *)"\xff", 1}};
+    const bivdrazo_reference names[2] = {none,
+                                         {(const uint8_t *)"x", 1, (const uint8_t *)"\xff", 1}};
     const bivdrazo_options options = bivdrazo_options_default();
     bivdrazo_event events[4];
     paragraph(events, 1);
-    CHECK(answers(events, 3, &options, &none, 0, (bivdrazo_answer){BIVDRAZO_REFUSED, BIVDRAZO_RULE_ORDER, 3, 0}));
+    CHECK(answers(events, 3, &options, &none, 0,
+                  (bivdrazo_answer){BIVDRAZO_REFUSED, BIVDRAZO_RULE_ORDER, 3, 0}));
     CHECK(answers(events, 4, &options, names, 2, (bivdrazo_answer){BIVDRAZO_NO_NAME, 0, 1, 0}));
     events[2].index = 2;
-    CHECK(answers(events, 4, &options, &none, 0, (bivdrazo_answer){BIVDRAZO_REFUSED, BIVDRAZO_RULE_PLACE, 2, 0}));
+    CHECK(answers(events, 4, &options, &none, 0,
+                  (bivdrazo_answer){BIVDRAZO_REFUSED, BIVDRAZO_RULE_PLACE, 2, 0}));
     events[3].kind = 3;
     CHECK(answers(events, 4, &options, &none, 0, (bivdrazo_answer){BIVDRAZO_NO_EVENT, 0, 3, 0}));
     events[1].name = 87;
@@ -158,7 +173,8 @@ static void test_refusals(void) {
     CHECK(answers(events, 4, &options, &none, 0, (bivdrazo_answer){BIVDRAZO_NO_EVENT, 0, 0, 0}));
 }
 
-/* Each field of the default options: seven numbers, of which a line ending is BIVDRAZO_LINE_FEED, and five texts. */
+/* Each field of the default options: seven numbers, of which a line ending is BIVDRAZO_LINE_FEED,
+   and five texts. */
 static void test_defaults(void) {
     const bivdrazo_options options = bivdrazo_options_default();
     unsigned char numbers[7];
@@ -195,12 +211,13 @@ static void test_status_texts(void) {
 }
 
 /*
- * The events of a link or an image with a resource: its label is the byte after `open`, and its destination reaches
- * from the third byte after that to the last byte but one.
+ * The events of a link or an image with a resource: its label is the byte after `open`, and its
+ * destination reaches from the third byte after that to the last byte but one.
  */
 static void test_rule_and_name_texts(void) {
     CHECK(strcmp(bivdrazo_rule_text(BIVDRAZO_RULE_MDX), "a name of MDX") == 0);
-    CHECK(strcmp(bivdrazo_rule_text(BIVDRAZO_RULE_TARGET), "a link or an image leads nowhere") == 0);
+    CHECK(strcmp(bivdrazo_rule_text(BIVDRAZO_RULE_TARGET), "a link or an image leads nowhere") ==
+          0);
     for (uint32_t rule = BIVDRAZO_RULE_ORDER; rule <= BIVDRAZO_RULE_TARGET; rule++)
         CHECK(strcmp(bivdrazo_rule_text(rule), "an unknown rule") != 0);
     CHECK(strcmp(bivdrazo_rule_text(0), "an unknown rule") == 0);
@@ -216,11 +233,13 @@ static void test_references(void) {
             {.index = 0, .name = BIVDRAZO_NAME_CHARACTER_REFERENCE_MARKER, .kind = BIVDRAZO_ENTER},
             {.index = 0, .name = BIVDRAZO_NAME_CHARACTER_REFERENCE_MARKER, .kind = BIVDRAZO_EXIT},
             {.index = 0, .name = BIVDRAZO_NAME_CHARACTER_REFERENCE_VALUE, .kind = BIVDRAZO_ENTER},
-            {.index = reference->name_length, .name = BIVDRAZO_NAME_CHARACTER_REFERENCE_VALUE, .kind = BIVDRAZO_EXIT}};
+            {.index = reference->name_length,
+             .name = BIVDRAZO_NAME_CHARACTER_REFERENCE_VALUE,
+             .kind = BIVDRAZO_EXIT}};
         uint8_t *text;
         const bivdrazo_answer answer =
-            bivdrazo_compile_alloc(events, 4, reference->name, reference->name_length, NULL, BIVDRAZO_REFERENCES,
-                                   BIVDRAZO_REFERENCES_LENGTH, &text);
+            bivdrazo_compile_alloc(events, 4, reference->name, reference->name_length, NULL,
+                                   BIVDRAZO_REFERENCES, BIVDRAZO_REFERENCES_LENGTH, &text);
         const int is_escaped = strchr("&<>\"", reference->text[0]) != NULL;
         CHECK(answer.status == BIVDRAZO_OK);
         CHECK(is_escaped || (answer.length == reference->text_length &&
@@ -247,8 +266,9 @@ static void medium(bivdrazo_event events[14], uint16_t name, size_t open, size_t
 }
 
 /* Null options and the default ones give that text, and others another one. */
-static void gives_by_default(const bivdrazo_event *events, size_t length, const char *document, const char *text,
-                             const bivdrazo_options *others, const char *other_text) {
+static void gives_by_default(const bivdrazo_event *events, size_t length, const char *document,
+                             const char *text, const bivdrazo_options *others,
+                             const char *other_text) {
     const bivdrazo_options options = bivdrazo_options_default();
     CHECK(gives(events, length, document, NULL, text));
     CHECK(gives(events, length, document, &options, text));
@@ -261,9 +281,10 @@ static void test_null_options(void) {
                                       event(BIVDRAZO_EXIT, BIVDRAZO_NAME_THEMATIC_BREAK, 3),
                                       event(BIVDRAZO_ENTER, BIVDRAZO_NAME_THEMATIC_BREAK, 3),
                                       event(BIVDRAZO_EXIT, BIVDRAZO_NAME_THEMATIC_BREAK, 6)};
-    const bivdrazo_event html[4] = {
-        event(BIVDRAZO_ENTER, BIVDRAZO_NAME_HTML_FLOW, 0), event(BIVDRAZO_ENTER, BIVDRAZO_NAME_HTML_FLOW_DATA, 0),
-        event(BIVDRAZO_EXIT, BIVDRAZO_NAME_HTML_FLOW_DATA, 5), event(BIVDRAZO_EXIT, BIVDRAZO_NAME_HTML_FLOW, 5)};
+    const bivdrazo_event html[4] = {event(BIVDRAZO_ENTER, BIVDRAZO_NAME_HTML_FLOW, 0),
+                                    event(BIVDRAZO_ENTER, BIVDRAZO_NAME_HTML_FLOW_DATA, 0),
+                                    event(BIVDRAZO_EXIT, BIVDRAZO_NAME_HTML_FLOW_DATA, 5),
+                                    event(BIVDRAZO_EXIT, BIVDRAZO_NAME_HTML_FLOW, 5)};
     bivdrazo_event events[14];
     bivdrazo_options options = bivdrazo_options_default();
     options.allow_dangerous_protocol = 1;
@@ -291,9 +312,10 @@ static void test_null_options(void) {
 
 static void test_options(void) {
     const bivdrazo_reference none = {(const uint8_t *)"", 0, (const uint8_t *)"", 0};
-    const bivdrazo_event html[4] = {
-        event(BIVDRAZO_ENTER, BIVDRAZO_NAME_HTML_FLOW, 0), event(BIVDRAZO_ENTER, BIVDRAZO_NAME_HTML_FLOW_DATA, 0),
-        event(BIVDRAZO_EXIT, BIVDRAZO_NAME_HTML_FLOW_DATA, 3), event(BIVDRAZO_EXIT, BIVDRAZO_NAME_HTML_FLOW, 3)};
+    const bivdrazo_event html[4] = {event(BIVDRAZO_ENTER, BIVDRAZO_NAME_HTML_FLOW, 0),
+                                    event(BIVDRAZO_ENTER, BIVDRAZO_NAME_HTML_FLOW_DATA, 0),
+                                    event(BIVDRAZO_EXIT, BIVDRAZO_NAME_HTML_FLOW_DATA, 3),
+                                    event(BIVDRAZO_EXIT, BIVDRAZO_NAME_HTML_FLOW, 3)};
     bivdrazo_options options = bivdrazo_options_default();
     CHECK(gives(html, 4, "<i>", &options, "&lt;i&gt;"));
     options.allow_dangerous_html = 1;
@@ -326,19 +348,20 @@ static void heading(bivdrazo_event events[8], size_t length) {
 
 /* Whether events have that text with those attributes, and one heading of that text or none. */
 static int has_attributes(const bivdrazo_event *events, size_t events_length, const char *document,
-                          const bivdrazo_attributes *attributes, const char *text, const char *wanted) {
+                          const bivdrazo_attributes *attributes, const char *text,
+                          const char *wanted) {
     uint8_t *made;
     bivdrazo_heading found = {0, "", 0, 0};
     const bivdrazo_answer answer =
-        bivdrazo_compile_attributed_alloc(events, events_length, (const uint8_t *)document, strlen(document), NULL,
-                                          NULL, 0, attributes, &made);
+        bivdrazo_compile_attributed_alloc(events, events_length, (const uint8_t *)document,
+                                          strlen(document), NULL, NULL, 0, attributes, &made);
     if (answer.status != BIVDRAZO_OK)
         return 0;
     const uint8_t *at = made + answer.index;
     int is_right = answer.index == strlen(text) && strcmp((char *)made, text) == 0;
     if (wanted != NULL)
-        is_right = is_right && bivdrazo_next_heading(&at, made + answer.length, &found) && found.level == 1 &&
-                   found.number == 1 && found.text_length == strlen(wanted) &&
+        is_right = is_right && bivdrazo_next_heading(&at, made + answer.length, &found) &&
+                   found.level == 1 && found.number == 1 && found.text_length == strlen(wanted) &&
                    memcmp(found.text, wanted, found.text_length) == 0;
     is_right = is_right && !bivdrazo_next_heading(&at, made + answer.length, &found);
     free(made);
@@ -355,11 +378,13 @@ static void test_attributes(void) {
     CHECK(has_attributes(link, 14, "[a](b)", NULL, "<a href=\"b\">a</a>", NULL));
     CHECK(has_attributes(title, 8, "# a<b", &attributes, "<h1>a&lt;b</h1>", NULL));
     attributes.rel = bivdrazo_text_of((const uint8_t *)"ugc\"", 4);
-    CHECK(has_attributes(link, 14, "[a](b)", &attributes, "<a href=\"b\" rel=\"ugc&quot;\">a</a>", NULL));
+    CHECK(has_attributes(link, 14, "[a](b)", &attributes, "<a href=\"b\" rel=\"ugc&quot;\">a</a>",
+                         NULL));
     CHECK(has_attributes(link, 14, "[a](#)", &attributes, "<a href=\"#\">a</a>", NULL));
     attributes.heading_ids = bivdrazo_text_of((const uint8_t *)"", 0);
     CHECK(has_attributes(title, 8, "# a<b", &attributes, "<h1 id=\"1\">a&lt;b</h1>", "a&lt;b"));
-    CHECK(has_attributes(link, 14, "[a](b)", &attributes, "<a href=\"b\" rel=\"ugc&quot;\">a</a>", NULL));
+    CHECK(has_attributes(link, 14, "[a](b)", &attributes, "<a href=\"b\" rel=\"ugc&quot;\">a</a>",
+                         NULL));
 }
 
 /* What is answered where there is no text with attributes; a buffer that is too short. */
@@ -372,31 +397,39 @@ static void test_attributes_refused(void) {
     bivdrazo_attributes attributes = bivdrazo_attributes_none();
     heading(events, 3);
     attributes.heading_ids = bivdrazo_text_of((const uint8_t *)"b", 1);
-    bivdrazo_answer answer =
-        bivdrazo_compile_attributed(events, 8, document, 3, &options, &none, 0, &attributes, buffer, 22);
-    CHECK(answer.status == BIVDRAZO_TOO_SHORT && answer.index == 18 && answer.length == 24 && buffer[0] == 7);
-    answer = bivdrazo_compile_attributed(events, 8, document, 3, &options, &none, 0, &attributes, buffer, 24);
+    bivdrazo_answer answer = bivdrazo_compile_attributed(events, 8, document, 3, &options, &none, 0,
+                                                         &attributes, buffer, 22);
+    CHECK(answer.status == BIVDRAZO_TOO_SHORT && answer.index == 18 && answer.length == 24 &&
+          buffer[0] == 7);
+    answer = bivdrazo_compile_attributed(events, 8, document, 3, &options, &none, 0, &attributes,
+                                         buffer, 24);
     CHECK(answer.status == BIVDRAZO_OK && answer.index == 18 && answer.length == 24);
     CHECK(memcmp(buffer, "<h1 id=\"b1\">a</h1>\0001 1 a", 24) == 0 && buffer[24] == 0);
     options.allow_dangerous_protocol = 1;
-    answer = bivdrazo_compile_attributed(events, 8, document, 3, &options, &none, 0, &attributes, buffer, 32);
-    CHECK(answer.status == BIVDRAZO_UNSAFE && answer.index == 0 && answer.length == 0 && answer.rule == 0);
+    answer = bivdrazo_compile_attributed(events, 8, document, 3, &options, &none, 0, &attributes,
+                                         buffer, 32);
+    CHECK(answer.status == BIVDRAZO_UNSAFE && answer.index == 0 && answer.length == 0 &&
+          answer.rule == 0);
     options.allow_dangerous_protocol = 0;
     attributes.heading_ids = bivdrazo_text_of((const uint8_t *)"\xff", 1);
-    answer = bivdrazo_compile_attributed(events, 8, document, 3, &options, &none, 0, &attributes, buffer, 32);
+    answer = bivdrazo_compile_attributed(events, 8, document, 3, &options, &none, 0, &attributes,
+                                         buffer, 32);
     CHECK(answer.status == BIVDRAZO_NO_ATTRIBUTE && answer.index == BIVDRAZO_ATTRIBUTE_HEADING_IDS);
     attributes.rel.is_set = 2;
     attributes.heading_ids = bivdrazo_text_unset();
-    answer = bivdrazo_compile_attributed(events, 8, document, 3, &options, &none, 0, &attributes, buffer, 32);
+    answer = bivdrazo_compile_attributed(events, 8, document, 3, &options, &none, 0, &attributes,
+                                         buffer, 32);
     CHECK(answer.status == BIVDRAZO_NO_ATTRIBUTE && answer.index == BIVDRAZO_ATTRIBUTE_REL);
     attributes.rel = bivdrazo_text_unset();
-    answer = bivdrazo_compile_attributed(events, 7, document, 3, &options, &none, 0, &attributes, buffer, 32);
-    CHECK(answer.status == BIVDRAZO_REFUSED && answer.index == 7 && answer.rule == BIVDRAZO_RULE_ORDER);
+    answer = bivdrazo_compile_attributed(events, 7, document, 3, &options, &none, 0, &attributes,
+                                         buffer, 32);
+    CHECK(answer.status == BIVDRAZO_REFUSED && answer.index == 7 &&
+          answer.rule == BIVDRAZO_RULE_ORDER);
 }
 
 /*
- * Whether a paragraph of `Hi <b>` within limits is answered so, in a buffer of so many bytes, and in
- * memory of its own in so many turns.
+ * Whether a paragraph of `Hi <b>` within limits is answered so, in a buffer of so many bytes, and
+ * in memory of its own in so many turns.
  */
 static int answers_within(size_t text_limit, size_t work_limit, size_t room, bivdrazo_answer wanted,
                           size_t wanted_turns) {
@@ -448,18 +481,24 @@ static void test_limits_refused(void) {
     bivdrazo_event events[4];
     uint8_t *text;
     paragraph(events, 6);
-    bivdrazo_answer answer = bivdrazo_compile_within_alloc(NULL, 0, NULL, 0, NULL, NULL, 0, &least, &text);
+    bivdrazo_answer answer =
+        bivdrazo_compile_within_alloc(NULL, 0, NULL, 0, NULL, NULL, 0, &least, &text);
     CHECK(answer.status == BIVDRAZO_OK && answer.length == 0 && text != NULL && text[0] == 0);
     free(text);
-    answer = bivdrazo_compile_within_alloc(events, 4, (const uint8_t *)"Hi <b>", 6, NULL, NULL, 0, NULL, &text);
+    answer = bivdrazo_compile_within_alloc(events, 4, (const uint8_t *)"Hi <b>", 6, NULL, NULL, 0,
+                                           NULL, &text);
     CHECK(answer.status == BIVDRAZO_OK && answer.length == 19);
     free(text);
-    answer = bivdrazo_compile_within_alloc(events, 3, (const uint8_t *)"Hi <b>", 6, NULL, NULL, 0, NULL, &text);
-    CHECK(answer.status == BIVDRAZO_REFUSED && answer.index == 3 && answer.rule == BIVDRAZO_RULE_ORDER && !text);
-    answer = bivdrazo_compile_within_alloc(events, 3, (const uint8_t *)"Hi <b>", 6, NULL, NULL, 0, &few, &text);
+    answer = bivdrazo_compile_within_alloc(events, 3, (const uint8_t *)"Hi <b>", 6, NULL, NULL, 0,
+                                           NULL, &text);
+    CHECK(answer.status == BIVDRAZO_REFUSED && answer.index == 3 &&
+          answer.rule == BIVDRAZO_RULE_ORDER && !text);
+    answer = bivdrazo_compile_within_alloc(events, 3, (const uint8_t *)"Hi <b>", 6, NULL, NULL, 0,
+                                           &few, &text);
     CHECK(answer.status == BIVDRAZO_TOO_MUCH && answer.index == 0 && answer.rule == 0 && !text);
     events[3].kind = 3;
-    answer = bivdrazo_compile_within_alloc(events, 4, (const uint8_t *)"Hi <b>", 6, NULL, NULL, 0, &few, &text);
+    answer = bivdrazo_compile_within_alloc(events, 4, (const uint8_t *)"Hi <b>", 6, NULL, NULL, 0,
+                                           &few, &text);
     CHECK(answer.status == BIVDRAZO_NO_EVENT && answer.index == 3 && !text);
 }
 
@@ -488,7 +527,8 @@ static void test_work(void) {
     wrap(events, &length, length, BIVDRAZO_NAME_GFM_TABLE_ROW);
     wrap(events, &length, body, BIVDRAZO_NAME_GFM_TABLE_BODY);
     wrap(events, &length, 0, BIVDRAZO_NAME_GFM_TABLE);
-    bivdrazo_answer answer = bivdrazo_compile_within_alloc(events, length, NULL, 0, NULL, NULL, 0, &limits, &text);
+    bivdrazo_answer answer =
+        bivdrazo_compile_within_alloc(events, length, NULL, 0, NULL, NULL, 0, &limits, &text);
     CHECK(answer.status == BIVDRAZO_OK);
     free(text);
     limits.work = 5;
@@ -499,8 +539,11 @@ static void test_work(void) {
 static void test_lengths(void) {
     uint8_t *text;
     const uint8_t *bytes = (const uint8_t *)"";
-    CHECK(bivdrazo_compile_alloc(NULL, 0, bytes, SIZE_MAX, NULL, NULL, 0, &text).status == BIVDRAZO_MEMORY && !text);
-    CHECK(bivdrazo_compile_alloc(NULL, 0, bytes, PTRDIFF_MAX, NULL, NULL, 0, &text).status == BIVDRAZO_MEMORY &&
+    CHECK(bivdrazo_compile_alloc(NULL, 0, bytes, SIZE_MAX, NULL, NULL, 0, &text).status ==
+              BIVDRAZO_MEMORY &&
+          !text);
+    CHECK(bivdrazo_compile_alloc(NULL, 0, bytes, PTRDIFF_MAX, NULL, NULL, 0, &text).status ==
+              BIVDRAZO_MEMORY &&
           !text);
     CHECK(bivdrazo_run_alloc(bytes, SIZE_MAX, &text).status == BIVDRAZO_MEMORY && !text);
 }
@@ -514,8 +557,8 @@ static void test_scripts(void) {
     answer = bivdrazo_run_alloc(NULL, 0, &text);
     CHECK(answer.status == BIVDRAZO_NO_LINE && answer.index == 1 && text == NULL);
     answer = bivdrazo_run_alloc((const uint8_t *)"+Paragraph 0\n--", 15, &text);
-    CHECK(answer.status == BIVDRAZO_REFUSED && answer.index == 1 && answer.rule == BIVDRAZO_RULE_ORDER &&
-          text == NULL);
+    CHECK(answer.status == BIVDRAZO_REFUSED && answer.index == 1 &&
+          answer.rule == BIVDRAZO_RULE_ORDER && text == NULL);
 }
 
 /* A text that fits into the first size is made in one turn. */
@@ -524,10 +567,12 @@ static void test_first_turn(void) {
     const char letters[] = "abcdefghijklmnopqrstuvwxyzabcdefghijklmnopqrstuvwxyzabcdefghijkl";
     const char script[] = "+ThematicBreak 0\n-ThematicBreak 3\n--\n***";
     uint8_t *text;
-    CHECK(bivdrazo_first_size(0, 0) == 64 && bivdrazo_first_size(0, 100) == 264 && bivdrazo_first_size(10, 0) == 144);
+    CHECK(bivdrazo_first_size(0, 0) == 64 && bivdrazo_first_size(0, 100) == 264 &&
+          bivdrazo_first_size(10, 0) == 144);
     paragraph(events, 64);
     turns = 0;
-    bivdrazo_answer answer = bivdrazo_compile_alloc(events, 4, (const uint8_t *)letters, 64, NULL, NULL, 0, &text);
+    bivdrazo_answer answer =
+        bivdrazo_compile_alloc(events, 4, (const uint8_t *)letters, 64, NULL, NULL, 0, &text);
     CHECK(answer.status == BIVDRAZO_OK && answer.length == 71 && turns == 1);
     free(text);
     turns = 0;
@@ -539,19 +584,23 @@ static void test_first_turn(void) {
 /* A text that needs more than the first size. */
 static void test_second_turn(void) {
     bivdrazo_event events[4];
-    const char quotes[] = "\"\"\"\"\"\"\"\"\"\"\"\"\"\"\"\"\"\"\"\"\"\"\"\"\"\"\"\"\"\"\"\"\"\"\"\"\"\"\"\"";
+    const char quotes[] =
+        "\"\"\"\"\"\"\"\"\"\"\"\"\"\"\"\"\"\"\"\"\"\"\"\"\"\"\"\"\"\"\"\"\"\"\"\"\"\"\"\"";
     uint8_t *text;
     paragraph(events, 40);
     turns = 0;
-    bivdrazo_answer answer = bivdrazo_compile_alloc(events, 4, (const uint8_t *)quotes, 40, NULL, NULL, 0, &text);
-    CHECK(answer.status == BIVDRAZO_OK && answer.length == 247 && answer.length > bivdrazo_first_size(4, 40));
+    bivdrazo_answer answer =
+        bivdrazo_compile_alloc(events, 4, (const uint8_t *)quotes, 40, NULL, NULL, 0, &text);
+    CHECK(answer.status == BIVDRAZO_OK && answer.length == 247 &&
+          answer.length > bivdrazo_first_size(4, 40));
     CHECK(turns == 2);
     CHECK(text != NULL && strncmp((char *)text, "<p>&quot;", 9) == 0 &&
           strcmp((char *)text + 237, "&quot;</p>") == 0);
     free(text);
 }
 
-/* Each call for memory is refused in turn: the answer says so, and the buffer is untouched; at last there is a text.
+/* Each call for memory is refused in turn: the answer says so, and the buffer is untouched; at last
+   there is a text.
  */
 static void test_memory(void) {
     static const char script[] =
@@ -567,7 +616,8 @@ static void test_memory(void) {
         calls_left = refused++;
         answer = bivdrazo_run((const uint8_t *)script, sizeof script - 1, buffer, sizeof buffer);
         calls_left = SIZE_MAX;
-        CHECK(answer.status == BIVDRAZO_OK || (answer.status == BIVDRAZO_MEMORY && buffer[0] == 7 && buffer[1] == 0));
+        CHECK(answer.status == BIVDRAZO_OK ||
+              (answer.status == BIVDRAZO_MEMORY && buffer[0] == 7 && buffer[1] == 0));
     }
     CHECK(answer.status == BIVDRAZO_OK && answer.index == 0 && refused > 10);
 }
@@ -599,7 +649,8 @@ static void test_memory_of_limits(void) {
     paragraph(events, 1);
     while (answer.status == BIVDRAZO_MEMORY && refused < 10000) {
         calls_left = refused++;
-        answer = bivdrazo_compile_within_alloc(events, 4, (const uint8_t *)"a", 1, NULL, NULL, 0, &limits, &text);
+        answer = bivdrazo_compile_within_alloc(events, 4, (const uint8_t *)"a", 1, NULL, NULL, 0,
+                                               &limits, &text);
         calls_left = SIZE_MAX;
         CHECK((text == NULL) == (answer.status != BIVDRAZO_OK));
     }
@@ -618,10 +669,11 @@ static void test_memory_of_attributes(void) {
     for (size_t refused = 0; refused < 100; refused++) {
         uint8_t *text = NULL;
         calls_left = refused;
-        const bivdrazo_answer answer = bivdrazo_compile_attributed_alloc(events, 8, (const uint8_t *)"# a", 3, NULL, NULL,
-                                                                         0, &attributes, &text);
+        const bivdrazo_answer answer = bivdrazo_compile_attributed_alloc(
+            events, 8, (const uint8_t *)"# a", 3, NULL, NULL, 0, &attributes, &text);
         calls_left = SIZE_MAX;
-        CHECK(answer.status == BIVDRAZO_OK ? strcmp((char *)text, "<h1 id=\"b1\">a</h1>") == 0 : text == NULL);
+        CHECK(answer.status == BIVDRAZO_OK ? strcmp((char *)text, "<h1 id=\"b1\">a</h1>") == 0
+                                           : text == NULL);
         CHECK(answer.status == BIVDRAZO_OK || answer.status == BIVDRAZO_MEMORY);
         told += answer.status == BIVDRAZO_MEMORY;
         free(text);

@@ -3,7 +3,8 @@
 import html5lib
 
 XHTML = "{http://www.w3.org/1999/xhtml}"
-HARMFUL = {"script", "iframe", "object", "embed", "style", "form", "svg", "math", "base", "meta", "link", "template"}
+HARMFUL = {"script", "iframe", "object", "embed", "style", "form", "svg", "math", "base", "meta",
+           "link", "template"}
 SCHEMES = ("javascript:", "vbscript:", "data:")
 LINKS = ("href", "src", "action", "formaction", "data")
 
@@ -70,7 +71,9 @@ MORE = (
 
 
 def is_unsafe(text):
-    """Whether a text holds what runs scripts, loads or hides, or isn't what stands where it was put."""
+    """Whether a text holds what runs scripts, loads or hides, or isn't what stands
+    where it was put.
+    """
     page = html5lib.parse(f'<!doctype html><body><div id="around">{text}</div><p id="after">a</p>')
     body = page.find(f"{XHTML}body")
     outside = [(child.tag, child.get("id")) for child in body]

@@ -2,8 +2,9 @@
 
     attacks_test.py OUT
 
-OUT is the folder where clients/build put what it made, with bivdrazo-checks in target/release and markdown_file. All
-ways with pulldown-cmark's parser must make the same text, and no text may hold what isn't permitted. Wants html5lib.
+OUT is the folder where clients/build put what it made, with bivdrazo-checks in target/release and
+markdown_file. All ways with pulldown-cmark's parser must make the same text, and no text may hold
+what isn't permitted. Wants html5lib.
 """
 
 import pathlib
@@ -19,7 +20,8 @@ from reading import faults
 def rendered(command, path):
     """What a command makes of a document."""
     with open(path, "rb") as document:
-        done = subprocess.run(command, stdin=document, capture_output=True, env=environment(), check=True)
+        done = subprocess.run(command, stdin=document, capture_output=True, env=environment(),
+                              check=True)
     return done.stdout
 
 
@@ -37,7 +39,8 @@ def main():
             path.write_bytes(attack.encode("utf-8"))
             texts = {name: rendered(command, path) for name, command in (own | others).items()}
             told = [f"{name}: {fault}" for name, text in texts.items() for fault in faults(text)]
-            told += [f"{name}: unsafe" for name, text in texts.items() if is_unsafe(text.decode("utf-8"))]
+            told += [f"{name}: unsafe" for name, text in texts.items()
+                     if is_unsafe(text.decode("utf-8"))]
             if len({texts[name] for name in own}) != 1:
                 told.append("the texts differ")
             for fault in told:

@@ -2,11 +2,12 @@
 
     attributes_test.py
 
-Goes over the examples of the GFM specification, where they are there, documents of our own, attacks and mutated
-documents. Beside a text without attributes the one with them must have the same elements and texts, and exactly these
-attributes more; its ids must be distinct, and the headings those that are handed out. Where the bytes of the id of the
-footnotes' heading are taken out of the text, that id is gone, and nothing else. Then a hundred thousand links,
-and as many headings. Wants html5lib, and the module for Python with libbivdrazo-markdown.
+Goes over the examples of the GFM specification, where they are there, documents of our own, attacks
+and mutated documents. Beside a text without attributes the one with them must have the same
+elements and texts, and exactly these attributes more; its ids must be distinct, and the headings
+those that are handed out. Where the bytes of the id of the footnotes' heading are taken out of the
+text, that id is gone, and nothing else. Then a hundred thousand links, and as many headings. Wants
+html5lib, and the module for Python with libbivdrazo-markdown.
 """
 
 import html
@@ -47,7 +48,9 @@ def read(text):
 
 
 def fault_of(before, after, rel, number):
-    """What is wrong with an element that may have got an attribute; `number` is that of the next heading."""
+    """What is wrong with an element that may have got an attribute; `number` is that of
+    the next heading.
+    """
     wanted = dict(before.attrib)
     href = wanted.get("href", "")
     if before.tag == "a" and href and not href.startswith("#"):
@@ -55,7 +58,8 @@ def fault_of(before, after, rel, number):
     if before.tag in HEADINGS and "id" not in wanted:
         wanted["id"] = f"part-{number}"
     same = (before.tag, before.text, before.tail) == (after.tag, after.text, after.tail)
-    return None if same and wanted == dict(after.attrib) else f"{after.tag}: {dict(after.attrib)}, not {wanted}"
+    return (None if same and wanted == dict(after.attrib)
+            else f"{after.tag}: {dict(after.attrib)}, not {wanted}")
 
 
 def told(heading):
@@ -93,7 +97,8 @@ def is_without_label(made, without):
     for element in made:
         if element.attrib.get("id") == "footnote-label":
             del element.attrib["id"]
-    shown = [[(it.tag, it.text, it.tail, dict(it.attrib)) for it in each] for each in (made, without)]
+    shown = [[(it.tag, it.text, it.tail, dict(it.attrib)) for it in each]
+             for each in (made, without)]
     return shown[0] == shown[1]
 
 
@@ -122,7 +127,8 @@ def many_faults():
 def main():
     """Tries all documents; the status to end with."""
     given = documents()
-    found = [(text, fault) for at, text in enumerate(given) for fault in faults(text, RELS[at % len(RELS)])]
+    found = [(text, fault) for at, text in enumerate(given)
+             for fault in faults(text, RELS[at % len(RELS)])]
     found += [("many", fault) for fault in many_faults()]
     for text, fault in found[:20]:
         print(f"{text!r}: {fault}")

@@ -1,12 +1,15 @@
 /*
- * Renders many documents in one process, and feeds the library with event lists that no parser makes.
+ * Renders many documents in one process, and feeds the library with event lists that
+ * no parser makes.
  *
- * Reads frames from standard input, each a line with a length in decimal and then so many bytes of Markdown. Answers
- * each by a frame `STATUS LENGTH`, a newline, and the text, with bivdrazo-render-cmark's own functions.
+ * Reads frames from standard input, each a line with a length in decimal and then so many bytes of
+ * Markdown. Answers each by a frame `STATUS LENGTH`, a newline, and the text, with
+ * bivdrazo-render-cmark's own functions.
  *
  *     batch              the documents alone
  *     batch SEED TIMES   then, for each document, so many lists that come of its events by random changes, under
- * random options that are safe: a frame for each. Ends with status 1 where an answer isn't what bivdrazo.h says.
+ * random options that are safe: a frame for each. Ends with status 1 where an answer isn't what
+ * bivdrazo.h says.
  */
 #include "markdown.h"
 
@@ -75,8 +78,9 @@ static struct document parse(const uint8_t *markdown, size_t length) {
 
 static void write_document(const struct document *document) {
     uint8_t *text;
-    const bivdrazo_answer answer = bivdrazo_compile_alloc(document->events, document->events_length, document->bytes,
-                                                          document->bytes_length, NULL, NULL, 0, &text);
+    const bivdrazo_answer answer =
+        bivdrazo_compile_alloc(document->events, document->events_length, document->bytes,
+                               document->bytes_length, NULL, NULL, 0, &text);
     write_frame(&answer, text);
     free(text);
 }
@@ -86,7 +90,8 @@ static bivdrazo_text random_text(const struct document *document, uint64_t *stat
     const size_t start = next_under(state, document->bytes_length);
     bivdrazo_text text = bivdrazo_text_unset();
     if (next_under(state, 4) == 0)
-        text = bivdrazo_text_of(document->bytes + start, next_under(state, document->bytes_length - start));
+        text = bivdrazo_text_of(document->bytes + start,
+                                next_under(state, document->bytes_length - start));
     return text;
 }
 
@@ -106,7 +111,8 @@ static bivdrazo_options random_options(const struct document *document, uint64_t
 }
 
 /* One random change of a list of events, of at least one. */
-static void change_event(bivdrazo_event *events, size_t length, size_t bytes_length, uint64_t *state) {
+static void change_event(bivdrazo_event *events, size_t length, size_t bytes_length,
+                         uint64_t *state) {
     bivdrazo_event *event = &events[next_under(state, length)];
     const bivdrazo_event *other = &events[next_under(state, length)];
     switch (next_under(state, 8)) {
@@ -134,7 +140,8 @@ static void change_event(bivdrazo_event *events, size_t length, size_t bytes_len
 }
 
 /* Changes the places of events alone, so that the list often is still one of the grammar. */
-static void move_events(bivdrazo_event *events, size_t length, size_t bytes_length, uint64_t *state) {
+static void move_events(bivdrazo_event *events, size_t length, size_t bytes_length,
+                        uint64_t *state) {
     for (size_t at = 0; at < length; at++) {
         if (next_under(state, 4) == 0)
             events[at].index = next_under(state, bytes_length + 1);
@@ -182,15 +189,16 @@ static bool is_untouched(const uint8_t *bytes, size_t start, size_t end) {
 }
 
 /* Whether the answer's fields are those that its status speaks of. */
-static bool has_right_fields(const bivdrazo_answer *answer, const struct document *document, size_t room) {
+static bool has_right_fields(const bivdrazo_answer *answer, const struct document *document,
+                             size_t room) {
     switch (answer->status) {
     case BIVDRAZO_OK:
         return answer->length <= room && answer->index == 0 && answer->rule == 0;
     case BIVDRAZO_TOO_SHORT:
         return answer->length > room && answer->index == 0 && answer->rule == 0;
     case BIVDRAZO_REFUSED:
-        return answer->index <= document->events_length && answer->rule >= 1 && answer->rule <= 10 &&
-               answer->length == 0;
+        return answer->index <= document->events_length && answer->rule >= 1 &&
+               answer->rule <= 10 && answer->length == 0;
     case BIVDRAZO_NO_EVENT:
         return answer->index < document->events_length && answer->rule == 0 && answer->length == 0;
     case BIVDRAZO_NO_OPTION:
@@ -201,14 +209,15 @@ static bool has_right_fields(const bivdrazo_answer *answer, const struct documen
 }
 
 /* Compiles into a buffer of a random size, and looks at what became of the buffer. */
-static bivdrazo_answer compile_guarded(const struct document *document, const bivdrazo_options *options, size_t room,
+static bivdrazo_answer compile_guarded(const struct document *document,
+                                       const bivdrazo_options *options, size_t room,
                                        uint8_t *buffer) {
     static const bivdrazo_reference name = {(const uint8_t *)"amp", 3, (const uint8_t *)"&", 1};
     const bivdrazo_event none = {0, 0, 0, 0, 0};
     fill(buffer, room + GUARD);
-    const bivdrazo_answer answer =
-        bivdrazo_compile(document->events_length ? document->events : &none, document->events_length, document->bytes,
-                         document->bytes_length, options, &name, 1, buffer, room);
+    const bivdrazo_answer answer = bivdrazo_compile(
+        document->events_length ? document->events : &none, document->events_length,
+        document->bytes, document->bytes_length, options, &name, 1, buffer, room);
     if (!has_right_fields(&answer, document, room))
         stop("an answer's fields don't fit");
     if (!is_untouched(buffer, answer.status == BIVDRAZO_OK ? answer.length : 0, room + GUARD))

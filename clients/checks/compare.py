@@ -4,10 +4,11 @@
     compare.py OUT          OUT has the programs bivdrazo-render-cmark and batch
     compare.py OUT --write  writes the counts that were found into differences.txt
 
-Each example of the GFM specification, as Debian's cmark-gfm ships it, goes through both programs; then 10,000 mutated
-documents, the same each time, go through the renderer in one process, with random changes of their events. Each text is
-equal to cmark-gfm's, but for the differences that differences.txt lists with their counts. Ends with status 1 for any
-other difference, another count, a crash, or HTML that isn't permitted.
+Each example of the GFM specification, as Debian's cmark-gfm ships it, goes through both programs;
+then 10,000 mutated documents, the same each time, go through the renderer in one process, with
+random changes of their events. Each text is equal to cmark-gfm's, but for the differences that
+differences.txt lists with their counts. Ends with status 1 for any other difference, another count,
+a crash, or HTML that isn't permitted.
 """
 
 import collections
@@ -34,7 +35,8 @@ OK = 0
 
 def cmark_gfm(document):
     """What the program cmark-gfm writes of a document."""
-    extensions = [argument for name in (*judge.EXTENSIONS, b"footnotes") for argument in ("-e", name.decode())]
+    extensions = [argument for name in (*judge.EXTENSIONS, b"footnotes")
+                  for argument in ("-e", name.decode())]
     command = ["cmark-gfm", "--validate-utf8", *extensions]
     return subprocess.run(command, input=document, capture_output=True, check=True).stdout
 
@@ -53,7 +55,9 @@ def unlike(number, document, text, judged):
 
 
 def counted(texts):
-    """How many documents have each class; `texts` are triples of a document, its text and what is judged of it."""
+    """How many documents have each class; `texts` are triples of a document, its text and what
+    is judged of it.
+    """
     counts = collections.Counter()
     for _, text, judged in texts:
         counts.update(["equal"] if text == judged.plain else judged.classes)
@@ -64,7 +68,8 @@ def compare_examples(out):
     """The counts over the specification's examples, the texts, and how many differ otherwise."""
     program = out / "bivdrazo-render-cmark"
     examples = documents.examples()
-    triples = [(document, rendered(program, document), judge.judge(document)) for document in examples]
+    triples = [(document, rendered(program, document), judge.judge(document))
+               for document in examples]
     wrong = sum(unlike(at, *triple) for at, triple in enumerate(triples, 1))
     strange = [document for document, _, judged in triples if cmark_gfm(document) != judged.plain]
     if strange:
@@ -100,7 +105,8 @@ def compare_mutated(out, mutated):
     refused = sum(status != OK for status, _ in of_documents)
     with multiprocessing.Pool(2) as pool:
         judged = pool.map(judge.judge, mutated, chunksize=250)
-    triples = [(document, text, judgement) for document, (_, text), judgement in zip(mutated, of_documents, judged)]
+    triples = [(document, text, judgement) for document, (_, text),
+               judgement in zip(mutated, of_documents, judged)]
     wrong = sum(unlike(at, *triple) for at, triple in enumerate(triples))
     statuses = collections.Counter(status for status, _ in found)
     print(f"  lists of changed events: {len(found) - len(mutated)}; with a text {statuses[OK] - len(mutated)}")
@@ -125,7 +131,9 @@ def check_reading(texts):
 
 
 def check_memory(out, mutated):
-    """Renders the documents under valgrind, each with a list of changed events; ends where it finds an error."""
+    """Renders the documents under valgrind, each with a list of changed events; ends where
+    it finds an error.
+    """
     valgrind = "valgrind -q --error-exitcode=9 --leak-check=full --errors-for-leak-kinds=definite,indirect,possible"
     try:
         subprocess.run(["valgrind", "--version"], capture_output=True, check=True)
@@ -138,14 +146,16 @@ def check_memory(out, mutated):
 
 def listed():
     """The lines of the list, by their classes: two counts and the reason."""
-    lines = [LINE.fullmatch(line) for line in LIST.read_text().splitlines() if not line.startswith("#")]
+    lines = [LINE.fullmatch(line) for line in LIST.read_text().splitlines()
+             if not line.startswith("#")]
     return {match[1]: (int(match[2]), int(match[3]), match[4]) for match in lines}
 
 
 def write_list(examples, mutated):
     """Puts counts into the list."""
     comments = [line for line in LIST.read_text().splitlines() if line.startswith("#")]
-    lines = [f"{name:<11} {examples[name]} {mutated[name]} {reason}" for name, (_, _, reason) in listed().items()]
+    lines = [f"{name:<11} {examples[name]} {mutated[name]} {reason}"
+             for name, (_, _, reason) in listed().items()]
     LIST.write_text("\n".join([*comments, *lines]) + "\n")
 
 

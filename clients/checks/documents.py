@@ -1,4 +1,5 @@
-"""Documents to render: the examples of the GFM specification, and mutations of these and of our own.
+"""Documents to render: the examples of the GFM specification, and mutations of these and of our
+own.
 
     documents.py COUNT SEED    writes the examples and so many mutated documents, each after its length and a line feed
 """
@@ -34,11 +35,14 @@ OWN = (
 
 # What is put into a document: marks of the syntax, and what parsers mind.
 PIECES = (
-    "*", "_", "**", "`", "```\n", "~~", "[", "]", "(", ")", "![", "<", ">", "> ", "- ", "1. ", "\n", "\n\n",
+    "*", "_", "**", "`", "```\n", "~~", "[", "]", "(", ")", "![", "<", ">", "> ", "- ", "1. ", "\n",
+    "\n\n",
     "    ", "\t",
-    "# ", "|", "|-|\n", "\\", "&", "&amp;", "&#10;", "[^a]", "[^a]: ", "[a]: b\n", "- [x] ", "- [ ]\n",
+    "# ", "|", "|-|\n", "\\", "&", "&amp;", "&#10;", "[^a]", "[^a]: ", "[a]: b\n", "- [x] ",
+    "- [ ]\n",
     "http://a.b", "www.a.b",
-    "a@b.c", "javascript:", "data:", "%", "'", '"', "<b>", "<!--", "-->", "<a href='x'>", "\r", "\r\n", "\u00e9",
+    "a@b.c", "javascript:", "data:", "%", "'", '"', "<b>", "<!--", "-->", "<a href='x'>", "\r",
+    "\r\n", "\u00e9",
     "\U0001fa90",
     "\ufffd", "\0", "---\n", "===\n", "<javascript:x>", "[x](y 'z')", "&quot;", "\u2028",
 )
@@ -56,7 +60,9 @@ def examples():
 
 
 def mutate_once(text, other, generator):
-    """A text with one change: a piece is put in, a part goes, or is said twice, or comes from the other text."""
+    """A text with one change: a piece is put in, a part goes, or is said twice, or comes
+    from the other text.
+    """
     start = generator.randrange(len(text) + 1)
     end = min(len(text), start + generator.randrange(1, 12))
     choice = generator.randrange(5)
@@ -71,7 +77,9 @@ def mutate_once(text, other, generator):
 
 
 def mutate(bases, generator):
-    """A document that is made of one of the others by some changes; now and then a byte is none of UTF-8."""
+    """A document that is made of one of the others by some changes; now and then a byte
+    is none of UTF-8.
+    """
     text = generator.choice(bases)
     for _ in range(generator.randrange(1, 9)):
         text = mutate_once(text, generator.choice(bases), generator)

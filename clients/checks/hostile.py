@@ -1,12 +1,14 @@
-"""Renders each shape of Markdown that makes parsers slow or large by every way in, and measures time and memory.
+"""Renders each shape of Markdown that makes parsers slow or large by every way in, and measures
+time and memory.
 
     hostile.py OUT [--size BYTES] [--table]
 
-OUT is the folder where clients/build put what it made, with bivdrazo-checks in target/release and markdown_file. Each
-shape, of about a megabyte, is rendered by the crate for Rust, by C, by Python and by bivdrazo-render, as a process
-each. All four must make the same text, within SECONDS of a processor. The memory beyond input and text, which counts
-the program itself, must stay within MEGABYTES, or within what hostile.txt has for that shape. Ends with status 1 where
-that isn't so. --table prints all of it, and what pulldown-cmark's own renderer takes.
+OUT is the folder where clients/build put what it made, with bivdrazo-checks in target/release and
+markdown_file. Each shape, of about a megabyte, is rendered by the crate for Rust, by C, by Python
+and by bivdrazo-render, as a process each. All four must make the same text, within SECONDS of a
+processor. The memory beyond input and text, which counts the program itself, must stay within
+MEGABYTES, or within what hostile.txt has for that shape. Ends with status 1 where that isn't so.
+--table prints all of it, and what pulldown-cmark's own renderer takes.
 """
 
 import argparse
@@ -34,7 +36,9 @@ sys.stdout.write(markdown_to_html(text))
 
 
 class Run(NamedTuple):
-    """What a program took: its status, seconds of a processor, the most memory in bytes; and its text."""
+    """What a program took: its status, seconds of a processor, the most memory in
+    bytes; and its text.
+    """
 
     status: int
     seconds: float
@@ -72,7 +76,8 @@ def run(command, path):
         while part := output.read(MEGA):
             digest.update(part)
         seconds = used.ru_utime + used.ru_stime
-        return Run(process.returncode, seconds, 1024 * used.ru_maxrss, output.tell(), digest.hexdigest())
+        return Run(process.returncode, seconds, 1024 * used.ru_maxrss, output.tell(),
+                   digest.hexdigest())
 
 
 def beyond(path, found):
@@ -83,7 +88,8 @@ def beyond(path, found):
 def allowed():
     """How many megabytes a shape may take that takes more than the others, by its name."""
     lines = (HERE / "hostile.txt").read_text(encoding="utf-8").splitlines()
-    return {name: int(most) for name, most in (line.rsplit(": ", 1) for line in lines if not line.startswith("#"))}
+    return {name: int(most)
+            for name, most in (line.rsplit(": ", 1) for line in lines if not line.startswith("#"))}
 
 
 def faults(path, runs, most):
@@ -108,7 +114,9 @@ def row(path, runs, plain):
 
 
 def measured(out, path, is_table):
-    """The runs of a shape by every way, and where a table is wanted that of pulldown-cmark's own renderer."""
+    """The runs of a shape by every way, and where a table is wanted that of
+    pulldown-cmark's own renderer.
+    """
     runs = {name: run(command, path) for name, command in ways(out).items()}
     checks = out / "target" / "release" / "bivdrazo-checks"
     return path, runs, run([checks, "plain"], path) if is_table else None
@@ -124,7 +132,8 @@ def main():
     out, is_table, more = arguments.out, arguments.table, allowed()
     wrong, slowest = 0, (0, "")
     with tempfile.TemporaryDirectory() as folder, concurrent.futures.ThreadPoolExecutor(os.cpu_count()) as pool:
-        subprocess.run([out / "target" / "release" / "bivdrazo-checks", "shapes", folder, arguments.size], check=True)
+        subprocess.run([out / "target" / "release" / "bivdrazo-checks", "shapes", folder,
+                        arguments.size], check=True)
         paths = sorted(pathlib.Path(folder).glob("*.md"))
         for path, runs, plain in pool.map(lambda path: measured(out, path, is_table), paths):
             if is_table:

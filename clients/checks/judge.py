@@ -1,8 +1,9 @@
-"""What cmark-gfm makes of a document, and what it would make of it with the differences that are permitted.
+"""What cmark-gfm makes of a document, and what it would make of it with the differences
+that are permitted.
 
-The judge is cmark-gfm's own parser and its own renderer. It changes the tree between the two as the permitted
-differences ask, one class after another, and then the text. A class counts where it changes the text. So each
-difference is told exactly: what is left must be equal byte for byte.
+The judge is cmark-gfm's own parser and its own renderer. It changes the tree between the two as the
+permitted differences ask, one class after another, and then the text. A class counts where it
+changes the text. So each difference is told exactly: what is left must be equal byte for byte.
 """
 
 import codecs
@@ -26,7 +27,8 @@ PROTOCOLS = {
 
 
 class Judged(NamedTuple):
-    """What cmark-gfm renders, what is wanted here, and the classes of differences between the two."""
+    """What cmark-gfm renders, what is wanted here, and the classes of differences between the two.
+    """
 
     plain: bytes
     wanted: bytes
@@ -109,7 +111,8 @@ def nodes(root, types):
 
 def escape(text):
     """A text with the four references of HTML."""
-    for character, reference in ((b"&", b"&amp;"), (b'"', b"&quot;"), (b"<", b"&lt;"), (b">", b"&gt;")):
+    for character, reference in ((b"&", b"&amp;"), (b'"', b"&quot;"), (b"<", b"&lt;"),
+                                 (b">", b"&gt;")):
         text = text.replace(character, reference)
     return text
 
@@ -129,7 +132,9 @@ def escape_html(root):
 
 
 def change_urls(root, change):
-    """Each URL of a link or an image becomes what `change` makes of it and of the permitted protocols."""
+    """Each URL of a link or an image becomes what `change` makes of it and of the
+    permitted protocols.
+    """
     for node, type_ in nodes(root, (LINK, IMAGE)):
         url = CMARK.cmark_node_get_url(node)
         CMARK.cmark_node_set_url(node, change(url, PROTOCOLS[type_]))
@@ -137,7 +142,8 @@ def change_urls(root, change):
 
 def without_protocol(url, protocols):
     """No URL, where its protocol isn't permitted."""
-    before, mark, _ = re.split(rb"([:/?#])", url, maxsplit=1) if re.search(rb"[:/?#]", url) else (url, b"", b"")
+    before, mark, _ = re.split(rb"([:/?#])", url, maxsplit=1) if re.search(rb"[:/?#]",
+                                                                           url) else (url, b"", b"")
     return b"" if mark == b":" and before.decode("latin-1").lower() not in protocols else url
 
 
@@ -161,7 +167,8 @@ def with_apostrophes(text):
 def with_tasks(text):
     """The attributes of a checked task in the other order."""
     return text.replace(
-        b'<input type="checkbox" checked="" disabled="" />', b'<input type="checkbox" disabled="" checked="" />'
+        b'<input type="checkbox" checked="" disabled="" />',
+        b'<input type="checkbox" disabled="" checked="" />'
     )
 
 
@@ -182,7 +189,9 @@ SAFE = "!#$&'()*+,-./:;=?@_~%"  # what stays in a URL beside letters and digits
 
 
 def unescape(match):
-    """The byte of a percent escape that cmark-gfm wrote, or the escape itself where it didn't write it."""
+    """The byte of a percent escape that cmark-gfm wrote, or the escape itself where it
+    didn't write it.
+    """
     byte = bytes.fromhex(match[0][1:].decode())
     return match[0] if byte.isalnum() or byte in SAFE.encode() else byte
 
@@ -194,10 +203,11 @@ def footnote_id(label):
 
 
 class Calls(NamedTuple):
-    """The calls of footnotes that are in a tree, each as cmark-gfm counts it, in the order of the document.
+    """The calls of footnotes that are in a tree, each as cmark-gfm counts it, in the order
+    of the document.
 
-    cmark-gfm drops a footnote that nothing calls only after it has counted the calls in it. So it keeps footnotes that
-    are called from there alone, ways back to there, and their numbers.
+    cmark-gfm drops a footnote that nothing calls only after it has counted the calls in it. So it
+    keeps footnotes that are called from there alone, ways back to there, and their numbers.
     """
 
     pairs: tuple[tuple[int, int], ...]  # the footnote's number, and the how manieth call of it this is
@@ -225,7 +235,8 @@ def with_call(match, calls):
 
 
 def with_way_back(match, calls):
-    """A way back from a footnote, as it is written here; none to a call past those that there are."""
+    """A way back from a footnote, as it is written here; none to a call past those that there are.
+    """
     space, label, again, times = match.groups(default=b"")
     if int(times or b"1") > calls:
         return b""
@@ -260,7 +271,9 @@ def with_item(item, calls):
 
 
 def with_footnotes(text, calls):
-    """Footnotes with the attributes, the prefix and the numbers that they have here; none that nothing calls."""
+    """Footnotes with the attributes, the prefix and the numbers that they have here; none
+    that nothing calls.
+    """
     body, section, notes = text.partition(SECTION)
     items = notes.removesuffix(SECTION_END).split(ITEM)[1:]
     kept = [with_item(items[number - 1], len(calls.times(number))) for number in calls.numbers()]
@@ -272,7 +285,9 @@ FOOTNOTE_FIELD = 112  # where a node of cmark-gfm 0.29.0.gfm.6 keeps the how man
 
 
 def calls_of(root):
-    """The calls of footnotes in a tree; cmark-gfm puts definitions at its end, and forgets some lines before tables."""
+    """The calls of footnotes in a tree; cmark-gfm puts definitions at its end, and forgets some
+    lines before tables.
+    """
     found = []
     line = 0
     for node, type_ in nodes(root, (FOOTNOTE_REFERENCE, FOOTNOTE_DEFINITION)):
@@ -298,5 +313,6 @@ def judge(document):
     texts.append(("task", with_tasks(texts[-1][1])))
     texts.append(("utf8", with_utf8(texts[-1][1])))
     texts.append(("footnote", with_footnotes(texts[-1][1], calls)))
-    classes = tuple(name for (_, before), (name, text) in itertools.pairwise(texts) if text != before)
+    classes = tuple(name for (_, before), (name, text) in itertools.pairwise(texts)
+                    if text != before)
     return Judged(texts[0][1], texts[-1][1], classes)

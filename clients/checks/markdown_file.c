@@ -1,4 +1,5 @@
-/* Writes what bivdrazo_markdown() makes of the document on standard input; ends with the status of its answer. */
+/* Writes what bivdrazo_markdown() makes of the document on standard input; ends with the status
+   of its answer. */
 #include <stdio.h>
 #include <stdlib.h>
 #include <sys/stat.h>

@@ -31,7 +31,8 @@ def names(tables, numbers):
     table = re.search(r"static BY_NUMBER: \[Name; \d+\] = \[(.*?)\];", tables, re.DOTALL)
     other = re.search(r"const OTHER: u16 = (\d+);", numbers)
     found = re.findall(r"Name::(\w+)", table[1]) if table else []
-    return [(name, at) for at, name in enumerate(found, 1)] + ([("Other", int(other[1]))] if other else [])
+    return [(name, at) for at, name in enumerate(found, 1)] + ([("Other", int(other[1]))] if other
+                                                               else [])
 
 
 def tables(crates):
@@ -64,7 +65,8 @@ def main(arguments):
     wrong = [group for group, pairs in found.items() if pairs != listed(group) or not pairs]
     for group in wrong:
         print(f"numbers: {group}: the crate has {found[group]}, the list {listed(group)}")
-    print(f"numbers: {sum(map(len, found.values()))} of the crate are the list's" if not wrong else "numbers: failed")
+    print(f"numbers: {sum(map(len, found.values()))} of the crate are the list's" if not wrong
+          else "numbers: failed")
     return 1 if wrong else 0
 
 

@@ -1,6 +1,6 @@
 #!/usr/bin/env python3
-"""Compares bivdrazo-render with bivdrazo-render-cmark on the examples of the GFM specification: by its number each example
-that gives another text must be known.
+"""Compares bivdrazo-render with bivdrazo-render-cmark on the examples of the GFM specification: by
+its number each example that gives another text must be known.
 
     parsers_test.py OUT    OUT has both programs
 """

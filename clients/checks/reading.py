@@ -6,7 +6,8 @@ import html5lib
 
 ELEMENTS = {
     **dict.fromkeys(
-        "blockquote pre p ul em strong del sup table thead tbody tr h1 h3 h4 h5 h6 br hr".split(), frozenset()
+        "blockquote pre p ul em strong del sup table thead tbody tr h1 h3 h4 h5 h6 br hr".split(),
+        frozenset()
     ),
     "code": {"class"},
     "ol": {"start"},
@@ -16,7 +17,8 @@ ELEMENTS = {
     "td": {"align"},
     "section": {"data-footnotes", "class"},
     "a": {
-        "href", "title", "id", "class", "data-footnote-ref", "data-footnote-backref", "aria-describedby", "aria-label",
+        "href", "title", "id", "class", "data-footnote-ref", "data-footnote-backref",
+        "aria-describedby", "aria-label",
     },
     "img": {"src", "alt", "title"},
     "input": {"type", "disabled", "checked"},
@@ -25,7 +27,8 @@ PROTOCOLS = {
     "href": {"http", "https", "irc", "ircs", "mailto", "xmpp"},
     "src": {"http", "https"},
 }
-# A browser passes over control characters and spaces before a URL, and over tabs and line ends in it.
+# A browser passes over control characters and spaces before a URL, and over tabs and
+# line ends in it.
 BEFORE_URL = "".join(map(chr, range(33)))
 PROTOCOL = re.compile(r"([A-Za-z][A-Za-z0-9+.-]*):")
 
@@ -50,6 +53,7 @@ def fault_of(element):
 
 def faults(text):
     """What isn't permitted in a text: bytes of HTML that stand in a page's body."""
-    tree = html5lib.parseFragment(text.decode("utf-8"), treebuilder="etree", namespaceHTMLElements=False)
+    tree = html5lib.parseFragment(text.decode("utf-8"), treebuilder="etree",
+                                  namespaceHTMLElements=False)
     elements = list(tree.iter())[1:]  # the first is the fragment itself
     return [fault for fault in map(fault_of, elements) if fault is not None]

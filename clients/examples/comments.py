@@ -3,9 +3,10 @@
 
     comments.py < COMMENTS > PAGE    COMMENTS: JSON, a list of objects with the texts `author` and `text`
 
-Each comment has bounds, and prefixes of its own, so that no two of them share an id of a footnote or of a heading; no
-search engine follows its links. The heading of the footnotes has the id `footnote-label` in each comment that has some:
-it stays in the first alone. A comment that passes a bound is told and left out.
+Each comment has bounds, and prefixes of its own, so that no two of them share an id of a footnote
+or of a heading; no search engine follows its links. The heading of the footnotes has the id
+`footnote-label` in each comment that has some: it stays in the first alone. A comment that passes a
+bound is told and left out.
 """
 
 import html
@@ -14,7 +15,8 @@ import sys
 
 from bivdrazo import TooLong, markdown_to_html
 
-# How the id stands in a text, and nothing else: a quotation mark is escaped but in tags, where it is around values.
+# How the id stands in a text, and nothing else: a quotation mark is escaped but in tags, where it
+# is around values.
 LABEL = ' id="footnote-label"'
 
 

@@ -3,9 +3,10 @@
 
     corpus_dask.py FOLDER SITE REPORT
 
-Each file `NAME.md` of FOLDER becomes `NAME.html` in SITE, written beside and renamed. A file that can't be rendered is
-a line of REPORT, in JSON: `{"file": "NAME.md", "cause": "..."}`; the others are rendered. Ends with status 0 if all
-were, and 1 if the report has a line. Wants Debian's python3-dask and python3-distributed.
+Each file `NAME.md` of FOLDER becomes `NAME.html` in SITE, written beside and renamed. A file that
+can't be rendered is a line of REPORT, in JSON: `{"file": "NAME.md", "cause": "..."}`; the others
+are rendered. Ends with status 0 if all were, and 1 if the report has a line. Wants Debian's
+python3-dask and python3-distributed.
 """
 
 import json
@@ -38,7 +39,9 @@ def read(source):
 
 
 def write(target, text):
-    """Writes a file beside and renames it, so that it is never there by half. A worker writes one at a time."""
+    """Writes a file beside and renames it, so that it is never there by half. A worker
+    writes one at a time.
+    """
     beside = target.with_name(f"{os.getpid()}.part")
     try:
         beside.write_text(text, encoding="utf-8", newline="")
@@ -72,7 +75,9 @@ def render_all(names, folder, site):
 
 
 def lines_of(client, names, folder, site):
-    """The lines of the report, each as soon as it is known; one for each file of a task whose worker always ended."""
+    """The lines of the report, each as soon as it is known; one for each file of a task whose
+    worker always ended.
+    """
     bag = dask.bag.from_sequence(names, partition_size=TOGETHER)
     tasks = client.compute(bag.map_partitions(render_all, folder, site).to_delayed())
     parts = {task.key: names[at * TOGETHER : (at + 1) * TOGETHER] for at, task in enumerate(tasks)}
@@ -81,7 +86,8 @@ def lines_of(client, names, folder, site):
         if error is None:
             yield from task.result()
         else:
-            yield from ({"file": name, "cause": f"the worker: {cause_of(error)}"} for name in parts[task.key])
+            yield from ({"file": name, "cause": f"the worker: {cause_of(error)}"}
+                        for name in parts[task.key])
         task.release()
 
 
@@ -96,7 +102,8 @@ def main(arguments):
     count = 0
     beside = report.with_name(f"{report.name}.part")
     with tempfile.TemporaryDirectory() as space, open(beside, "w", encoding="utf-8") as lines:
-        cluster = LocalCluster(n_workers=WORKERS, threads_per_worker=1, dashboard_address=None, local_directory=space)
+        cluster = LocalCluster(n_workers=WORKERS, threads_per_worker=1, dashboard_address=None,
+                               local_directory=space)
         with cluster, Client(cluster) as client:
             for line in lines_of(client, names, folder.resolve(), site.resolve()):
                 print(json.dumps(line), file=lines)

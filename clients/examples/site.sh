@@ -1,5 +1,6 @@
 #!/bin/sh
-# Makes a site of a folder of Markdown files, a page each with its first heading as the title, and an index.
+# Makes a site of a folder of Markdown files, a page each with its first heading as the
+# title, and an index.
 #
 #   site.sh FOLDER SITE
 #

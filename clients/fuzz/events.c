@@ -1,10 +1,11 @@
 /*
- * Event scripts by bivdrazo_run(), and their events by bivdrazo_compile() and bivdrazo_compile_within(),
- * for libFuzzer. The first byte of an input says how large the first buffer is, the rest is the script.
- * What is handed in and the buffer end at the end of a page before one that can't be read or written. A
- * call that gives no text leaves the buffer as it was, and one that does leaves what lies after the
- * text; where the script sets no option all calls answer the same, and the text is of the HTML grammar.
- * Where it may have a byte less it is too long.
+ * Event scripts by bivdrazo_run(), and their events by bivdrazo_compile() and
+ * bivdrazo_compile_within(), for libFuzzer. The first byte of an input says how large the
+ * first buffer is, the rest is the script. What is handed in and the buffer end at the end of
+ * a page before one that can't be read or written. A call that gives no text leaves the buffer
+ * as it was, and one that does leaves what lies after the text; where the script sets no
+ * option all calls answer the same, and the text is of the HTML grammar. Where it may have a
+ * byte less it is too long.
  */
 #include "bivdrazo.h"
 #include "guard.h"
@@ -43,11 +44,12 @@ static bivdrazo_answer call(const struct job *job, uint8_t *buffer, size_t room)
         return bivdrazo_compile_within(job->events, job->events_length, job->document,
                                        job->document_length, &options, NAMES,
                                        sizeof NAMES / sizeof *NAMES, job->limits, buffer, room);
-    return bivdrazo_compile(job->events, job->events_length, job->document, job->document_length, &options, NAMES,
-                            sizeof NAMES / sizeof *NAMES, buffer, room);
+    return bivdrazo_compile(job->events, job->events_length, job->document, job->document_length,
+                            &options, NAMES, sizeof NAMES / sizeof *NAMES, buffer, room);
 }
 
-/* Calls with a buffer of that size, and again where it was too short; the buffer is for the caller to unguard. */
+/* Calls with a buffer of that size, and again where it was too short; the buffer is for the
+   caller to unguard. */
 static bivdrazo_answer answer_of(const struct job *job, size_t room, struct guarded *buffer) {
     for (int turn = 0;; turn++) {
         *buffer = guard_room(room, UNTOUCHED);
@@ -69,7 +71,9 @@ static bivdrazo_answer answer_of(const struct job *job, size_t room, struct guar
 
 static void check_text(const struct guarded *buffer, const bivdrazo_answer *answer) {
     size_t where = 0;
-    const char *fault = answer->status == BIVDRAZO_OK ? html_fault((char *)buffer->bytes, answer->length, &where) : NULL;
+    const char *fault = answer->status == BIVDRAZO_OK
+                            ? html_fault((char *)buffer->bytes, answer->length, &where)
+                            : NULL;
     if (fault != NULL)
         fail(fault, where);
 }
@@ -77,12 +81,14 @@ static void check_text(const struct guarded *buffer, const bivdrazo_answer *answ
 /* The number of a name; 0 where there is none. */
 static uint16_t name_of(const char *text, size_t length) {
     for (uint16_t name = 1; bivdrazo_name_text(name) != NULL; name++)
-        if (strlen(bivdrazo_name_text(name)) == length && memcmp(bivdrazo_name_text(name), text, length) == 0)
+        if (strlen(bivdrazo_name_text(name)) == length &&
+            memcmp(bivdrazo_name_text(name), text, length) == 0)
             return name;
     return 0;
 }
 
-/* Reads the line of an event without columns: a sign, a name, a space, up to nine digits; whether it is one. */
+/* Reads the line of an event without columns: a sign, a name, a space, up to nine digits;
+   whether it is one. */
 static int read_event(const char *line, bivdrazo_event *event) {
     if (line[0] != '+' && line[0] != '-')
         return 0;
@@ -97,7 +103,8 @@ static int read_event(const char *line, bivdrazo_event *event) {
 }
 
 /* The events of a script that sets no option; whether all its lines were read. */
-static int read_script(const uint8_t *script, size_t length, struct job *job, bivdrazo_event *events) {
+static int read_script(const uint8_t *script, size_t length, struct job *job,
+                       bivdrazo_event *events) {
     size_t at = 0;
     for (job->events_length = 0; job->events_length < MOST_EVENTS; job->events_length++) {
         const uint8_t *end = memchr(script + at, '\n', length - at);
@@ -147,8 +154,8 @@ static void compare(struct job *job, const bivdrazo_event *events, const bivdraz
     job->script = NULL;
     struct guarded buffer;
     const bivdrazo_answer answer = answer_of(job, room, &buffer);
-    if (answer.status != wanted->status || answer.rule != wanted->rule || answer.index != wanted->index ||
-        answer.length != wanted->length)
+    if (answer.status != wanted->status || answer.rule != wanted->rule ||
+        answer.index != wanted->index || answer.length != wanted->length)
         fail("another answer of the events than of the script", answer.index);
     if (answer.status == BIVDRAZO_OK && memcmp(buffer.bytes, text->bytes, answer.length) != 0)
         fail("another text of the events than of the script", answer.length);

@@ -20,7 +20,8 @@ static inline struct guarded guard_room(size_t length, uint8_t value) {
     const size_t page = (size_t)sysconf(_SC_PAGESIZE);
     const size_t room = (length + page) / page * page;
     struct guarded guarded = {NULL, room + page, NULL};
-    guarded.pages = mmap(NULL, guarded.size, PROT_READ | PROT_WRITE, MAP_PRIVATE | MAP_ANONYMOUS, -1, 0);
+    guarded.pages =
+        mmap(NULL, guarded.size, PROT_READ | PROT_WRITE, MAP_PRIVATE | MAP_ANONYMOUS, -1, 0);
     if (guarded.pages == MAP_FAILED || mprotect(guarded.pages + room, page, PROT_NONE) != 0)
         abort();
     guarded.bytes = memset(guarded.pages + room - length, value, length);

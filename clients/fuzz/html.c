@@ -40,8 +40,8 @@ static const struct element ELEMENTS[] = {
     {"section", false, {"data-footnotes", "class", NULL}},
     {"a",
      false,
-     {"href", "title", "id", "class", "data-footnote-ref", "data-footnote-backref", "aria-describedby", "aria-label",
-      NULL}},
+     {"href", "title", "id", "class", "data-footnote-ref", "data-footnote-backref",
+      "aria-describedby", "aria-label", NULL}},
     {"br", true, {NULL}},
     {"hr", true, {NULL}},
     {"img", true, {"src", "alt", "title", NULL}},
@@ -64,7 +64,8 @@ struct reader {
 
 static bool begins(const struct reader *reader, const char *with) {
     const size_t length = strlen(with);
-    return reader->length - reader->at >= length && memcmp(reader->text + reader->at, with, length) == 0;
+    return reader->length - reader->at >= length &&
+           memcmp(reader->text + reader->at, with, length) == 0;
 }
 
 static bool skip(struct reader *reader, const char *with) {
@@ -87,7 +88,8 @@ static bool skip_escaped(struct reader *reader) {
 static size_t name_length(const struct reader *reader) {
     size_t length = 0;
     while (reader->at + length < reader->length &&
-           (isalnum((unsigned char)reader->text[reader->at + length]) || reader->text[reader->at + length] == '-'))
+           (isalnum((unsigned char)reader->text[reader->at + length]) ||
+            reader->text[reader->at + length] == '-'))
         length++;
     return length;
 }
@@ -96,7 +98,8 @@ static bool is_name(const struct reader *reader, size_t length, const char *name
     return strlen(name) == length && memcmp(reader->text + reader->at, name, length) == 0;
 }
 
-/* Whether what stands before a URL's colon, where no character of `?#/` comes before that, is in the list. */
+/* Whether what stands before a URL's colon, where no character of `?#/` comes before that,
+   is in the list. */
 static bool is_permitted(const char *url, size_t length, const char *const *protocols) {
     size_t end = 0;
     while (end < length && strchr(":?#/", url[end]) == NULL)
@@ -110,7 +113,8 @@ static bool is_permitted(const char *url, size_t length, const char *const *prot
     return false;
 }
 
-/* Reads a value with its quotes. References in a protocol would hide it; it has none, since they end with no colon. */
+/* Reads a value with its quotes. References in a protocol would hide it; it has none, since they
+   end with no colon. */
 static const char *read_value(struct reader *reader, const char *attribute) {
     const size_t start = reader->at;
     while (reader->at < reader->length && reader->text[reader->at] != '"') {

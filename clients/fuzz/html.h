@@ -1,10 +1,12 @@
-/* A strict reader of the HTML grammar of docs/DEFINITIONS.md, with its safe links and images, apart from the library. */
+/* A strict reader of the HTML grammar of docs/DEFINITIONS.md, with its safe links and images, apart
+   from the library. */
 #ifndef BIVDRAZO_FUZZ_HTML_H
 #define BIVDRAZO_FUZZ_HTML_H
 
 #include <stddef.h>
 
-/* What is wrong with a text, where that is; NULL where it has a reading with safe links and images. */
+/* What is wrong with a text, where that is; NULL where it has a reading with safe
+   links and images. */
 const char *html_fault(const char *text, size_t length, size_t *where);
 
 #endif

@@ -1,7 +1,8 @@
 /*
- * Markdown by bivdrazo_markdown() under options, for libFuzzer. The first two bytes of an input are the options, the
- * rest is the document, which ends at the end of a page before one that can't be read. There is a text, unless the
- * document isn't UTF-8 or a bound is passed, and the text is of the HTML grammar.
+ * Markdown by bivdrazo_markdown() under options, for libFuzzer. The first two bytes of an input are
+ * the options, the rest is the document, which ends at the end of a page before one that can't be
+ * read. There is a text, unless the document isn't UTF-8 or a bound is passed, and the text is of
+ * the HTML grammar.
  */
 #include "bivdrazo_markdown.h"
 #include "guard.h"
@@ -41,8 +42,9 @@ int LLVMFuzzerTestOneInput(const uint8_t *data, size_t size) {
     const struct guarded document = guard(data + 2, size - 2);
     char *html = NULL;
     const bivdrazo_answer answer = bivdrazo_markdown(document.bytes, size - 2, &options, &html);
-    const int may_fail = answer.status == BIVDRAZO_MARKDOWN_NOT_UTF8 ||
-                         (answer.status == BIVDRAZO_MARKDOWN_OUTPUT_TOO_LONG && options.max_output != SIZE_MAX);
+    const int may_fail =
+        answer.status == BIVDRAZO_MARKDOWN_NOT_UTF8 ||
+        (answer.status == BIVDRAZO_MARKDOWN_OUTPUT_TOO_LONG && options.max_output != SIZE_MAX);
     if (answer.status == BIVDRAZO_OK)
         check_text(html, answer.length, &options);
     else if (!may_fail || html != NULL)

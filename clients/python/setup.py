@@ -1,4 +1,5 @@
-"""The wheel holds the shared object, so its tag says for what that is: Linux on x86-64, any Python 3.
+"""The wheel holds the shared object, so its tag says for what that is: Linux on
+x86-64, any Python 3.
 
 It isn't a `manylinux` tag, since auditwheel hasn't looked at it.
 """

@@ -43,7 +43,8 @@ void document_bytes(struct document *document, const void *bytes, size_t length)
     document->bytes_length += length;
 }
 
-/* How many of the bytes are one character of UTF-8 at their beginning, or 0; there is a byte at least. */
+/* How many of the bytes are one character of UTF-8 at their beginning, or 0; there is a
+   byte at least. */
 static size_t character_length(const uint8_t *bytes, size_t length) {
     static const uint8_t leads[] = {0xC2, 0xE0, 0xE1, 0xED, 0xEE, 0xF0, 0xF1, 0xF4, 0xF5};
     static const uint8_t lengths[] = {2, 3, 3, 3, 3, 4, 4, 4};
@@ -94,7 +95,8 @@ static void add_event(struct document *document, uint8_t kind, uint16_t name) {
     const bivdrazo_event event = {document->bytes_length, name, 0, kind, 0};
     if (document->is_full)
         return;
-    document->is_full = !make_room(&room, &document->events_room, document->events_length, 1, sizeof event);
+    document->is_full =
+        !make_room(&room, &document->events_room, document->events_length, 1, sizeof event);
     document->events = room;
     if (!document->is_full)
         document->events[document->events_length++] = event;

@@ -6,7 +6,8 @@
 
 #include <stdbool.h>
 
-/* Bytes and events that grow at their ends. Once memory ran out, `is_full` stays set and nothing is added. */
+/* Bytes and events that grow at their ends. Once memory ran out, `is_full` stays set and
+   nothing is added. */
 struct document {
     uint8_t *bytes;
     size_t bytes_length;
@@ -26,7 +27,8 @@ void document_free(struct document *document);
 /* Adds so many bytes. */
 void document_bytes(struct document *document, const void *bytes, size_t length);
 
-/* Adds a text of so many bytes: each byte that isn't part of a character of UTF-8 becomes U+FFFD. */
+/* Adds a text of so many bytes: each byte that isn't part of a character of UTF-8
+   becomes U+FFFD. */
 void document_utf8(struct document *document, const void *text, size_t length);
 
 /* Begins a node after the bytes so far. */

@@ -90,15 +90,16 @@ static enum status read_document(const char *path, struct document *document) {
 
 /* The HTML of a document, in memory of its own. */
 static enum status compile(const struct document *document, uint8_t **text, size_t *length) {
-    const bivdrazo_answer answer = bivdrazo_compile_alloc(document->events, document->events_length, document->bytes,
-                                                          document->bytes_length, NULL, NULL, 0, text);
+    const bivdrazo_answer answer =
+        bivdrazo_compile_alloc(document->events, document->events_length, document->bytes,
+                               document->bytes_length, NULL, NULL, 0, text);
     *length = answer.length;
     if (answer.status == BIVDRAZO_OK)
         return DONE;
     if (answer.status == BIVDRAZO_MEMORY)
         return NO_MEMORY;
-    fprintf(stderr, "bivdrazo-render-cmark: %s: event %zu, rule %u\n", bivdrazo_status_text(answer.status), answer.index,
-            answer.rule);
+    fprintf(stderr, "bivdrazo-render-cmark: %s: event %zu, rule %u\n",
+            bivdrazo_status_text(answer.status), answer.index, answer.rule);
     return REFUSED;
 }
 
@@ -108,13 +109,15 @@ struct text {
     size_t length;
 };
 
-/* The title of a page as the text of an element: the library escapes it, and refuses what isn't UTF-8. */
+/* The title of a page as the text of an element: the library escapes it, and refuses
+   what isn't UTF-8. */
 static enum status compile_title(const char *title, struct text *text) {
     struct document document = document_new();
     document_enter(&document, BIVDRAZO_NAME_DATA);
     document_bytes(&document, title, strlen(title));
     document_exit(&document, BIVDRAZO_NAME_DATA);
-    enum status status = document.is_full ? NO_MEMORY : compile(&document, &text->bytes, &text->length);
+    enum status status =
+        document.is_full ? NO_MEMORY : compile(&document, &text->bytes, &text->length);
     document_free(&document);
     return status;
 }

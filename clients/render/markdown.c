@@ -10,8 +10,8 @@
 /*
  * What the walk over a tree knows: the document so far, and what is around the node.
  *
- * The parser's texts are UTF-8 but for some that it cuts in the midst of a character (in brackets that begin with a
- * caret); so each text is looked at as it is added.
+ * The parser's texts are UTF-8 but for some that it cuts in the midst of a character (in brackets
+ * that begin with a caret); so each text is looked at as it is added.
  */
 struct walk {
     struct document document;
@@ -48,7 +48,8 @@ static void add_text(struct walk *walk, uint16_t name, const char *text) {
 }
 
 /* A node with one text in it, under names of their own. */
-static void add_text_in(struct walk *walk, uint16_t outer, uint16_t inner, const char *text, size_t length) {
+static void add_text_in(struct walk *walk, uint16_t outer, uint16_t inner, const char *text,
+                        size_t length) {
     document_enter(&walk->document, outer);
     document_text(&walk->document, inner, text, length);
     document_exit(&walk->document, outer);
@@ -58,7 +59,8 @@ static void add_text_in(struct walk *walk, uint16_t outer, uint16_t inner, const
 static bool is_tight(cmark_node *paragraph) {
     cmark_node *parent = cmark_node_parent(paragraph);
     cmark_node *list = parent == NULL ? NULL : cmark_node_parent(parent);
-    return list != NULL && cmark_node_get_type(list) == CMARK_NODE_LIST && cmark_node_get_list_tight(list);
+    return list != NULL && cmark_node_get_type(list) == CMARK_NODE_LIST &&
+           cmark_node_get_list_tight(list);
 }
 
 static void enter_paragraph(struct walk *walk, cmark_node *node) {
@@ -68,7 +70,8 @@ static void enter_paragraph(struct walk *walk, cmark_node *node) {
     document_enter(&walk->document, BIVDRAZO_NAME_PARAGRAPH);
 }
 
-/* After a tight paragraph the next line ending isn't printed: it is this one, so that no later one is lost. */
+/* After a tight paragraph the next line ending isn't printed: it is this one, so that no
+   later one is lost. */
 static void exit_paragraph(struct walk *walk, cmark_node *node) {
     document_exit(&walk->document, BIVDRAZO_NAME_PARAGRAPH);
     if (is_tight(node))
@@ -89,8 +92,9 @@ static void add_list_value(struct walk *walk, cmark_node *list) {
 }
 
 /*
- * The box of a task, and a space after it. They stand in a quote's prefix, which prints nothing itself and isn't
- * part of what an item holds: so an item that holds no more than its box ends on the same line.
+ * The box of a task, and a space after it. They stand in a quote's prefix, which prints nothing
+ * itself and isn't part of what an item holds: so an item that holds no more than its box ends
+ * on the same line.
  */
 static void add_task(struct walk *walk, cmark_node *item) {
     document_enter(&walk->document, BIVDRAZO_NAME_BLOCK_QUOTE_PREFIX);
@@ -114,7 +118,8 @@ static void enter_item(struct walk *walk, cmark_node *node) {
         add_task(walk, node);
 }
 
-/* Two blank line endings after the first item make a list loose; one alone is excused where that item is empty. */
+/* Two blank line endings after the first item make a list loose; one alone is excused where that
+   item is empty. */
 static void exit_item(struct walk *walk, cmark_node *node) {
     document_exit(&walk->document, BIVDRAZO_NAME_LIST_ITEM);
     if (cmark_node_previous(node) == NULL && !cmark_node_get_list_tight(cmark_node_parent(node))) {
@@ -131,7 +136,8 @@ static void enter_heading(struct walk *walk, cmark_node *node) {
     document_enter(&walk->document, BIVDRAZO_NAME_HEADING_ATX_TEXT);
 }
 
-/* A block of code has two fences here, however it was written; the language is the info's first word. */
+/* A block of code has two fences here, however it was written; the language is the
+   info's first word. */
 static void add_code_block(struct walk *walk, cmark_node *node) {
     const char *info = text_or_empty(cmark_node_get_fence_info(node));
     const char *code = text_or_empty(cmark_node_get_literal(node));
@@ -156,7 +162,8 @@ static void add_html_block(struct walk *walk, cmark_node *node) {
     add_text_in(walk, BIVDRAZO_NAME_HTML_FLOW, BIVDRAZO_NAME_HTML_FLOW_DATA, html, length);
 }
 
-/* Code as it is printed in a table, where a backslash before a pipe goes: one more stands there for it. */
+/* Code as it is printed in a table, where a backslash before a pipe goes: one more stands
+   there for it. */
 static void add_code_in_table(struct walk *walk, const char *code) {
     const char *pipe = strstr(code, "\\|");
     while (pipe != NULL) {
@@ -168,12 +175,14 @@ static void add_code_in_table(struct walk *walk, const char *code) {
     document_utf8(&walk->document, code, strlen(code));
 }
 
-/* The parser took a space off each end of the code, and so does the compiler: where one is left, two more are needed.
+/* The parser took a space off each end of the code, and so does the compiler: where one is left,
+   two more are needed.
  */
 static void add_code(struct walk *walk, cmark_node *node) {
     const char *code = text_or_empty(cmark_node_get_literal(node));
     const size_t length = strlen(code);
-    const bool is_padded = length > 0 && code[0] == ' ' && code[length - 1] == ' ' && strspn(code, " ") < length;
+    const bool is_padded =
+        length > 0 && code[0] == ' ' && code[length - 1] == ' ' && strspn(code, " ") < length;
     document_enter(&walk->document, BIVDRAZO_NAME_CODE_TEXT);
     document_enter(&walk->document, BIVDRAZO_NAME_CODE_TEXT_DATA);
     document_bytes(&walk->document, " ", is_padded);
@@ -205,16 +214,19 @@ static void exit_media(struct walk *walk, uint16_t name, cmark_node *node) {
     document_exit(&walk->document, BIVDRAZO_NAME_LABEL_TEXT);
     document_exit(&walk->document, BIVDRAZO_NAME_LABEL);
     document_enter(&walk->document, BIVDRAZO_NAME_RESOURCE);
-    add_text_in(walk, BIVDRAZO_NAME_RESOURCE_DESTINATION_STRING, BIVDRAZO_NAME_DATA, url, strlen(url));
+    add_text_in(walk, BIVDRAZO_NAME_RESOURCE_DESTINATION_STRING, BIVDRAZO_NAME_DATA, url,
+                strlen(url));
     if (*title != 0)
-        add_text_in(walk, BIVDRAZO_NAME_RESOURCE_TITLE_STRING, BIVDRAZO_NAME_DATA, title, strlen(title));
+        add_text_in(walk, BIVDRAZO_NAME_RESOURCE_TITLE_STRING, BIVDRAZO_NAME_DATA, title,
+                    strlen(title));
     document_exit(&walk->document, BIVDRAZO_NAME_RESOURCE);
     document_exit(&walk->document, name);
 }
 
 /* The label of a footnote's definition, under a name. */
 static void add_footnote_label(struct walk *walk, uint16_t name, cmark_node *definition) {
-    document_text(&walk->document, name, definition->as.literal.data, (size_t)definition->as.literal.len);
+    document_text(&walk->document, name, definition->as.literal.data,
+                  (size_t)definition->as.literal.len);
 }
 
 static void enter_footnote(struct walk *walk, cmark_node *node) {
@@ -234,7 +246,8 @@ static void add_footnote_call(struct walk *walk, cmark_node *node) {
     document_exit(&walk->document, BIVDRAZO_NAME_GFM_FOOTNOTE_CALL);
 }
 
-/* How a column is aligned: by markers at the first and at the last place of the delimiter's cell. */
+/* How a column is aligned: by markers at the first and at the last place of the
+   delimiter's cell. */
 static void add_alignment(struct walk *walk, uint8_t alignment) {
     document_enter(&walk->document, BIVDRAZO_NAME_GFM_TABLE_DELIMITER_CELL_VALUE);
     if (alignment == 'r')
@@ -322,7 +335,8 @@ static bool add_leaf(struct walk *walk, cmark_node *node) {
     else if (type == CMARK_NODE_CODE)
         add_code(walk, node);
     else if (type == CMARK_NODE_HTML_INLINE)
-        add_text_in(walk, BIVDRAZO_NAME_HTML_TEXT, BIVDRAZO_NAME_HTML_TEXT_DATA, text, strlen(text));
+        add_text_in(walk, BIVDRAZO_NAME_HTML_TEXT, BIVDRAZO_NAME_HTML_TEXT_DATA, text,
+                    strlen(text));
     else if (type == CMARK_NODE_FOOTNOTE_REFERENCE)
         add_footnote_call(walk, node);
     else if (type == CMARK_NODE_CODE_BLOCK)
@@ -413,7 +427,8 @@ static int compare_places(const void *left, const void *right) {
     cmark_node *const one = *(cmark_node *const *)left;
     cmark_node *const other = *(cmark_node *const *)right;
     const int lines = cmark_node_get_start_line(one) - cmark_node_get_start_line(other);
-    return lines != 0 ? lines : cmark_node_get_start_column(one) - cmark_node_get_start_column(other);
+    return lines != 0 ? lines
+                      : cmark_node_get_start_column(one) - cmark_node_get_start_column(other);
 }
 
 /* A tree that is walked: its turn is the one that isn't added yet. */
@@ -423,9 +438,10 @@ struct tree {
 };
 
 /*
- * The parser moves the definitions of footnotes to the end of the tree. Here they go back before the block that
- * followed them, since footnotes are numbered in the order of the document: so a definition is walked in the midst of
- * another tree. `trees` are those that are being walked, the last one first; each definition is walked once.
+ * The parser moves the definitions of footnotes to the end of the tree. Here they go back before
+ * the block that followed them, since footnotes are numbered in the order of the document: so a
+ * definition is walked in the midst of another tree. `trees` are those that are being walked, the
+ * last one first; each definition is walked once.
  */
 struct places {
     cmark_node **definitions; /* by their lines */
@@ -438,7 +454,8 @@ struct places {
 /* How many definitions there are. */
 static size_t count_definitions(cmark_node *root) {
     size_t count = 0;
-    for (cmark_node *node = cmark_node_first_child(root); node != NULL; node = cmark_node_next(node))
+    for (cmark_node *node = cmark_node_first_child(root); node != NULL;
+         node = cmark_node_next(node))
         count += is_definition(node);
     return count;
 }
@@ -446,17 +463,20 @@ static size_t count_definitions(cmark_node *root) {
 /* The places of a tree's definitions; where memory ran out, none, and `trees` is NULL. */
 static struct places find_places(cmark_node *root) {
     const size_t most = count_definitions(root) + 1;
-    struct places places = {calloc(most, sizeof(cmark_node *)), calloc(most, sizeof(struct tree)), 0, 0, 0};
+    struct places places = {calloc(most, sizeof(cmark_node *)), calloc(most, sizeof(struct tree)),
+                            0, 0, 0};
     if (places.definitions == NULL || places.trees == NULL) {
         free(places.trees);
         places.trees = NULL;
         return places;
     }
-    for (cmark_node *node = cmark_node_first_child(root); node != NULL; node = cmark_node_next(node)) {
+    for (cmark_node *node = cmark_node_first_child(root); node != NULL;
+         node = cmark_node_next(node)) {
         if (is_definition(node))
             places.definitions[places.definitions_length++] = node;
     }
-    qsort(places.definitions, places.definitions_length, sizeof *places.definitions, compare_places);
+    qsort(places.definitions, places.definitions_length, sizeof *places.definitions,
+          compare_places);
     return places;
 }
 
@@ -467,17 +487,19 @@ static void begin_tree(struct places *places, cmark_node *node) {
     tree->turn = cmark_iter_next(tree->walker);
 }
 
-/* Whether the next definition stood before this turn: before a block that begins on a later line, or in the document.
+/* Whether the next definition stood before this turn: before a block that begins on a later line,
+   or in the document.
  */
-static bool is_after_definition(const struct places *places, cmark_event_type turn, cmark_node *node) {
+static bool is_after_definition(const struct places *places, cmark_event_type turn,
+                                cmark_node *node) {
     cmark_node *parent = cmark_node_parent(node);
     if (places->definitions_done == places->definitions_length)
         return false;
     if (parent == NULL)
         return turn == CMARK_EVENT_EXIT;
     const cmark_node_type type = cmark_node_get_type(parent);
-    const bool is_flow = type == CMARK_NODE_DOCUMENT || type == CMARK_NODE_BLOCK_QUOTE || type == CMARK_NODE_ITEM ||
-                         type == CMARK_NODE_FOOTNOTE_DEFINITION;
+    const bool is_flow = type == CMARK_NODE_DOCUMENT || type == CMARK_NODE_BLOCK_QUOTE ||
+                         type == CMARK_NODE_ITEM || type == CMARK_NODE_FOOTNOTE_DEFINITION;
     cmark_node *definition = places->definitions[places->definitions_done];
     return turn == CMARK_EVENT_ENTER && is_flow && !is_definition(node) &&
            cmark_node_get_start_line(definition) < cmark_node_get_start_line(node);

@@ -6,7 +6,8 @@
 
 #include <cmark-gfm.h>
 
-/* A parser with tables, strikethrough, autolinks, tasks and footnotes; NULL where the extensions aren't there. */
+/* A parser with tables, strikethrough, autolinks, tasks and footnotes; NULL where the extensions
+   aren't there. */
 cmark_parser *markdown_parser(void);
 
 /* The document of a tree that such a parser made: its texts, and the events over them. */

@@ -1,6 +1,7 @@
-//! Finds the archive `libbivdrazo.a`, which clients/build makes: in the folder that `BIVDRAZO_FOLDER` names, or else in
-//! `lib`, where the crate's package has it, or else in `../out`. Where there is none, the crate can be documented, checked,
-//! built and packed, and no program can be linked with it.
+//! Finds the archive `libbivdrazo.a`, which clients/build makes: in the folder that
+//! `BIVDRAZO_FOLDER` names, or else in `lib`, where the crate's package has it, or else in
+//! `../out`. Where there is none, the crate can be documented, checked, built and packed, and no
+//! program can be linked with it.
 
 use std::env;
 use std::path::PathBuf;

@@ -2,8 +2,8 @@
 //!
 //!     bivdrazo-beside bivdrazo|pulldown-cmark|ammonia < DOCUMENTS > HTML
 //!
-//! DOCUMENTS are frames: a count of bytes in decimal digits, a line feed, the document. What ammonia cleans is what
-//! pulldown-cmark makes.
+//! DOCUMENTS are frames: a count of bytes in decimal digits, a line feed, the document. What
+//! ammonia cleans is what pulldown-cmark makes.
 
 use bivdrazo::{markdown_to_html, MarkdownOptions};
 use pulldown_cmark::{html, Options, Parser};

@@ -11,9 +11,10 @@ use std::process;
 
 /// Renders Markdown as safe HTML.
 ///
-/// Tables, strikethrough, tasks, footnotes and bare links are read. Links and images whose protocol isn't permitted
-/// lead nowhere. Ends with status 0 if all was rendered, 1 if a file couldn't be (the others are written), 2 for other
-/// arguments; 5 if that is for --max-output alone, 6 for --max-work alone.
+/// Tables, strikethrough, tasks, footnotes and bare links are read. Links and images whose protocol
+/// isn't permitted lead nowhere. Ends with status 0 if all was rendered, 1 if a file couldn't be
+/// (the others are written), 2 for other arguments; 5 if that is for --max-output alone, 6 for
+/// --max-work alone.
 #[derive(Debug, Parser)]
 #[command(name = "bivdrazo-render", version = bivdrazo::VERSION_TEXT)]
 pub struct Arguments {
@@ -81,11 +82,13 @@ pub struct Arguments {
     #[arg(long, value_name = "URL")]
     pub base: Option<String>,
 
-    /// The parser. The one of cmark-gfm, which is written in C, runs in a process of its own with limits.
+    /// The parser. The one of cmark-gfm, which is written in C, runs in a process of its
+    /// own with limits.
     #[arg(long, value_enum, default_value_t = ParserName::PulldownCmark)]
     pub parser: ParserName,
 
-    /// How many seconds of processor time cmark-gfm's parser may take, and three times as many by the clock; 10.
+    /// How many seconds of processor time cmark-gfm's parser may take, and three times as many
+    /// by the clock; 10.
     #[arg(long, value_name = "SECONDS", value_parser = value_parser!(u32).range(1..))]
     pub parser_seconds: Option<u32>,
 
@@ -101,8 +104,8 @@ pub struct Arguments {
     #[arg(long, value_name = "BYTES")]
     pub max_output: Option<usize>,
 
-    /// How much there may be to read and to print in what the parser makes of a document, in bytes; 6
-    /// is the status where one has more.
+    /// How much there may be to read and to print in what the parser makes of a document, in bytes;
+    /// 6 is the status where one has more.
     #[arg(long, value_name = "BYTES")]
     pub max_work: Option<usize>,
 
@@ -132,7 +135,8 @@ pub enum Html {
 }
 
 impl Arguments {
-    /// What the program was called with; ends it where that can't be read, or only help or the version is wanted.
+    /// What the program was called with; ends it where that can't be read, or only help or the
+    /// version is wanted.
     pub fn read() -> Arguments {
         let arguments = Arguments::try_parse().unwrap_or_else(|error| end(&error));
         if arguments.files.len() > 1 && arguments.out_dir.is_none() {
@@ -236,7 +240,8 @@ impl Arguments {
     }
 }
 
-/// Ends the program with what its arguments have wrong, or with the help or the version that they ask for.
+/// Ends the program with what its arguments have wrong, or with the help or the version
+/// that they ask for.
 fn end(told: &clap::Error) -> ! {
     let printed = told.print();
     process::exit(match printed {

@@ -83,8 +83,8 @@ pub fn is_same(source: &Path, target: &Path) -> bool {
     }
 }
 
-/// Writes texts to a file: beside it, and then under its name, so that it is never there by half. What is there and is no
-/// file, such as a device, is written to as it is.
+/// Writes texts to a file: beside it, and then under its name, so that it is never there by half.
+/// What is there and is no file, such as a device, is written to as it is.
 pub fn write(path: &Path, texts: &[&str]) -> io::Result<()> {
     let path = fs::canonicalize(path).unwrap_or_else(|_| path.to_path_buf());
     let found = fs::metadata(&path);

@@ -1,7 +1,7 @@
 //! cmark-gfm's parser, in a process of its own.
 //!
-//! It is in C: memory that it spoils is neither the library's nor the text's. It has limits of time and memory, and its
-//! events are judged like any others.
+//! It is in C: memory that it spoils is neither the library's nor the text's. It has limits of time
+//! and memory, and its events are judged like any others.
 
 use crate::script::{self, ScriptError};
 use bivdrazo::Document;
@@ -19,11 +19,13 @@ use std::time::{Duration, Instant};
 /// The program, which stands beside this one.
 const PROGRAM: &str = "bivdrazo-render-cmark";
 
-/// A shell sets the limits and becomes the parser, so that no code of ours runs between fork and exec, which would be
-/// unsafe. The first limit of processor time tells the parser that it is over, and the second kills it.
+/// A shell sets the limits and becomes the parser, so that no code of ours runs between fork and
+/// exec, which would be unsafe. The first limit of processor time tells the parser that it is over,
+/// and the second kills it.
 const LIMITED: &str = r#"ulimit -c 0 && ulimit -v "$1" && ulimit -S -t "$2" && ulimit -H -t "$3" && exec "$0" --events"#;
 
-/// The signals of Linux that say more than their number, and the parser's status for want of memory.
+/// The signals of Linux that say more than their number, and the parser's status for want of
+/// memory.
 const ABORTED: i32 = 6;
 const BROKEN_PIPE: i32 = 13;
 const PROCESSOR_TIME: i32 = 24;
@@ -168,8 +170,8 @@ fn pipe<T>(pipe: Option<T>) -> io::Result<T> {
     pipe.ok_or_else(|| io::ErrorKind::BrokenPipe.into())
 }
 
-/// Where the answer of a piece of work comes. Nobody waits for its thread to end: it is at a pipe, which a process that
-/// the parser started could hold open.
+/// Where the answer of a piece of work comes. Nobody waits for its thread to end: it is at a pipe,
+/// which a process that the parser started could hold open.
 fn in_background<T: Send + 'static>(work: impl FnOnce() -> T + Send + 'static) -> Receiver<T> {
     let (sender, receiver) = mpsc::channel();
     thread::spawn(move || sender.send(work()));
@@ -200,7 +202,8 @@ fn wait_until(child: &mut Child, end: Instant) -> io::Result<Option<ExitStatus>>
     }
 }
 
-/// Whether a parser that ended so has no fault of its own: it was done, or its events were read no further.
+/// Whether a parser that ended so has no fault of its own: it was done, or its events were
+/// read no further.
 fn is_plain(status: ExitStatus) -> bool {
     status.success() || status.signal() == Some(BROKEN_PIPE)
 }

@@ -3,8 +3,8 @@
 use indicatif::{ProgressBar, ProgressStyle};
 use std::env;
 
-/// A bar on standard error for so many files. It is drawn for several files only, and only where standard error is a
-/// terminal that can take a line back.
+/// A bar on standard error for so many files. It is drawn for several files only, and only where
+/// standard error is a terminal that can take a line back.
 pub fn bar(files: usize) -> ProgressBar {
     let is_plain = env::var_os("TERM").map_or(true, |term| term.is_empty() || term == "dumb");
     if files < 2 || is_plain {

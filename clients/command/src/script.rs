@@ -1,7 +1,7 @@
 //! Events as a parser in another process writes them: an event script without options.
 //!
-//! A line is `+` (enter) or `-` (exit), a name, a space and a place in decimal digits. After the line `--` come the
-//! bytes.
+//! A line is `+` (enter) or `-` (exit), a name, a space and a place in decimal digits. After the
+//! line `--` come the bytes.
 
 use bivdrazo::{Document, Event, Name};
 use std::fmt;

@@ -1,5 +1,5 @@
-//! Markdown in for C: one call with its options, declared in `c/bivdrazo_markdown.h`, which also says what a caller
-//! must keep to.
+//! Markdown in for C: one call with its options, declared in `c/bivdrazo_markdown.h`, which also
+//! says what a caller must keep to.
 
 mod numbers;
 
@@ -59,8 +59,9 @@ struct Made {
 ///
 /// # Safety
 ///
-/// `text` points to `length` bytes that can be read, or `length` is 0. `options` is null or points to options whose
-/// texts that are set point to as many bytes as they say. `html` points to a pointer that can be written.
+/// `text` points to `length` bytes that can be read, or `length` is 0. `options` is null or points
+/// to options whose texts that are set point to as many bytes as they say. `html` points to a
+/// pointer that can be written.
 #[no_mangle]
 pub unsafe extern "C" fn bivdrazo_markdown(
     text: *const u8,

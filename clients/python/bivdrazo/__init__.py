@@ -4,9 +4,9 @@
 >>> markdown_to_html("**a** <b>")
 '<p><strong>a</strong> &lt;b&gt;</p>\\n'
 
-The library compiles the events of a parser, and can be called with those of any other one. A parser says what it found
-in a document as a list of events: a paragraph begins at byte 0, a text runs from there to byte 6, the paragraph ends.
-`compile` makes HTML of such a list:
+The library compiles the events of a parser, and can be called with those of any other one. A parser
+says what it found in a document as a list of events: a paragraph begins at byte 0, a text runs from
+there to byte 6, the paragraph ends. `compile` makes HTML of such a list:
 
 >>> from bivdrazo import Event, Name, compile
 >>> events = [
@@ -18,8 +18,8 @@ in a document as a list of events: a paragraph begins at byte 0, a text runs fro
 >>> compile(events, b"Hi <b>")
 '<p>Hi &lt;b&gt;</p>'
 
-Nothing is assumed of the events: whatever a parser hands in is refused or gives a text that, under the default options,
-has one reading as HTML, with links and images of permitted protocols alone.
+Nothing is assumed of the events: whatever a parser hands in is refused or gives a text that, under
+the default options, has one reading as HTML, with links and images of permitted protocols alone.
 
 >>> compile(events[:3], b"Hi <b>")
 Traceback (most recent call last):

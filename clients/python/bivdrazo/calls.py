@@ -58,11 +58,13 @@ def compile(
 ) -> str:
     """The HTML of a list of events over a document's bytes.
 
-    `names` are the character references by name that a document may use, as `{"amp": "&"}`; of two with one name the
-    first counts. HTML's are REFERENCES. The text is safe where allow_any_img_src, allow_dangerous_html and allow_dangerous_protocol are off,
-    and gfm_footnote_label_attributes and gfm_footnote_label_tag_name unset, as by default.
+    `names` are the character references by name that a document may use, as `{"amp": "&"}`; of two
+    with one name the first counts. HTML's are REFERENCES. The text is safe where allow_any_img_src,
+    allow_dangerous_html and allow_dangerous_protocol are off, and gfm_footnote_label_attributes and
+    gfm_footnote_label_tag_name unset, as by default.
 
-    Raises Refused where the events are refused, Invalid where an event or an option stands for none, MemoryError.
+    Raises Refused where the events are refused, Invalid where an event or an option stands for
+    none, MemoryError.
     """
     options = options_of(
         allow_any_img_src=allow_any_img_src,
@@ -84,7 +86,8 @@ def compile(
     return answered(
         first_size(length, len(document)),
         lambda buffer, room: LIBRARY.bivdrazo_compile(
-            made, length, document, len(document), options, references, len(references) - 1, buffer, room
+            made, length, document, len(document), options, references, len(references) - 1, buffer,
+            room
         ),
     )
 
@@ -125,7 +128,8 @@ def compile_within(
     return answered(
         min(first_size(length, len(document)), limits.text),
         lambda buffer, room: LIBRARY.bivdrazo_compile_within(
-            made, length, document, len(document), given, references, len(references) - 1, limits, buffer, room
+            made, length, document, len(document), given, references, len(references) - 1, limits,
+            buffer, room
         ),
         limits,
     )
@@ -149,7 +153,8 @@ def first_size(events: int, length: int) -> int:
 
 
 def answered(
-    room: int, call: Callable[[ctypes.Array[ctypes.c_char], int], CAnswer], limits: CLimits | None = None
+    room: int, call: Callable[[ctypes.Array[ctypes.c_char], int], CAnswer],
+    limits: CLimits | None = None
 ) -> str:
     """The text that a call writes into a buffer, which is made longer where it is too short."""
     buffer = ctypes.create_string_buffer(max(room, 1))
@@ -223,11 +228,13 @@ def html_references() -> ctypes.Array[CReference]:
     return made_references(REFERENCES)
 
 
-def made_references(names: Mapping[str, str] | Iterable[tuple[str, str]]) -> ctypes.Array[CReference]:
+def made_references(names: Mapping[str, str]
+                    | Iterable[tuple[str, str]]) -> ctypes.Array[CReference]:
     """The character references as C has them, with one more after them."""
     pairs = [*(names.items() if isinstance(names, Mapping) else names), ("", "")]
     coded = [(name.encode("utf-8"), text.encode("utf-8")) for name, text in pairs]
-    return (CReference * len(coded))(*[CReference(name, len(name), text, len(text)) for name, text in coded])
+    return (CReference * len(coded))(*[CReference(name, len(name), text, len(text))
+                                       for name, text in coded])
 
 
 def line_ending_of(ending: LineEnding) -> int:

@@ -10,7 +10,9 @@ class Error(ValueError):
 
 
 class Refused(Error):
-    """The events are refused: at `index` (the number of events where something is open at the end), by `rule`."""
+    """The events are refused: at `index` (the number of events where something is open at the
+    end), by `rule`.
+    """
 
     def __init__(self, index: int, rule: Rule) -> None:
         super().__init__(f"event {index}: {rule.name}")
@@ -23,7 +25,8 @@ class Refused(Error):
 
 
 class Invalid(Error):
-    """An event, a name or an option stands for none; `what` says which of the three, `index` where."""
+    """An event, a name or an option stands for none; `what` says which of the three, `index` where.
+    """
 
     def __init__(self, what: str, index: int) -> None:
         told = OPTIONS[index][0] if what == "option" else str(index)
@@ -49,7 +52,9 @@ class Unreadable(Error):
 
 
 class TooLong(Error):
-    """The Markdown or its text passes a bound: `what` is "input" or "output", `limit` how many bytes it may have."""
+    """The Markdown or its text passes a bound: `what` is "input" or "output", `limit` how many
+    bytes it may have.
+    """
 
     def __init__(self, what: str, limit: int) -> None:
         super().__init__(f"the {what} has more than {limit} bytes")

@@ -66,7 +66,8 @@ class CLimits(ctypes.Structure):
 
 def load() -> ctypes.CDLL:
     """The shared object that BIVDRAZO_LIBRARY names, or else the one in this package."""
-    path = os.environ.get("BIVDRAZO_LIBRARY") or pathlib.Path(__file__).with_name("out") / "libbivdrazo.so"
+    path = (os.environ.get("BIVDRAZO_LIBRARY")
+            or pathlib.Path(__file__).with_name("out") / "libbivdrazo.so")
     try:
         library = ctypes.CDLL(str(path))
     except OSError as error:
@@ -76,7 +77,8 @@ def load() -> ctypes.CDLL:
     library.bivdrazo_compile.argtypes = [events, size, text, size, options, names, size, text, size]
     library.bivdrazo_compile.restype = CAnswer
     limits = ctypes.POINTER(CLimits)
-    library.bivdrazo_compile_within.argtypes = [events, size, text, size, options, names, size, limits, text, size]
+    library.bivdrazo_compile_within.argtypes = [events, size, text, size, options, names, size,
+                                                limits, text, size]
     library.bivdrazo_compile_within.restype = CAnswer
     library.bivdrazo_run.argtypes = [text, size, text, size]
     library.bivdrazo_run.restype = CAnswer

@@ -13,11 +13,14 @@ from .library import CAnswer, CText
 from .numbers import MARKDOWN_OPTIONS, MARKDOWN_VERSION, DocumentHtml, MarkdownStatus, Status
 from .values import bound_of, typed
 
-HTML = {"text": DocumentHtml.TEXT, "left-out": DocumentHtml.LEFT_OUT, "without-comments": DocumentHtml.WITHOUT_COMMENTS}
+HTML = {"text": DocumentHtml.TEXT, "left-out": DocumentHtml.LEFT_OUT,
+        "without-comments": DocumentHtml.WITHOUT_COMMENTS}
 
 
 class Heading(NamedTuple):
-    """A heading that got an id: its level, its number from 1, and its text, without tags and escaped."""
+    """A heading that got an id: its level, its number from 1, and its text, without
+    tags and escaped.
+    """
 
     level: int
     number: int
@@ -54,7 +57,8 @@ def markdown_library() -> ctypes.CDLL:
     except OSError as error:
         raise ImportError(f"{error}; clients/build makes it where cargo finds pulldown-cmark and linkify") from error
     out = ctypes.POINTER(ctypes.c_void_p)
-    library.bivdrazo_markdown.argtypes = [ctypes.c_char_p, ctypes.c_size_t, ctypes.POINTER(CMarkdownOptions), out]
+    library.bivdrazo_markdown.argtypes = [ctypes.c_char_p, ctypes.c_size_t,
+                                          ctypes.POINTER(CMarkdownOptions), out]
     library.bivdrazo_markdown.restype = CAnswer
     library.bivdrazo_markdown_headings.argtypes = [*library.bivdrazo_markdown.argtypes, out]
     library.bivdrazo_markdown_headings.restype = CAnswer
@@ -92,23 +96,25 @@ def markdown_to_html(
 
     The text is safe, whatever is chosen:
 
-    footnote_prefix: what the ids of footnotes begin with, else `user-content-`; each document of a page needs another.
-    number_ids: ids of footnotes are made of their numbers; then no two ids of the text are equal.
-    footnote_label, footnote_back_label: the footnotes' heading, and the label of a way back.
-    hard_breaks: a soft break is a `<br />`.
+    footnote_prefix: what the ids of footnotes begin with, else `user-content-`; each document of a
+    page needs another. number_ids: ids of footnotes are made of their numbers; then no two ids of
+    the text are equal. footnote_label, footnote_back_label: the footnotes' heading, and the label
+    of a way back. hard_breaks: a soft break is a `<br />`.
     bare_links: bare URLs and addresses are links.
-    html: what becomes of HTML in the document: "text", "left-out", or "without-comments", the rest being text.
-    base: the URL against which those of links and images are read.
-    rel: the `rel` of each link whose URL isn't empty and doesn't begin with `#`.
-    heading_ids: what the ids of headings begin with, their numbers follow; they are distinct from one another, and from
-    all others where no other begins so: those of footnotes are `footnote-label`, and the prefix and `fn`.
-    max_input, max_output: how many bytes of UTF-8 the document and the text may have.
+    html: what becomes of HTML in the document: "text", "left-out", or "without-comments", the rest
+    being text. base: the URL against which those of links and images are read.
+    rel: the `rel` of each link whose URL isn't empty and doesn't begin with `#`. heading_ids:
+    what the ids of headings begin with, their numbers follow; they are distinct from one
+    another, and from all others where no other begins so: those of footnotes are
+    `footnote-label`, and the prefix and `fn`. max_input, max_output: how many bytes of UTF-8 the
+    document and the text may have.
 
     >>> markdown_to_html("a <b>c</b>\\nd", html="left-out", hard_breaks=True)
     '<p>a c<br />\\nd</p>\\n'
 
-    Raises TooLong where a bound is passed, MemoryError where the library finds no memory, UnicodeEncodeError for a
-    surrogate that is alone, and TypeError for a value of another type. Other threads run during the call.
+    Raises TooLong where a bound is passed, MemoryError where the library finds no memory,
+    UnicodeEncodeError for a surrogate that is alone, and TypeError for a value of another type.
+    Other threads run during the call.
     """
     document = typed("text", text, str).encode("utf-8")
     given = options_of(
@@ -128,8 +134,10 @@ def markdown_to_html(
     return rendered(document, given)[0]
 
 
-def markdown_with_headings(text: str, heading_ids: str, **options: Any) -> tuple[str, list[Heading]]:
-    """As markdown_to_html, whose other options it takes, with the headings that got an id, for a table of contents.
+def markdown_with_headings(text: str, heading_ids: str, **options: Any) -> tuple[str,
+                                                                                 list[Heading]]:
+    """As markdown_to_html, whose other options it takes, with the headings that got an id, for a
+    table of contents.
 
     >>> from bivdrazo import markdown_with_headings
     >>> markdown_with_headings("## a *b*", "part-")
@@ -138,7 +146,9 @@ def markdown_with_headings(text: str, heading_ids: str, **options: Any) -> tuple
     In a heading's text a space stands for each line feed.
     """
     document = typed("text", text, str).encode("utf-8")
-    html, lines = rendered(document, options_of(heading_ids=typed("heading_ids", heading_ids, str), **options))
+    html, lines = rendered(document,
+                           options_of(heading_ids=typed("heading_ids", heading_ids, str),
+                                      **options))
     return html, [heading_of(line) for line in lines.split("\n")[:-1]]
 
 
@@ -186,7 +196,8 @@ def rendered(document: bytes, options: CMarkdownOptions) -> tuple[str, str]:
     library = markdown_library()
     html, headings = ctypes.c_void_p(), ctypes.c_void_p()
     made = ctypes.byref(html), ctypes.byref(headings)
-    answer = library.bivdrazo_markdown_headings(document, len(document), ctypes.byref(options), *made)
+    answer = library.bivdrazo_markdown_headings(document, len(document), ctypes.byref(options),
+                                                *made)
     if answer.status != Status.OK:
         raise markdown_error_of(answer, options)
     try:

@@ -62,7 +62,8 @@ class Texts(unittest.TestCase):
         html = node(Name.HTML_FLOW, node(Name.HTML_FLOW_DATA, end=8), end=8)
         self.assertEqual(compile(html, b"<script>"), "&lt;script&gt;")
         self.assertEqual(compile(html, b"<script>", allow_dangerous_html=True), "<script>")
-        self.assertEqual(compile(html, b"<script>", allow_dangerous_html=True, gfm_tagfilter=True), "&lt;script>")
+        self.assertEqual(compile(html, b"<script>", allow_dangerous_html=True, gfm_tagfilter=True),
+                         "&lt;script>")
 
     def test_line_endings(self):
         breaks = node(Name.THEMATIC_BREAK, end=3) + node(Name.THEMATIC_BREAK, start=3, end=6)
@@ -74,7 +75,8 @@ class Texts(unittest.TestCase):
         }
         self.assertEqual(set(endings), set(LineEnding))
         for ending, text in endings.items():
-            self.assertEqual(compile(breaks, b"******", default_line_ending=ending), f"<hr />{text}<hr />")
+            self.assertEqual(compile(breaks, b"******", default_line_ending=ending),
+                             f"<hr />{text}<hr />")
 
     def test_links_and_images(self):
         def medium(name, length):
@@ -86,15 +88,18 @@ class Texts(unittest.TestCase):
         self.assertEqual(compile(link, b"javascript:b"), '<a href=""></a>')
         self.assertEqual(compile(link, b"javascript:b", allow_any_img_src=True), '<a href=""></a>')
         self.assertEqual(
-            compile(link, b"javascript:b", allow_dangerous_protocol=True), '<a href="javascript:b"></a>'
+            compile(link, b"javascript:b", allow_dangerous_protocol=True),
+            '<a href="javascript:b"></a>'
         )
         self.assertEqual(compile(image, b"data:b"), '<img src="" alt="" />')
-        self.assertEqual(compile(image, b"data:b", allow_any_img_src=True), '<img src="data:b" alt="" />')
+        self.assertEqual(compile(image, b"data:b", allow_any_img_src=True),
+                         '<img src="data:b" alt="" />')
 
     def test_texts_of_options(self):
         call = node(Name.GFM_FOOTNOTE_CALL, node(Name.LABEL, node(Name.LABEL_TEXT, end=1)))
         prefix = node(
-            Name.GFM_FOOTNOTE_DEFINITION_PREFIX, node(Name.GFM_FOOTNOTE_DEFINITION_LABEL_STRING, end=1)
+            Name.GFM_FOOTNOTE_DEFINITION_PREFIX,
+            node(Name.GFM_FOOTNOTE_DEFINITION_LABEL_STRING, end=1)
         )
         events = call + node(Name.GFM_FOOTNOTE_DEFINITION, prefix)
         text = compile(
@@ -110,7 +115,8 @@ class Texts(unittest.TestCase):
         self.assertIn('<a href="#user-content-fn-1" id="user-content-fnref-1-1"', text)
 
     def test_names(self):
-        reference = node(Name.CHARACTER_REFERENCE_MARKER, end=1) + node(Name.CHARACTER_REFERENCE_VALUE, start=1, end=2)
+        reference = node(Name.CHARACTER_REFERENCE_MARKER,
+                         end=1) + node(Name.CHARACTER_REFERENCE_VALUE, start=1, end=2)
         self.assertEqual(compile(reference, b"&x;", names={"x": "<"}), "&lt;")
         self.assertEqual(compile(reference, b"&x;", names=[("x", "y"), ("x", "z")]), "y")
 
@@ -120,7 +126,8 @@ class Texts(unittest.TestCase):
         self.assertEqual(compile(events, b""), "<hr />")
 
     def test_columns(self):
-        chunk = [Event(1, Name.CODE_FLOW_CHUNK, 0, columns=2), Event(2, Name.CODE_FLOW_CHUNK, 2, columns=3)]
+        chunk = [Event(1, Name.CODE_FLOW_CHUNK, 0, columns=2),
+                 Event(2, Name.CODE_FLOW_CHUNK, 2, columns=3)]
         events = [Event.enter(Name.CODE_INDENTED, 0), *chunk, Event.exit(Name.CODE_INDENTED, 3)]
         self.assertEqual(compile(events, b"\ta\t"), "<pre><code>  a\t  \n</code></pre>")
 
@@ -137,7 +144,8 @@ class Limits(unittest.TestCase):
         return compile_within(paragraph(6), b"Hi <b>", **bounds)
 
     def test_texts(self):
-        for bounds in [{}, {"max_output": 19}, {"max_work": 6}, {"max_output": 1 << 70, "max_work": 1 << 70}]:
+        for bounds in [{}, {"max_output": 19}, {"max_work": 6},
+                       {"max_output": 1 << 70, "max_work": 1 << 70}]:
             self.assertEqual(self.within(**bounds), self.TEXT)
         self.assertEqual(compile_within([], b"", max_output=0, max_work=0), "")
         long = compile_within(paragraph(1000), b'"' * 1000, max_output=6007, max_work=1000)
@@ -145,8 +153,10 @@ class Limits(unittest.TestCase):
 
     def test_options(self):
         html = node(Name.HTML_FLOW, node(Name.HTML_FLOW_DATA, end=8), end=8)
-        self.assertEqual(compile_within(html, b"<script>", max_output=8, allow_dangerous_html=True), "<script>")
-        reference = node(Name.CHARACTER_REFERENCE_MARKER, end=1) + node(Name.CHARACTER_REFERENCE_VALUE, start=1, end=2)
+        self.assertEqual(compile_within(html, b"<script>", max_output=8, allow_dangerous_html=True),
+                         "<script>")
+        reference = node(Name.CHARACTER_REFERENCE_MARKER,
+                         end=1) + node(Name.CHARACTER_REFERENCE_VALUE, start=1, end=2)
         self.assertEqual(compile_within(reference, b"&x;", names={"x": "y"}), "y")
         with self.assertRaises(TypeError):
             self.within(max_input=1)
@@ -246,14 +256,16 @@ class Errors(unittest.TestCase):
         self.assertEqual(str(error_of(2, 6, 3)), "event 6: PLACE")
         self.assertEqual(str(error_of(6, 7, 0)), "line 7: unreadable")
         self.assertEqual(repr(error_of(7, 0, 0)), "MemoryError('out of memory')")
-        self.assertEqual(repr(error_of(99, 0, 0)), "RuntimeError('the library answered the status 99')")
+        self.assertEqual(repr(error_of(99, 0, 0)),
+                         "RuntimeError('the library answered the status 99')")
 
 
 class Interface(unittest.TestCase):
     """What holds of the module as a whole."""
 
     def test_sizes(self):
-        sizes = [(CAnswer, 24), (CEvent, 16), (CText, 24), (CReference, 32), (COptions, 128), (CLimits, 16)]
+        sizes = [(CAnswer, 24), (CEvent, 16), (CText, 24), (CReference, 32), (COptions, 128),
+                 (CLimits, 16)]
         self.assertEqual([ctypes.sizeof(type_) for type_, _ in sizes], [size for _, size in sizes])
 
     def test_threads(self):

@@ -43,18 +43,22 @@ class Texts(unittest.TestCase):
 
     def test_breaks_and_links(self):
         self.assertEqual(markdown_to_html("a\nb", hard_breaks=True), "<p>a<br />\nb</p>\n")
-        self.assertEqual(markdown_to_html("a@b.org"), '<p><a href="mailto:a@b.org">a@b.org</a></p>\n')
+        self.assertEqual(markdown_to_html("a@b.org"),
+                         '<p><a href="mailto:a@b.org">a@b.org</a></p>\n')
         self.assertEqual(markdown_to_html("a@b.org", bare_links=False), "<p>a@b.org</p>\n")
-        self.assertEqual(markdown_to_html("[a](b)", base="https://c.d"), '<p><a href="https://c.d/b">a</a></p>\n')
+        self.assertEqual(markdown_to_html("[a](b)", base="https://c.d"),
+                         '<p><a href="https://c.d/b">a</a></p>\n')
 
     def test_attributes(self):
         link = '<p><a href="b" rel="&quot;&lt;\ufffd">a</a> <a href="#c">d</a> <a href="">e</a></p>\n'
         self.assertEqual(markdown_to_html("[a](b) [d](#c) [e](f:)", rel='"<\0'), link)
-        self.assertEqual(markdown_to_html("# a\n## b", heading_ids=""), '<h1 id="1">a</h1>\n<h2 id="2">b</h2>\n')
+        self.assertEqual(markdown_to_html("# a\n## b", heading_ids=""),
+                         '<h1 id="1">a</h1>\n<h2 id="2">b</h2>\n')
         self.assertNotIn('<h2 id="x', markdown_to_html(NOTE, heading_ids="x"))
 
     def test_headings(self):
-        html, headings = markdown_with_headings("# a *b* <\n\n> c\n> d\n> ---\n", "p-", hard_breaks=True)
+        html, headings = markdown_with_headings("# a *b* <\n\n> c\n> d\n> ---\n", "p-",
+                                                hard_breaks=True)
         self.assertEqual(headings, [Heading(1, 1, "a b &lt;"), Heading(2, 2, "c d")])
         self.assertIn('<h2 id="p-2">c<br />', html)
         self.assertEqual(markdown_with_headings(NOTE, "p-")[1], [])
@@ -69,7 +73,8 @@ class Texts(unittest.TestCase):
 
     def test_bounds(self):
         self.assertEqual(markdown_to_html("\u00e9", max_input=2, max_output=10), "<p>\u00e9</p>\n")
-        for bounds, what, limit in [({"max_input": 1}, "input", 1), ({"max_output": 9}, "output", 9)]:
+        for bounds, what, limit in [({"max_input": 1}, "input", 1),
+                                    ({"max_output": 9}, "output", 9)]:
             with self.subTest(what=what), self.assertRaises(TooLong) as caught:
                 markdown_to_html("\u00e9", **bounds)
             self.assertEqual((caught.exception.what, caught.exception.limit), (what, limit))
@@ -82,15 +87,18 @@ class Errors(unittest.TestCase):
 
     def test_types(self):
         values = {
-            "footnote_prefix": b"x", "footnote_label": 1, "footnote_back_label": b"", "base": 2, "number_ids": 1,
+            "footnote_prefix": b"x", "footnote_label": 1, "footnote_back_label": b"", "base": 2,
+            "number_ids": 1,
             "rel": b"", "heading_ids": 3,
-            "hard_breaks": None, "bare_links": "yes", "html": 0, "max_input": 1.5, "max_output": True,
+            "hard_breaks": None, "bare_links": "yes", "html": 0, "max_input": 1.5,
+            "max_output": True,
         }
         for name, value in values.items():
             with self.subTest(name=name), self.assertRaisesRegex(TypeError, f"^{name}: "):
                 markdown_to_html("a", **{name: value})
         for text in (b"a", None, 1):
-            with self.subTest(text=text), self.assertRaisesRegex(TypeError, "^text: str is wanted, not "):
+            with self.subTest(text=text), self.assertRaisesRegex(TypeError,
+                                                                 "^text: str is wanted, not "):
                 markdown_to_html(text)
 
     def test_values(self):
@@ -123,19 +131,23 @@ class Interface(unittest.TestCase):
         errors = [Refused(3, Rule.PLACE), Invalid("event", 4), Unreadable(5), TooLong("input", 6)]
         for error in errors:
             again = pickle.loads(pickle.dumps(error))
-            self.assertEqual((type(again), str(again), vars(again)), (type(error), str(error), vars(error)))
+            self.assertEqual((type(again), str(again), vars(again)),
+                             (type(error), str(error), vars(error)))
         call = functools.partial(markdown_to_html, html="left-out", max_input=7)
         self.assertEqual(pickle.loads(pickle.dumps(call)).keywords, call.keywords)
 
     def test_references(self):
-        wanted = {name[:-1]: text for name, text in html.entities.html5.items() if name.endswith(";")}
+        wanted = {name[:-1]: text for name, text in html.entities.html5.items()
+                  if name.endswith(";")}
         self.assertEqual(REFERENCES, wanted)
         self.assertEqual(len(REFERENCES), 2125)
         for name in ("amp", "copy", "NotEqualTilde", "zwnj"):
             end = len(name) + 1
             events = [
-                Event.enter(Name.CHARACTER_REFERENCE_MARKER, 0), Event.exit(Name.CHARACTER_REFERENCE_MARKER, 1),
-                Event.enter(Name.CHARACTER_REFERENCE_VALUE, 1), Event.exit(Name.CHARACTER_REFERENCE_VALUE, end),
+                Event.enter(Name.CHARACTER_REFERENCE_MARKER, 0),
+                Event.exit(Name.CHARACTER_REFERENCE_MARKER, 1),
+                Event.enter(Name.CHARACTER_REFERENCE_VALUE, 1),
+                Event.exit(Name.CHARACTER_REFERENCE_VALUE, end),
             ]
             text = compile(events, f"&{name};".encode(), names=REFERENCES)
             self.assertEqual(text, REFERENCES[name].replace("&", "&amp;"))

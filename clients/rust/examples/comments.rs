@@ -2,8 +2,8 @@
 //!
 //!     cargo run --example comments FILE..
 //!
-//! Each comment has bounds, and prefixes of its own, so that no two of them share an id of a footnote or of a heading but
-//! `footnote-label`; no search engine follows its links.
+//! Each comment has bounds, and prefixes of its own, so that no two of them share an id of a
+//! footnote or of a heading but `footnote-label`; no search engine follows its links.
 
 use bivdrazo::{markdown_to_html, DocumentHtml, MarkdownOptions};
 use std::{env, error, fs};

@@ -1,4 +1,5 @@
-//! The events of a Markdown document as an event script, which mdevents reads: what the library is handed.
+//! The events of a Markdown document as an event script, which mdevents reads: what the
+//! library is handed.
 //!
 //!     cargo run --example events < MARKDOWN
 

@@ -187,8 +187,9 @@ fn compile_c(
     let options = c_options(options);
     let room = first_size(events.len(), bytes.len());
     into_text(room, Limits::default(), |buffer| {
-        // SAFETY: the pointers are those of slices, of a struct that refers to strings of the caller's, and of a buffer
-        // that nothing else refers to; each goes with its own length and isn't null.
+        // SAFETY: the pointers are those of slices, of a struct that refers to strings of the
+        // caller's, and of a buffer that nothing else refers to; each goes with its own
+        // length and isn't null.
         unsafe {
             bivdrazo_compile(
                 events.as_ptr(),
@@ -261,8 +262,9 @@ fn compile_attributed_c(
     };
     let room = first_size(events.len(), bytes.len());
     let call = |buffer: &mut Vec<u8>| {
-        // SAFETY: the pointers are those of slices, of structs that refer to strings of the caller's, and of a buffer
-        // that nothing else refers to; each goes with its own length and isn't null.
+        // SAFETY: the pointers are those of slices, of structs that refer to strings of the
+        // caller's, and of a buffer that nothing else refers to; each goes with its own
+        // length and isn't null.
         unsafe {
             bivdrazo_compile_attributed(
                 events.as_ptr(),
@@ -309,7 +311,8 @@ fn heading_of(line: &str) -> Option<Heading> {
 /// As `crate::run`.
 pub(crate) fn run(script: &[u8]) -> Result<String, Error> {
     into_text(first_size(0, script.len()), Limits::default(), |buffer| {
-        // SAFETY: the pointers are those of a slice and of a buffer that nothing else refers to, with their lengths.
+        // SAFETY: the pointers are those of a slice and of a buffer that nothing else refers to,
+        // with their lengths.
         unsafe {
             bivdrazo_run(
                 script.as_ptr(),

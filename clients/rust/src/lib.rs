@@ -10,12 +10,13 @@
 //! # Ok::<(), bivdrazo::Error>(())
 //! ```
 //!
-//! This stands on the feature `markdown`, which is on by default: the parser is pulldown-cmark. The library itself
-//! compiles the events of a parser, and can be called with those of any other one. A parser says what it found in a
-//! document as a list of events: a paragraph begins at byte 0, a text runs from there to byte 6, the paragraph ends.
-//! [`compile`] makes HTML of such a list. Nothing is assumed of the events: whatever a parser hands in is refused or
-//! gives a text that, under the default options, has one reading as HTML, with links and images of permitted protocols
-//! alone.
+//! This stands on the feature `markdown`, which is on by default: the parser is pulldown-cmark.
+//! The library itself compiles the events of a parser, and can be called with those of any other
+//! one. A parser says what it found in a document as a list of events: a paragraph begins at byte
+//! 0, a text runs from there to byte 6, the paragraph ends. [`compile`] makes HTML of such a list.
+//! Nothing is assumed of the events: whatever a parser hands in is refused or gives a text that,
+//! under the default options, has one reading as HTML, with links and images of permitted
+//! protocols alone.
 //!
 //! ```
 //! use bivdrazo::{compile, Event, Name, Options};
@@ -111,8 +112,9 @@ pub enum LineEnding {
 
 /// What may be chosen. The default is safe.
 ///
-/// The text is safe where `allow_any_img_src`, `allow_dangerous_html` and `allow_dangerous_protocol` are off, and
-/// `gfm_footnote_label_attributes` and `gfm_footnote_label_tag_name` are `None`; the others are free.
+/// The text is safe where `allow_any_img_src`, `allow_dangerous_html` and
+/// `allow_dangerous_protocol` are off, and `gfm_footnote_label_attributes` and
+/// `gfm_footnote_label_tag_name` are `None`; the others are free.
 ///
 /// ```
 /// use bivdrazo::{LineEnding, Options};
@@ -153,9 +155,10 @@ pub struct Options {
 
 /// What is added to the tags of a text. Each text is escaped.
 ///
-/// The ids of headings are distinct from one another, and from all others where no other begins with `heading_ids`.
-/// Those of footnotes are `footnote-label`, and what `gfm_footnote_clobber_prefix` says and `fn`; they are distinct from
-/// one another under `gfm_footnote_number_ids`.
+/// The ids of headings are distinct from one another, and from all others where no other begins
+/// with `heading_ids`. Those of footnotes are `footnote-label`, and what
+/// `gfm_footnote_clobber_prefix` says and `fn`; they are distinct from one another under
+/// `gfm_footnote_number_ids`.
 #[derive(Clone, Debug, Default, Eq, PartialEq)]
 pub struct Attributes {
     /// The `rel` of each link whose URL isn't empty and doesn't begin with `#`.
@@ -214,7 +217,8 @@ pub struct Rendered {
 #[derive(Clone, Copy, Debug, Eq, PartialEq)]
 #[non_exhaustive]
 pub enum Error {
-    /// The events are refused: at `index` (the number of events where something is open at the end), by `rule`.
+    /// The events are refused: at `index` (the number of events where something is open at the
+    /// end), by `rule`.
     Refused {
         /// The index of the event.
         index: usize,
@@ -291,8 +295,9 @@ impl error::Error for Error {}
 
 /// The HTML of a list of events over a document's bytes.
 ///
-/// `names` are the character references by name that a document may use, each with what it stands for; of two with one
-/// name the first counts. HTML's are [`REFERENCES`]. The bytes need not be UTF-8 but where events read them as text.
+/// `names` are the character references by name that a document may use, each with what it stands
+/// for; of two with one name the first counts. HTML's are [`REFERENCES`]. The bytes need not be
+/// UTF-8 but where events read them as text.
 ///
 /// # Errors
 ///
@@ -348,7 +353,8 @@ pub fn compile_within(
     ffi::compile_within(events, bytes, options, names, limits)
 }
 
-/// As [`compile`], with attributes that are added to the tags of the text, and the headings that got an `id`.
+/// As [`compile`], with attributes that are added to the tags of the text, and the headings
+/// that got an `id`.
 ///
 /// # Errors
 ///
@@ -391,7 +397,8 @@ pub fn compile_attributed(
 ///
 /// # Errors
 ///
-/// [`Error::Line`] where a line can't be read, [`Error::Refused`] where the events are refused, and [`Error::Memory`].
+/// [`Error::Line`] where a line can't be read, [`Error::Refused`] where the events are refused, and
+/// [`Error::Memory`].
 ///
 /// ```
 /// let script = b"+ThematicBreak 0\n-ThematicBreak 3\n--\n***";

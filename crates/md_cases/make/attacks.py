@@ -1,8 +1,8 @@
 """The cases of the group `attacks`: known attacks on each way into the text.
 
-An attack is the whole document, and nearly every node of a way in stands over all of it. To add an attack, write it at
-the end of its kind below; to add a way in, add a row to a function of ways: its name, its options and its nodes.
-`many` has one more attack. `bench/cases.py` makes the cases.
+An attack is the whole document, and nearly every node of a way in stands over all of it. To add an
+attack, write it at the end of its kind below; to add a way in, add a row to a function of ways: its
+name, its options and its nodes. `many` has one more attack. `bench/cases.py` makes the cases.
 """
 import re
 
@@ -10,23 +10,33 @@ from meaning import meaning
 from trees import Case, Document, Node, script
 
 MARKUP = ["<script>alert(1)</script>", "<img src=x onerror=alert(1)>", "--><svg/onload=alert(1)>",
-          '" onmouseover="alert(1)', "' onfocus='x", "`onerror=x`", '<a href="x', "\"><b a='", "x</p>",
-          "</code></pre></a>", "<!-- x", "<![CDATA[x", "<!--[if IE]><script>", "&lt;script&gt;", "&", "100%<b>",
+          '" onmouseover="alert(1)', "' onfocus='x", "`onerror=x`", '<a href="x', "\"><b a='",
+          "x</p>",
+          "</code></pre></a>", "<!-- x", "<![CDATA[x", "<!--[if IE]><script>", "&lt;script&gt;",
+          "&", "100%<b>",
           "\u2028<script>", "<" * 16]
-PROTOCOLS = ["javascript:alert(1)", "JaVaScRiPt:alert(1)", "%6Aavascript:alert(1)", "java%0Ascript:alert(1)",
+PROTOCOLS = ["javascript:alert(1)", "JaVaScRiPt:alert(1)", "%6Aavascript:alert(1)",
+             "java%0Ascript:alert(1)",
              "javascript%3Aalert(1)", "java\tscript:alert(1)", "  javascript:alert(1)",
-             "\x01\x1f javascript:alert(1)", "\ufeffjavascript:alert(1)", "java\u017fcript:alert(1)",
+             "\x01\x1f javascript:alert(1)", "\ufeffjavascript:alert(1)",
+             "java\u017fcript:alert(1)",
              "javascript\uff1aalert(1)", "javascript&colon;alert(1)", "&#106;avascript:alert(1)",
-             "java&Tab;script:alert(1)", "javascript://https://x", "data:text/html,x", "vbscript:x", "file:///x", ":x",
-             "httpsx:y", "//evil.example", "\\\\evil.example", "?x:y", "#x:y", "a/b:c", 'HTTPS://x/"onload="y',
+             "java&Tab;script:alert(1)", "javascript://https://x", "data:text/html,x", "vbscript:x",
+             "file:///x", ":x",
+             "httpsx:y", "//evil.example", "\\\\evil.example", "?x:y", "#x:y", "a/b:c",
+             'HTTPS://x/"onload="y',
              "http:javascript:x", "mailto:x?body=<script>", "IRC:x"]
 LINES = ["java\nscript:alert(1)", "java\r\nscript:alert(1)", "\njavascript:alert(1)", "<script\n>"]
 NULS = ["<scr\0ipt>", "\0javascript:alert(1)"]
-SPELLINGS = ["&#106;avascript:x", "&#0000106;avascript:x", "&#x4a;avascript:x", "javascript&colon;x",
-             "javascript&#58;x", "javascript&#x3A;x", "java&#10;script:x", "java&#x9;script:x", "&#1;javascript:x",
+SPELLINGS = ["&#106;avascript:x", "&#0000106;avascript:x", "&#x4a;avascript:x",
+             "javascript&colon;x",
+             "javascript&#58;x", "javascript&#x3A;x", "java&#10;script:x", "java&#x9;script:x",
+             "&#1;javascript:x",
              "&#0;javascript:x", "&#32;javascript:x", "a&sol;b:c", "a&num;b:c", "a&quest;b:c",
-             "http&colon;&sol;&sol;x", "mailto&colon;x", "&lt;script&gt;", "&#60;script&#x3e;", "&quot; onload=&quot;",
-             "&apos; onload=&#39;", "&amp;lt;script", "&amp;colon;x", "&amp;&quot;", "&#37;0Aa", "%&#50;0a",
+             "http&colon;&sol;&sol;x", "mailto&colon;x", "&lt;script&gt;", "&#60;script&#x3e;",
+             "&quot; onload=&quot;",
+             "&apos; onload=&#39;", "&amp;lt;script", "&amp;colon;x", "&amp;&quot;", "&#37;0Aa",
+             "%&#50;0a",
              "&#37;&lt;", "&#8232;<"]
 OF_ONE_LINE = {"markup": MARKUP, "protocols": PROTOCOLS}
 KINDS = OF_ONE_LINE | {"lines": LINES, "nuls": NULS}
@@ -59,7 +69,8 @@ def ways_as_text(text):
     def in_image(*nodes):
         return whole("Image", whole("Label", whole("LabelText", *nodes)), end("Resource"))
 
-    html, inline = whole("HtmlFlow", whole("HtmlFlowData")), whole("HtmlText", whole("HtmlTextData"))
+    html, inline = whole("HtmlFlow", whole("HtmlFlowData")), whole("HtmlText",
+                                                                   whole("HtmlTextData"))
     code, math = whole("CodeText", whole("CodeTextData")), whole("MathText", whole("MathTextData"))
     meta = whole("MathFlowFenceMeta", whole("Data"))
     return [
@@ -71,10 +82,13 @@ def ways_as_text(text):
         ("html and emphasis in an image", [], [in_image(inline, whole("Emphasis", whole("Data")))]),
         ("code and math in a text", [], [code, math]),
         ("fenced code", [],
-         [whole("CodeFenced", whole("CodeFencedFence"), whole("CodeFlowChunk"), whole("CodeFencedFence"))]),
+         [whole("CodeFenced", whole("CodeFencedFence"), whole("CodeFlowChunk"),
+                whole("CodeFencedFence"))]),
         ("math on its own lines", [],
-         [whole("MathFlow", whole("MathFlowFence", meta), whole("MathFlowChunk"), whole("MathFlowFence"))]),
-        ("indented code after frontmatter", [], [whole("Frontmatter"), whole("CodeIndented", whole("CodeFlowChunk"))]),
+         [whole("MathFlow", whole("MathFlowFence", meta), whole("MathFlowChunk"),
+                whole("MathFlowFence"))]),
+        ("indented code after frontmatter", [],
+         [whole("Frontmatter"), whole("CodeIndented", whole("CodeFlowChunk"))]),
     ]
 
 
@@ -83,16 +97,19 @@ def ways_that_are_read(text, nodes):
     whole, end = makers(text)
     mark = Node("HeadingAtxSequence", 0, 1, [])
     heading = whole("HeadingAtx", mark, whole("HeadingAtxText", whole("Strong", *nodes)))
-    fence = whole("CodeFencedFence", whole("CodeFencedFenceInfo", *nodes), whole("CodeFencedFenceMeta", *nodes))
+    fence = whole("CodeFencedFence", whole("CodeFencedFenceInfo", *nodes),
+                  whole("CodeFencedFenceMeta", *nodes))
     head = whole("GfmTableHead", whole("GfmTableRow", whole("GfmTableCell", *nodes)),
                  end("GfmTableDelimiterRow", end("GfmTableDelimiterCellValue")))
     label = whole("Label", whole("LabelText", *nodes))
     destination = whole("ResourceDestinationString", *nodes)
     resource = whole("Resource", destination, whole("ResourceTitleString", *nodes))
-    definition = whole("Definition", whole("DefinitionLabelString"), whole("DefinitionDestinationString", *nodes),
+    definition = whole("Definition", whole("DefinitionLabelString"),
+                       whole("DefinitionDestinationString", *nodes),
                        whole("DefinitionTitleString", *nodes))
     empty = Node("Label", 0, 0, [Node("LabelText", 0, 0, [])])
-    around = whole("Label", whole("LabelText", whole("Image", empty, whole("Resource", destination))))
+    around = whole("Label",
+                   whole("LabelText", whole("Image", empty, whole("Resource", destination))))
     return [
         ("paragraph", [], [whole("Paragraph", *nodes)]),
         ("strong heading", [], [heading]),
@@ -101,7 +118,8 @@ def ways_that_are_read(text, nodes):
         ("link", [], [whole("Link", label, resource)]),
         ("image", [], [whole("Image", label, resource)]),
         ("link by a definition", [], [whole("Link", label), definition]),
-        ("image by a definition", [], [whole("Image", label, whole("ReferenceString")), definition]),
+        ("image by a definition", [],
+         [whole("Image", label, whole("ReferenceString")), definition]),
         ("any link around any image", ["allow_any_img_src", "allow_dangerous_protocol"],
          [whole("Link", around, whole("Resource", destination))]),
         ("footnote", [], footnote(text, whole("Paragraph", *nodes))),
@@ -119,19 +137,22 @@ def footnote(text, *nodes):
 def ways_of_autolinks(text):
     """The ways in on which an autolink stands."""
     whole, end = makers(text)
-    label = whole("Label", whole("LabelText", whole("AutolinkProtocol"), whole("GfmAutolinkLiteralWww")))
+    label = whole("Label",
+                  whole("LabelText", whole("AutolinkProtocol"), whole("GfmAutolinkLiteralWww")))
     return [
         ("autolinks", [], [whole("AutolinkProtocol"), whole("AutolinkEmail")]),
         ("literal autolinks of protocols", [], [whole("GfmAutolinkLiteral" + name) for name in
                                                 ("Protocol", "Mailto", "Xmpp")]),
-        ("literal autolinks of www and email", [], [whole("GfmAutolinkLiteralWww"), whole("GfmAutolinkLiteralEmail")]),
+        ("literal autolinks of www and email", [],
+         [whole("GfmAutolinkLiteralWww"), whole("GfmAutolinkLiteralEmail")]),
         ("autolinks in an image", [], [whole("Image", label, end("Resource"))]),
     ]
 
 
 def ways_of_options(text):
     """The options that are texts and are escaped, each with the attack; the document has it too."""
-    options = {"gfm_footnote_back_label": text, "gfm_footnote_clobber_prefix": text, "gfm_footnote_label": text}
+    options = {"gfm_footnote_back_label": text, "gfm_footnote_clobber_prefix": text,
+               "gfm_footnote_label": text}
     return [("footnote options", options, footnote(text))]
 
 
@@ -141,7 +162,8 @@ def cases_of(name, text, ways):
     for way, given, nodes in ways:
         options = given if isinstance(given, dict) else {option: True for option in given}
         document = Document(nodes, text.encode())
-        made.append(Case(f"attacks: {name}; {way}", script(document, options), meaning(document, options).encode()))
+        made.append(Case(f"attacks: {name}; {way}", script(document, options),
+                         meaning(document, options).encode()))
     return made
 
 

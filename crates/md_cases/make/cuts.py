@@ -1,14 +1,17 @@
-"""The cases of the group `cuts`: scripts that are cut at each byte, and one with each event left out or twice.
+"""The cases of the group `cuts`: scripts that are cut at each byte, and one with each event
+left out or twice.
 
-What a cut script answers is found by a reader of lines written for these scripts alone: the first line that can't be
-read, else the first place past the document's end, else the meaning. The first event out of order is found by a walk
-over the order of names in the table. To cut another script, add it to `sections`; to take another name into the table,
-give it a pattern in PATTERNS. `bench/cases.py` makes the cases.
+What a cut script answers is found by a reader of lines written for these scripts alone: the first
+line that can't be read, else the first place past the document's end, else the meaning. The first
+event out of order is found by a walk over the order of names in the table. To cut another script,
+add it to `sections`; to take another name into the table, give it a pattern in PATTERNS.
+`bench/cases.py` makes the cases.
 """
 import re
 
 from meaning import meaning
-from trees import (Case, Document, call, data, ending, events, footnote, footnote_after_a_blank_line, node, paragraph,
+from trees import (Case, Document, call, data, ending, events, footnote,
+                   footnote_after_a_blank_line, node, paragraph,
                    placed, script, table)
 
 LINE = re.compile(rb"[+-][A-Za-z]+ [0-9]{1,9}")
@@ -50,7 +53,9 @@ def first_unreadable(source):
 
 
 def first_past(lines, size):
-    """The index of the first event that exits a node whose text is read, past the document's end, or None."""
+    """The index of the first event that exits a node whose text is read, past the
+    document's end, or None.
+    """
     for index, line in enumerate(lines):
         name, end = line[1:].split(" ")
         if line.startswith("-") and name in READ and int(end) > size:
@@ -111,10 +116,12 @@ def changed(document):
     """The cases of a document with each event left out, and twice."""
     lines, made = events(document.nodes), []
     for index, line in enumerate(lines):
-        for title, others in ((f"without event {index}", []), (f"with event {index} twice", [line, line])):
+        for title, others in ((f"without event {index}", []),
+                              (f"with event {index} twice", [line, line])):
             some = lines[:index] + others + lines[index + 1:]
             source = "\n".join(some + ["--", ""]).encode() + document.source
-            made.append(Case(f"cuts: table {title}", source, f"! event {first_out_of_order(some)}: Order".encode()))
+            made.append(Case(f"cuts: table {title}", source,
+                             f"! event {first_out_of_order(some)}: Order".encode()))
     return made
 
 
@@ -125,7 +132,8 @@ def sections():
     dropped = placed(table(data("b"), call(data("c"))), ending(), ending("BlankLineEnding"),
                      footnote(data("c"), paragraph(data("d"))))
     whole = script(note, {})
-    # That a script may end with `--` is shown by the break, and its document is the same at the next byte.
+    # That a script may end with `--` is shown by the break, and its document is the same
+    # at the next byte.
     bare = whole.index(b"\n--\n") + len(b"\n--")
     return {"cuts": [
         *[cut_at("break", rule, at) for at in range(len(script(rule, {})) + 1)],

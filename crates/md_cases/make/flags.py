@@ -1,15 +1,17 @@
-"""The cases of the groups `flags::..`: each name under all choices of five options that are off or on.
+"""The cases of the groups `flags::..`: each name under all choices of five options
+that are off or on.
 
-To add a name, write a row in the list of its group: what the case shows, a comment or nothing, and the parts of the
-document. To add an option that is off or on, add it to FLAG_OPTIONS of `meaning`, which are in the order of the cases,
-and say there what it does. `bench/cases.py` makes the cases.
+To add a name, write a row in the list of its group: what the case shows, a comment or nothing, and
+the parts of the document. To add an option that is off or on, add it to FLAG_OPTIONS of `meaning`,
+which are in the order of the cases, and say there what it does. `bench/cases.py` makes the cases.
 """
 import itertools
 
 from meaning import FLAG_OPTIONS, meaning
 from trees import Case, data, ending, image, link, node, paragraph, placed, script
 
-EVERY_AUTOLINK = ["AutolinkEmail", "AutolinkProtocol", "GfmAutolinkLiteralEmail", "GfmAutolinkLiteralMailto",
+EVERY_AUTOLINK = ["AutolinkEmail", "AutolinkProtocol", "GfmAutolinkLiteralEmail",
+                  "GfmAutolinkLiteralMailto",
                   "GfmAutolinkLiteralProtocol", "GfmAutolinkLiteralWww", "GfmAutolinkLiteralXmpp"]
 MARKUP = '<xmp>&"'
 TITLED = '<i>"&'
@@ -43,7 +45,8 @@ def title(name):
 def reference(value, *marks):
     """A character reference with the marks after `&`."""
     names = ["CharacterReferenceMarkerNumeric", "CharacterReferenceMarkerHexadecimal"]
-    return [node("CharacterReferenceMarker", "&"), *[node(name, mark) for name, mark in zip(names, marks)],
+    return [node("CharacterReferenceMarker", "&"),
+            *[node(name, mark) for name, mark in zip(names, marks)],
             node("CharacterReferenceValue", value), ";"]
 
 
@@ -52,7 +55,8 @@ def row(text):
 
 
 def task(mark):
-    return node("GfmTaskListItemCheck", *(["[", node("GfmTaskListItemValueChecked", mark), "]"] if mark else ["[ ]"]))
+    return node("GfmTaskListItemCheck",
+                *(["[", node("GfmTaskListItemValueChecked", mark), "]"] if mark else ["[ ]"]))
 
 
 def of_autolinks():
@@ -65,7 +69,8 @@ def of_autolinks():
         ("email autolink", "The protocol of the URL is `mailto`, whatever stands in the address",
          [node("AutolinkEmail", dangerous)]),
         ("literal autolink of an email", "", [node("GfmAutolinkLiteralEmail", dangerous)]),
-        ("literal autolink of www", "The protocol of the URL is `http`", [node("GfmAutolinkLiteralWww", dangerous)]),
+        ("literal autolink of www", "The protocol of the URL is `http`",
+         [node("GfmAutolinkLiteralWww", dangerous)]),
         ("autolinks with markup", "The text of an autolink is no HTML", autolinks('<"&')),
         ("autolinks in an image", "In an image each is its text", [image(autolinks("<a:"), "b")]),
         ("autolinks in a link", "In a link each literal is its text, and the other two are links",
@@ -80,7 +85,8 @@ def of_html():
         ("html in a text", "", [paragraph(inline_html(MARKUP))]),
         ("html of a tag that is not filtered", "", [html("<xmpp>")]),
         ("html of lines", "A line ending in HTML stays, and each line is HTML", [lines]),
-        ("nul in html", "NUL is replaced in HTML that stays, too", [html("\0<b>"), inline_html("\0<b>")]),
+        ("nul in html", "NUL is replaced in HTML that stays, too",
+         [html("\0<b>"), inline_html("\0<b>")]),
         ("text around html", "What stands before and after HTML is escaped",
          [paragraph(data("<xmp>"), inline_html("<xmp>"), data("<xmp>"))]),
         ("text after flow html", "", [html("<b>"), ending(), paragraph(data("<b>"))]),
@@ -112,14 +118,17 @@ def of_media():
          [node("Link", referring("[")), node("Image", referring("![")),
           definition(TITLED, *title("DefinitionTitleString"))]),
         ("link around html", "", [link([inline_html("<xmp>")], "b")]),
-        ("image around html", "HTML in the label of an image is HTML as well", [image([inline_html("<xmp>")], "b")]),
+        ("image around html", "HTML in the label of an image is HTML as well",
+         [image([inline_html("<xmp>")], "b")]),
     ]
 
 
 def of_plain():
     escapes = [part for mark in '<>&"*' for part in ("\\", node("CharacterEscapeValue", mark))]
-    references = [*reference("lt"), *reference("62", "#"), *reference("26", "#", "x"), *reference("quot")]
-    fence = node("CodeFencedFence", "```", node("CodeFencedFenceInfo", data(MARKUP)), node("SpaceOrTab", " "),
+    references = [*reference("lt"), *reference("62", "#"), *reference("26", "#", "x"),
+                  *reference("quot")]
+    fence = node("CodeFencedFence", "```", node("CodeFencedFenceInfo", data(MARKUP)),
+                 node("SpaceOrTab", " "),
                  node("CodeFencedFenceMeta", data(MARKUP)))
     math_fence = node("MathFlowFence", "$$", node("MathFlowFenceMeta", data(MARKUP)))
     heading = node("HeadingAtx", node("HeadingAtxSequence", "#"), node("SpaceOrTab", " "),
@@ -128,23 +137,31 @@ def of_plain():
         ("data", "", [paragraph(data(MARKUP))]),
         ("escaped characters", "", [paragraph(*escapes)]),
         ("references", "", [paragraph(*references)]),
-        ("code in a text", "", [paragraph(node("CodeText", "`", node("CodeTextData", MARKUP), "`"))]),
-        ("math in a text", "", [paragraph(node("MathText", "$", node("MathTextData", MARKUP), "$"))]),
-        ("indented code", "", [node("CodeIndented", node("SpaceOrTab", "    "), node("CodeFlowChunk", MARKUP))]),
-        ("fenced code", "", [node("CodeFenced", fence, ending(), node("CodeFlowChunk", MARKUP), ending(),
+        ("code in a text", "",
+         [paragraph(node("CodeText", "`", node("CodeTextData", MARKUP), "`"))]),
+        ("math in a text", "",
+         [paragraph(node("MathText", "$", node("MathTextData", MARKUP), "$"))]),
+        ("indented code", "",
+         [node("CodeIndented", node("SpaceOrTab", "    "), node("CodeFlowChunk", MARKUP))]),
+        ("fenced code", "",
+         [node("CodeFenced", fence, ending(), node("CodeFlowChunk", MARKUP), ending(),
                                   node("CodeFencedFence", "```"))]),
-        ("math on its own lines", "", [node("MathFlow", math_fence, ending(), node("MathFlowChunk", MARKUP), ending(),
+        ("math on its own lines", "",
+         [node("MathFlow", math_fence, ending(), node("MathFlowChunk", MARKUP), ending(),
                                             node("MathFlowFence", "$$"))]),
         ("headings", "", [heading, ending(), node("HeadingSetextText", data(MARKUP)), ending(),
                           node("HeadingSetextUnderlineSequence", "-")]),
-        ("spans", "", [paragraph(*[node(name, data(MARKUP)) for name in ("Emphasis", "Strong", "GfmStrikethrough")])]),
+        ("spans", "",
+         [paragraph(*[node(name, data(MARKUP))
+                      for name in ("Emphasis", "Strong", "GfmStrikethrough")])]),
         ("cells", "", [table_of_one_column()]),
     ]
 
 
 def table_of_one_column():
     """A table of one column, whose delimiter has a node that is passed over."""
-    delimiter = node("GfmTableDelimiterRow", "|", node("GfmTableDelimiterCellValue", node("Other1", "-")), "|")
+    delimiter = node("GfmTableDelimiterRow", "|",
+                     node("GfmTableDelimiterCellValue", node("Other1", "-")), "|")
     return node("GfmTable", node("GfmTableHead", row(MARKUP), ending(), delimiter), ending(),
                 node("GfmTableBody", row(MARKUP)))
 
@@ -153,7 +170,8 @@ def of_tasks():
     return [
         ("task that is done", "", [paragraph(task("x"), data(" a"))]),
         ("task that is open", "", [paragraph(task(""), data(" a"))]),
-        ("tasks in an image", "In an image a task is nothing", [image([task("x"), task(""), data("a")], "b")]),
+        ("tasks in an image", "In an image a task is nothing",
+         [image([task("x"), task(""), data("a")], "b")]),
     ]
 
 
@@ -168,16 +186,19 @@ def cases_of(group, shown, comment, document, options_of_cases):
     made = []
     for options in options_of_cases:
         after = f" ({comment})" if comment and not made else ""
-        made.append(Case(f"{group}: {shown}; {', '.join(options) or 'no option'}{after}", script(document, options),
+        made.append(Case(f"{group}: {shown}; {', '.join(options) or 'no option'}{after}",
+                         script(document, options),
                          meaning(document, options).encode()))
     return made
 
 
 def sections():
     """The runs of cases that this makes, each by what its titles begin with."""
-    groups = {"autolinks": of_autolinks, "html": of_html, "media": of_media, "plain": of_plain, "tasks": of_tasks}
+    groups = {"autolinks": of_autolinks, "html": of_html, "media": of_media, "plain": of_plain,
+              "tasks": of_tasks}
     return {f"flags::{group}": [
         case for shown, comment, parts in rows()
         for case in cases_of(f"flags::{group}", shown, comment, placed(*parts),
-                             [{option: True for option in chosen} for chosen in choices(FLAG_OPTIONS)])]
+                             [{option: True for option in chosen}
+                              for chosen in choices(FLAG_OPTIONS)])]
             for group, rows in groups.items()}

@@ -1,9 +1,10 @@
-"""The cases of the group `footnote_texts`: each choice of the options that are texts, under few flags.
+"""The cases of the group `footnote_texts`: each choice of the options that are texts,
+under few flags.
 
-Each document is there under each choice of the texts, with no flag, each flag alone and all flags. To add an option
-that is a text, add it to TEXT_OPTIONS of `meaning`, which are in the order of the cases, with a value at its place in
-VALUES here, and say there what it does. To add a document, write a row in `documents`. `bench/cases.py` makes the
-cases.
+Each document is there under each choice of the texts, with no flag, each flag alone and all flags.
+To add an option that is a text, add it to TEXT_OPTIONS of `meaning`, which are in the order of the
+cases, with a value at its place in VALUES here, and say there what it does. To add a document,
+write a row in `documents`. `bench/cases.py` makes the cases.
 """
 from flags import cases_of, choices
 from meaning import FLAG_OPTIONS, TEXT_OPTIONS
@@ -21,7 +22,8 @@ def documents():
         ("each choice of texts",
          "Two calls of a footnote that ends in a paragraph, and one of a footnote that does not",
          [paragraph(a, a, b), x, footnote(data("b"), data("y"))]),
-        ("each choice of texts around an image", "A call in an image prints nothing, under no prefix",
+        ("each choice of texts around an image",
+         "A call in an image prints nothing, under no prefix",
          [image([data("i"), a], "u"), x]),
         ("each choice of texts without a call", "Where nothing is called no text is printed",
          [paragraph(data("a")), x]),
@@ -38,4 +40,5 @@ def all_options():
 def sections():
     """The runs of cases that this makes, each by what its titles begin with."""
     return {"footnote_texts": [case for shown, comment, parts in documents()
-                               for case in cases_of("footnote_texts", shown, comment, placed(*parts), all_options())]}
+                               for case in cases_of("footnote_texts", shown, comment,
+                                                    placed(*parts), all_options())]}

@@ -1,10 +1,11 @@
 """The cases of the group `ids`: footnotes' ids by number.
 
-To add a case, write a row in `rows`: its title, options besides `gfm_footnote_number_ids`, and the parts of the
-document. `bench/cases.py` makes the cases.
+To add a case, write a row in `rows`: its title, options besides `gfm_footnote_number_ids`, and the
+parts of the document. `bench/cases.py` makes the cases.
 """
 from meaning import meaning
-from trees import (Case, call, data, ending, footnote, footnote_after_a_blank_line, image, node, paragraph, placed,
+from trees import (Case, call, data, ending, footnote, footnote_after_a_blank_line, image, node,
+                   paragraph, placed,
                    script, table)
 
 
@@ -14,7 +15,9 @@ def note(label, text):
 
 
 def ten_with_ten_calls():
-    """Ten footnotes with ten calls each: each round begins with the next one, and goes on by sevens."""
+    """Ten footnotes with ten calls each: each round begins with the next one, and
+    goes on by sevens.
+    """
     letters = "abcdefghij"
     calls = [call(letters[(3 + turn + 7 * step) % 10]) for turn in range(10) for step in range(10)]
     return [paragraph(*calls), *[note(letter, letter.upper()) for letter in letters]]
@@ -41,7 +44,8 @@ def rows():
          [paragraph(call("b"), call("a")), note("a", "x"), note("b", "y")]),
         ("ten footnotes with ten calls each", {}, ten_with_ten_calls()),
         ("call in an image (It is counted and prints nothing, so a way back leads nowhere)", {},
-         [paragraph(image([data("i"), call("b")], "u"), call("c"), call("b")), note("c", "y"), note("b", "x")]),
+         [paragraph(image([data("i"), call("b")], "u"), call("c"), call("b")), note("c", "y"),
+          note("b", "x")]),
         ("call in a dropped cell", {}, dropped_cell()),
         ("clobber prefix", under_prefix("a=b&"), twice),
         ("empty clobber prefix", under_prefix(""), twice),
@@ -49,7 +53,8 @@ def rows():
         ("first of two footnotes", {},
          [paragraph(call("c"), call("a")), note("a", "x"), note("a", "y"), note("c", "z")]),
         ("identifiers that are empty, a number and no letters of ids", {},
-         [paragraph(call("2"), call(""), call("é <"), call("2")), note("", "x"), note("é <", "y"), note("2", "z")]),
+         [paragraph(call("2"), call(""), call("é <"), call("2")), note("", "x"), note("é <", "y"),
+          note("2", "z")]),
         ("folded identifier", {}, [paragraph(call("B"), call(" b\t")), note("b", "x")]),
         ("call in a call (The one in the label has the lower number and prints nothing)", {},
          [paragraph(call(call("a"))), note("[^a]", "x"), note("a", "y")]),
@@ -57,7 +62,8 @@ def rows():
          [paragraph(call("a")), footnote("a", paragraph(data("x"), call("a")), after="]:")]),
         ("footnote without a call", {}, [paragraph(call("b")), note("a", "x"), note("b", "y")]),
         ("footnote without a paragraph", {},
-         [paragraph(call("a"), call("a")), footnote("a", node("ThematicBreak", "***"), after="]:")]),
+         [paragraph(call("a"), call("a")),
+          footnote("a", node("ThematicBreak", "***"), after="]:")]),
     ]
 
 
@@ -66,5 +72,6 @@ def sections():
     made = []
     for title, others, parts in rows():
         document, options = placed(*parts), {"gfm_footnote_number_ids": True} | others
-        made.append(Case(f"ids: {title}", script(document, options), meaning(document, options).encode()))
+        made.append(Case(f"ids: {title}", script(document, options),
+                         meaning(document, options).encode()))
     return {"ids": made}

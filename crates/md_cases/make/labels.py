@@ -1,7 +1,9 @@
-"""The cases of the group `labels`: links and images whose labels are about as long as those that are taken aside.
+"""The cases of the group `labels`: links and images whose labels are about as long as those that
+are taken aside.
 
-What stands before a label is known after it. A label of at most 512 bytes is taken aside until that is written; before
-a longer one it waits. To add a case, write a row in `rows`. `bench/cases.py` makes the cases.
+What stands before a label is known after it. A label of at most 512 bytes is taken aside until that
+is written; before a longer one it waits. To add a case, write a row in `rows`. `bench/cases.py`
+makes the cases.
 """
 from meaning import meaning
 from trees import Case, data, image, link, paragraph, placed, script
@@ -35,7 +37,8 @@ def rows():
             (f"three links in one another; {length} bytes", [in_one_another(length, 3), data("z")]),
         ]
     return made + [
-        ("image in a link in an image", [image([data("a"), link([data("b"), image([data("c")], "d")], "e")], "f")]),
+        ("image in a link in an image",
+         [image([data("a"), link([data("b"), image([data("c")], "d")], "e")], "f")]),
         ("forty links in one another", [in_one_another(1, 40)]),
     ]
 

@@ -1,23 +1,28 @@
-"""What documents mean: a small model of the rules, for the names that stand in the cases that `bench/cases.py` makes.
+"""What documents mean: a small model of the rules, for the names that stand in the cases that
+`bench/cases.py` makes.
 
-It goes over trees, and was written from the rules (docs/DEFINITIONS.md says them too) and apart from the crates, which
-go over lists of events. A name or an option that it doesn't know is an error: whoever makes a case of one adds a row or
-a method here, from the rules. Lists and block quotes have none, so the container around a node is a footnote definition
-or nothing, and no paragraph is in a tight list. Nothing here is run by itself.
+It goes over trees, and was written from the rules (docs/DEFINITIONS.md says them too) and apart
+from the crates, which go over lists of events. A name or an option that it doesn't know is an
+error: whoever makes a case of one adds a row or a method here, from the rules. Lists and block
+quotes have none, so the container around a node is a footnote definition or nothing, and no
+paragraph is in a tight list. Nothing here is run by itself.
 """
 import re
 from typing import NamedTuple
 
 import texts
 
-# Pieces that are line endings: a needed one is left out where the text so far is empty or ends in one.
+# Pieces that are line endings: a needed one is left out where the text so far is
+# empty or ends in one.
 NEEDED = object()
 FORCED = object()
 SPANS = {"Emphasis": "em", "Strong": "strong", "GfmStrikethrough": "del"}
 TEXTS = ("Data", "CharacterEscapeValue", "CodeTextData", "MathTextData")
 INLINE_CODE = {"CodeText": "<code>", "MathText": '<code class="language-math math-inline">'}
-AUTOLINKS = {"AutolinkEmail": "mailto:", "AutolinkProtocol": "", "GfmAutolinkLiteralEmail": "mailto:",
-             "GfmAutolinkLiteralMailto": "", "GfmAutolinkLiteralProtocol": "", "GfmAutolinkLiteralWww": "http://",
+AUTOLINKS = {"AutolinkEmail": "mailto:", "AutolinkProtocol": "",
+             "GfmAutolinkLiteralEmail": "mailto:",
+             "GfmAutolinkLiteralMailto": "", "GfmAutolinkLiteralProtocol": "",
+             "GfmAutolinkLiteralWww": "http://",
              "GfmAutolinkLiteralXmpp": ""}
 MARKERS = {"CharacterReferenceMarker": "&", "CharacterReferenceMarkerNumeric": "#",
            "CharacterReferenceMarkerHexadecimal": "x"}
@@ -26,10 +31,13 @@ SILENT = ("ReferenceString", "GfmTableDelimiterRow", "Resource", "Definition")
 TRANSPARENT = ("SpaceOrTab", "Other1")
 CONTENTS = ("Label", "LabelText", "HtmlText", "GfmTableCell", *TRANSPARENT)
 ENDINGS = {"lf": "\n", "cr": "\r", "crlf": "\r\n"}
-# The options: those that are off or on and of which `flags` makes each choice, those that are texts, and the others.
-FLAG_OPTIONS = ("allow_any_img_src", "allow_dangerous_html", "allow_dangerous_protocol", "gfm_task_list_item_checkable",
+# The options: those that are off or on and of which `flags` makes each choice, those that are
+# texts, and the others.
+FLAG_OPTIONS = ("allow_any_img_src", "allow_dangerous_html", "allow_dangerous_protocol",
+                "gfm_task_list_item_checkable",
                 "gfm_tagfilter")
-TEXT_OPTIONS = ("gfm_footnote_clobber_prefix", "gfm_footnote_label_tag_name", "gfm_footnote_label_attributes",
+TEXT_OPTIONS = ("gfm_footnote_clobber_prefix", "gfm_footnote_label_tag_name",
+                "gfm_footnote_label_attributes",
                 "gfm_footnote_label", "gfm_footnote_back_label")
 OPTIONS = (*FLAG_OPTIONS, *TEXT_OPTIONS, "default_line_ending", "gfm_footnote_number_ids")
 
@@ -46,7 +54,8 @@ class Around(NamedTuple):
 
 def spine(node):
     """The nodes in a node, those in transparent ones in their places."""
-    return [one for child in node.children for one in (spine(child) if child.name in TRANSPARENT else [child])]
+    return [one for child in node.children
+            for one in (spine(child) if child.name in TRANSPARENT else [child])]
 
 
 def first(node, *names):
@@ -60,8 +69,11 @@ def all_by_exit(nodes):
 
 
 def aligned(value):
-    """The attribute of a column, by whether the first and the last child of its delimiter's value is a marker."""
-    marks = [bool(value.children) and value.children[at].name == "GfmTableDelimiterMarker" for at in (0, -1)]
+    """The attribute of a column, by whether the first and the last child of its delimiter's
+    value is a marker.
+    """
+    marks = [bool(value.children) and value.children[at].name == "GfmTableDelimiterMarker"
+             for at in (0, -1)]
     side = {(True, True): "center", (True, False): "left", (False, True): "right"}.get(tuple(marks))
     return f' align="{side}"' if side else ""
 
@@ -75,7 +87,8 @@ class Meaning:
         if unknown:
             raise ValueError(f"the model doesn't know the options {unknown}")
         every = all_by_exit(document.nodes)
-        self.ending = next((self.source(one) for one in every if one.name in ("LineEnding", "BlankLineEnding")),
+        self.ending = next((self.source(one) for one in every
+                            if one.name in ("LineEnding", "BlankLineEnding")),
                            ENDINGS[options.get("default_line_ending", "lf")])
         self.slurps, self.marker, self.heading = False, None, None
         self.counts, self.occurrences, self.footnotes, self.definitions = {}, {}, {}, {}
@@ -86,7 +99,8 @@ class Meaning:
                 self.occurrences[id(one)] = self.counts[called]
         for one in every:
             if one.name == "Definition":
-                self.definitions.setdefault(self.label(first(one, "DefinitionLabelString")), self.target(one))
+                self.definitions.setdefault(self.label(first(one, "DefinitionLabelString")),
+                                            self.target(one))
 
     def text(self):
         body = self.all(self.document.nodes, Around())
@@ -112,7 +126,8 @@ class Meaning:
         """The pieces of neighbours; a line ending after a definition is dropped."""
         pieces, before = [], None
         for node in nodes:
-            dropped = node.name == "LineEnding" and before in ("Definition", "GfmFootnoteDefinition")
+            dropped = node.name == "LineEnding" and before in ("Definition",
+                                                               "GfmFootnoteDefinition")
             made = self.pieces(node, around)
             pieces += [] if dropped else made
             before = node.name
@@ -176,7 +191,8 @@ class Meaning:
     def of_HeadingAtx(self, node, around):
         mark = first(node, "HeadingAtxSequence")
         rank = mark.end - mark.start
-        inner = [self.captured(one.children, around) for one in spine(node) if one.name == "HeadingAtxText"]
+        inner = [self.captured(one.children, around) for one in spine(node)
+                 if one.name == "HeadingAtxText"]
         return [NEEDED, f"<h{rank}>", *inner, f"</h{rank}>"]
 
     def of_HeadingSetextText(self, node, around):
@@ -190,14 +206,16 @@ class Meaning:
     def of_CodeIndented(self, node, around):
         inner = self.all(node.children, around)
         self.slurps = False
-        return [NEEDED, "<pre><code>", *inner, *([NEEDED] if first(node, "CodeFlowChunk") else []), "</code></pre>"]
+        return [NEEDED, "<pre><code>", *inner, *([NEEDED] if first(node, "CodeFlowChunk") else []),
+                "</code></pre>"]
 
     def raw(self, node, around):
         """Fenced code, and math on its own lines."""
         parts = spine(node)
         fences = [one for one in parts if one.name in ("CodeFencedFence", "MathFlowFence")]
         info = first(fences[0], "CodeFencedFenceInfo")
-        attribute = "" if info is None else f' class="language-{self.captured(info.children, around)}"'
+        attribute = ("" if info is None
+                     else f' class="language-{self.captured(info.children, around)}"')
         if node.name == "MathFlow":
             attribute = ' class="language-math math-display"'
         self.slurps = True
@@ -215,7 +233,8 @@ class Meaning:
         return [texts.encoded(texts.referred(self.marker, self.source(node)), around.escaped)]
 
     def inline_code(self, node, around):
-        text = "".join(" " if one.name == "LineEnding" else self.pieces(one, around)[0] for one in spine(node))
+        text = "".join(" " if one.name == "LineEnding" else self.pieces(one, around)[0]
+                       for one in spine(node))
         if around.table:
             text = text.replace("\\|", "|")
         if text.startswith(" ") and text.endswith(" ") and text.strip(" "):
@@ -237,9 +256,11 @@ class Meaning:
     # Links and images.
 
     def url(self, destination, image):
-        if "allow_dangerous_protocol" in self.options or image and "allow_any_img_src" in self.options:
+        if ("allow_dangerous_protocol" in self.options or image
+            and "allow_any_img_src" in self.options):
             return texts.sanitized(destination)
-        return texts.permitted(destination, texts.IMAGE_PROTOCOLS if image else texts.LINK_PROTOCOLS)
+        return texts.permitted(destination, texts.IMAGE_PROTOCOLS if image
+                               else texts.LINK_PROTOCOLS)
 
     def autolink(self, node, around):
         text = texts.encoded(self.source(node))
@@ -253,13 +274,15 @@ class Meaning:
 
     def identifier(self, node):
         """What a link, an image or a call refers to."""
-        return self.label(first(node, "ReferenceString") or first(first(node, "Label"), "LabelText"))
+        return self.label(first(node, "ReferenceString")
+                          or first(first(node, "Label"), "LabelText"))
 
     def target(self, node):
         """The destination and the title, or None, that stand in a resource or a definition."""
         destination = first(node, "ResourceDestinationString", "DefinitionDestinationString")
         title = first(node, "ResourceTitleString", "DefinitionTitleString")
-        return ("" if destination is None else self.captured(destination.children, Around(escaped=False)),
+        return ("" if destination is None
+                else self.captured(destination.children, Around(escaped=False)),
                 None if title is None else self.captured(title.children, Around()))
 
     def media(self, node, around):
@@ -271,17 +294,21 @@ class Meaning:
         resource = first(node, "Resource")
         destination, title = self.target(resource) if resource else self.definitions[self.identifier(node)]
         url, title = self.url(destination, image), "" if title is None else f' title="{title}"'
-        return [f'<img src="{url}" alt="{label}"{title} />' if image else f'<a href="{url}"{title}>{label}</a>']
+        return [f'<img src="{url}" alt="{label}"{title} />' if image
+                else f'<a href="{url}"{title}>{label}</a>']
 
     # Tables.
 
     def of_GfmTable(self, node, around):
         delimiters = spine(first(first(node, "GfmTableHead"), "GfmTableDelimiterRow"))
-        self.columns = [aligned(one) for one in delimiters if one.name == "GfmTableDelimiterCellValue"]
-        return [NEEDED, "<table>", *self.all(node.children, around._replace(table=True)), NEEDED, "</table>"]
+        self.columns = [aligned(one) for one in delimiters
+                        if one.name == "GfmTableDelimiterCellValue"]
+        return [NEEDED, "<table>", *self.all(node.children, around._replace(table=True)), NEEDED,
+                "</table>"]
 
     def of_GfmTableHead(self, node, around):
-        return [NEEDED, "<thead>", *self.all(node.children, around._replace(head=True)), NEEDED, "</thead>"]
+        return [NEEDED, "<thead>", *self.all(node.children, around._replace(head=True)), NEEDED,
+                "</thead>"]
 
     def of_GfmTableBody(self, node, around):
         return ["<tbody>", *self.all(node.children, around), NEEDED, "</tbody>"]
@@ -299,13 +326,15 @@ class Meaning:
     def names(self, identifier):
         """A footnote's number, and what its ids end in."""
         number = list(self.counts).index(identifier) + 1
-        return number, str(number) if "gfm_footnote_number_ids" in self.options else texts.sanitized(identifier)
+        return (number, str(number) if "gfm_footnote_number_ids" in self.options
+                else texts.sanitized(identifier))
 
     def option(self, name, default):
         return texts.encoded(self.options.get(name, default))
 
     def numbered(self, occurrence):
-        return f"-{occurrence}" if occurrence > 1 or "gfm_footnote_number_ids" in self.options else ""
+        return (f"-{occurrence}" if occurrence > 1 or "gfm_footnote_number_ids" in self.options
+                else "")
 
     def of_GfmFootnoteCall(self, node, around):
         number, named = self.names(self.identifier(node))
@@ -315,7 +344,8 @@ class Meaning:
         return [] if around.image else [text]
 
     def of_GfmFootnoteDefinition(self, node, around):
-        named = self.label(first(first(node, "GfmFootnoteDefinitionPrefix"), "GfmFootnoteDefinitionLabelString"))
+        named = self.label(first(first(node, "GfmFootnoteDefinitionPrefix"),
+                                 "GfmFootnoteDefinitionLabelString"))
         body = self.captured(node.children[1:], Around(footnote=True))
         self.footnotes.setdefault(named, body)
         return []
@@ -328,8 +358,10 @@ class Meaning:
                 f'aria-label="{label}" class="data-footnote-backref">{text}</a>')
 
     def item(self, identifier):
-        named, prefix = self.names(identifier)[1], self.option("gfm_footnote_clobber_prefix", "user-content-")
-        backs = " ".join(self.back(named, occurrence + 1) for occurrence in range(self.counts[identifier]))
+        named, prefix = self.names(identifier)[1], self.option("gfm_footnote_clobber_prefix",
+                                                               "user-content-")
+        backs = " ".join(self.back(named, occurrence + 1)
+                         for occurrence in range(self.counts[identifier]))
         body = self.footnotes[identifier]
         closed = re.fullmatch(r"(.*)(</p>[\r\n]*)", body, re.DOTALL)
         body = [f"{closed.group(1)} {backs}{closed.group(2)}"] if closed else [body, NEEDED, backs]
@@ -342,7 +374,8 @@ class Meaning:
         attributes = self.options.get("gfm_footnote_label_attributes", 'class="sr-only"')
         heading = f'<{tag} id="footnote-label" {attributes}>{self.option("gfm_footnote_label", "Footnotes")}</{tag}>'
         items = [piece for identifier in self.counts for piece in self.item(identifier)]
-        return [NEEDED, f'<section data-footnotes="" class="footnotes">{heading}', FORCED, "<ol>", *items,
+        return [NEEDED, f'<section data-footnotes="" class="footnotes">{heading}', FORCED, "<ol>",
+                *items,
                 FORCED, "</ol>", FORCED, "</section>", FORCED]
 
 

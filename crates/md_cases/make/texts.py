@@ -1,7 +1,7 @@
 """The rules for texts: escaping, URLs and their protocols, the tag filter, references, identifiers.
 
-Written from the rules and apart from the crates (docs/DEFINITIONS.md says the same rules), for the answers of the cases
-that `bench/cases.py` makes. Nothing here is run by itself.
+Written from the rules and apart from the crates (docs/DEFINITIONS.md says the same rules), for the
+answers of the cases that `bench/cases.py` makes. Nothing here is run by itself.
 """
 import re
 
@@ -12,7 +12,8 @@ LINK_PROTOCOLS = ["http", "https", "irc", "ircs", "mailto", "xmpp"]
 IMAGE_PROTOCOLS = ["http", "https"]
 FILTERED = "iframe|noembed|noframes|plaintext|script|style|textarea|title|xmp"
 FILTERED_TAG = re.compile(rf"<(?=/?(?:{FILTERED})(?:[\t\n\f\r />]|\Z))", re.ASCII | re.IGNORECASE)
-NAMES = {"amp": "&", "lt": "<", "gt": ">", "quot": '"', "apos": "'", "colon": ":", "sol": "/", "num": "#", "quest": "?"}
+NAMES = {"amp": "&", "lt": "<", "gt": ">", "quot": '"', "apos": "'", "colon": ":", "sol": "/",
+         "num": "#", "quest": "?"}
 
 
 def encoded(text, escaped=True):
@@ -56,7 +57,8 @@ def referred(marker, value):
     if marker == "&":
         return NAMES[value]
     code = int(value, 16 if marker == "x" else 10)
-    replaced = (code <= 8 or code == 11 or 14 <= code <= 31 or 127 <= code <= 159 or 0xD800 <= code <= 0xDFFF
+    replaced = (code <= 8 or code == 11 or 14 <= code <= 31 or 127 <= code <= 159 or 0xD800 <= code
+                <= 0xDFFF
                 or 0xFDD0 <= code <= 0xFDEF or code & 0xFFFE == 0xFFFE or code > 0x10FFFF)
     return REPLACEMENT if replaced else chr(code)
 

@@ -1,8 +1,9 @@
 """Trees of events, and the scripts that are written of them.
 
-A tree is written by `node(NAME, PARTS..)` with its parts in order, texts and other nodes: the texts make the document,
-and each node stands where its first part begins and its last one ends. `placed` gives such trees their places. Nodes
-that stand elsewhere, over one another, are made as `Node` with both places. Nothing here is run by itself.
+A tree is written by `node(NAME, PARTS..)` with its parts in order, texts and other nodes: the texts
+make the document, and each node stands where its first part begins and its last one ends. `placed`
+gives such trees their places. Nodes that stand elsewhere, over one another, are made as `Node` with
+both places. Nothing here is run by itself.
 """
 from typing import NamedTuple
 
@@ -22,7 +23,9 @@ class Document(NamedTuple):
 
 
 class Case(NamedTuple):
-    """What stands in the line before a case, its script, and what it answers, both without their last line ending."""
+    """What stands in the line before a case, its script, and what it answers, both without their
+    last line ending.
+    """
     title: str
     script: bytes
     answer: bytes
@@ -59,8 +62,10 @@ def events(nodes):
 
 
 def script(document, options):
-    """The script of a document under options: an option that is on is True, another has its text."""
-    settings = [f"!{name}" if value is True else f"!{name}={value}" for name, value in options.items()]
+    """The script of a document under options: an option that is on is True, another has its text.
+    """
+    settings = [f"!{name}" if value is True else f"!{name}={value}"
+                for name, value in options.items()]
     return "\n".join(settings + events(document.nodes) + ["--", ""]).encode() + document.source
 
 
@@ -71,14 +76,19 @@ def call(label):
 
 def footnote(label, *parts, after="]: "):
     """A footnote definition: its label as in a call, and what it has."""
-    prefix = node("GfmFootnoteDefinitionPrefix", "[^", node("GfmFootnoteDefinitionLabelString", label), after)
+    prefix = node("GfmFootnoteDefinitionPrefix", "[^",
+                  node("GfmFootnoteDefinitionLabelString", label), after)
     return node("GfmFootnoteDefinition", prefix, *parts)
 
 
 def link(label, destination, *title, name="Link"):
-    """A link with a label, a node, and a resource with a destination, a text; after it what is said of a title."""
-    resource = node("Resource", "(", node("ResourceDestinationString", node("Data", destination)), *title, ")")
-    return node(name, node("Label", "![" if name == "Image" else "[", node("LabelText", *label), "]"), resource)
+    """A link with a label, a node, and a resource with a destination, a text; after it what is
+    said of a title.
+    """
+    resource = node("Resource", "(", node("ResourceDestinationString", node("Data", destination)),
+                    *title, ")")
+    return node(name, node("Label", "![" if name == "Image" else "[", node("LabelText", *label),
+                           "]"), resource)
 
 
 def image(label, destination, *title):
@@ -98,10 +108,14 @@ def ending(name="LineEnding"):
 
 
 def table(kept, dropped):
-    """A table of one column with `a` in its head, and a row of two cells, of which the second is dropped."""
-    head = node("GfmTableHead", node("GfmTableRow", node("GfmTableCell", "|", data("a"), "|")), ending(),
+    """A table of one column with `a` in its head, and a row of two cells, of which the
+    second is dropped.
+    """
+    head = node("GfmTableHead", node("GfmTableRow", node("GfmTableCell", "|", data("a"), "|")),
+                ending(),
                 node("GfmTableDelimiterRow", "|", node("GfmTableDelimiterCellValue", "-"), "|"))
-    row = node("GfmTableRow", node("GfmTableCell", "|", kept), node("GfmTableCell", "|", dropped, "|"))
+    row = node("GfmTableRow", node("GfmTableCell", "|", kept),
+               node("GfmTableCell", "|", dropped, "|"))
     return node("GfmTable", head, ending(), node("GfmTableBody", row))
 
 

@@ -87,12 +87,14 @@ impl Reader {
     /// Reads the event at an index.
     fn read(&mut self, input: Input, index: usize, event: Event) -> Result<(), CompileError>
         requires here { slice_get input.events.now index ≡ Some event }
-        requires before { HasRead input.bytes.now (name_table input.names.now) input.events.now index self.old }
+        requires before { HasRead input.bytes.now (name_table input.names.now)
+            input.events.now index self.old }
         ensures read { OnOk result
             (HasRead input.entry.bytes.now (name_table input.entry.names.now) input.entry.events.now
             (suc index) self.new) }
         ensures refused { IfErr result
-            (IsRefusal (handed input.entry.events.now input.entry.bytes.now input.entry.names.now)) }
+            (IsRefusal (handed input.entry.events.now input.entry.bytes.now
+            input.entry.names.now)) }
     {
         self.walk.step(input, index, &event)?;
         self.pass.find(input.alloc, &event)?;

@@ -13,8 +13,8 @@ const TOLD: usize = 10;
 /// How many documents have each class.
 type Counts = BTreeMap<String, usize>;
 
-/// Compares the documents of standard input, and their counts with a list's, or writes these there; whether nothing
-/// else differs.
+/// Compares the documents of standard input, and their counts with a list's, or writes these there;
+/// whether nothing else differs.
 pub fn run(list: &str, is_write: bool) -> Result<bool, Box<dyn Error>> {
     let documents = read_documents(&mut io::stdin().lock())?;
     let mut counts = Counts::new();

@@ -4,7 +4,8 @@ use crate::judge::{rendered, Events, NEEDED};
 use pulldown_cmark::{Event, Tag};
 use std::collections::HashMap;
 
-/// Footnotes by their labels, folded: each with its events, as the first definition to end has them.
+/// Footnotes by their labels, folded: each with its events, as the first definition
+/// to end has them.
 type Definitions<'a> = HashMap<String, Events<'a>>;
 
 /// The calls of footnotes so far: their labels in the order of first calls, and how many each has.

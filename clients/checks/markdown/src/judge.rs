@@ -1,9 +1,9 @@
-//! What pulldown-cmark's own renderer makes of a document, and what it would make of it with the differences that are
-//! permitted.
+//! What pulldown-cmark's own renderer makes of a document, and what it would make of it with the
+//! differences that are permitted.
 //!
-//! The judge is that renderer. Between the parser and it the events are changed as the permitted differences ask, one
-//! class after another, and at the end the text. A class counts where it changes the text. So each difference is told
-//! exactly: what is left must be equal byte for byte.
+//! The judge is that renderer. Between the parser and it the events are changed as the permitted
+//! differences ask, one class after another, and at the end the text. A class counts where it
+//! changes the text. So each difference is told exactly: what is left must be equal byte for byte.
 
 use crate::footnotes::with_footnotes;
 use pulldown_cmark::{
@@ -11,7 +11,8 @@ use pulldown_cmark::{
 };
 use std::borrow::Cow;
 
-/// What pulldown-cmark renders, what is wanted here, and the classes of differences between the two.
+/// What pulldown-cmark renders, what is wanted here, and the classes of differences
+/// between the two.
 pub struct Judged {
     pub plain: String,
     pub wanted: String,
@@ -104,7 +105,8 @@ pub fn judge_without_html(document: &str) -> String {
         .fold(text, |text, (_, change)| change(&text))
 }
 
-/// HTML of the document becomes text, or goes. A block of it begins a line, and has no line endings at its end but one.
+/// HTML of the document becomes text, or goes. A block of it begins a line, and has no line endings
+/// at its end but one.
 fn changed_html(events: Events, is_kept: bool) -> Events {
     let mut changed = Events::new();
     let mut open = Vec::new();
@@ -228,7 +230,8 @@ fn is_span(tag: &Tag) -> bool {
     )
 }
 
-/// Whether an event belongs to the block of HTML before it; the parser tells as text what is left of a tab.
+/// Whether an event belongs to the block of HTML before it; the parser tells as text what
+/// is left of a tab.
 fn is_more_html(event: &Event) -> bool {
     match event {
         Event::Html(_) => true,
@@ -277,7 +280,8 @@ fn without_protocol(url: &str, protocols: &[&str]) -> String {
     }
 }
 
-/// A URL in which all bytes are escaped that are so here; the others the renderer leaves as they are.
+/// A URL in which all bytes are escaped that are so here; the others the renderer
+/// leaves as they are.
 pub fn normalized(url: &str) -> String {
     let bytes = url.as_bytes();
     let is_escape = |at: usize| {
@@ -381,7 +385,8 @@ fn with_tasks(events: Events) -> Events {
     events.into_iter().map(event).collect()
 }
 
-/// Tables with each tag on its own line, and `align` in place of `style`; a body where there are rows alone.
+/// Tables with each tag on its own line, and `align` in place of `style`; a body where
+/// there are rows alone.
 fn with_tables(events: Events) -> Events {
     let mut alignments = Vec::new();
     let mut column = 0;

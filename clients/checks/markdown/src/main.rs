@@ -5,8 +5,9 @@
 //!     bivdrazo-checks render < MARKDOWN                     writes what `markdown_to_html` makes of a document
 //!     bivdrazo-checks plain < MARKDOWN                      writes what pulldown-cmark's own renderer makes of it
 //!
-//! DOCUMENTS are frames: a count of bytes in decimal digits, a line feed, the document. The comparison ends with status 1
-//! for a difference that isn't permitted, another count than LIST has, or a refusal.
+//! DOCUMENTS are frames: a count of bytes in decimal digits, a line feed, the document. The
+//! comparison ends with status 1 for a difference that isn't permitted, another count than LIST
+//! has, or a refusal.
 
 mod compare;
 mod footnotes;

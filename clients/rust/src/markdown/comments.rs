@@ -1,6 +1,7 @@
 //! HTML without its comments.
 
-/// Some HTML without its comments: from `<!--` to `-->`, or to the end. `<!-->` and `<!--->` are whole ones.
+/// Some HTML without its comments: from `<!--` to `-->`, or to the end. `<!-->` and
+/// `<!--->` are whole ones.
 pub(super) fn without_comments(html: &str) -> String {
     let mut kept = String::new();
     let mut rest = html;

@@ -6,7 +6,8 @@ use crate::{
 use std::borrow::Cow;
 use std::ops::Range;
 
-/// Events, and the bytes that they are over: not those of the Markdown, but the texts that were found in it.
+/// Events, and the bytes that they are over: not those of the Markdown, but the texts that
+/// were found in it.
 #[derive(Clone, Debug, Default, Eq, PartialEq)]
 #[non_exhaustive]
 pub struct Document {
@@ -51,7 +52,8 @@ impl Document {
         ffi::compile_attributed(&self.events, &self.bytes, options, &[], attributes, limits)
     }
 
-    /// As [`compile_attributed`](Document::compile_attributed), of a document that nobody needs any more.
+    /// As [`compile_attributed`](Document::compile_attributed), of a document that
+    /// nobody needs any more.
     pub(super) fn into_rendered(
         self,
         options: &Options,

@@ -21,8 +21,8 @@ use std::ops::Range;
 
 /// The library's events for those of a parser, with the texts that they are over.
 ///
-/// It is for whoever calls pulldown-cmark: to read with other options, or to change its events. The parser tells no
-/// bare links, and none are made of them here.
+/// It is for whoever calls pulldown-cmark: to read with other options, or to change its events. The
+/// parser tells no bare links, and none are made of them here.
 ///
 /// ```
 /// use bivdrazo::{events_of, Options};
@@ -50,7 +50,8 @@ where
     walk.document
 }
 
-/// As [`events_of`], under options. Ends early where what links lead to is longer than the text may be.
+/// As [`events_of`], under options. Ends early where what links lead to is longer than
+/// the text may be.
 pub(super) fn document_of<'a, P>(parser: P, options: &MarkdownOptions) -> Result<Document, Error>
 where
     P: IntoIterator<Item = (Event<'a>, Range<usize>)>,
@@ -63,7 +64,8 @@ where
     }
 }
 
-/// The way through a parser's events. What it does of each kind of node stands in a module of its own.
+/// The way through a parser's events. What it does of each kind of node stands in a
+/// module of its own.
 struct Walk<'o, 'a> {
     options: &'o MarkdownOptions,
     document: Document,
@@ -76,7 +78,8 @@ struct Walk<'o, 'a> {
     footnotes: HashSet<String>,
     /// The indices of the first events of footnotes' calls.
     calls: Vec<usize>,
-    /// Where the destinations and titles that definitions share stand in the bytes, by their addresses and lengths.
+    /// Where the destinations and titles that definitions share stand in the bytes, by their
+    /// addresses and lengths.
     shared: HashMap<(usize, usize), Range<usize>>,
     /// How long the destinations and titles are together.
     led: usize,
@@ -158,7 +161,8 @@ impl<'o, 'a> Walk<'o, 'a> {
         }
     }
 
-    /// Ends the paragraph of a tight list's item. The next line ending isn't printed: it is this one.
+    /// Ends the paragraph of a tight list's item. The next line ending isn't
+    /// printed: it is this one.
     fn before_block(&mut self) {
         self.end_spans();
         if let Some(Open::Item(item)) = self.open.last_mut() {

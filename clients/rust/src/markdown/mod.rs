@@ -1,7 +1,8 @@
 //! Markdown in: pulldown-cmark reads it, and the library judges the events that come of it.
 //!
-//! Nothing is proved of the parser or of the way from its events to ours. What the library promises it promises of any
-//! events: the text has one reading as HTML, with links and images of permitted protocols alone.
+//! Nothing is proved of the parser or of the way from its events to ours. What the library promises
+//! it promises of any events: the text has one reading as HTML, with links and images of permitted
+//! protocols alone.
 
 mod autolinks;
 mod base;
@@ -45,7 +46,8 @@ pub enum DocumentHtml {
 #[derive(Clone, Debug, Eq, PartialEq)]
 #[non_exhaustive]
 pub struct MarkdownOptions {
-    /// What the ids of footnotes begin with; else `user-content-`. Each document of a page needs another one.
+    /// What the ids of footnotes begin with; else `user-content-`. Each document of a page
+    /// needs another one.
     pub footnote_prefix: Option<String>,
     /// Make the ids of footnotes of their numbers: then no two ids of the text are equal.
     pub number_ids: bool,
@@ -59,20 +61,21 @@ pub struct MarkdownOptions {
     pub bare_links: bool,
     /// What becomes of HTML in the document.
     pub html: DocumentHtml,
-    /// The URL against which those of links and images are read, as RFC 3986 has it. An empty URL stays as it is, and
-    /// so does one that begins with `#`.
+    /// The URL against which those of links and images are read, as RFC 3986 has it. An empty URL
+    /// stays as it is, and so does one that begins with `#`.
     pub base: Option<String>,
     /// The `rel` of each link whose URL isn't empty and doesn't begin with `#`: any text.
     pub rel: Option<String>,
-    /// What the `id` of each heading begins with: its number, from 1, follows. These ids are distinct from one another,
-    /// and from all others where no other begins so: those of footnotes are `footnote-label`, and what `footnote_prefix`
-    /// says and `fn`.
+    /// What the `id` of each heading begins with: its number, from 1, follows. These ids are
+    /// distinct from one another, and from all others where no other begins so: those of footnotes
+    /// are `footnote-label`, and what `footnote_prefix` says and `fn`.
     pub heading_ids: Option<String>,
     /// How many bytes the document may have; else any number.
     pub max_input: Option<usize>,
-    /// How many bytes the text may have; else any number. What links and images lead to counts also where it is left
-    /// out, for its protocol. What a definition with a character reference or an escaped character leads to is bounded
-    /// in any case: by this bound or 16 megabytes, or by 256 if there is none, for all links that may use it.
+    /// How many bytes the text may have; else any number. What links and images lead to counts also
+    /// where it is left out, for its protocol. What a definition with a character reference or an
+    /// escaped character leads to is bounded in any case: by this bound or 16 megabytes, or by 256
+    /// if there is none, for all links that may use it.
     pub max_output: Option<usize>,
     /// How much there may be to read and to print in what the parser makes of the document, as
     /// [`Limits`] counts it; else any amount. With [`rel`](MarkdownOptions::rel) or
@@ -129,12 +132,12 @@ impl MarkdownOptions {
     }
 }
 
-/// The HTML of a Markdown document, with tables, strikethrough, tasks, footnotes and bare links. A byte order mark
-/// before it is passed over.
+/// The HTML of a Markdown document, with tables, strikethrough, tasks, footnotes and bare links. A
+/// byte order mark before it is passed over.
 ///
-/// A document that would take the parser much time or memory is read otherwise: without tables or without footnotes, or
-/// with marks of quotes and lists that are text far from a line's beginning. No document that people wrote is known that
-/// is.
+/// A document that would take the parser much time or memory is read otherwise: without tables or
+/// without footnotes, or with marks of quotes and lists that are text far from a line's beginning.
+/// No document that people wrote is known that is.
 ///
 /// # Errors
 ///
@@ -153,8 +156,8 @@ pub fn markdown_to_html(text: &str, options: &MarkdownOptions) -> Result<String,
     Ok(markdown_with_headings(text, options)?.html)
 }
 
-/// As [`markdown_to_html`], with the headings that got an `id`, for a table of contents: none without
-/// [`heading_ids`](MarkdownOptions::heading_ids).
+/// As [`markdown_to_html`], with the headings that got an `id`, for a table of contents: none
+/// without [`heading_ids`](MarkdownOptions::heading_ids).
 ///
 /// # Errors
 ///
@@ -190,12 +193,14 @@ pub fn markdown_with_headings(text: &str, options: &MarkdownOptions) -> Result<R
     )
 }
 
-/// How many bytes the parser may copy for links, where no bound on the text says it, and where a bound says less.
+/// How many bytes the parser may copy for links, where no bound on the text says it, and where a
+/// bound says less.
 const MOST_COPIED: usize = 1 << 28;
 const LEAST_COPIED: usize = 1 << 24;
 
-/// At most so many bytes does the parser copy for links: it does so for each one whose definition has a character
-/// reference or an escaped character in its URL or title. A link has a bracket at least.
+/// At most so many bytes does the parser copy for links: it does so for each one whose
+/// definition has a character reference or an escaped character in its URL or title. A link has
+/// a bracket at least.
 fn copied(parser: &Parser, text: &str) -> usize {
     let own = |text: &CowStr| match text {
         CowStr::Boxed(text) => text.len(),
@@ -209,8 +214,8 @@ fn copied(parser: &Parser, text: &str) -> usize {
     longest.unwrap_or(0).saturating_mul(links)
 }
 
-/// What the parser reads: no tables where they would have too many cells that nobody wrote, and no footnotes where too
-/// many could stand in one another.
+/// What the parser reads: no tables where they would have too many cells that nobody wrote, and no
+/// footnotes where too many could stand in one another.
 fn parser_options(text: &str) -> pulldown_cmark::Options {
     use pulldown_cmark::Options;
     let mut read = Options::ENABLE_STRIKETHROUGH | Options::ENABLE_TASKLISTS;

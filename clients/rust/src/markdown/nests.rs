@@ -1,5 +1,6 @@
-//! How deep a document could nest, which takes the parser time: for many a line it looks at each quote, list and
-//! footnote that is open, and a blank line, or a footnote's label, may stand in any number of them.
+//! How deep a document could nest, which takes the parser time: for many a line it looks at each
+//! quote, list and footnote that is open, and a blank line, or a footnote's label, may stand in
+//! any number of them.
 
 use super::counts::{count, has_no_longer_line, is_line_end};
 use std::borrow::Cow;
@@ -12,10 +13,12 @@ const MOST_LOOKS_AT_FOOTNOTES: usize = 1 << 29;
 /// A document of fewer lines is taken for one of so many: a nest in a single line takes memory too.
 const LEAST_LINES: usize = 1 << 10;
 
-/// Where nests are bounded, a mark of a quote or an item that stands past so many bytes of a line's beginning is text.
+/// Where nests are bounded, a mark of a quote or an item that stands past so many bytes of a line's
+/// beginning is text.
 const LONGEST_BEGINNING: usize = 128;
 
-/// A document that doesn't nest too deep: the text, or else the text with a backslash before marks that would.
+/// A document that doesn't nest too deep: the text, or else the text with a backslash before
+/// marks that would.
 pub(super) fn bounded(text: &str) -> Cow<'_, str> {
     let deepest = MOST_LOOKS / line_count(text);
     if has_no_longer_line(text, deepest) || longest_beginning(text) <= deepest {

@@ -2,8 +2,8 @@
 
 use super::counts::{count, is_line_end};
 
-/// A row that is too short is filled up with empty cells. A document that could have more of them than this is read
-/// without tables: else a short one could make the parser take all memory.
+/// A row that is too short is filled up with empty cells. A document that could have more of them
+/// than this is read without tables: else a short one could make the parser take all memory.
 const MOST_MISSING_CELLS: usize = 1 << 19;
 
 /// Whether few enough cells are missing.
@@ -13,10 +13,11 @@ pub(super) fn has_few_missing_cells(text: &str) -> bool {
     columns.saturating_mul(rows) <= MOST_MISSING_CELLS || missing_cells(text) <= MOST_MISSING_CELLS
 }
 
-/// At most so many cells (and as many more as the text has bytes) does the parser add to rows that are too short.
+/// At most so many cells (and as many more as the text has bytes) does the parser add to rows
+/// that are too short.
 ///
-/// A table ends at a blank line, and has as many columns as its delimiter row, which is the end of a line and made of
-/// few characters.
+/// A table ends at a blank line, and has as many columns as its delimiter row, which is the end of
+/// a line and made of few characters.
 pub(super) fn missing_cells(text: &str) -> usize {
     let mut missing: usize = 0;
     let mut rows = Vec::new();

@@ -336,7 +336,8 @@ fn work() {
     }
 }
 
-/// A destination that is used often stands in the bytes once, and is told early where it passes the bound.
+/// A destination that is used often stands in the bytes once, and is told early where it
+/// passes the bound.
 #[test]
 fn long_destinations() {
     let text = format!("{}\n\n[a]: /{}\n", "[a] ".repeat(1000), "b".repeat(1000));
@@ -381,7 +382,8 @@ fn byte_order_mark() {
     assert_eq!(html("\u{feff}# a"), "<h1>a</h1>\n");
 }
 
-/// HTML that ends the document is a block in a loose list's item, also without a line ending after it.
+/// HTML that ends the document is a block in a loose list's item, also without a line
+/// ending after it.
 #[test]
 fn html_at_the_end_of_a_loose_list() {
     let first = "<ul>\n<li>\n<p>a</p>\n</li>\n<li>\n";

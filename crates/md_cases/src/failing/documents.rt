@@ -108,7 +108,8 @@ fn ask_checked<R: Print + AllocGlobal>(
     plain::ask_of_checked(rt, log, row, checked)
 }
 
-/// Checks each document and compiles it as safe; then, where asked, makes the calls that read what these answered.
+/// Checks each document and compiles it as safe; then, where asked, makes the calls that read
+/// what these answered.
 pub fn check_each<R: Print + AllocGlobal>(
     rt: &R,
     log: &mut Log,
@@ -232,7 +233,8 @@ fn compiled_checked(alloc: Global, checked: &Checked) -> Result<String, AllocErr
     compile_checked(alloc, checked, &CompileOptions::default())
 }
 
-/// Whether `gfm_table_align` answers one column without an alignment, where the first node is a table.
+/// Whether `gfm_table_align` answers one column without an alignment, where the first
+/// node is a table.
 fn aligns(alloc: Global, log: &mut Log, checked: &Checked) -> bool {
     if !checked.enters(0, Name::GfmTable) {
         return true;

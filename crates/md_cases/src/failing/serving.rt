@@ -44,7 +44,8 @@ fn ask_of_failures<R: Print + AllocGlobal>(rt: &R, log: &Log) -> io::Result<()> 
     log.tell(rt, endless_is_told(alloc), "serve", "an endless reader")
 }
 
-/// What `serve` answers, and what it wrote, where these reads and writes fail, and how often it read.
+/// What `serve` answers, and what it wrote, where these reads and writes fail, and
+/// how often it read.
 fn served(
     alloc: Global,
     script: &[u8],
@@ -94,7 +95,8 @@ fn is_appended(alloc: Global) -> Result<bool, AllocError> {
     Ok(answer == Ok(()) && texts.as_slice() == b"<p>a</p><hr />".as_slice())
 }
 
-/// Whether each read that fails is told, also where the bytes before it are a script that can be read.
+/// Whether each read that fails is told, also where the bytes before it are a script
+/// that can be read.
 fn reads_are_told(alloc: Global) -> bool {
     let reads = reads_of(alloc, BREAK);
     let told = Err(ServeError::Input);
@@ -119,7 +121,8 @@ fn stuck_is_told(alloc: Global) -> bool {
         && stuck_answers(alloc, 1, true, &Ok(()))
 }
 
-/// Whether `serve` answers this over a writer that takes so many bytes, and flushes them or doesn't.
+/// Whether `serve` answers this over a writer that takes so many bytes, and flushes
+/// them or doesn't.
 fn stuck_answers(
     alloc: Global,
     takes: usize,

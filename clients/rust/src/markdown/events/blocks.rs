@@ -69,7 +69,8 @@ impl Walk<'_, '_> {
         }
     }
 
-    /// A block of code has two fences here, however it was written; its language is the info's first word.
+    /// A block of code has two fences here, however it was written; its language is the
+    /// info's first word.
     fn start_code(&mut self, kind: &CodeBlockKind) {
         self.document.enter(Name::CodeFenced);
         self.document.enter(Name::CodeFencedFence);

@@ -33,8 +33,8 @@ impl Walk<'_, '_> {
     }
 }
 
-/// A label, folded so that those which are equal are so for the library too: case aside, with one space for each run of
-/// spaces and line endings.
+/// A label, folded so that those which are equal are so for the library too: case aside, with one
+/// space for each run of spaces and line endings.
 fn folded(label: &str) -> String {
     let is_space = |each: char| matches!(each, '\t' | '\n' | '\r' | ' ');
     let words: Vec<&str> = label

@@ -10,8 +10,8 @@ use pulldown_cmark::Event;
 use std::ops::Range;
 
 impl Walk<'_, '_> {
-    /// Whether HTML is a block here. In a tight list's item the parser doesn't tell; but there a block ends its line,
-    /// by itself or in the next event.
+    /// Whether HTML is a block here. In a tight list's item the parser doesn't tell; but there a
+    /// block ends its line, by itself or in the next event.
     pub(super) fn is_in_flow(&self, html: &str, next: Option<&(Event, Range<usize>)>) -> bool {
         let is_line_end = |each| each == '\n' || each == '\r';
         match self.open.last() {
@@ -25,8 +25,8 @@ impl Walk<'_, '_> {
         }
     }
 
-    /// Whether a text is what is left of a tab before HTML: there is no other text outside of blocks, and no paragraph
-    /// begins with a space.
+    /// Whether a text is what is left of a tab before HTML: there is no other text outside of
+    /// blocks, and no paragraph begins with a space.
     pub(super) fn is_before_flow_html(
         &self,
         text: &str,

@@ -53,8 +53,9 @@ impl Walk<'_, '_> {
         }
     }
 
-    /// The box of a task and a space. They stand in a quote's prefix, which prints nothing itself and isn't part of
-    /// what an item holds: so an item that holds no more than its box ends on the same line.
+    /// The box of a task and a space. They stand in a quote's prefix, which prints nothing
+    /// itself and isn't part of what an item holds: so an item that holds no more than its box
+    /// ends on the same line.
     pub(super) fn task(&mut self, is_checked: bool) {
         self.document.enter(Name::BlockQuotePrefix);
         self.document.enter(Name::GfmTaskListItemCheck);

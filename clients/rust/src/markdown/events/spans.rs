@@ -83,9 +83,9 @@ impl Walk<'_, '_> {
         );
     }
 
-    /// A destination or a title. The parser hands out the same text for each link that uses a definition: what is made
-    /// of it stands in the bytes once. Two texts that are borrowed from the document are equal where their addresses
-    /// and lengths are.
+    /// A destination or a title. The parser hands out the same text for each link that uses a
+    /// definition: what is made of it stands in the bytes once. Two texts that are borrowed from
+    /// the document are equal where their addresses and lengths are.
     fn string(
         &mut self,
         name: Name,

@@ -44,7 +44,8 @@ impl Walk<'_, '_> {
         }
     }
 
-    /// The parser tells tables without columns, of which the library prints no cell: their cells are paragraphs.
+    /// The parser tells tables without columns, of which the library prints no cell: their
+    /// cells are paragraphs.
     fn cell_name(&self) -> Name {
         if self.alignments.is_empty() {
             Name::Paragraph

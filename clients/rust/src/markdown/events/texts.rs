@@ -33,8 +33,8 @@ impl Walk<'_, '_> {
         }
     }
 
-    /// The parser took a space off each end of the code, and so does the library: where one is left, two more are
-    /// needed.
+    /// The parser took a space off each end of the code, and so does the library: where one is
+    /// left, two more are needed.
     pub(super) fn code(&mut self, code: &str) {
         self.before_phrasing();
         let is_padded =

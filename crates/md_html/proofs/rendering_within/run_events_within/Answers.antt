@@ -16,7 +16,8 @@ returns-then-is_longer-clause-too_long c = λ no at document supplies flat.
     c.loop-index.printer
     c.run_events.new.printer most c.loop-index.invariant.2 c.in_ok-index.ensures.goes in
     let long = c.is_longer.ensures c.if-is_longer.true in
-    longer-run code at document c.in_ok-index.index count first c.run_events.new.printer supplies flat
+    longer-run code at document c.in_ok-index.index count first
+    c.run_events.new.printer supplies flat
     (ap (λ es. length es) c.events-count.ensures.events) c.requires.new on
     c.args.limit long.0 long.1
 

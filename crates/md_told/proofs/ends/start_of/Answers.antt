@@ -15,5 +15,5 @@ returns c = λ one there.
     let enters = c.entry_of.ensures.enters c.requires.0 c.requires.1 in
     c.event_point.ensures enters.0
     (ap (λ es. slice_get es c.entry_of.result) c.events.ensures.events ∙ enters.1)
-    ∙ start-noticed c.args.checked.now c.entry_of.result c.requires.0 one enters (c.entry_of.ensures.noticed one there)
-    enters.0 enters.1
+    ∙ start-noticed c.args.checked.now c.entry_of.result c.requires.0 one enters
+    (c.entry_of.ensures.noticed one there) enters.0 enters.1

@@ -1,5 +1,6 @@
--- As in `read`, of two events at once, an entry and its own exit; and the exit's index doesn't overflow, as an event
--- is there. The search doesn't go through the first event to the second: `LeafRuns` does.
+-- As in `read`, of two events at once, an entry and its own exit; and the exit's index doesn't
+-- overflow, as an event is there. The search doesn't go through the first event to the second:
+-- `LeafRuns` does.
 use Rattle.std.proofs.Common.{rules, ◌≡◌, suc, ◌<◌, add-one, sym, ap, subst, ◌∙◌, length}
 use Rattle.std.proofs.lemmas.Option.{slice_get_within}
 use Rattle.std.proofs.lemmas.Result.{err_from_is_err_and}
