@@ -15,7 +15,7 @@ ghost use Rattle.md_html.specs.Stepping.{Steps, Opens, Leafs, Goes};
 
 use md_base::{Event, Kind, Name};
 use md_emit::{Given, Printer};
-use md_told::{inside_at, is_leaf_at};
+use md_told::{inside_at, is_leaf_among};
 use std::alloc::AllocError;
 
 /// Prints the events from one index up to another, and answers the index of the next one: a
@@ -47,7 +47,7 @@ pub(crate) fn run_events<'a>(
     let mut index = from;
     while index < to {
         let event = events[index];
-        if leaf(printer, given, index, to, event)? {
+        if leaf(printer, given, events, index, to, event)? {
             index += 2;
         } else {
             let more = step(printer, given, index, event)?;
@@ -63,10 +63,12 @@ pub(crate) fn run_events<'a>(
 fn leaf<'a>(
     printer: &mut Printer<'a>,
     given: &Given<'a>,
+    events: &[Event],
     index: usize,
     to: usize,
     event: Event,
 ) -> Result<bool, AllocError>
+    requires among { events.now ≡ given.now.checked.now.events }
     requires there { slice_get given.now.checked.now.events index ≡ Some event }
     requires before { index < to }
     ensures left { IfOk result
@@ -75,7 +77,7 @@ fn leaf<'a>(
 {
     match event.kind {
         Kind::Enter => {
-            if index + 1 < to && is_leaf_at(given.checked, index) {
+            if index + 1 < to && is_leaf_among(given.checked, events, index) {
                 printer.leaf(given, index, index + 1, event.name)
             } else {
                 Ok(false)

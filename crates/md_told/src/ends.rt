@@ -12,6 +12,7 @@ ghost use Rattle.md_tree.specs.Texts.{EntersAt, ExitsAt};
 ghost use Rattle.md_shape.specs.Run.{Noticed};
 ghost use Rattle.md_told.specs.Told.{IsNoticedAt, ExitsSome};
 
+use crate::found::grammatical;
 use md_base::{Event, Kind, Point, Position};
 use md_tree::Checked;
 
@@ -64,7 +65,28 @@ pub fn is_leaf_at(checked: &Checked, index: usize) -> bool
     ensures noticed { result ≡ true → (one : Noticed) → IsNoticedAt checked.now index one
         → IsNoticedAt checked.now (suc index) one }
 {
-    exits_next(checked.events(), index)
+    is_leaf_among(checked, checked.events(), index)
+}
+
+/// The same, where the events are at hand.
+///
+/// # Examples
+///
+/// ```
+/// // Where two events are a thematic break:
+/// assert!(is_leaf_among(&checked, checked.events(), 0));
+/// ```
+#[inline(always)]
+pub fn is_leaf_among(checked: &Checked, events: &[Event], index: usize) -> bool
+    requires enters { EntersSome checked.now.events index }
+    requires among { events.now ≡ checked.now.events }
+    ensures exits { result ≡ true → (name : Name) → EntersAt checked.now.events index name
+        → ExitsAt checked.now.events (suc index) name }
+    ensures noticed { result ≡ true → (one : Noticed) → IsNoticedAt checked.now index one
+        → IsNoticedAt checked.now (suc index) one }
+{
+    grammatical(checked);
+    exits_next(events, index)
 }
 
 /// Whether the event after the one at an index exits a node.
