@@ -127,6 +127,7 @@ impl Pass {
     /// # Errors
     ///
     /// `AllocError`, only where memory runs out.
+    #[inline(always)]
     pub fn find(&mut self, alloc: Global, event: &Event) -> Result<(), AllocError>
         ensures { OnOk result (self.new ≡ spec.passed event.now.kind event.now.name self.old) }
     {

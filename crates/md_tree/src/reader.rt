@@ -96,6 +96,28 @@ impl Reader {
             (IsRefusal (handed input.entry.events.now input.entry.bytes.now
             input.entry.names.now)) }
     {
+        // Many nodes have such a name: for them it is written, as for leaves.
+        if let Name::Other(number) = event.name {
+            return self.read_other(input, index, with_name(event, Name::Other(number)));
+        }
+        self.walk.step(input, index, &event)?;
+        self.pass.find(input.alloc, &event)?;
+        note_ending(&mut self.first_ending, input.events, index);
+        Ok(())
+    }
+
+    /// The same of an event with a name that has no meaning.
+    fn read_other(&mut self, input: Input, index: usize, event: Event) -> Result<(), CompileError>
+        requires here { slice_get input.events.now index ≡ Some event }
+        requires before { HasRead input.bytes.now (name_table input.names.now) input.events.now
+            index self.old }
+        ensures read { OnOk result
+            (HasRead input.entry.bytes.now (name_table input.entry.names.now) input.entry.events.now
+            (suc index) self.new) }
+        ensures refused { IfErr result
+            (IsRefusal (handed input.entry.events.now input.entry.bytes.now
+            input.entry.names.now)) }
+    {
         self.walk.step(input, index, &event)?;
         self.pass.find(input.alloc, &event)?;
         note_ending(&mut self.first_ending, input.events, index);
@@ -164,6 +186,18 @@ impl Reader {
         self.pass.leaf(input.alloc, name)?;
         note_ending(&mut self.first_ending, input.events, index + 1);
         Ok(())
+    }
+}
+
+/// An event, with its name as it is written at the call.
+#[inline(always)]
+fn with_name(event: Event, name: Name) -> Event
+    ensures { name ≡ event.name → result ≡ event }
+{
+    Event {
+        kind: event.kind,
+        name,
+        point: event.point,
     }
 }
 

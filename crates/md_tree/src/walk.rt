@@ -72,6 +72,7 @@ impl Walk {
     /// a rule: `Rule::Mdx` where the event enters a node of MDX, `Rule::Order` where no other node
     /// may be entered there or none of this name may end, and any other rule where the node that
     /// ends breaks it.
+    #[inline(always)]
     pub fn step(&mut self, input: Input, index: usize, event: &Event) -> Result<(), CompileError>
         requires { event.now.point ≡ point_at input.events.now index }
         ensures ok { OnOk result
@@ -90,6 +91,7 @@ impl Walk {
     }
 
     /// Enters a node.
+    #[inline(always)]
     fn enter(&mut self, input: Input, index: usize, name: Name) -> Result<(), CompileError>
         ensures ok { OnOk result
             (Enters name (point_at input.entry.events.now index)

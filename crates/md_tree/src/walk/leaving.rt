@@ -29,6 +29,7 @@ impl Walk {
     ghost use Rattle.md_tree.specs.Walk.{Unbroken, IsStop, IsStopInside};
 
     /// Leaves the innermost open node.
+    #[inline(always)]
     pub(super) fn exit(
         &mut self,
         input: Input,
