@@ -8,11 +8,11 @@ use Rattle.md_base.specs.declared.event.Event.{Event}
 use Rattle.md_tree.specs.Grammar.{handed}
 use Rattle.md_tree.specs.Machine.{Steps}
 use Rattle.md_tree.specs.Walk.{course_of, Unbroken, IsStop}
-use Rattle.md_infer.specs.Ending.{first_index, ending_after}
-use Rattle.md_infer.specs.Facts.{passed, passed_over, pass_beginning}
+use Rattle.md_pattern.specs.Ending.{first_index, ending_after}
+use Rattle.md_pattern.specs.Facts.{passed, passed_over, pass_beginning}
 use Rattle.md_tree.proofs.Checking.{Runs-more, IsRefusal-stopped}
-use Rattle.md_infer.proofs.FirstIndex.{first_index-more}
-use Rattle.md_infer.proofs.Passing.{passed_more}
+use Rattle.md_pattern.proofs.FirstIndex.{first_index-more}
+use Rattle.md_pattern.proofs.Passing.{passed_more}
 use Rattle.md_tree.proofs.reader.Reader.read_other.Goals as goal
 
 pub returns-in_err-step-clause-refused : goal.returns-in_err-step-clause-refused
