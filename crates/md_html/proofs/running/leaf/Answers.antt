@@ -16,7 +16,8 @@ pub leaf-requires-clause-exits : goal.leaf-requires-clause-exits
 leaf-requires-clause-exits c =
     let enters : EntersAt c.args.given.now.checked.now.events c.args.index c.args.event.name =
     (c.args.event, c.requires.there, c.in-Enter.is, refl) in
-    subst (λ i. ExitsAt c.args.given.now.checked.now.events i c.args.event.name) (sym (one-more c.args.index))
+    subst (λ i. ExitsAt c.args.given.now.checked.now.events i c.args.event.name)
+    (sym (one-more c.args.index))
     (c.is_leaf_among.ensures.exits c.if-is_leaf_among.true c.args.event.name enters)
 
 pub leaf-requires-clause-one : goal.leaf-requires-clause-one

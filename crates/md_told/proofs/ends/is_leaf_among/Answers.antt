@@ -16,7 +16,8 @@ pub returns-clause-exits : goal.returns-clause-exits
 returns-clause-exits c = λ yes name enters.
     let next = c.exits_next.ensures yes in
     let checked = c.grammatical.ensures in
-    leaf-exits c.args.checked.now checked.0 (IsReadAs.flattened checked.1) c.args.index name enters next.0
+    leaf-exits c.args.checked.now checked.0 (IsReadAs.flattened checked.1)
+    c.args.index name enters next.0
     (ap (λ es. slice_get es (suc c.args.index)) (sym c.requires.among) ∙ next.1) next.2
 
 pub returns-clause-noticed : goal.returns-clause-noticed

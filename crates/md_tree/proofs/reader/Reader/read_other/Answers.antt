@@ -26,8 +26,9 @@ returns-in_err-step-clause-refused c =
     let course = course_of events index c.args.self.now.walk in
     rw (p.1, p.2)
     (IsRefusal-stopped (handed events bytes names) index event course
-    (slice_get_within events index event c.requires.here) c.requires.before.walked c.in_err-step.field-0.0
-    (subst (λ e. IsStop bytes (name_table names) index (Event.kind e) (Event.name e) (Event.point e) course
+    (slice_get_within events index event c.requires.here) c.requires.before.walked
+    c.in_err-step.field-0.0 (subst (λ e. IsStop bytes (name_table names) index (Event.kind e)
+    (Event.name e) (Event.point e) course
     c.in_err-step.field-0.0) (sym (get_or_from_slice_get events index event event c.requires.here))
     c.in_err-step.ensures.refused))
 
@@ -41,15 +42,18 @@ returns-clause-read c =
     let inside = slice_get_within events index event c.requires.here in
     let event_is = sym (get_or_from_slice_get events index event event c.requires.here) in
     record {
-      walked = Runs-more (Unbroken c.args.input.bytes.now names) events index event (course_of events index self.walk)
-          (course_of events (suc index) c.step.new.self) inside c.requires.before.walked
-          (subst (λ e. Steps (Unbroken c.args.input.bytes.now names) e (course_of events index self.walk)
+      walked = Runs-more (Unbroken c.args.input.bytes.now names) events index event
+          (course_of events index self.walk)
+          (course_of events (suc index) c.step.new.self) inside c.requires.before.walked (subst
+          (λ e. Steps (Unbroken c.args.input.bytes.now names) e (course_of events index self.walk)
           (course_of events (suc index) c.step.new.self)) event_is c.in_ok-step.ensures.ok);
-      passed = passed_more events index event self.pass pass_beginning c.find.new.self inside c.requires.before.passed
-          (subst (λ e. c.find.new.self ≡ passed (Event.kind e) (Event.name e) self.pass) event_is c.in_ok-find.ensures)
+      passed = passed_more events index event self.pass pass_beginning c.find.new.self inside
+          c.requires.before.passed
+          (subst (λ e. c.find.new.self ≡ passed (Event.kind e) (Event.name e) self.pass) event_is
+          c.in_ok-find.ensures)
           ∙ ap (λ n. passed_over (take n events) pass_beginning) (add-one index);
       first_ending = c.note_ending.ensures event c.requires.here
-          ∙ ap (ending_after self.first_ending index) event_is
-          ∙ first_index-more events index event self.first_ending inside c.requires.before.first_ending
+          ∙ ap (ending_after self.first_ending index) event_is ∙ first_index-more events index event
+          self.first_ending inside c.requires.before.first_ending
           ∙ ap (λ n. first_index (take n events)) (add-one index);
     }
