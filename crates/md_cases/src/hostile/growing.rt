@@ -1,11 +1,14 @@
 //! Grows trees of the grammar at random, as the events that go through them and the bytes of
 //! their documents.
 
-use super::grammar::{MARKS, PREAMBLE, Part, WRAPPERS, choices, definitions, others};
+mod planning;
+
+use super::grammar::{MARKS, PREAMBLE, Part, WRAPPERS, choices};
 use super::random::Random;
 use super::{event, point};
 use md_html::Kind::{Enter, Exit};
 use md_html::{Event, Kind, Name, Point};
+use planning::{plan_all, plan_document, plan_one, plan_perhaps, wrap_two};
 use std::alloc::{AllocError, Global};
 
 /// How many steps a tree takes at most; none has come near.
@@ -194,60 +197,6 @@ fn add_space(events: &mut Vec<Event>, (start, end): Places) -> Result<(), AllocE
 /// Whether a space may stand in a node with this name.
 fn may_hold_space(name: Name) -> bool {
     !matches!(name, Name::LineEnding | Name::BlankLineEnding)
-}
-
-/// Plans a document: its definitions come first or last.
-fn plan_document(planned: &mut Vec<Part>, is_defined_first: bool) -> Result<(), AllocError> {
-    if is_defined_first {
-        plan_all(planned, others())?;
-        plan_all(planned, definitions())
-    } else {
-        plan_all(planned, definitions())?;
-        plan_all(planned, others())
-    }
-}
-
-/// Plans some parts, the first of them next.
-fn plan_all(planned: &mut Vec<Part>, parts: &[Part]) -> Result<(), AllocError> {
-    let length = planned.len();
-    planned.extend_from_slice(parts)?;
-    if let Some(new) = planned.as_mut_slice().get_mut(length..) {
-        new.reverse();
-    }
-    Ok(())
-}
-
-/// Plans some parts, or nothing.
-fn plan_perhaps(
-    planned: &mut Vec<Part>,
-    random: &mut Random,
-    parts: &[Part],
-) -> Result<(), AllocError> {
-    if random.once_in(2) {
-        plan_all(planned, parts)
-    } else {
-        Ok(())
-    }
-}
-
-/// Plans one of some parts.
-fn plan_one(
-    planned: &mut Vec<Part>,
-    random: &mut Random,
-    parts: &[Part],
-) -> Result<(), AllocError> {
-    if let Some(part) = random.pick(parts) {
-        planned.push(part)?;
-    }
-    Ok(())
-}
-
-/// Plans an end after a part and the next one, or before the next one where that is an end too.
-fn wrap_two(planned: &mut Vec<Part>, part: Part) -> Result<(), AllocError> {
-    match planned.pop() {
-        None => plan_all(planned, &[part, Part::End]),
-        Some(next) => plan_all(planned, &[part, next, Part::End]),
-    }
 }
 
 /// Adds a text, after a byte for the tab whose columns are taken, if some are.
