@@ -49,26 +49,8 @@ pub fn inside_at(checked: &Checked, index: usize) -> usize
     exit_of(checked, index) - index
 }
 
-/// Whether the node that the event at the index enters has no children: the next event exits it.
-///
-/// # Examples
-///
-/// ```
-/// // Where two events are a thematic break:
-/// assert!(is_leaf_at(&checked, 0));
-/// ```
-#[inline(always)]
-pub fn is_leaf_at(checked: &Checked, index: usize) -> bool
-    requires { EntersSome checked.now.events index }
-    ensures exits { result ≡ true → (name : Name) → EntersAt checked.now.events index name
-        → ExitsAt checked.now.events (suc index) name }
-    ensures noticed { result ≡ true → (one : Noticed) → IsNoticedAt checked.now index one
-        → IsNoticedAt checked.now (suc index) one }
-{
-    is_leaf_among(checked, checked.events(), index)
-}
-
-/// The same, where the events are at hand.
+/// Whether the node that the event at the index enters has no children: the next of the
+/// document's events, which are at hand, exits it.
 ///
 /// # Examples
 ///

@@ -8,8 +8,7 @@ mod identifiers;
 
 pub use definitions::definition_led_at;
 pub use ends::{
-    inside_at, is_last_at, is_leaf_among, is_leaf_at, place_left_at, text_inside, text_left_at,
-    text_of_leaf,
+    inside_at, is_last_at, is_leaf_among, place_left_at, text_inside, text_left_at, text_of_leaf,
 };
 pub use found::{contributing_left_at, is_loose_at, number_at, rank_at, rank_left_at};
 pub use identifiers::identifier_left_at;
