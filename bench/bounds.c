@@ -1,9 +1,11 @@
-/* What a text within limits costs: one call of bivdrazo_compile_within over events that give much to read or to print.
+/* What a text within limits costs: one call of bivdrazo_compile_within over events that give much
+   to read or to print.
 
    usage: bounds SHAPE DOCUMENT COUNT TEXT WORK
 
-   DOCUMENT bytes, some COUNT nodes, the limits TEXT and WORK. Prints the status, the text's length, the seconds of a
-   processor, the most memory of the process in kB, before the call and after it, and how many events there were. */
+   DOCUMENT bytes, some COUNT nodes, the limits TEXT and WORK. Prints the status, the text's length,
+   the seconds of a processor, the most memory of the process in kB, before the call and after it,
+   and how many events there were. */
 #include "bivdrazo.h"
 #include <stdint.h>
 #include <stdio.h>

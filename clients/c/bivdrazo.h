@@ -16,7 +16,8 @@
  *         {.index = 6, .name = BIVDRAZO_NAME_PARAGRAPH, .kind = BIVDRAZO_EXIT},
  *     };
  *     uint8_t *text;
- *     bivdrazo_answer answer = bivdrazo_compile_alloc(events, 4, document, 6, NULL, NULL, 0, &text);
+ *     bivdrazo_answer answer =
+ *         bivdrazo_compile_alloc(events, 4, document, 6, NULL, NULL, 0, &text);
  *     if (answer.status == BIVDRAZO_OK)
  *         fwrite(text, 1, answer.length, stdout);          (prints <p>Hi &lt;b&gt;</p>)
  *     free(text);

@@ -7,9 +7,10 @@
  * bivdrazo-render-cmark's own functions.
  *
  *     batch              the documents alone
- *     batch SEED TIMES   then, for each document, so many lists that come of its events by random changes, under
- * random options that are safe: a frame for each. Ends with status 1 where an answer isn't what
- * bivdrazo.h says.
+ *     batch SEED TIMES   then, for each document, so many lists that come of its events by random
+ *                        changes, under random options that are safe: a frame for each
+ *
+ * Ends with status 1 where an answer isn't what bivdrazo.h says.
  */
 #include "markdown.h"
 

@@ -16,7 +16,8 @@
 
 int LLVMFuzzerTestOneInput(const uint8_t *data, size_t size);
 
-#define REFERENCE(name, text) {(const uint8_t *)name, sizeof name - 1, (const uint8_t *)text, sizeof text - 1}
+#define REFERENCE(name, text) \
+    {(const uint8_t *)name, sizeof name - 1, (const uint8_t *)text, sizeof text - 1}
 
 /* The names of references in scripts. */
 static const bivdrazo_reference NAMES[] = {

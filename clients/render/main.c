@@ -7,17 +7,21 @@
 static const char USAGE[] =
     "Usage: bivdrazo-render-cmark [--page TITLE | --events] [FILE]\n"
     "\n"
-    "Renders Markdown, from FILE or from standard input, as safe HTML on standard output: with tables,\n"
-    "strikethrough, tasks, autolinks and footnotes as in GFM. HTML in the document is printed as text, and a link "
-    "or\n"
+    "Renders Markdown, from FILE or from standard input, as safe HTML on standard output: with "
+    "tables,\n"
+    "strikethrough, tasks, autolinks and footnotes as in GFM. HTML in the document is printed as "
+    "text, and a link or\n"
     "an image whose protocol isn't permitted leads nowhere.\n"
     "\n"
     "  --page TITLE   a whole page with that title, in place of the document's HTML alone\n"
-    "  --events       the parser's events, as an event script, in place of HTML; the library isn't called\n"
+    "  --events       the parser's events, as an event script, in place of HTML; the library isn't "
+    "called\n"
     "  --help         this text\n"
     "\n"
-    "Ends with status 0 where the HTML was written, 1 where the library refused the events or a title (one\n"
-    "that isn't UTF-8), 3 for out of memory, 4 where reading or writing failed, and 64 for other arguments.\n";
+    "Ends with status 0 where the HTML was written, 1 where the library refused the events or a "
+    "title (one\n"
+    "that isn't UTF-8), 3 for out of memory, 4 where reading or writing failed, and 64 for other "
+    "arguments.\n";
 
 /* The statuses that the program ends with. */
 enum status {

@@ -23,7 +23,8 @@ pub struct Arguments {
     pub files: Vec<PathBuf>,
 
     /// Write to this file instead of standard output.
-    #[arg(short, long, value_name = "FILE", value_hint = ValueHint::FilePath, conflicts_with = "out_dir")]
+    #[arg(short, long, value_name = "FILE", value_hint = ValueHint::FilePath,
+        conflicts_with = "out_dir")]
     pub output: Option<PathBuf>,
 
     /// Write each FILE to this folder, with the ending .html, on all processors.

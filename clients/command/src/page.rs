@@ -6,13 +6,16 @@ use bivdrazo::{compile, Event, Name, Options};
 use std::fs;
 
 /// What a page has where no other style is asked for. What is for screen readers alone isn't seen.
-const STYLE: &str = "body { max-width: 45em; margin: 2em auto; padding: 0 1em; font-family: sans-serif; line-height: 1.5; }
+const STYLE: &str = "\
+body { max-width: 45em; margin: 2em auto; padding: 0 1em; font-family: sans-serif; \
+line-height: 1.5; }
 img { max-width: 100%; }
 pre { overflow: auto; padding: 0.5em; background: #f4f4f4; }
 blockquote { margin-left: 0; padding-left: 1em; border-left: 0.2em solid #ccc; }
 table { border-collapse: collapse; }
 th, td { padding: 0.2em 0.5em; border: 1px solid #ccc; }
-.sr-only { position: absolute; width: 1px; height: 1px; overflow: hidden; clip-path: inset(50%); white-space: nowrap; }
+.sr-only { position: absolute; width: 1px; height: 1px; overflow: hidden; clip-path: inset(50%); \
+white-space: nowrap; }
 ";
 
 /// What stands before a text and after it.
@@ -39,7 +42,8 @@ impl Page {
         };
         let style = style_of(arguments)?;
         let before = format!(
-            "<!doctype html>\n<html{lang}><head><meta charset=\"utf-8\" /><title>{title}</title>{style}</head><body>"
+            "<!doctype html>\n<html{lang}><head><meta charset=\"utf-8\" />\
+             <title>{title}</title>{style}</head><body>"
         );
         Ok(Page {
             before,

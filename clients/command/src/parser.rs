@@ -22,7 +22,10 @@ const PROGRAM: &str = "bivdrazo-render-cmark";
 /// A shell sets the limits and becomes the parser, so that no code of ours runs between fork and
 /// exec, which would be unsafe. The first limit of processor time tells the parser that it is over,
 /// and the second kills it.
-const LIMITED: &str = r#"ulimit -c 0 && ulimit -v "$1" && ulimit -S -t "$2" && ulimit -H -t "$3" && exec "$0" --events"#;
+const LIMITED: &str = concat!(
+    r#"ulimit -c 0 && ulimit -v "$1" && ulimit -S -t "$2" && ulimit -H -t "$3" && "#,
+    r#"exec "$0" --events"#
+);
 
 /// The signals of Linux that say more than their number, and the parser's status for want of
 /// memory.

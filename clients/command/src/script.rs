@@ -144,9 +144,8 @@ mod tests {
         let least = 2 * size_of::<Event>() + 3;
         assert!(of(script, least).is_ok());
         for room in [0, size_of::<Event>(), least - 1] {
-            assert!(
-                matches!(read(script.as_bytes(), room), Err(ScriptError::TooLong(told)) if told == room)
-            );
+            let answer = read(script.as_bytes(), room);
+            assert!(matches!(answer, Err(ScriptError::TooLong(told)) if told == room));
         }
     }
 }

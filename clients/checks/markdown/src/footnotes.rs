@@ -88,8 +88,8 @@ fn with_call<'a>(event: Event<'a>, labels: &[String], calls: &mut Calls) -> Even
     };
     Event::Html(
         format!(
-            "<sup><a href=\"#user-content-fn-{id}\" id=\"user-content-fnref-{id}{again}\" data-footnote-ref=\"\" \
-             aria-describedby=\"footnote-label\">{number}</a></sup>"
+            "<sup><a href=\"#user-content-fn-{id}\" id=\"user-content-fnref-{id}{again}\" \
+             data-footnote-ref=\"\" aria-describedby=\"footnote-label\">{number}</a></sup>"
         )
         .into(),
     )
@@ -127,7 +127,8 @@ fn section(calls: &Calls, definitions: &Definitions) -> String {
         .map(|label| item(label, calls.counts[label], &definitions[label]))
         .collect();
     format!(
-        "{NEEDED}<section data-footnotes=\"\" class=\"footnotes\"><h2 id=\"footnote-label\" class=\"sr-only\">Footnotes</h2>\n\
+        "{NEEDED}<section data-footnotes=\"\" class=\"footnotes\">\
+         <h2 id=\"footnote-label\" class=\"sr-only\">Footnotes</h2>\n\
          <ol>\n{items}</ol>\n</section>\n"
     )
 }
@@ -154,7 +155,7 @@ fn way_back(id: &str, time: usize) -> String {
         Default::default()
     };
     format!(
-        "<a href=\"#user-content-fnref-{id}{again}\" data-footnote-backref=\"\" aria-label=\"Back to content\" \
-         class=\"data-footnote-backref\">\u{21a9}{shown}</a>"
+        "<a href=\"#user-content-fnref-{id}{again}\" data-footnote-backref=\"\" \
+         aria-label=\"Back to content\" class=\"data-footnote-backref\">\u{21a9}{shown}</a>"
     )
 }

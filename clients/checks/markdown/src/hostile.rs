@@ -57,7 +57,9 @@ const SHAPES: &[Shape] = shapes! {
         let step = |tabs: usize| format!("{}{}a\n", "\t".repeat(tabs), "- ".repeat(60));
         (0..2000).step_by(30).map(step).take(60).collect::<String>() + &fill("\n", size / 2)
     },
-    "blank lines after nested tasks": |size| fill("- [ ] ", size / 2) + "a\n" + &fill("\n", size / 2),
+    "blank lines after nested tasks": |size| {
+        fill("- [ ] ", size / 2) + "a\n" + &fill("\n", size / 2)
+    },
     "blank lines after nested lists": |size| fill("- ", size / 2) + "a\n" + &fill("\n", size / 2),
     "lists in lists": |size| fill("- ", size) + "a",
     "deeper and deeper lists": |size| {
@@ -79,11 +81,20 @@ const SHAPES: &[Shape] = shapes! {
     "unclosed titles": |size| fill("[a](b \"c ", size),
     "references without definition": |size| fill("[a][b]", size),
     "references": |size| "[a]: /b\n\n".to_string() + &fill("[a]", size),
-    "a long destination that is used often": |size| format!("[a]: /{}\n\n{}", fill("b", size / 100), fill("[a] ", size / 100)),
-    "a long title that is used often": |size| format!("[a]: b '{}'\n\n{}", fill("\"", size / 100), fill("![a]", size / 100)),
-    "a long label that is used often": |size| format!("[{0}]: b\n\n{1}", "a".repeat(900), fill(&format!("[{}]", "a".repeat(900)), size)),
+    "a long destination that is used often": |size| {
+        format!("[a]: /{}\n\n{}", fill("b", size / 100), fill("[a] ", size / 100))
+    },
+    "a long title that is used often": |size| {
+        format!("[a]: b '{}'\n\n{}", fill("\"", size / 100), fill("![a]", size / 100))
+    },
+    "a long label that is used often": |size| {
+        let label = "a".repeat(900);
+        format!("[{label}]: b\n\n{}", fill(&format!("[{label}]"), size))
+    },
     "definitions": |size| (0..size / 10).map(|each| format!("[{each}]: a\n")).collect(),
-    "definitions, each with a link": |size| (0..size / 18).map(|each| format!("[{each}]: a\n[{each}]\n\n")).collect(),
+    "definitions, each with a link": |size| {
+        (0..size / 18).map(|each| format!("[{each}]: a\n[{each}]\n\n")).collect()
+    },
     "one definition again": |size| fill("[a]: b\n", size),
     "stars": |size| fill("*", size),
     "emphasis that opens": |size| fill("*a ", size),
@@ -112,23 +123,41 @@ const SHAPES: &[Shape] = shapes! {
     "backslashes": |size| fill("\\a\\*", size),
     "ampersands": |size| fill("&a", size),
     "references by name": |size| fill("&amp;", size),
-    "a wide table": |size| format!("{}\n{}\n{}", fill("|a", size / 4), fill("|-", size / 4), fill("b\n", size / 2)),
+    "a wide table": |size| {
+        format!("{}\n{}\n{}", fill("|a", size / 4), fill("|-", size / 4), fill("b\n", size / 2))
+    },
     "a long table": |size| "|a|b|\n|-|-|\n".to_string() + &fill("|c|d|\n", size),
     "dropped cells": |size| "|a|\n|-|\n".to_string() + &fill("|b", size),
     "dropped cells of many rows": |size| "|a|\n|-|\n".to_string() + &fill("|b|c|d|e|f|g|h\n", size),
-    "cells without bytes": |size| "|".repeat(size / 4) + "\n" + &fill("|-", size / 4) + "\n" + &"|".repeat(size / 4),
-    "cells in the middle": |size| format!("{}\n{}\n{}", fill("|a", size / 6), fill("|:-:", size / 3), fill("b\n", size / 2)),
+    "cells without bytes": |size| {
+        "|".repeat(size / 4) + "\n" + &fill("|-", size / 4) + "\n" + &"|".repeat(size / 4)
+    },
+    "cells in the middle": |size| {
+        format!("{}\n{}\n{}", fill("|a", size / 6), fill("|:-:", size / 3), fill("b\n", size / 2))
+    },
     "tables": |size| fill("|a|\n|-|\n\n", size),
     "pipes": |size| fill("|", size),
     "a paragraph of pipes": |size| fill("|a", size) + "\n|-",
     "lines of pipes": |size| fill("a|b\n", size),
     "delimiter rows": |size| fill("|-|-|\n", size),
-    "short rows in a quote": |size| format!("> {}\n> {}\n{}", fill("|a", size / 8), fill("|-", size / 8), fill("> b\n", size / 2)),
-    "footnotes": |size| (0..size / 20).map(|each| format!("[^{each}]\n\n[^{each}]: a\n\n")).collect(),
+    "short rows in a quote": |size| {
+        let head = format!("> {}\n> {}\n", fill("|a", size / 8), fill("|-", size / 8));
+        head + &fill("> b\n", size / 2)
+    },
+    "footnotes": |size| {
+        (0..size / 20).map(|each| format!("[^{each}]\n\n[^{each}]: a\n\n")).collect()
+    },
     "calls of one footnote": |size| "[^a]: b\n\n".to_string() + &fill("[^a]", size),
-    "footnotes in a row": |size| (0..size / 18).map(|each| format!("[^{each}]: [^{}]\n\n", each + 1)).collect::<String>() + "[^0]",
-    "footnotes without a call": |size| (0..size / 11).map(|each| format!("[^{each}]: \n")).collect(),
-    "headings in footnotes in one another": |size| fill("[^a]:#\n", size / 2) + &fill("# b\n", size / 2),
+    "footnotes in a row": |size| {
+        let footnote = |each: usize| format!("[^{each}]: [^{}]\n\n", each + 1);
+        (0..size / 18).map(footnote).collect::<String>() + "[^0]"
+    },
+    "footnotes without a call": |size| {
+        (0..size / 11).map(|each| format!("[^{each}]: \n")).collect()
+    },
+    "headings in footnotes in one another": |size| {
+        fill("[^a]:#\n", size / 2) + &fill("# b\n", size / 2)
+    },
     "a long footnote's label": |size| format!("[^{0}]: a\n\n[^{0}]", "b".repeat(size / 2)),
     "calls without a footnote": |size| fill("[^a]", size),
     "footnotes in footnotes": |size| fill("[^a]: ", size) + "b",

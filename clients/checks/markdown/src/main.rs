@@ -1,9 +1,13 @@
 //! Checks of `markdown_to_html`.
 //!
-//!     bivdrazo-checks compare LIST [--write] < DOCUMENTS    compares with pulldown-cmark's own renderer
-//!     bivdrazo-checks shapes FOLDER [SIZE]                  writes shapes of Markdown that make parsers slow or large
-//!     bivdrazo-checks render < MARKDOWN                     writes what `markdown_to_html` makes of a document
-//!     bivdrazo-checks plain < MARKDOWN                      writes what pulldown-cmark's own renderer makes of it
+//!     bivdrazo-checks compare LIST [--write] < DOCUMENTS
+//!         compares with pulldown-cmark's own renderer
+//!     bivdrazo-checks shapes FOLDER [SIZE]
+//!         writes shapes of Markdown that make parsers slow or large
+//!     bivdrazo-checks render < MARKDOWN
+//!         writes what `markdown_to_html` makes of a document
+//!     bivdrazo-checks plain < MARKDOWN
+//!         writes what pulldown-cmark's own renderer makes of it
 //!
 //! DOCUMENTS are frames: a count of bytes in decimal digits, a line feed, the document. The
 //! comparison ends with status 1 for a difference that isn't permitted, another count than LIST

@@ -49,13 +49,37 @@ fn blocks() {
 fn lists() {
     for (text, wanted) in [
         ("- a\n- b", "<ul>\n<li>a</li>\n<li>b</li>\n</ul>\n"),
-        ("7. a\n8. b", "<ol start=\"7\">\n<li>a</li>\n<li>b</li>\n</ol>\n"),
-        ("- a\n\n- b", "<ul>\n<li>\n<p>a</p>\n</li>\n<li>\n<p>b</p>\n</li>\n</ul>\n"),
-        ("-\n\n- b", "<ul>\n<li></li>\n<li>\n<p>b</p>\n</li>\n</ul>\n"),
-        ("- a\n  - b\n\n    c\n- d", "<ul>\n<li>a\n<ul>\n<li>\n<p>b</p>\n<p>c</p>\n</li>\n</ul>\n</li>\n<li>d</li>\n</ul>\n"),
-        ("- a\n  # b\n  c", "<ul>\n<li>a\n<h1>b</h1>\nc</li>\n</ul>\n"),
-        ("- <b>a</b>\n- <div>\n  b\n- c", "<ul>\n<li>&lt;b&gt;a&lt;/b&gt;</li>\n<li>\n&lt;div&gt;\nb\n</li>\n<li>c</li>\n</ul>\n"),
-        ("- [ ] a\n- [x] b", "<ul>\n<li><input type=\"checkbox\" disabled=\"\" /> a</li>\n<li><input type=\"checkbox\" disabled=\"\" checked=\"\" /> b</li>\n</ul>\n"),
+        (
+            "7. a\n8. b",
+            "<ol start=\"7\">\n<li>a</li>\n<li>b</li>\n</ol>\n",
+        ),
+        (
+            "- a\n\n- b",
+            "<ul>\n<li>\n<p>a</p>\n</li>\n<li>\n<p>b</p>\n</li>\n</ul>\n",
+        ),
+        (
+            "-\n\n- b",
+            "<ul>\n<li></li>\n<li>\n<p>b</p>\n</li>\n</ul>\n",
+        ),
+        (
+            "- a\n  - b\n\n    c\n- d",
+            "<ul>\n<li>a\n<ul>\n<li>\n<p>b</p>\n<p>c</p>\n</li>\n</ul>\n</li>\n\
+             <li>d</li>\n</ul>\n",
+        ),
+        (
+            "- a\n  # b\n  c",
+            "<ul>\n<li>a\n<h1>b</h1>\nc</li>\n</ul>\n",
+        ),
+        (
+            "- <b>a</b>\n- <div>\n  b\n- c",
+            "<ul>\n<li>&lt;b&gt;a&lt;/b&gt;</li>\n<li>\n&lt;div&gt;\nb\n</li>\n\
+             <li>c</li>\n</ul>\n",
+        ),
+        (
+            "- [ ] a\n- [x] b",
+            "<ul>\n<li><input type=\"checkbox\" disabled=\"\" /> a</li>\n\
+             <li><input type=\"checkbox\" disabled=\"\" checked=\"\" /> b</li>\n</ul>\n",
+        ),
     ] {
         assert_eq!(html(text), wanted, "{text:?}");
     }
@@ -75,13 +99,29 @@ fn tables() {
 #[test]
 fn spans() {
     for (text, wanted) in [
-        ("*a* **b** ~~c~~ `` ` ``", "<p><em>a</em> <strong>b</strong> <del>c</del> <code>`</code></p>\n"),
+        (
+            "*a* **b** ~~c~~ `` ` ``",
+            "<p><em>a</em> <strong>b</strong> <del>c</del> <code>`</code></p>\n",
+        ),
         ("`  a  ` `  `", "<p><code> a </code> <code>  </code></p>\n"),
-        ("[a](b 'c') ![*d*\ne](f \"g\")", "<p><a href=\"b\" title=\"c\">a</a> <img src=\"f\" alt=\"d e\" title=\"g\" /></p>\n"),
-        ("[a](javascript:b) ![c](mailto:d)", "<p><a href=\"\">a</a> <img src=\"\" alt=\"c\" /></p>\n"),
-        ("<a@b.c> <https://d.e>", "<p><a href=\"mailto:a@b.c\">a@b.c</a> <a href=\"https://d.e\">https://d.e</a></p>\n"),
+        (
+            "[a](b 'c') ![*d*\ne](f \"g\")",
+            "<p><a href=\"b\" title=\"c\">a</a> <img src=\"f\" alt=\"d e\" title=\"g\" /></p>\n",
+        ),
+        (
+            "[a](javascript:b) ![c](mailto:d)",
+            "<p><a href=\"\">a</a> <img src=\"\" alt=\"c\" /></p>\n",
+        ),
+        (
+            "<a@b.c> <https://d.e>",
+            "<p><a href=\"mailto:a@b.c\">a@b.c</a> <a href=\"https://d.e\">https://d.e</a></p>\n",
+        ),
         ("&amp;&copy;&#0;\0", "<p>&amp;\u{a9}\u{fffd}\u{fffd}</p>\n"),
-        ("[a] [a][] [b][a]\n\n[a]: c 'd'", "<p><a href=\"c\" title=\"d\">a</a> <a href=\"c\" title=\"d\">a</a> <a href=\"c\" title=\"d\">b</a></p>\n"),
+        (
+            "[a] [a][] [b][a]\n\n[a]: c 'd'",
+            "<p><a href=\"c\" title=\"d\">a</a> <a href=\"c\" title=\"d\">a</a> \
+             <a href=\"c\" title=\"d\">b</a></p>\n",
+        ),
     ] {
         assert_eq!(html(text), wanted, "{text:?}");
     }
@@ -91,8 +131,12 @@ fn spans() {
 fn footnotes() {
     let text = "a[^B] [^c]\n\n[^b]: d\n";
     let html = html(text);
-    assert!(html.starts_with("<p>a<sup><a href=\"#user-content-fn-b\" id=\"user-content-fnref-b\""));
-    assert!(html.contains("</sup> [^c]</p>\n<section data-footnotes=\"\" class=\"footnotes\"><h2 id=\"footnote-label\""));
+    let begins = "<p>a<sup><a href=\"#user-content-fn-b\" id=\"user-content-fnref-b\"";
+    assert!(html.starts_with(begins));
+    assert!(html.contains(
+        "</sup> [^c]</p>\n<section data-footnotes=\"\" class=\"footnotes\">\
+         <h2 id=\"footnote-label\""
+    ));
     let prefixed = html_with(text, |options| {
         options.footnote_prefix = Some("x-".to_string())
     })
@@ -198,7 +242,11 @@ fn bases() {
         })
         .unwrap()
     };
-    assert_eq!(based("[x](f) ![y](../g) [z](#h)"), "<p><a href=\"https://a.b/c/f\">x</a> <img src=\"https://a.b/g\" alt=\"y\" /> <a href=\"#h\">z</a></p>\n");
+    assert_eq!(
+        based("[x](f) ![y](../g) [z](#h)"),
+        "<p><a href=\"https://a.b/c/f\">x</a> <img src=\"https://a.b/g\" alt=\"y\" /> \
+         <a href=\"#h\">z</a></p>\n"
+    );
     assert_eq!(
         based("[x](javascript:f) <i@j.k>"),
         "<p><a href=\"\">x</a> <a href=\"mailto:i@j.k\">i@j.k</a></p>\n"
@@ -408,9 +456,19 @@ fn table_after_a_tight_paragraph() {
 #[test]
 fn spans_around_blocks() {
     for (text, wanted) in [
-        ("- [a\n  # b\n  c](d)", "<ul>\n<li><a href=\"d\">a</a>\n<h1>b</h1>\nc</li>\n</ul>\n"),
-        ("- ![a\n  > b\n\n  c](d)", "<ul>\n<li>\n<p>![a</p>\n<blockquote>\n<p>b</p>\n</blockquote>\n<p>c](d)</p>\n</li>\n</ul>\n"),
-        ("- *a **b\n  ***\n  c** d*", "<ul>\n<li><em>a <strong>b</strong></em>\n<hr />\nc d</li>\n</ul>\n"),
+        (
+            "- [a\n  # b\n  c](d)",
+            "<ul>\n<li><a href=\"d\">a</a>\n<h1>b</h1>\nc</li>\n</ul>\n",
+        ),
+        (
+            "- ![a\n  > b\n\n  c](d)",
+            "<ul>\n<li>\n<p>![a</p>\n<blockquote>\n<p>b</p>\n</blockquote>\n\
+             <p>c](d)</p>\n</li>\n</ul>\n",
+        ),
+        (
+            "- *a **b\n  ***\n  c** d*",
+            "<ul>\n<li><em>a <strong>b</strong></em>\n<hr />\nc d</li>\n</ul>\n",
+        ),
     ] {
         assert_eq!(html(text), wanted, "{text:?}");
     }
