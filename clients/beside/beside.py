@@ -8,8 +8,8 @@ those of WAYS. What bleach cleans may hold all elements that the renderers make.
 
 import sys
 
-TAGS = """a blockquote br code dd del div dl dt em h1 h2 h3 h4 h5 h6 hr i img input li ol p pre s section span strong
-    sub sup table tbody td th thead tr ul""".split()
+TAGS = """a blockquote br code dd del div dl dt em h1 h2 h3 h4 h5 h6 hr i img input li ol p pre s
+    section span strong sub sup table tbody td th thead tr ul""".split()
 ATTRIBUTES = {
     "*": ["class", "id"],
     "a": ["href", "title"],

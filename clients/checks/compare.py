@@ -94,7 +94,8 @@ def run_batch(command, mutated):
     given = b"".join(b"%d\n" % len(document) + document for document in mutated)
     done = subprocess.run(command, input=given, capture_output=True)
     if done.returncode != 0:
-        sys.exit(f"{' '.join(map(str, command))}: status {done.returncode}\n{done.stderr.decode()[-4000:]}")
+        sys.exit(f"{' '.join(map(str, command))}: status {done.returncode}\n"
+                 f"{done.stderr.decode()[-4000:]}")
     return frames(done.stdout)
 
 
@@ -109,14 +110,16 @@ def compare_mutated(out, mutated):
                judgement in zip(mutated, of_documents, judged)]
     wrong = sum(unlike(at, *triple) for at, triple in enumerate(triples))
     statuses = collections.Counter(status for status, _ in found)
-    print(f"  lists of changed events: {len(found) - len(mutated)}; with a text {statuses[OK] - len(mutated)}")
+    print(f"  lists of changed events: {len(found) - len(mutated)}; "
+          f"with a text {statuses[OK] - len(mutated)}")
     return counted(triples), [text for status, text in found if status == OK], wrong + refused
 
 
 def check_reading(texts):
     """How many of the texts hold what isn't permitted."""
     if importlib.util.find_spec("html5lib") is None:
-        print("*** the reading by an HTML5 parser is LEFT OUT: apt-get install python3-html5lib ***")
+        print("*** the reading by an HTML5 parser is LEFT OUT: "
+              "apt-get install python3-html5lib ***")
         return 0
     import reading
 
@@ -126,7 +129,8 @@ def check_reading(texts):
     wrong = [(text, faults) for text, faults in zip(different, found) if faults]
     for text, faults in wrong[:20]:
         print(f"  {faults[0]}: {text!r}")
-    print(f"  read by html5lib: {len(different)} different texts, {len(wrong)} with what isn't permitted")
+    print(f"  read by html5lib: {len(different)} different texts, "
+          f"{len(wrong)} with what isn't permitted")
     return len(wrong)
 
 
@@ -134,14 +138,16 @@ def check_memory(out, mutated):
     """Renders the documents under valgrind, each with a list of changed events; ends where
     it finds an error.
     """
-    valgrind = "valgrind -q --error-exitcode=9 --leak-check=full --errors-for-leak-kinds=definite,indirect,possible"
+    valgrind = ("valgrind -q --error-exitcode=9 --leak-check=full "
+                "--errors-for-leak-kinds=definite,indirect,possible")
     try:
         subprocess.run(["valgrind", "--version"], capture_output=True, check=True)
     except OSError:
         print("*** the run under valgrind is LEFT OUT: apt-get install valgrind ***")
         return
     run_batch([*valgrind.split(), out / "batch", str(SEED), "1"], mutated)
-    print(f"  under valgrind: {len(mutated)} documents, each with a list of changed events: no error, no leak")
+    print(f"  under valgrind: {len(mutated)} documents, each with a list of changed events: "
+          "no error, no leak")
 
 
 def listed():
@@ -183,7 +189,8 @@ def main(arguments):
     wrong += check_reading(itertools.chain(example_texts, texts))
     check_memory(out, mutated)
     seconds = time.monotonic() - start
-    print(f"compare: {len(example_texts)} examples, {MUTATED} mutated documents, {wrong} faults, {seconds:.0f} s")
+    print(f"compare: {len(example_texts)} examples, {MUTATED} mutated documents, "
+          f"{wrong} faults, {seconds:.0f} s")
     return 1 if wrong else 0
 
 

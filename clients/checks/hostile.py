@@ -110,7 +110,8 @@ def row(path, runs, plain):
     text = next(iter(runs.values())).length
     told = " | ".join(f"{found.seconds:.2f} | {beyond(path, found):.0f}" for found in runs.values())
     own = f"{plain.seconds:.2f} | {beyond(path, plain):.0f}" if plain.status == 0 else "– | –"
-    return f"| {path.stem} | {os.path.getsize(path) / MEGA:.2f} | {text / MEGA:.2f} | {told} | {own} |"
+    return (f"| {path.stem} | {os.path.getsize(path) / MEGA:.2f} | {text / MEGA:.2f} "
+            f"| {told} | {own} |")
 
 
 def measured(out, path, is_table):
@@ -131,7 +132,8 @@ def main():
     arguments = parser.parse_args()
     out, is_table, more = arguments.out, arguments.table, allowed()
     wrong, slowest = 0, (0, "")
-    with tempfile.TemporaryDirectory() as folder, concurrent.futures.ThreadPoolExecutor(os.cpu_count()) as pool:
+    with tempfile.TemporaryDirectory() as folder, \
+            concurrent.futures.ThreadPoolExecutor(os.cpu_count()) as pool:
         subprocess.run([out / "target" / "release" / "bivdrazo-checks", "shapes", folder,
                         arguments.size], check=True)
         paths = sorted(pathlib.Path(folder).glob("*.md"))
@@ -144,7 +146,8 @@ def main():
             slowest = max(slowest, (max(found.seconds for found in runs.values()), path.stem))
     wrong += len(more.keys() - {path.stem for path in paths})
     seconds, shape = slowest
-    print(f"hostile: {len(paths)} shapes by {len(runs)} ways, {wrong} faults, {seconds:.2f} seconds at most ({shape})")
+    print(f"hostile: {len(paths)} shapes by {len(runs)} ways, {wrong} faults, "
+          f"{seconds:.2f} seconds at most ({shape})")
     return 1 if wrong else 0
 
 

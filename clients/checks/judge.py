@@ -210,7 +210,8 @@ class Calls(NamedTuple):
     keeps footnotes that are called from there alone, ways back to there, and their numbers.
     """
 
-    pairs: tuple[tuple[int, int], ...]  # the footnote's number, and the how manieth call of it this is
+    # The footnote's number, and the how manieth call of it this is.
+    pairs: tuple[tuple[int, int], ...]
 
     def numbers(self):
         """The numbers of the footnotes that are called, in the order in which they are called."""
@@ -243,23 +244,27 @@ def with_way_back(match, calls):
     again_text = b"<sup>" + times + b"</sup>" if again else b""
     return (
         space + b'<a href="#user-content-fnref-' + footnote_id(label) + again
-        + b'" data-footnote-backref="" aria-label="Back to content" class="data-footnote-backref">\xe2\x86\xa9'
+        + b'" data-footnote-backref="" aria-label="Back to content" '
+          b'class="data-footnote-backref">\xe2\x86\xa9'
         + again_text + b"</a>"
     )
 
 
 CALL = re.compile(
-    rb'<sup class="footnote-ref"><a href="#fn-([^"]*)" id="fnref-\1(-[0-9]+)?" data-footnote-ref>([0-9]+)</a></sup>'
+    rb'<sup class="footnote-ref"><a href="#fn-([^"]*)" id="fnref-\1(-[0-9]+)?" '
+    rb'data-footnote-ref>([0-9]+)</a></sup>'
 )
 BACK = re.compile(
-    rb'( ?)<a href="#fnref-([^"]*?)((?<=.)-[0-9]+)?" class="footnote-backref" data-footnote-backref '
-    rb'aria-label="Back to content">\xe2\x86\xa9(?:<sup class="footnote-ref">([0-9]+)</sup>)?</a>'
+    rb'( ?)<a href="#fnref-([^"]*?)((?<=.)-[0-9]+)?" class="footnote-backref" '
+    rb'data-footnote-backref aria-label="Back to content">\xe2\x86\xa9'
+    rb'(?:<sup class="footnote-ref">([0-9]+)</sup>)?</a>'
 )
 SECTION = b'<section class="footnotes" data-footnotes>\n<ol>\n'
 ITEM = b'<li id="fn-'
 SECTION_END = b"</ol>\n</section>\n"
 SECTION_HERE = (
-    b'<section data-footnotes="" class="footnotes"><h2 id="footnote-label" class="sr-only">Footnotes</h2>\n<ol>\n'
+    b'<section data-footnotes="" class="footnotes">'
+    b'<h2 id="footnote-label" class="sr-only">Footnotes</h2>\n<ol>\n'
 )
 
 
@@ -281,7 +286,8 @@ def with_footnotes(text, calls):
     return CALL.sub(lambda match: with_call(match, calls), text) if section else text
 
 
-FOOTNOTE_FIELD = 112  # where a node of cmark-gfm 0.29.0.gfm.6 keeps the how manieth call of its footnote it is
+# Where a node of cmark-gfm 0.29.0.gfm.6 keeps the how manieth call of its footnote it is.
+FOOTNOTE_FIELD = 112
 
 
 def calls_of(root):

@@ -42,7 +42,8 @@ def main(arguments):
     }
     for number in sorted(differ ^ KNOWN.keys()):
         print(f"parsers: example {number}: {examples[number - 1]!r}")
-    print(f"parsers: of {len(examples)} examples {len(examples) - len(differ)} give the same text by both")
+    print(f"parsers: of {len(examples)} examples {len(examples) - len(differ)} "
+          "give the same text by both")
     return 0 if differ == KNOWN.keys() else 1
 
 

@@ -1,12 +1,12 @@
 #!/usr/bin/env python3
 """A page with the comments of people who aren't trusted.
 
-    comments.py < COMMENTS > PAGE    COMMENTS: JSON, a list of objects with the texts `author` and `text`
+    comments.py < COMMENTS > PAGE
 
-Each comment has bounds, and prefixes of its own, so that no two of them share an id of a footnote
-or of a heading; no search engine follows its links. The heading of the footnotes has the id
-`footnote-label` in each comment that has some: it stays in the first alone. A comment that passes a
-bound is told and left out.
+COMMENTS is JSON, a list of objects with the texts `author` and `text`. Each comment has bounds, and
+prefixes of its own, so that no two of them share an id of a footnote or of a heading; no search
+engine follows its links. The heading of the footnotes has the id `footnote-label` in each comment
+that has some: it stays in the first alone. A comment that passes a bound is told and left out.
 """
 
 import html
@@ -43,7 +43,8 @@ def comment(number, author, text):
 def main():
     """Writes the page."""
     comments = json.load(sys.stdin)
-    print('<!doctype html>\n<html lang="en"><head><meta charset="utf-8" /><title>Comments</title></head><body>')
+    print('<!doctype html>\n<html lang="en"><head><meta charset="utf-8" />'
+          '<title>Comments</title></head><body>')
     has_label = False
     for number, each in enumerate(comments, 1):
         made = comment(number, each["author"], each["text"])

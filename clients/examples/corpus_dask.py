@@ -116,4 +116,5 @@ def main(arguments):
 if __name__ == "__main__":
     ended = main(sys.argv[1:])
     sys.stdout.flush()
-    os._exit(ended)  # all is written; a run over a million files crashed after this line was reached
+    # All is written; a run over a million files crashed after this line was reached.
+    os._exit(ended)

@@ -1,4 +1,6 @@
-"""HTML's names of character references, listed in references.txt, as C, Rust and Python have them."""
+"""HTML's names of character references, listed in references.txt, as C, Rust and Python have
+them.
+"""
 
 import pathlib
 
@@ -9,7 +11,8 @@ COMMENT = "HTML's names of character references, each with what it stands for."
 
 def references():
     """The list's pairs of a name and a text."""
-    lines = [line.split() for line in LIST.read_text().splitlines() if line and not line.startswith("#")]
+    lines = [line.split() for line in LIST.read_text().splitlines()
+             if line and not line.startswith("#")]
     return [(name, "".join(chr(int(code, 16)) for code in codes)) for name, *codes in lines]
 
 
@@ -20,7 +23,8 @@ def c_file():
     text += '#include "bivdrazo.h"\n\n'
     text += f"/* How many names there are. */\n#define BIVDRAZO_REFERENCES_LENGTH {len(pairs)}\n\n"
     text += "#define BIVDRAZO_REFERENCE(name, text) \\\n"
-    text += "    {(const uint8_t *)name, sizeof(name) - 1, (const uint8_t *)text, sizeof(text) - 1}\n\n"
+    text += ("    {(const uint8_t *)name, sizeof(name) - 1, "
+             "(const uint8_t *)text, sizeof(text) - 1}\n\n")
     text += f"/* {COMMENT} */\n"
     text += "static const bivdrazo_reference BIVDRAZO_REFERENCES[BIVDRAZO_REFERENCES_LENGTH] = {\n"
     for name, stands_for in pairs:
@@ -32,7 +36,8 @@ def c_file():
 def rust_file():
     """The module for Rust."""
     text = f"// {NOTICE}\n\n/// {COMMENT}\n///\n"
-    text += "/// A caller of [`compile`](crate::compile) whose parser doesn't decode references hands them in.\n"
+    text += ("/// A caller of [`compile`](crate::compile) whose parser doesn't decode references "
+             "hands them in.\n")
     text += "pub const REFERENCES: &[(&str, &str)] = &[\n"
     for name, stands_for in references():
         coded = "".join(f"\\u{{{ord(character):x}}}" for character in stands_for)

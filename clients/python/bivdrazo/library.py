@@ -73,7 +73,8 @@ def load() -> ctypes.CDLL:
     except OSError as error:
         raise ImportError(f"{error}; clients/build makes it") from error
     size, text = ctypes.c_size_t, ctypes.c_char_p
-    events, options, names = ctypes.POINTER(CEvent), ctypes.POINTER(COptions), ctypes.POINTER(CReference)
+    events, options = ctypes.POINTER(CEvent), ctypes.POINTER(COptions)
+    names = ctypes.POINTER(CReference)
     library.bivdrazo_compile.argtypes = [events, size, text, size, options, names, size, text, size]
     library.bivdrazo_compile.restype = CAnswer
     limits = ctypes.POINTER(CLimits)

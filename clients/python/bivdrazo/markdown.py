@@ -55,7 +55,8 @@ def markdown_library() -> ctypes.CDLL:
     try:
         library = ctypes.CDLL(str(path))
     except OSError as error:
-        raise ImportError(f"{error}; clients/build makes it where cargo finds pulldown-cmark and linkify") from error
+        raise ImportError(f"{error}; clients/build makes it where cargo finds pulldown-cmark and "
+                          "linkify") from error
     out = ctypes.POINTER(ctypes.c_void_p)
     library.bivdrazo_markdown.argtypes = [ctypes.c_char_p, ctypes.c_size_t,
                                           ctypes.POINTER(CMarkdownOptions), out]

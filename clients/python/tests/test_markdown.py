@@ -10,8 +10,8 @@ import time
 import unittest
 
 import bivdrazo
-from bivdrazo import REFERENCES, Event, Heading, Invalid, Name, Refused, Rule, TooLong, Unreadable, compile
-from bivdrazo import markdown_to_html, markdown_with_headings
+from bivdrazo import REFERENCES, Event, Heading, Invalid, Name, Refused, Rule, TooLong, Unreadable
+from bivdrazo import compile, markdown_to_html, markdown_with_headings
 from bivdrazo.markdown import CMarkdownOptions, markdown_error_of, markdown_library
 from bivdrazo.library import CAnswer
 from bivdrazo.numbers import DocumentHtml
@@ -50,7 +50,8 @@ class Texts(unittest.TestCase):
                          '<p><a href="https://c.d/b">a</a></p>\n')
 
     def test_attributes(self):
-        link = '<p><a href="b" rel="&quot;&lt;\ufffd">a</a> <a href="#c">d</a> <a href="">e</a></p>\n'
+        link = ('<p><a href="b" rel="&quot;&lt;\ufffd">a</a> <a href="#c">d</a> '
+                '<a href="">e</a></p>\n')
         self.assertEqual(markdown_to_html("[a](b) [d](#c) [e](f:)", rel='"<\0'), link)
         self.assertEqual(markdown_to_html("# a\n## b", heading_ids=""),
                          '<h1 id="1">a</h1>\n<h2 id="2">b</h2>\n')

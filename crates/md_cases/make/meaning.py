@@ -292,7 +292,8 @@ class Meaning:
         if around.image:
             return [label]
         resource = first(node, "Resource")
-        destination, title = self.target(resource) if resource else self.definitions[self.identifier(node)]
+        destination, title = (self.target(resource) if resource
+                              else self.definitions[self.identifier(node)])
         url, title = self.url(destination, image), "" if title is None else f' title="{title}"'
         return [f'<img src="{url}" alt="{label}"{title} />' if image
                 else f'<a href="{url}"{title}>{label}</a>']
@@ -339,8 +340,10 @@ class Meaning:
     def of_GfmFootnoteCall(self, node, around):
         number, named = self.names(self.identifier(node))
         prefix = self.option("gfm_footnote_clobber_prefix", "user-content-")
-        ids = f'href="#{prefix}fn-{named}" id="{prefix}fnref-{named}{self.numbered(self.occurrences[id(node)])}"'
-        text = f'<sup><a {ids} data-footnote-ref="" aria-describedby="footnote-label">{number}</a></sup>'
+        again = self.numbered(self.occurrences[id(node)])
+        ids = f'href="#{prefix}fn-{named}" id="{prefix}fnref-{named}{again}"'
+        text = (f'<sup><a {ids} data-footnote-ref="" aria-describedby="footnote-label">{number}'
+                '</a></sup>')
         return [] if around.image else [text]
 
     def of_GfmFootnoteDefinition(self, node, around):
@@ -354,8 +357,9 @@ class Meaning:
         prefix = self.option("gfm_footnote_clobber_prefix", "user-content-")
         label = self.option("gfm_footnote_back_label", "Back to content")
         text = "↩" if occurrence == 1 else f"↩<sup>{occurrence}</sup>"
-        return (f'<a href="#{prefix}fnref-{named}{self.numbered(occurrence)}" data-footnote-backref="" '
-                f'aria-label="{label}" class="data-footnote-backref">{text}</a>')
+        return (f'<a href="#{prefix}fnref-{named}{self.numbered(occurrence)}" '
+                f'data-footnote-backref="" aria-label="{label}" class="data-footnote-backref">'
+                f'{text}</a>')
 
     def item(self, identifier):
         named, prefix = self.names(identifier)[1], self.option("gfm_footnote_clobber_prefix",
@@ -372,7 +376,8 @@ class Meaning:
             return []
         tag = self.option("gfm_footnote_label_tag_name", "h2")
         attributes = self.options.get("gfm_footnote_label_attributes", 'class="sr-only"')
-        heading = f'<{tag} id="footnote-label" {attributes}>{self.option("gfm_footnote_label", "Footnotes")}</{tag}>'
+        label = self.option("gfm_footnote_label", "Footnotes")
+        heading = f'<{tag} id="footnote-label" {attributes}>{label}</{tag}>'
         items = [piece for identifier in self.counts for piece in self.item(identifier)]
         return [NEEDED, f'<section data-footnotes="" class="footnotes">{heading}', FORCED, "<ol>",
                 *items,
