@@ -492,7 +492,8 @@ def load():
 def main():
     program, *words = sys.argv[1:]
     print(f"{time.strftime('%Y-%m-%d %H:%M')}, {os.cpu_count()} processors, load {load()}\n")
-    print("| shape | n | events | document, kB | HTML, kB | wall, s | processor, s | growth | memory, MiB |")
+    print("| shape | n | events | document, kB | HTML, kB | wall, s | processor, s | growth | "
+          "memory, MiB |")
     print("|---|---|---|---|---|---|---|---|---|")
     with tempfile.TemporaryDirectory() as folder:
         for name, sizes, make in SHAPES:

@@ -217,7 +217,8 @@ def main():
     given = parser.parse_args()
     compare = beside()
     if compare is None:
-        print(f"The original isn't beside this clone ({SHARED} is missing), so there is nothing to compare with.")
+        print(f"The original isn't beside this clone ({SHARED} is missing), so there is nothing to "
+              "compare with.")
         print("bench/bench.py measures the program alone.")
         return 0
     commands = [[os.path.abspath(given.program)], [compare.original_path()]]

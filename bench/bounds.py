@@ -1,14 +1,15 @@
 #!/usr/bin/env python3
 """What a text within limits costs, of events that give as much to read or to print as they can.
 
-usage: bench/bounds.py ARCHIVE [--each]     (crates/md_ffi/out/libmd_ffi.a, once clients/link has linked it)
+usage: bench/bounds.py ARCHIVE [--each]
 
-Each shape of bench/bounds.c is compiled by `bivdrazo_compile_within` in a process of its own, with
-some 1 kB to 1 MB of document and events, texts of at most 10 kB and 1 MB, and four times as much
-work as input and text together may have: with as many nodes, up to that size, as give no more work.
-Prints the most that any took for a byte of input and limit, and with --each what each took. Inputs
-of up to 100 kB have an address space of 64 MB. Ends with status 1 where a process dies or a text is
-longer than its limit.
+ARCHIVE is crates/md_ffi/out/libmd_ffi.a, once clients/link has linked it. Each shape of
+bench/bounds.c is compiled by `bivdrazo_compile_within` in a process of its own, with some 1 kB to
+1 MB of document and events, texts of at most 10 kB and 1 MB, and four times as much work as input
+and text together may have: with as many nodes, up to that size, as give no more work. Prints the
+most that any took for a byte of input and limit, and with --each what each took. Inputs of up to
+100 kB have an address space of 64 MB. Ends with status 1 where a process dies or a text is longer
+than its limit.
 """
 
 import os
@@ -56,7 +57,8 @@ def asked(program, shape, length, nodes, text, held):
         words = [program, shape, str(length), str(nodes), str(text), str(work)]
         done = subprocess.run(words, capture_output=True, text=True, preexec_fn=limit, check=False)
         if done.returncode:
-            sys.exit(f"{shape} of {length} bytes and {nodes} nodes: status {done.returncode} {done.stderr}")
+            sys.exit(f"{shape} of {length} bytes and {nodes} nodes: "
+                     f"status {done.returncode} {done.stderr}")
         return done.stdout.split()
 
     given = length + EVENT * int(call(0)[5])
@@ -95,13 +97,14 @@ def main():
                     if status not in STATUSES or printed > text:
                         sys.exit(f"{what}: status {status}, a text of {printed:,} bytes")
                     if "--each" in sys.argv:
-                        print(f"{what}: {STATUSES[status]}, {printed:,} bytes, {seconds * 1000:.1f} ms, "
-                              f"{memory / 1e6:.1f} MB", flush=True)
+                        print(f"{what}: {STATUSES[status]}, {printed:,} bytes, "
+                              f"{seconds * 1000:.1f} ms, {memory / 1e6:.1f} MB", flush=True)
                     for name, cost in (("time", seconds * 1e9), ("memory", memory)):
                         worst[name] = max(worst[name], (cost / (given + text), what))
-    print(f"bounds: {calls} calls within limits; most time: {worst['time'][0]:.0f} ns a byte of input and limit "
-          f"({worst['time'][1]})")
-    print(f"most memory: {worst['memory'][0]:.1f} bytes a byte of input and limit ({worst['memory'][1]})")
+    print(f"bounds: {calls} calls within limits; most time: {worst['time'][0]:.0f} ns a byte of "
+          f"input and limit ({worst['time'][1]})")
+    print(f"most memory: {worst['memory'][0]:.1f} bytes a byte of input and limit "
+          f"({worst['memory'][1]})")
 
 
 main()

@@ -2,14 +2,15 @@
 """Compiles scripts that would show it if memory were kept, and looks at the memory that
 each takes at most.
 
-usage: bench/held.py PROGRAM      (crates/mdevents/out/mdevents, once `rt run < stdin` there has built it)
+usage: bench/held.py PROGRAM
 
-That memory is given back no clause says. Of the first three scripts each prints or drops some
-hundreds of texts as long as its document, few of them at once, and may take what some sixty of them
-take. The others have a limit of their own, a few hundredths above what was measured: definitions
-keep what their texts fill and no more, the list of a document's texts is gone when its labels are
-looked up, and a script's events have no more room than where it grows by doubling, so that all is
-answered in an address space of so many bytes. Ends with status 1 where one takes more.
+PROGRAM is crates/mdevents/out/mdevents, once `rt run < stdin` there has built it. That memory is
+given back no clause says. Of the first three scripts each prints or drops some hundreds of texts as
+long as its document, few of them at once, and may take what some sixty of them take. The others
+have a limit of their own, a few hundredths above what was measured: definitions keep what their
+texts fill and no more, the list of a document's texts is gone when its labels are looked up, and a
+script's events have no more room than where it grows by doubling, so that all is answered in an
+address space of so many bytes. Ends with status 1 where one takes more.
 """
 
 import os
@@ -121,7 +122,8 @@ def main():
         status, bytes_taken = taken(os.path.abspath(sys.argv[1]), events(), document, space)
         print(f"held memory: {name}, {bytes_taken / 1e6:.1f} MB at most")
         if status != 0 or bytes_taken > most:
-            faults.append(f"{name}: status {status}, {bytes_taken / 1e6:.1f} MB, where {most / 1e6:.1f} are enough")
+            faults.append(f"{name}: status {status}, {bytes_taken / 1e6:.1f} MB, "
+                          f"where {most / 1e6:.1f} are enough")
     print("\n".join(faults) or "held memory: 0 faults")
     sys.exit(1 if faults else 0)
 

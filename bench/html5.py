@@ -33,9 +33,8 @@ ELEMENTS = {
     "th": {"align"},
     "td": {"align"},
     "section": {"data-footnotes", "class"},
-    "a": set(
-        "href title id class data-footnote-ref data-footnote-backref aria-describedby aria-label".split()
-    ),
+    "a": set("href title id class data-footnote-ref data-footnote-backref aria-describedby "
+             "aria-label".split()),
     "img": {"src", "alt", "title"},
     "input": {"type", "disabled", "checked"},
 }

@@ -257,9 +257,8 @@ INPUTS = {
     "lines with unknown names": lambda: other_names(5_000),
     "lines as most are": lambda: plain_lines(20_000),
     **{
-        f"200 links, Cyrillic encoded, {size:,} bytes": lambda size=size: links(repeated(ENCODED,
-                                                                                         size,
-                                                                                         b"/wiki/")[:size], 200)
+        f"200 links, Cyrillic encoded, {size:,} bytes": lambda size=size: links(
+            repeated(ENCODED, size, b"/wiki/")[:size], 200)
         for size in (54, 200, 630, 1_830, 10_000)
     },
     **{
@@ -278,8 +277,8 @@ INPUTS = {
     "2,000 links of 10 bytes": lambda: links(b"/a/b?c=d#e", 2_000),
     "2,000 definitions of 20 bytes": lambda: definitions(2_000, 20),
     "2,000 definitions of 65 bytes": lambda: definitions(2_000, 65),
-    "2,000 definitions, labels in capitals past ASCII": lambda: definitions(2_000, 20,
-                                                                            "ПРИВЕТ МИР %06d".encode()),
+    "2,000 definitions, labels in capitals past ASCII": lambda: definitions(
+        2_000, 20, "ПРИВЕТ МИР %06d".encode()),
     "1,000 references, a short label": lambda: references(1_000, b"label"),
     "1,000 references, a label with spaces": lambda: references(1_000,
                                                                 b"  a   label  of many   words "),

@@ -34,14 +34,15 @@ def compared(old, new, name):
     script = INPUTS[name]()
     before, status, text = counted(old, script)
     after, new_status, new_text = counted(new, script)
-    fault = "the answers differ" if (status, text) != (new_status,
-                                                       new_text) else f"status {status}" if status else ""
+    fault = ("the answers differ" if (status, text) != (new_status, new_text)
+             else f"status {status}" if status else "")
     return name, before, after, fault
 
 
 def main():
     """Compares all inputs, or those with a word in their names."""
-    words = argparse.ArgumentParser(usage="bench/prices.py OLD NEW [--limit R] [--only WORD] [--jobs N]")
+    words = argparse.ArgumentParser(
+        usage="bench/prices.py OLD NEW [--limit R] [--only WORD] [--jobs N]")
     words.add_argument("old")
     words.add_argument("new")
     words.add_argument("--limit", type=float)
@@ -59,7 +60,8 @@ def main():
             if fault:
                 faults.append(f"{name}: {fault}")
             elif given.limit and given.limit < ratio:
-                faults.append(f"{name}: {ratio:.3f} times as many, where {given.limit} are let pass")
+                faults.append(f"{name}: {ratio:.3f} times as many, "
+                              f"where {given.limit} are let pass")
     print("\n".join(faults), file=sys.stderr)
     sys.exit(1 if faults else 0)
 

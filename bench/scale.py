@@ -70,15 +70,16 @@ def call(k):
 def way_back(k):
     ending, number = (f"-{k}", f"<sup>{k}</sup>") if k > 1 else ("", "")
     return (
-        f'<a href="#user-content-fnref-a{ending}" data-footnote-backref="" aria-label="Back to content"'
-        f' class="data-footnote-backref">↩{number}</a>'
+        f'<a href="#user-content-fnref-a{ending}" data-footnote-backref=""'
+        f' aria-label="Back to content" class="data-footnote-backref">↩{number}</a>'
     )
 
 
 def section(n):
     ways = " ".join(map(way_back, range(1, n + 1)))
     return (
-        '\n<section data-footnotes="" class="footnotes"><h2 id="footnote-label" class="sr-only">Footnotes</h2>\n<ol>\n'
+        '\n<section data-footnotes="" class="footnotes">'
+        '<h2 id="footnote-label" class="sr-only">Footnotes</h2>\n<ol>\n'
         f'<li id="user-content-fn-a">\n{ways}\n</li>\n</ol>\n</section>\n'
     )
 

@@ -188,7 +188,8 @@ def main():
             if file.read() == made:
                 continue
         different += 1
-        print(f"{os.path.relpath(path, ROOT)} {'is written anew' if given.write else 'is not as bench/tables.py makes it'}")
+        what = "is written anew" if given.write else "is not as bench/tables.py makes it"
+        print(f"{os.path.relpath(path, ROOT)} {what}")
         if given.write:
             with open(path, "w", encoding="utf-8") as file:
                 file.write(made)

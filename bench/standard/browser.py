@@ -37,10 +37,17 @@ BAD = [
 BAD_PAGE = ["<!doctype html><title></title>x</title><body>", "</title>x", "the title"]
 
 PAGE = """<!doctype html><meta charset="utf-8"><body><script>
-const PERMITTED = {href: ['http', 'https', 'irc', 'ircs', 'mailto', 'xmpp'], src: ['http', 'https']};
-const told = (url, base) => { try { return new URL(url, base).protocol.slice(0, -1) } catch { return null } };
+const PERMITTED = {
+  href: ['http', 'https', 'irc', 'ircs', 'mailto', 'xmpp'], src: ['http', 'https'],
+};
+const told = (url, base) => {
+  try { return new URL(url, base).protocol.slice(0, -1) } catch { return null }
+};
 // A URL's own scheme: the one that it has on two bases with different schemes.
-const schemeOf = (url) => { const one = told(url, 'http://h/'); return one === told(url, 'ftp://h/') ? one : null };
+const schemeOf = (url) => {
+  const one = told(url, 'http://h/');
+  return one === told(url, 'ftp://h/') ? one : null;
+};
 const faultsOf = (root, isAny) => {
   const faults = [];
   for (const element of root.querySelectorAll('*')) {
@@ -48,21 +55,25 @@ const faultsOf = (root, isAny) => {
     for (const {name, value} of element.attributes) {
       if (name.startsWith('on')) faults.push('the attribute ' + name);
       const scheme = name in PERMITTED && schemeOf(value);
-      if (scheme && !isAny && !PERMITTED[name].includes(scheme)) faults.push(name + ' with the scheme ' + scheme);
+      if (scheme && !isAny && !PERMITTED[name].includes(scheme))
+        faults.push(name + ' with the scheme ' + scheme);
     }
   }
   return faults;
 };
 const opened = (ran) => {
   const frame = document.body.appendChild(document.createElement('iframe'));
-  for (const name of ['alert', 'confirm', 'prompt', 'eval']) frame.contentWindow[name] = () => { ran.push('ran ' + name) };
+  for (const name of ['alert', 'confirm', 'prompt', 'eval'])
+    frame.contentWindow[name] = () => { ran.push('ran ' + name) };
   return frame;
 };
 const wait = (time) => new Promise((done) => setTimeout(done, time));
 const titleFaults = (document, title) => [
-  ...(document.querySelectorAll('title').length === 1 && document.querySelector('title').textContent === title
+  ...(document.querySelectorAll('title').length === 1
+    && document.querySelector('title').textContent === title
     ? [] : ['the title is not ' + title]),
-  ...(document.body.children.length || document.body.textContent.trim() ? ['something stands in the body'] : []),
+  ...(document.body.children.length || document.body.textContent.trim()
+    ? ['something stands in the body'] : []),
 ];
 const judged = async (texts) => {
   const open = texts.map(([text, isAny, title]) => {
@@ -82,7 +93,8 @@ const judged = async (texts) => {
 };
 (async () => {
   const answers = [];
-  for (let at = 0; at < TEXTS.length; at += 50) answers.push(...await judged(TEXTS.slice(at, at + 50)));
+  for (let at = 0; at < TEXTS.length; at += 50)
+    answers.push(...await judged(TEXTS.slice(at, at + 50)));
   document.body.textContent = JSON.stringify(answers);
 })();
 </script></body>"""
@@ -144,7 +156,8 @@ def main():
         failures += bool(faults)
         if faults:
             print(f"{faults}\n  in {text[:300]!r}\n  of {source[:300]!r}")
-    print(f"{count} texts, each as a page and inside a div, and {len(texts) - count} titles: {failures} with faults")
+    print(f"{count} texts, each as a page and inside a div, and {len(texts) - count} titles: "
+          f"{failures} with faults")
     sys.exit(1 if failures or not texts else 0)
 
 

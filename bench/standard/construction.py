@@ -2,8 +2,8 @@
 where it is stuck.
 """
 
-SPECIAL = set("address article blockquote body br div h1 h2 h3 h4 h5 h6 hr html img input li main ol p".split())
-SPECIAL |= set("pre section table tbody td th thead tr ul".split())
+SPECIAL = set("address article blockquote body br div h1 h2 h3 h4 h5 h6 hr html img input".split())
+SPECIAL |= set("li main ol p pre section table tbody td th thead tr ul".split())
 ANY_SCOPE = set("applet caption html table td th marquee object template".split())
 LIST_ITEM_SCOPE = ANY_SCOPE | {"ol", "ul"}
 BUTTON_SCOPE = ANY_SCOPE | {"button"}
@@ -33,8 +33,8 @@ class Parser:
     """The current node and the last entry come last here."""
 
     def __init__(self, mode, stack):
-        self.mode, self.stack, self.active, self.created, self.pending, self.skips = mode, stack, [], 100, "", False
-        self.original = None
+        self.mode, self.stack, self.active, self.created = mode, stack, [], 100
+        self.pending, self.skips, self.original = "", False, None
 
     def has(self, ends, test):
         for node in reversed(self.stack):

@@ -154,7 +154,8 @@ def by_html5lib(text):
 
 BROWSER = """<!doctype html><meta charset="utf-8"><body><script>
 const read = (node) => node.nodeType === 3 ? node.data
-  : [node.localName, [...node.attributes].map((one) => [one.name, one.value]), [...node.childNodes].map(read)];
+  : [node.localName, [...node.attributes].map((one) => [one.name, one.value]),
+    [...node.childNodes].map(read)];
 const parsed = (text) => {
   const built = new DOMParser().parseFromString(text, 'text/html');
   return [built.doctype && built.doctype.name, read(built.documentElement)];
@@ -346,13 +347,15 @@ def nodes_of(nodes):
 
 def equation(text, context, built):
     """What the definitions are to make of a test."""
-    fragment = '(λ emits. constructed None (at InBody (open_at 0 (codes "html") Empty ∷ []) [] 1) emits)'
+    fragment = ('(λ emits. constructed None '
+                '(at InBody (open_at 0 (codes "html") Empty ∷ []) [] 1) emits)')
     emitted = f"(run 2000 Data (with_line_feeds {equations.written(text.encode())}))"
     if built is None:
         return f"option_and_then document_of {emitted} ≡ None"
     doctype = "None" if built[0] is None else f"Some {equations.written(map(ord, built[0]))}"
     document = f"record {{ doctype = {doctype}; root = {nodes_of([built[1]])} }}"
-    return f"option_and_then {'document_of' if context is None else fragment} {emitted} ≡ Some ({document})"
+    made = "document_of" if context is None else fragment
+    return f"option_and_then {made} {emitted} ≡ Some ({document})"
 
 
 def answered(made):

@@ -126,7 +126,8 @@ def main():
     if counts["grammar", "stuck"] or counts["page", "stuck"]:
         sys.exit("stuck on a text of the grammar or a page")
     ran = checked([equation for _, equation in made])
-    wrong = checked(["run 9 Data (with_line_feeds (97 ∷ [])) ≡ Some (Character 98 ∷ EndOfFile ∷ [])"])
+    wrong = checked(["run 9 Data (with_line_feeds (97 ∷ [])) ≡ "
+                     "Some (Character 98 ∷ EndOfFile ∷ [])"])
     if wrong.returncode == 0:
         sys.exit("a wrong equation was proved")
     print(f"{len(made)} equations of seed {seed}: {'proved' if ran.returncode == 0 else 'REFUSED'}")

@@ -57,7 +57,8 @@ _NODE = """
 const told = (url, base) => { try { return new URL(url, base).protocol } catch { return null } }
 for (const line of require('fs').readFileSync(0, 'utf8').split('\\n').filter((line) => line)) {
   const url = JSON.parse(line), one = told(url, 'http://h/'), other = told(url, 'ftp://h/')
-  console.log(JSON.stringify(one === null || other === null ? '?' : one === other ? one.slice(0, -1) : ''))
+  console.log(JSON.stringify(
+    one === null || other === null ? '?' : one === other ? one.slice(0, -1) : ''))
 }
 """
 

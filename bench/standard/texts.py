@@ -18,7 +18,8 @@ ELEMENTS = {
     "th": ["align"],
     "td": ["align"],
     "section": ["data-footnotes", "class"],
-    "a": "href title id class data-footnote-ref data-footnote-backref aria-describedby aria-label".split(),
+    "a": "href title id class data-footnote-ref data-footnote-backref aria-describedby "
+         "aria-label".split(),
 }
 VOID = {"br": [], "hr": [], "img": ["src", "alt", "title"],
         "input": ["type", "disabled", "checked"]}
@@ -78,7 +79,8 @@ def forest(random, depth):
             out += f"<{name}{attributes(random, VOID[name])} />"
         else:
             name = random.choice(list(ELEMENTS))
-            out += f"<{name}{attributes(random, ELEMENTS[name])}>{forest(random, depth - 1)}</{name}>"
+            out += (f"<{name}{attributes(random, ELEMENTS[name])}>{forest(random, depth - 1)}"
+                    f"</{name}>")
     return out
 
 

@@ -49,7 +49,8 @@ def token_of(tag, flag):
     return ("end", name) if end else ("start", name, kept(attributes), flag)
 
 
-SWITCHING = set(b"title textarea style xmp iframe noembed noframes script plaintext noscript svg math select frameset template".split())
+SWITCHING = set(b"title textarea style xmp iframe noembed noframes script plaintext noscript svg "
+                b"math select frameset template".split())
 
 
 def emitted(tag, flag, rest):

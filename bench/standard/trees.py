@@ -229,7 +229,8 @@ def main(count, seed):
             same += 1
             own += is_own
             between += place == "template"
-    print(f"{count} forests: {same} the same, {stuck} stuck; {own} of the content model, each built as its own tree")
+    print(f"{count} forests: {same} the same, {stuck} stuck; {own} of the content model, "
+          "each built as its own tree")
     print(f"{between} of these between two pieces of a template")
     return 0
 
