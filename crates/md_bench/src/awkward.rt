@@ -1,5 +1,4 @@
-//! What strangers send: deep nests, very many of one thing, long addresses, texts of special
-//! characters alone.
+//! What strangers send: deep nests, very many of one thing, long addresses, texts of special characters alone.
 
 use crate::blocks::{definition, item_prefix, note_prefix, quote_prefix};
 use crate::draft::Draft;

@@ -188,8 +188,7 @@ fn define_all(draft: &mut Draft<'_>) {
     }
 }
 
-/// An article with so many definitions of links, each of which it refers to, with footnotes
-/// and large tables.
+/// An article with so many definitions of links, each of which it refers to, with footnotes and large tables.
 pub fn article(draft: &mut Draft<'_>, number: usize, links: usize) {
     draft.links = links;
     draft.notes = links / 10;
@@ -207,8 +206,7 @@ pub fn article(draft: &mut Draft<'_>, number: usize, links: usize) {
     define_all(draft);
 }
 
-/// A block of an article, which refers to definitions from the next one on; the next one after
-/// them.
+/// A block of an article, which refers to definitions from the next one on; the next one after them.
 fn article_block(draft: &mut Draft<'_>, next: usize) -> usize {
     match draft.random.below(40) {
         0..=3 => {
@@ -245,8 +243,7 @@ fn entry_list(draft: &mut Draft<'_>, next: usize) -> usize {
     next
 }
 
-/// A paragraph that refers to the next two definitions, to one of any, and now and
-/// then to a footnote.
+/// A paragraph that refers to the next two definitions, to one of any, and now and then to a footnote.
 fn entry(draft: &mut Draft<'_>, next: usize, margin: Margin) -> usize {
     let second = next.saturating_add(1).min(draft.links.saturating_sub(1));
     draft.enter(Name::Paragraph);

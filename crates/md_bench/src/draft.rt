@@ -26,8 +26,8 @@ pub struct Document {
 }
 
 impl Document {
-    /// Changes letters, so that the document is another one in each of 65,536 rounds: its first
-    /// four letters that change tell the number of the round.
+    /// Changes letters, so that the document is another one in each of 65,536 rounds: its first four letters that
+    /// change tell the number of the round.
     pub fn vary(&mut self, round: usize) {
         let mut digits = (round as u64).wrapping_mul(0x9e37_79b9_7f4a_7c15);
         for mark in self.marks.as_slice() {

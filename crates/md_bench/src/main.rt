@@ -1,11 +1,10 @@
-//! Does jobs that users of the compiler wait for, and prints a line for each: how many calls it
-//! made, how many gave a text, how many bytes all texts have, and a digest of them.
+//! Does jobs that users of the compiler wait for, and prints a line for each: how many calls it made, how many gave a
+//! text, how many bytes all texts have, and a digest of them.
 //!
 //!     md_bench JOB SEED COUNT [JOB SEED COUNT ..] < TEXTS
 //!
-//! Standard input has the lines of which the documents are made. The seed decides what they look
-//! like. The count is how many calls are made; of the job `awkward`, how many levels or items
-//! its documents have.
+//! Standard input has the lines of which the documents are made. The seed decides what they look like. The count is how
+//! many calls are made; of the job `awkward`, how many levels or items its documents have.
 #![tactic(auto)]
 
 mod awkward;

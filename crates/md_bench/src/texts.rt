@@ -57,9 +57,8 @@ impl<'a> Texts<'a> {
     }
 }
 
-/// A piece of a line, whole words or at least whole characters, with at most so many bytes;
-/// it begins after the first space at or after `start`, or at the line's start where there
-/// is no such space.
+/// A piece of a line, whole words or at least whole characters, with at most so many bytes; it begins after the first
+/// space at or after `start`, or at the line's start where there is no such space.
 pub fn piece(line: &[u8], start: usize, limit: usize) -> &[u8] {
     let rest = after_space(line, start);
     match rest.get(..limit) {
@@ -78,8 +77,7 @@ fn after_space(line: &[u8], start: usize) -> &[u8] {
     line
 }
 
-/// The beginning of a line before the last space that is at most at this index, or before
-/// the last character.
+/// The beginning of a line before the last space that is at most at this index, or before the last character.
 fn cut(line: &[u8], limit: usize) -> &[u8] {
     for back in 0..14 {
         let end = limit.saturating_sub(back);
