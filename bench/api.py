@@ -4,11 +4,11 @@
     bench/api.py
 
 Of md_base, md_text, md_tree, md_html, md_script and md_page: the names at the root and the methods
-of the types among them are those of the crate's table, and of the last table, and no others.
-md_html hands on exactly the names of the tables of md_base, md_text and md_tree. The C headers
-have each name of their table, and declare no function but these and those that their own functions
-call. Each other crate's README says that it is internal. The status is 1 where something differs,
-and it says what.
+of the types among them are those of the crate's list, and of the table at the end, and no others.
+md_html hands on exactly the names of the lists of md_base, md_text and md_tree. The C headers have
+each name of their list, and declare no function but these and those that their own functions call.
+Each other crate's README says that it is internal. The status is 1 where something differs, and it
+says what.
 """
 
 import pathlib
@@ -18,7 +18,7 @@ import sys
 ROOT = pathlib.Path(__file__).resolve().parents[1]
 CRATES = ["md_base", "md_text", "md_tree", "md_html", "md_script", "md_page"]
 BELOW_HTML = ["md_base", "md_text", "md_tree"]
-# Crates whose own table has what they hand on of a crate below.
+# Crates whose own list has what they hand on of a crate below.
 HANDED_ON = {"md_script": "md_html"}
 # The C interface, the program and the benchmark, whose folder stays as it is; what the README of
 # each other crate says.
@@ -29,19 +29,23 @@ HELPERS = {"bivdrazo_answer_memory", "bivdrazo_is_too_long", "bivdrazo_first_siz
            "bivdrazo_settle"}
 
 
+# An item of a list that begins with names, up to the colon before what they are.
+ITEM = re.compile(r"^- (`[^`]*`(?:,\s+`[^`]*`)*):\s", re.MULTILINE)
+
+
 def named(cell):
-    """The names in a cell of a table, without their arguments."""
+    """The names in the beginning of an item or in a cell, without their arguments."""
     return {re.sub(r"\(.*", "", name) for name in re.findall(r"`([^`]*)`", cell)}
 
 
-def tables(page):
-    """Of each heading of the page the rows of its table, as lists of cells."""
-    found, heading = {}, ""
-    for line in page.split("\n"):
-        if line.startswith("## "):
-            heading = line[3:].strip("`")
-        elif line.startswith("| ") and not line.startswith(("| name |", "| crate |", "| you ")):
-            found.setdefault(heading, []).append(line.strip("| ").split(" | "))
+def listed(page):
+    """Of each heading of the page its items with names, and the rows of its table, as cells."""
+    found = {}
+    for part in re.split(r"^## ", page, flags=re.MULTILINE)[1:]:
+        heading, text = part.split("\n", 1)
+        rows = re.findall(r"^\| (?!crate \|)(.*) \|$", text, re.MULTILINE)
+        found[heading.strip("`")] = [[names] for names in ITEM.findall(text)] + [
+            row.split(" | ") for row in rows]
     return found
 
 
@@ -130,7 +134,7 @@ def readme_faults():
 
 def main():
     """Says what differs."""
-    found = tables((ROOT / "docs" / "API.md").read_text())
+    found = listed((ROOT / "docs" / "API.md").read_text())
     faults = [*crates_faults(found), *header_faults(found), *readme_faults()]
     print("\n".join(faults) if faults else "the public interface is as docs/API.md says")
     sys.exit(1 if faults else 0)
