@@ -32,6 +32,8 @@ STANDING = CRATES / "md_pattern" / "specs" / "Standing.antt"
 BEGIN, END = (rf"^ *// bench/names\.py: {word}$" for word in ("begin", "end"))
 ALIAS = "use Rattle.md_base.specs.declared.event.Name.TheVariants as name_variants\n"
 IMPORT = "use name_variants.{"
+# A line of the list that begins so goes on the one before.
+CONTINUED = "\n    "
 COLUMNS, LANES = 100, 16
 # A pair of a spelling and a name stands in one line where it has no more letters.
 PAIR = 60
@@ -65,7 +67,7 @@ def read(path):
 def listed():
     """The names of the list but `Other`, in its order."""
     part, names = "", []
-    for line in read(NUMBERS / "numbers.txt").splitlines():
+    for line in read(NUMBERS / "numbers.txt").replace(CONTINUED, " ").splitlines():
         if line.startswith("## "):
             part = line[3:]
         elif line.startswith("name ") and not line.endswith(" Other"):

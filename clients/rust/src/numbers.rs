@@ -301,7 +301,9 @@ impl Name {
             "CharacterEscapeValue" => Some(Name::CharacterEscapeValue),
             "CharacterReferenceMarker" => Some(Name::CharacterReferenceMarker),
             "CharacterReferenceMarkerNumeric" => Some(Name::CharacterReferenceMarkerNumeric),
-            "CharacterReferenceMarkerHexadecimal" => Some(Name::CharacterReferenceMarkerHexadecimal),
+            "CharacterReferenceMarkerHexadecimal" => {
+                Some(Name::CharacterReferenceMarkerHexadecimal)
+            }
             "CharacterReferenceValue" => Some(Name::CharacterReferenceValue),
             "CodeIndented" => Some(Name::CodeIndented),
             "CodeFenced" => Some(Name::CodeFenced),

@@ -1,0 +1,117 @@
+"""The numbers of the C interface for Rust, and the options as Rust hands them in."""
+
+from listed import NOTICE, RELEASE, RELEASE_COMMENT, TITLES, WIDTH, commented, of_group, upper
+
+
+def markdown_numbers():
+    """The numbers of the interface for Markdown, as the crate behind it has them."""
+    version = of_group("markdown_version")[0]
+    text = (f"// {NOTICE}\n\n/// {version.comment}\n"
+            f"pub const {version.name}: u32 = {version.number};\n")
+    kept = {"Ok", "Refused", "NoOption", "Memory"}
+    statuses = [entry for entry in of_group("status")
+                if entry.name in kept] + of_group("markdown_status")
+    for group, type_, found in [
+        ("status", "u32", statuses),
+        ("html", "u8", of_group("markdown_html")),
+        ("option", "usize", of_group("markdown_option")),
+    ]:
+        text += "\n"
+        text += "".join(
+            f"pub const {group.upper()}_{upper(entry.name)}: {type_} = {entry.number};\n"
+            for entry in found
+        )
+    return text
+
+
+def enumeration(group, name):
+    """One group as an enumeration of Rust; `Other` of the names carries its own number."""
+    text = f"/// {TITLES[group]}\n#[derive(Clone, Copy, Debug, Eq, Hash, PartialEq)]\n"
+    text += f"#[non_exhaustive]\npub enum {name} {{\n"
+    for entry in of_group(group):
+        is_other = group == "name" and entry.name == "Other"
+        if entry.comment or is_other:
+            text += commented(entry.comment or entry.part, "    ", "/// ", "/// ")
+        text += f"    {entry.name}{'(u16)' if is_other else ''},\n"
+    return text + "}\n"
+
+
+def arm_of_text(entry):
+    """The arm that tells a name by its text, as the formatter lays it out."""
+    line = f"            \"{entry.name}\" => Some(Name::{entry.name}),\n"
+    if len(line) > WIDTH + 1:
+        line = line.replace(" => ", " => {\n" + 16 * " ").replace(",\n", "\n" + 12 * " " + "}\n")
+    return line
+
+
+def names():
+    """The numbers of the names, and all of them for tests."""
+    plain = [entry for entry in of_group("name") if entry.name != "Other"]
+    other = [entry for entry in of_group("name") if entry.name == "Other"][0]
+    text = "impl Name {\n"
+    text += "    /// The number of the name, and the number that an other name has of its own.\n"
+    text += "    pub(crate) fn numbers(self) -> (u16, u16) {\n        match self {\n"
+    text += "".join(f"            Name::{entry.name} => ({entry.number}, 0),\n" for entry in plain)
+    text += f"            Name::Other(own) => ({other.number}, own),\n        }}\n    }}\n\n"
+    text += "    /// The name that an event script spells so.\n"
+    text += "    pub fn from_text(text: &str) -> Option<Name> {\n        match text {\n"
+    text += "".join(map(arm_of_text, plain))
+    text += "            _ => match text.strip_prefix(\"Other\") {\n"
+    text += ("                Some(own) if own.len() <= 5 && "
+             "own.bytes().all(|byte| byte.is_ascii_digit()) => {\n")
+    text += "                    own.parse().ok().map(Name::Other)\n                }\n"
+    text += "                _ => None,\n            },\n        }\n    }\n}\n\n"
+    text += "/// Every name but the others, by its number.\n"
+    text += "#[cfg(test)]\npub(crate) const NAMES: &[Name] = &[\n"
+    by_number = sorted(plain, key=lambda entry: entry.number)
+    return text + "".join(f"    Name::{entry.name},\n" for entry in by_number) + "];\n"
+
+
+def rules():
+    """The rules by their numbers."""
+    text = "impl Rule {\n    /// The number of the rule, as C has it.\n"
+    text += "    pub fn number(self) -> u32 {\n        match self {\n"
+    text += "".join(f"            Rule::{entry.name} => {entry.number},\n"
+                    for entry in of_group("rule"))
+    text += "        }\n    }\n\n    /// The rule with that number.\n"
+    text += "    pub(crate) fn from_number(number: u32) -> Option<Rule> {\n        match number {\n"
+    text += "".join(f"            {entry.number} => Some(Rule::{entry.name}),\n"
+                    for entry in of_group("rule"))
+    return text + "            _ => None,\n        }\n    }\n}\n"
+
+
+def constants():
+    """The other numbers as constants."""
+    version = of_group("version")[0]
+    text = f"/// {version.comment}\npub const VERSION: u32 = {version.number};\n\n"
+    text += f"/// {RELEASE_COMMENT}\npub const VERSION_TEXT: &str = \"{RELEASE}\";\n\n"
+    for group, type_ in [("status", "u32"), ("kind", "u8"), ("line_ending", "u8")]:
+        for entry in of_group(group):
+            name = f"{group.upper()}_{upper(entry.name)}"
+            text += f"pub(crate) const {name}: {type_} = {entry.number};\n"
+    text += "\n/// The names of the options, by their numbers.\n"
+    text += "pub(crate) const OPTIONS: &[&str] = &[\n"
+    return text + "".join(f"    \"{entry.name}\",\n" for entry in of_group("option")) + "];\n"
+
+
+def numbers():
+    """The module for Rust."""
+    parts = [enumeration("name", "Name"), names(), enumeration("rule", "Rule"), rules(),
+             constants()]
+    return f"// {NOTICE}\n\n" + "\n".join(parts)
+
+
+def options():
+    """The options as the library takes them, for Rust: the numbers, and then the texts."""
+    found = sorted(of_group("option"), key=lambda entry: entry.type == "text")
+    types = {"flag": "u8", "line_ending": "u8", "text": "CText"}
+    ways = {"flag": "u8::from({})", "line_ending": "c_line_ending({})", "text": "c_text(&{})"}
+    text = f"// {NOTICE}\n\n"
+    text += "use crate::ffi::{c_line_ending, c_text, CText};\nuse crate::Options;\n\n"
+    text += "#[repr(C)]\npub(crate) struct COptions {\n"
+    text += "".join(f"    {entry.name}: {types[entry.type]},\n" for entry in found) + "}\n\n"
+    text += "/// The options as C has them; they refer to the texts of `options`.\n"
+    text += "pub(crate) fn c_options(options: &Options) -> COptions {\n    COptions {\n"
+    for entry in found:
+        text += f"        {entry.name}: {ways[entry.type].format(f'options.{entry.name}')},\n"
+    return text + "    }\n}\n"

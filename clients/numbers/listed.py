@@ -1,0 +1,76 @@
+"""What numbers.txt lists, and comments of what it says."""
+
+import pathlib
+import re
+import sys
+import textwrap
+from typing import NamedTuple
+
+HERE = pathlib.Path(__file__).resolve().parent
+RELEASE = (HERE.parents[1] / "VERSION").read_text().strip()
+RELEASE_COMMENT = "The version of the library and of what comes with it."
+WIDTH = 100
+NOTICE = "Written by clients/numbers/generate from numbers.txt. Don't edit it."
+# A line that begins so goes on the one before.
+CONTINUED = "\n    "
+LINE = re.compile(r"(\w+) (\d+) (\w+)(?: (flag|line_ending|text|html))?(?:: (.*))?")
+TITLES = {
+    "status": "What became of a call.",
+    "rule": "Why events are refused.",
+    "kind": "Whether an event begins a node or ends it.",
+    "line_ending": "How a line ends.",
+    "option": "The number of an option, as `index` tells it where options stand for none.",
+    "attribute": "The number of an attribute, as `index` tells it where attributes stand for none.",
+    "name": "What an event enters or exits.",
+}
+MARKDOWN_TITLES = {
+    "markdown_status": "What became of a call, beside the statuses of the library.",
+    "markdown_html": "What becomes of HTML in a document.",
+    "markdown_option": "The number of an option, as `index` tells it where options stand for none.",
+}
+
+
+class Entry(NamedTuple):
+    """A line of the list; `part` is the comment that stands before it, or empty."""
+
+    group: str
+    number: int
+    name: str
+    type: str
+    comment: str
+    part: str
+
+
+def entries():
+    """The lines of the list, in their order."""
+    part = ""
+    found = []
+    for line in (HERE / "numbers.txt").read_text().replace(CONTINUED, " ").splitlines():
+        if line.startswith("## "):
+            part = line[3:]
+        elif line and not line.startswith("#"):
+            match = LINE.fullmatch(line)
+            if match is None:
+                sys.exit(f"numbers.txt: can't be read: {line}")
+            group, number, name, type_, comment = match.groups(default="")
+            found.append(Entry(group, int(number), name, type_, comment, part))
+            part = ""
+    return found
+
+
+def of_group(group):
+    """The lines of one group."""
+    return [entry for entry in entries() if entry.group == group]
+
+
+def upper(name):
+    """A name in capitals, its words parted by `_`."""
+    return re.sub(r"(?<=[a-z])(?=[A-Z])", "_", name).upper()
+
+
+def commented(text, indent, first, next_, last=""):
+    """A comment over as many lines as it needs."""
+    room = WIDTH - len(indent) - len(next_) - len(last)
+    lines = textwrap.wrap(text, room) or [""]
+    lines = [indent + (next_ if at else first) + line for at, line in enumerate(lines)]
+    return "\n".join(lines) + last + "\n"
