@@ -39,7 +39,7 @@ COUNTS = [
     ("clients/rust/src/tests.rs", r"in_order: Vec<u16> = \(1\.\.=(\d+)\)", 0),
     ("clients/checks/batch.c", r"to = \(uint16_t\)\(1 \+ next_under\(state, (\d+)\)\)", 0),
     ("clients/checks/batch.c", r"event->name = \(uint16_t\)next_under\(state, (\d+)\)", 2),
-    ("clients/c/test.c", r"events\[1\]\.name = (\d+);", 1),
+    ("clients/c/tests/compiling.c", r"events\[1\]\.name = (\d+);", 1),
     ("clients/python/tests/test_bivdrazo.py", r"\(1, 0, 0\), \(1, (\d+), 0\)", 1),
 ]
 

@@ -1,0 +1,87 @@
+/* Tests of calls for memory: in how many turns a text is made, and each call refused. */
+#include "test.h"
+
+/* A text that fits into the first size is made in one turn. */
+static void test_first_turn(void) {
+    bivdrazo_event events[4];
+    const char letters[] = "abcdefghijklmnopqrstuvwxyzabcdefghijklmnopqrstuvwxyzabcdefghijkl";
+    const char script[] = "+ThematicBreak 0\n-ThematicBreak 3\n--\n***";
+    uint8_t *text;
+    CHECK(bivdrazo_first_size(0, 0) == 64 && bivdrazo_first_size(0, 100) == 264 &&
+          bivdrazo_first_size(10, 0) == 144);
+    paragraph(events, 64);
+    turns = 0;
+    bivdrazo_answer answer =
+        bivdrazo_compile_alloc(events, 4, (const uint8_t *)letters, 64, NULL, NULL, 0, &text);
+    CHECK(answer.status == BIVDRAZO_OK && answer.length == 71 && turns == 1);
+    free(text);
+    turns = 0;
+    answer = bivdrazo_run_alloc((const uint8_t *)script, strlen(script), &text);
+    CHECK(answer.status == BIVDRAZO_OK && answer.length == 6 && turns == 1);
+    free(text);
+}
+
+/* A text that needs more than the first size. */
+static void test_second_turn(void) {
+    bivdrazo_event events[4];
+    const char quotes[] =
+        "\"\"\"\"\"\"\"\"\"\"\"\"\"\"\"\"\"\"\"\"\"\"\"\"\"\"\"\"\"\"\"\"\"\"\"\"\"\"\"\"";
+    uint8_t *text;
+    paragraph(events, 40);
+    turns = 0;
+    bivdrazo_answer answer =
+        bivdrazo_compile_alloc(events, 4, (const uint8_t *)quotes, 40, NULL, NULL, 0, &text);
+    CHECK(answer.status == BIVDRAZO_OK && answer.length == 247 &&
+          answer.length > bivdrazo_first_size(4, 40));
+    CHECK(turns == 2);
+    CHECK(text != NULL && strncmp((char *)text, "<p>&quot;", 9) == 0 &&
+          strcmp((char *)text + 237, "&quot;</p>") == 0);
+    free(text);
+}
+
+/* Each call for memory is refused in turn: the answer says so, and the buffer is untouched; at last
+   there is a text.
+ */
+static void test_refused_memory(void) {
+    static const char script[] =
+        "!gfm_footnote_label=x\n+Paragraph 0\n+GfmFootnoteCall 0\n+Label 0\n+LabelText 0\n"
+        "-LabelText 1\n-Label 1\n-GfmFootnoteCall 1\n-Paragraph 1\n+GfmFootnoteDefinition 1\n"
+        "+GfmFootnoteDefinitionPrefix 1\n+GfmFootnoteDefinitionLabelString 1\n"
+        "-GfmFootnoteDefinitionLabelString 2\n-GfmFootnoteDefinitionPrefix 2\n"
+        "-GfmFootnoteDefinition 2\n--\naA";
+    bivdrazo_answer answer = {BIVDRAZO_MEMORY, 0, 0, 0};
+    size_t refused = 0;
+    while (answer.status == BIVDRAZO_MEMORY && refused < 10000) {
+        uint8_t buffer[1024] = {7};
+        calls_left = refused++;
+        answer = bivdrazo_run((const uint8_t *)script, sizeof script - 1, buffer, sizeof buffer);
+        calls_left = SIZE_MAX;
+        CHECK(answer.status == BIVDRAZO_OK ||
+              (answer.status == BIVDRAZO_MEMORY && buffer[0] == 7 && buffer[1] == 0));
+    }
+    CHECK(answer.status == BIVDRAZO_OK && answer.index == 0 && refused > 10);
+}
+
+/* The wrappers answer out of memory too, and keep nothing. */
+static void test_memory_of_wrappers(void) {
+    bivdrazo_event events[4];
+    bivdrazo_answer answer = {BIVDRAZO_MEMORY, 0, 0, 0};
+    size_t refused = 0;
+    uint8_t *text = NULL;
+    paragraph(events, 1);
+    while (answer.status == BIVDRAZO_MEMORY && refused < 10000) {
+        calls_left = refused++;
+        answer = bivdrazo_compile_alloc(events, 4, (const uint8_t *)"a", 1, NULL, NULL, 0, &text);
+        calls_left = SIZE_MAX;
+        CHECK((text == NULL) == (answer.status != BIVDRAZO_OK));
+    }
+    CHECK(answer.status == BIVDRAZO_OK && strcmp((char *)text, "<p>a</p>") == 0 && refused > 5);
+    free(text);
+}
+
+void test_memory(void) {
+    test_first_turn();
+    test_second_turn();
+    test_refused_memory();
+    test_memory_of_wrappers();
+}
