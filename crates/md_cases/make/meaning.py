@@ -7,28 +7,18 @@ error: whoever makes a case of one adds a row or a method here, from the rules. 
 quotes have none, so the container around a node is a footnote definition or nothing, and no
 paragraph is in a tight list. Nothing here is run by itself.
 """
-import re
-from typing import NamedTuple
-
 import texts
+from footnotes import Footnotes
+from media import AUTOLINKS, Media
+from nodes import FORCED, NEEDED, TRANSPARENT, Around, all_by_exit, first, spine
 
-# Pieces that are line endings: a needed one is left out where the text so far is
-# empty or ends in one.
-NEEDED = object()
-FORCED = object()
 SPANS = {"Emphasis": "em", "Strong": "strong", "GfmStrikethrough": "del"}
 TEXTS = ("Data", "CharacterEscapeValue", "CodeTextData", "MathTextData")
 INLINE_CODE = {"CodeText": "<code>", "MathText": '<code class="language-math math-inline">'}
-AUTOLINKS = {"AutolinkEmail": "mailto:", "AutolinkProtocol": "",
-             "GfmAutolinkLiteralEmail": "mailto:",
-             "GfmAutolinkLiteralMailto": "", "GfmAutolinkLiteralProtocol": "",
-             "GfmAutolinkLiteralWww": "http://",
-             "GfmAutolinkLiteralXmpp": ""}
 MARKERS = {"CharacterReferenceMarker": "&", "CharacterReferenceMarkerNumeric": "#",
            "CharacterReferenceMarkerHexadecimal": "x"}
-# Names that mean nothing, transparent ones, and those that mean what is in them and no more.
+# Names that mean nothing, and those that mean what is in them and no more.
 SILENT = ("ReferenceString", "GfmTableDelimiterRow", "Resource", "Definition")
-TRANSPARENT = ("SpaceOrTab", "Other1")
 CONTENTS = ("Label", "LabelText", "HtmlText", "GfmTableCell", *TRANSPARENT)
 ENDINGS = {"lf": "\n", "cr": "\r", "crlf": "\r\n"}
 # The options: those that are off or on and of which `flags` makes each choice, those that are
@@ -42,32 +32,6 @@ TEXT_OPTIONS = ("gfm_footnote_clobber_prefix", "gfm_footnote_label_tag_name",
 OPTIONS = (*FLAG_OPTIONS, *TEXT_OPTIONS, "default_line_ending", "gfm_footnote_number_ids")
 
 
-class Around(NamedTuple):
-    """What is known of a node by the nodes around it."""
-    image: bool = False
-    link: bool = False
-    table: bool = False
-    head: bool = False
-    escaped: bool = True
-    footnote: bool = False
-
-
-def spine(node):
-    """The nodes in a node, those in transparent ones in their places."""
-    return [one for child in node.children
-            for one in (spine(child) if child.name in TRANSPARENT else [child])]
-
-
-def first(node, *names):
-    """The first node on the spine with one of these names, or None."""
-    return next((one for one in spine(node) if one.name in names), None)
-
-
-def all_by_exit(nodes):
-    """These nodes and all in them, in the order of their exits."""
-    return [one for node in nodes for one in [*all_by_exit(node.children), node]]
-
-
 def aligned(value):
     """The attribute of a column, by whether the first and the last child of its delimiter's
     value is a marker.
@@ -78,7 +42,7 @@ def aligned(value):
     return f' align="{side}"' if side else ""
 
 
-class Meaning:
+class Meaning(Media, Footnotes):
     """A document under options. What is asked for of it is `text`."""
 
     def __init__(self, document, options):
@@ -253,51 +217,6 @@ class Meaning:
         checked = 'checked="" ' if first(node, "GfmTaskListItemValueChecked") else ""
         return [] if around.image else [f'<input type="checkbox" {disabled}{checked}/>']
 
-    # Links and images.
-
-    def url(self, destination, image):
-        if ("allow_dangerous_protocol" in self.options or image
-            and "allow_any_img_src" in self.options):
-            return texts.sanitized(destination)
-        return texts.permitted(destination, texts.IMAGE_PROTOCOLS if image
-                               else texts.LINK_PROTOCOLS)
-
-    def autolink(self, node, around):
-        text = texts.encoded(self.source(node))
-        if around.image or around.link and node.name.startswith("GfmAutolinkLiteral"):
-            return [text]
-        url = self.url(AUTOLINKS[node.name] + self.source(node), False)
-        return [f'<a href="{url}">{text}</a>']
-
-    def label(self, node):
-        return texts.identifier(self.source(node))
-
-    def identifier(self, node):
-        """What a link, an image or a call refers to."""
-        return self.label(first(node, "ReferenceString")
-                          or first(first(node, "Label"), "LabelText"))
-
-    def target(self, node):
-        """The destination and the title, or None, that stand in a resource or a definition."""
-        destination = first(node, "ResourceDestinationString", "DefinitionDestinationString")
-        title = first(node, "ResourceTitleString", "DefinitionTitleString")
-        return ("" if destination is None
-                else self.captured(destination.children, Around(escaped=False)),
-                None if title is None else self.captured(title.children, Around()))
-
-    def media(self, node, around):
-        image = node.name == "Image"
-        inner = around._replace(image=True) if image else around._replace(link=True)
-        label = self.captured([first(node, "Label")], inner)
-        if around.image:
-            return [label]
-        resource = first(node, "Resource")
-        destination, title = (self.target(resource) if resource
-                              else self.definitions[self.identifier(node)])
-        url, title = self.url(destination, image), "" if title is None else f' title="{title}"'
-        return [f'<img src="{url}" alt="{label}"{title} />' if image
-                else f'<a href="{url}"{title}>{label}</a>']
-
     # Tables.
 
     def of_GfmTable(self, node, around):
@@ -321,67 +240,6 @@ class Meaning:
             text = cells[column] if column < len(cells) else ""
             pieces += [NEEDED, f"<{tag}{attribute}>{text}</{tag}>"]
         return [NEEDED, "<tr>", *pieces, NEEDED, "</tr>"]
-
-    # Footnotes.
-
-    def names(self, identifier):
-        """A footnote's number, and what its ids end in."""
-        number = list(self.counts).index(identifier) + 1
-        return (number, str(number) if "gfm_footnote_number_ids" in self.options
-                else texts.sanitized(identifier))
-
-    def option(self, name, default):
-        return texts.encoded(self.options.get(name, default))
-
-    def numbered(self, occurrence):
-        return (f"-{occurrence}" if occurrence > 1 or "gfm_footnote_number_ids" in self.options
-                else "")
-
-    def of_GfmFootnoteCall(self, node, around):
-        number, named = self.names(self.identifier(node))
-        prefix = self.option("gfm_footnote_clobber_prefix", "user-content-")
-        again = self.numbered(self.occurrences[id(node)])
-        ids = f'href="#{prefix}fn-{named}" id="{prefix}fnref-{named}{again}"'
-        text = (f'<sup><a {ids} data-footnote-ref="" aria-describedby="footnote-label">{number}'
-                '</a></sup>')
-        return [] if around.image else [text]
-
-    def of_GfmFootnoteDefinition(self, node, around):
-        named = self.label(first(first(node, "GfmFootnoteDefinitionPrefix"),
-                                 "GfmFootnoteDefinitionLabelString"))
-        body = self.captured(node.children[1:], Around(footnote=True))
-        self.footnotes.setdefault(named, body)
-        return []
-
-    def back(self, named, occurrence):
-        prefix = self.option("gfm_footnote_clobber_prefix", "user-content-")
-        label = self.option("gfm_footnote_back_label", "Back to content")
-        text = "↩" if occurrence == 1 else f"↩<sup>{occurrence}</sup>"
-        return (f'<a href="#{prefix}fnref-{named}{self.numbered(occurrence)}" '
-                f'data-footnote-backref="" aria-label="{label}" class="data-footnote-backref">'
-                f'{text}</a>')
-
-    def item(self, identifier):
-        named, prefix = self.names(identifier)[1], self.option("gfm_footnote_clobber_prefix",
-                                                               "user-content-")
-        backs = " ".join(self.back(named, occurrence + 1)
-                         for occurrence in range(self.counts[identifier]))
-        body = self.footnotes[identifier]
-        closed = re.fullmatch(r"(.*)(</p>[\r\n]*)", body, re.DOTALL)
-        body = [f"{closed.group(1)} {backs}{closed.group(2)}"] if closed else [body, NEEDED, backs]
-        return [FORCED, f'<li id="{prefix}fn-{named}">', FORCED, *body, NEEDED, "</li>"]
-
-    def section(self):
-        if not self.counts:
-            return []
-        tag = self.option("gfm_footnote_label_tag_name", "h2")
-        attributes = self.options.get("gfm_footnote_label_attributes", 'class="sr-only"')
-        label = self.option("gfm_footnote_label", "Footnotes")
-        heading = f'<{tag} id="footnote-label" {attributes}>{label}</{tag}>'
-        items = [piece for identifier in self.counts for piece in self.item(identifier)]
-        return [NEEDED, f'<section data-footnotes="" class="footnotes">{heading}', FORCED, "<ol>",
-                *items,
-                FORCED, "</ol>", FORCED, "</section>", FORCED]
 
 
 def meaning(document, options):
