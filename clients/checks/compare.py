@@ -21,6 +21,7 @@ import subprocess
 import sys
 import time
 
+import cmark
 import documents
 import judge
 
@@ -35,7 +36,7 @@ OK = 0
 
 def cmark_gfm(document):
     """What the program cmark-gfm writes of a document."""
-    extensions = [argument for name in (*judge.EXTENSIONS, b"footnotes")
+    extensions = [argument for name in (*cmark.EXTENSIONS, b"footnotes")
                   for argument in ("-e", name.decode())]
     command = ["cmark-gfm", "--validate-utf8", *extensions]
     return subprocess.run(command, input=document, capture_output=True, check=True).stdout
