@@ -98,7 +98,7 @@ fn with_call<'a>(event: Event<'a>, labels: &[String], calls: &mut Calls) -> Even
 /// A label in an id: a URL, escaped.
 fn id(label: &str) -> String {
     let mut text = String::new();
-    let url = crate::judge::normalized(label);
+    let url = crate::changes::normalized(label);
     pulldown_cmark::escape::escape_href(&mut text, &url).expect("a text takes all");
     text
 }

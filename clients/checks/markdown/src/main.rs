@@ -13,9 +13,11 @@
 //! comparison ends with status 1 for a difference that isn't permitted, another count than LIST
 //! has, or a refusal.
 
+mod changes;
 mod compare;
 mod footnotes;
 mod hostile;
+mod html_blocks;
 mod judge;
 mod parts;
 
