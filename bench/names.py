@@ -36,7 +36,7 @@ CONTINUED = "\n    "
 COUNTS = [
     ("crates/md_ffi/README.md", r"Names: 1 to (\d+) in the order", 0),
     ("docs/DEFINITIONS.md", r"Names 1 to (\d+) are those", 0),
-    ("clients/rust/src/tests.rs", r"in_order: Vec<u16> = \(1\.\.=(\d+)\)", 0),
+    ("clients/rust/src/tests/names.rs", r"in_order: Vec<u16> = \(1\.\.=(\d+)\)", 0),
     ("clients/checks/batch.c", r"to = \(uint16_t\)\(1 \+ next_under\(state, (\d+)\)\)", 0),
     ("clients/checks/batch.c", r"event->name = \(uint16_t\)next_under\(state, (\d+)\)", 2),
     ("clients/c/tests/compiling.c", r"events\[1\]\.name = (\d+);", 1),

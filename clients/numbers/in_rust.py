@@ -107,7 +107,7 @@ def options():
     types = {"flag": "u8", "line_ending": "u8", "text": "CText"}
     ways = {"flag": "u8::from({})", "line_ending": "c_line_ending({})", "text": "c_text(&{})"}
     text = f"// {NOTICE}\n\n"
-    text += "use crate::ffi::{c_line_ending, c_text, CText};\nuse crate::Options;\n\n"
+    text += "use crate::layouts::{c_line_ending, c_text, CText};\nuse crate::Options;\n\n"
     text += "#[repr(C)]\npub(crate) struct COptions {\n"
     text += "".join(f"    {entry.name}: {types[entry.type]},\n" for entry in found) + "}\n\n"
     text += "/// The options as C has them; they refer to the texts of `options`.\n"

@@ -1,112 +1,14 @@
 //! The library's calls, as C has them.
 
-use crate::numbers::{
-    Rule, KIND_ENTER, KIND_EXIT, LINE_ENDING_CARRIAGE_RETURN,
-    LINE_ENDING_CARRIAGE_RETURN_LINE_FEED, LINE_ENDING_LINE_FEED, STATUS_MEMORY,
-    STATUS_NO_ATTRIBUTE, STATUS_NO_EVENT, STATUS_NO_LINE, STATUS_NO_NAME, STATUS_NO_OPTION,
-    STATUS_OK, STATUS_REFUSED, STATUS_TOO_LONG, STATUS_TOO_MUCH, STATUS_TOO_SHORT, STATUS_UNSAFE,
+use crate::errors::error_within;
+use crate::layouts::{
+    bivdrazo_compile, bivdrazo_compile_attributed, bivdrazo_compile_within, bivdrazo_run,
+    bivdrazo_version, c_event, c_reference, c_text, CAnswer, CAttributes, CEvent, CLimits,
 };
-use crate::options::{c_options, COptions};
-use crate::{Attributes, Error, Event, Heading, Kind, Limits, LineEnding, Options, Rendered};
-use std::mem::size_of;
+use crate::numbers::{STATUS_OK, STATUS_TOO_SHORT};
+use crate::options::c_options;
+use crate::{Attributes, Error, Event, Heading, Limits, Options, Rendered};
 use std::str;
-
-#[repr(C)]
-pub(crate) struct CAnswer {
-    pub(crate) status: u32,
-    pub(crate) rule: u32,
-    pub(crate) index: usize,
-    pub(crate) length: usize,
-}
-
-#[repr(C)]
-struct CEvent {
-    index: usize,
-    name: u16,
-    other: u16,
-    kind: u8,
-    columns: u8,
-}
-
-#[repr(C)]
-pub(crate) struct CText {
-    bytes: *const u8,
-    length: usize,
-    is_set: u8,
-}
-
-#[repr(C)]
-struct CReference {
-    name: *const u8,
-    name_length: usize,
-    text: *const u8,
-    text_length: usize,
-}
-
-#[repr(C)]
-struct CAttributes {
-    rel: CText,
-    heading_ids: CText,
-}
-
-#[repr(C)]
-struct CLimits {
-    text: usize,
-    work: usize,
-}
-
-const _: () = assert!(size_of::<CAnswer>() == 24);
-const _: () = assert!(size_of::<CEvent>() == 16 && size_of::<Event>() == 16);
-const _: () = assert!(size_of::<CText>() == 24);
-const _: () = assert!(size_of::<CReference>() == 32);
-const _: () = assert!(size_of::<COptions>() == 128);
-const _: () = assert!(size_of::<CAttributes>() == 48);
-const _: () = assert!(size_of::<CLimits>() == 16);
-
-extern "C" {
-    fn bivdrazo_compile(
-        events: *const CEvent,
-        events_length: usize,
-        bytes: *const u8,
-        bytes_length: usize,
-        options: *const COptions,
-        names: *const CReference,
-        names_length: usize,
-        buffer: *mut u8,
-        buffer_length: usize,
-    ) -> CAnswer;
-    fn bivdrazo_compile_within(
-        events: *const CEvent,
-        events_length: usize,
-        bytes: *const u8,
-        bytes_length: usize,
-        options: *const COptions,
-        names: *const CReference,
-        names_length: usize,
-        limits: *const CLimits,
-        buffer: *mut u8,
-        buffer_length: usize,
-    ) -> CAnswer;
-    fn bivdrazo_compile_attributed(
-        events: *const CEvent,
-        events_length: usize,
-        bytes: *const u8,
-        bytes_length: usize,
-        options: *const COptions,
-        names: *const CReference,
-        names_length: usize,
-        attributes: *const CAttributes,
-        buffer: *mut u8,
-        buffer_length: usize,
-    ) -> CAnswer;
-    fn bivdrazo_run(
-        script: *const u8,
-        script_length: usize,
-        buffer: *mut u8,
-        buffer_length: usize,
-    ) -> CAnswer;
-    fn bivdrazo_version() -> u32;
-}
 
 /// As `crate::compile`.
 pub(crate) fn compile(
@@ -389,75 +291,4 @@ fn collect<T>(elements: impl ExactSizeIterator<Item = T>) -> Result<Vec<T>, Erro
         .map_err(|_| Error::Memory)?;
     collected.extend(elements);
     Ok(collected)
-}
-
-/// The error that an answer without a text within limits stands for.
-fn error_within(answer: &CAnswer, limits: Limits) -> Error {
-    match answer.status {
-        STATUS_TOO_LONG => Error::OutputTooLong { limit: limits.text },
-        STATUS_TOO_MUCH => Error::TooMuchWork { limit: limits.work },
-        _ => error_of(answer),
-    }
-}
-
-/// The error that another answer without a text stands for.
-pub(crate) fn error_of(answer: &CAnswer) -> Error {
-    match answer.status {
-        STATUS_REFUSED => match Rule::from_number(answer.rule) {
-            Some(rule) => Error::Refused {
-                index: answer.index,
-                rule,
-            },
-            None => Error::Unknown,
-        },
-        STATUS_NO_EVENT => Error::Event(answer.index),
-        STATUS_NO_NAME => Error::Name(answer.index),
-        STATUS_NO_OPTION => Error::Option(answer.index),
-        STATUS_NO_LINE => Error::Line(answer.index),
-        STATUS_MEMORY => Error::Memory,
-        STATUS_UNSAFE => Error::Unsafe,
-        STATUS_NO_ATTRIBUTE => Error::Attribute(answer.index),
-        _ => Error::Unknown,
-    }
-}
-
-fn c_event(event: &Event) -> CEvent {
-    let (name, other) = event.name.numbers();
-    let kind = match event.kind {
-        Kind::Enter => KIND_ENTER,
-        Kind::Exit => KIND_EXIT,
-    };
-    CEvent {
-        index: event.index,
-        name,
-        other,
-        kind,
-        columns: event.columns,
-    }
-}
-
-fn c_reference(&(name, text): &(&str, &str)) -> CReference {
-    CReference {
-        name: name.as_ptr(),
-        name_length: name.len(),
-        text: text.as_ptr(),
-        text_length: text.len(),
-    }
-}
-
-pub(crate) fn c_text(text: &Option<String>) -> CText {
-    let value = text.as_deref().unwrap_or("");
-    CText {
-        bytes: value.as_ptr(),
-        length: value.len(),
-        is_set: u8::from(text.is_some()),
-    }
-}
-
-pub(crate) fn c_line_ending(ending: LineEnding) -> u8 {
-    match ending {
-        LineEnding::LineFeed => LINE_ENDING_LINE_FEED,
-        LineEnding::CarriageReturn => LINE_ENDING_CARRIAGE_RETURN,
-        LineEnding::CarriageReturnLineFeed => LINE_ENDING_CARRIAGE_RETURN_LINE_FEED,
-    }
 }

@@ -1,6 +1,6 @@
 // Written by clients/numbers/generate from numbers.txt. Don't edit it.
 
-use crate::ffi::{c_line_ending, c_text, CText};
+use crate::layouts::{c_line_ending, c_text, CText};
 use crate::Options;
 
 #[repr(C)]

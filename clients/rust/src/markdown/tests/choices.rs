@@ -1,0 +1,221 @@
+//! Each option by itself.
+
+use super::*;
+use crate::markdown::autolinks::bare_links;
+use crate::markdown::base::resolved;
+use crate::markdown::comments::without_comments;
+
+#[test]
+fn hard_breaks() {
+    assert_eq!(
+        html_with("a\nb ![c\nd](e)", |options| options.hard_breaks = true).unwrap(),
+        "<p>a<br />\nb <img src=\"e\" alt=\"c d\" /></p>\n"
+    );
+}
+
+#[test]
+fn html_as_text() {
+    assert_eq!(
+        html("a <b>c</b>\n\n<div>\n<!-- d -->\n"),
+        "<p>a &lt;b&gt;c&lt;/b&gt;</p>\n&lt;div&gt;\n&lt;!-- d --&gt;\n"
+    );
+}
+
+#[test]
+fn html_left_out() {
+    let left_out = |text| html_with(text, |options| options.html = DocumentHtml::LeftOut).unwrap();
+    assert_eq!(left_out("a <b>c</b>\n\n<div>\nd\n"), "<p>a c</p>\n");
+    assert_eq!(
+        left_out("- <b>\n- <div>\n\n> <p>\n"),
+        "<ul>\n<li></li>\n<li></li>\n</ul>\n<blockquote>\n</blockquote>\n"
+    );
+    assert_eq!(
+        left_out("`<b>` \\<b> &lt;b>"),
+        "<p><code>&lt;b&gt;</code> &lt;b&gt; &lt;b&gt;</p>\n"
+    );
+}
+
+#[test]
+fn html_without_comments() {
+    let without =
+        |text| html_with(text, |options| options.html = DocumentHtml::WithoutComments).unwrap();
+    assert_eq!(without("a<!-- b --> <i>c"), "<p>a &lt;i&gt;c</p>\n");
+    assert_eq!(
+        without("> <!-- a\n> b\n> -->\n\nc"),
+        "<blockquote>\n</blockquote>\n<p>c</p>\n"
+    );
+    assert_eq!(
+        without("<div><!-- a --></div>\n"),
+        "&lt;div&gt;&lt;/div&gt;\n"
+    );
+    assert_eq!(without("<!-- a\n\nb"), "");
+    let left_of_tabs = without(">\t<!-- a\n>\tb -->\n");
+    assert_eq!(left_of_tabs, "<blockquote>\n</blockquote>\n");
+}
+
+#[test]
+fn comments() {
+    for (html, wanted) in [
+        ("a<!--b-->c<!-- d", "ac"),
+        ("<!-->a<!--->b", "ab"),
+        ("<!-- - -- -> --> <!- a ->", " <!- a ->"),
+        ("<!---->", ""),
+    ] {
+        assert_eq!(without_comments(html), wanted, "{html:?}");
+    }
+}
+
+#[test]
+fn bases() {
+    let based = |text| {
+        html_with(text, |options| {
+            options.base = Some("https://a.b/c/d?e".to_string())
+        })
+        .unwrap()
+    };
+    assert_eq!(
+        based("[x](f) ![y](../g) [z](#h)"),
+        "<p><a href=\"https://a.b/c/f\">x</a> <img src=\"https://a.b/g\" alt=\"y\" /> \
+         <a href=\"#h\">z</a></p>\n"
+    );
+    assert_eq!(
+        based("[x](javascript:f) <i@j.k>"),
+        "<p><a href=\"\">x</a> <a href=\"mailto:i@j.k\">i@j.k</a></p>\n"
+    );
+    let script = html_with("[x](f)", |options| {
+        options.base = Some("javascript:g".to_string())
+    });
+    assert_eq!(script.unwrap(), "<p><a href=\"\">x</a></p>\n");
+}
+
+/// The examples of RFC 3986, 5.4.1 and 5.4.2.
+#[test]
+fn urls_against_a_base() {
+    let base = "http://a/b/c/d;p?q";
+    for (url, wanted) in [
+        ("g:h", "g:h"),
+        ("g", "http://a/b/c/g"),
+        ("./g", "http://a/b/c/g"),
+        ("g/", "http://a/b/c/g/"),
+        ("/g", "http://a/g"),
+        ("//g", "http://g"),
+        ("?y", "http://a/b/c/d;p?y"),
+        ("g?y", "http://a/b/c/g?y"),
+        ("g#s", "http://a/b/c/g#s"),
+        ("g?y#s", "http://a/b/c/g?y#s"),
+        (";x", "http://a/b/c/;x"),
+        ("g;x?y#s", "http://a/b/c/g;x?y#s"),
+        (".", "http://a/b/c/"),
+        ("./", "http://a/b/c/"),
+        ("..", "http://a/b/"),
+        ("../", "http://a/b/"),
+        ("../g", "http://a/b/g"),
+        ("../..", "http://a/"),
+        ("../../g", "http://a/g"),
+        ("../../../g", "http://a/g"),
+        ("/./g", "http://a/g"),
+        ("/../g", "http://a/g"),
+        ("g.", "http://a/b/c/g."),
+        (".g", "http://a/b/c/.g"),
+        ("..g", "http://a/b/c/..g"),
+        ("./../g", "http://a/b/g"),
+        ("./g/.", "http://a/b/c/g/"),
+        ("g/./h", "http://a/b/c/g/h"),
+        ("g/../h", "http://a/b/c/h"),
+        ("g;x=1/../y", "http://a/b/c/y"),
+        ("g?y/../x", "http://a/b/c/g?y/../x"),
+        ("http:g", "http:g"),
+        ("", ""),
+        ("#s", "#s"),
+    ] {
+        assert_eq!(resolved(base, url), wanted, "{url:?}");
+    }
+    assert_eq!(resolved("http://a", "g"), "http://a/g");
+}
+
+#[test]
+fn attributes() {
+    let with = |text, rel: &str| html_with(text, |options| options.rel = Some(rel.to_string()));
+    let link = "<p><a href=\"b\" title=\"c\" rel=\"ugc\">a</a> <a href=\"#d\">e</a></p>\n";
+    assert_eq!(with("[a](b 'c') [e](#d)", "ugc").as_deref(), Ok(link));
+    let image = "<p><a href=\"b\" rel=\"\"><img src=\"c\" alt=\"a\" /></a></p>\n";
+    assert_eq!(with("[![a](c)](b)", "").as_deref(), Ok(image));
+    let mut options = MarkdownOptions::default();
+    options.heading_ids = Some("<".to_string());
+    let made = markdown_with_headings("> a\n> b\n> ===\n\n- ## c *d*\n", &options).unwrap();
+    assert!(
+        made.html.contains("<h1 id=\"&lt;1\">a\nb</h1>"),
+        "{}",
+        made.html
+    );
+    let told: Vec<_> = made
+        .headings
+        .iter()
+        .map(|it| (it.level, it.number, &it.text[..]))
+        .collect();
+    assert_eq!(told, [(1, 1, "a\nb"), (2, 2, "c d")]);
+    options.max_output = Some(made.html.len());
+    assert!(markdown_with_headings("> a\n> b\n> ===\n\n- ## c *d*\n", &options).is_ok());
+    options.max_output = Some(made.html.len() - 1);
+    let limit = made.html.len() - 1;
+    let told = markdown_with_headings("> a\n> b\n> ===\n\n- ## c *d*\n", &options);
+    assert_eq!(told, Err(Error::OutputTooLong { limit }));
+}
+
+#[test]
+fn bare() {
+    let links = |text: &str| -> Vec<String> {
+        bare_links(text)
+            .into_iter()
+            .map(|bare| format!("{}{}", bare.before, &text[bare.range]))
+            .collect()
+    };
+    for (text, wanted) in [
+        ("www.a.org", vec!["http://www.a.org"]),
+        (
+            "Visit www.a.org/help for more.",
+            vec!["http://www.a.org/help"],
+        ),
+        (
+            "(www.a.org/b.c) Www.A.org.",
+            vec!["http://www.a.org/b.c", "http://Www.A.org"],
+        ),
+        ("www.a.org/b?c=d&copy;", vec!["http://www.a.org/b?c=d"]),
+        ("www.a.org/b<c", vec!["http://www.a.org/b"]),
+        (
+            "http://a.org ftp://b.org/c HTTPS://d.org",
+            vec!["http://a.org", "ftp://b.org/c", "HTTPS://d.org"],
+        ),
+        (
+            "a@b.org, mailto:c@d.org",
+            vec!["mailto:a@b.org", "mailto:c@d.org"],
+        ),
+        (
+            "a.org awww.a.org \"www.a.org :www.a.org irc://a.org javascript://a.org a@b",
+            vec![],
+        ),
+    ] {
+        assert_eq!(links(text), wanted, "{text:?}");
+    }
+}
+
+#[test]
+fn bare_links_in_a_document() {
+    let link = "<a href=\"https://a.org/b_c_d\">https://a.org/b_c_d</a>";
+    assert_eq!(
+        html("*https://a.org/b_c_d*"),
+        format!("<p><em>{link}</em></p>\n")
+    );
+    assert_eq!(
+        html("[https://a.org](x) `https://a.org`"),
+        "<p><a href=\"x\">https://a.org</a> <code>https://a.org</code></p>\n"
+    );
+    assert_eq!(
+        html("![www.a.org](x)"),
+        "<p><img src=\"x\" alt=\"www.a.org\" /></p>\n"
+    );
+    assert_eq!(
+        html_with("https://a.org", |options| options.bare_links = false).unwrap(),
+        "<p>https://a.org</p>\n"
+    );
+}
