@@ -35,7 +35,7 @@ CONTINUED = "\n    "
 # Where a number tells how many names there are, and by how much it is greater.
 COUNTS = [
     ("crates/md_ffi/README.md", r"Names: 1 to (\d+) in the order", 0),
-    ("docs/DEFINITIONS.md", r"Names 1 to (\d+) are those", 0),
+    ("docs/DEFINITIONS_CALLS.md", r"Names 1 to (\d+) are those", 0),
     ("clients/rust/src/tests/names.rs", r"in_order: Vec<u16> = \(1\.\.=(\d+)\)", 0),
     ("clients/checks/batch.c", r"to = \(uint16_t\)\(1 \+ next_under\(state, (\d+)\)\)", 0),
     ("clients/checks/batch.c", r"event->name = \(uint16_t\)next_under\(state, (\d+)\)", 2),

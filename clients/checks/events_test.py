@@ -1,5 +1,5 @@
 #!/usr/bin/env python3
-"""Runs the examples of docs/EVENTS.md: each script must have the HTML that stands below it.
+"""Runs the examples of docs/EVENTS*.md: each script must have the HTML that stands below it.
 
     events_test.py            tells which one hasn't
     events_test.py --write    puts the HTML there that each has
@@ -10,7 +10,7 @@ import re
 import sys
 
 HERE = pathlib.Path(__file__).resolve().parent
-PAGE = HERE.parent.parent / "docs" / "EVENTS.md"
+PAGES = sorted((HERE.parent.parent / "docs").glob("EVENTS*.md"))
 sys.path.insert(0, str(HERE.parent / "python"))
 
 from bivdrazo import run  # noqa: E402
@@ -23,21 +23,27 @@ def told(match):
     return f"{match[1]}{run(match['script'].encode('utf-8'))}\n{match[4]}"
 
 
-def main(arguments):
-    """Runs each example; the status to end with."""
-    text = PAGE.read_text(encoding="utf-8")
-    if arguments == ["--write"]:
-        PAGE.write_text(EXAMPLE.sub(told, text), encoding="utf-8")
-        return 0
+def is_right(page):
+    """Tells which examples of a page haven't the HTML below them; whether all have."""
+    text = page.read_text(encoding="utf-8")
     examples = list(EXAMPLE.finditer(text))
     wrong = [match for match in examples if told(match) != match[0]]
     for match in wrong:
-        print(f"EVENTS.md: {match['script']!r}\n  has {run(match['script'].encode('utf-8'))!r}")
+        print(f"{page.name}: {match['script']!r}\n  has {run(match['script'].encode('utf-8'))!r}")
     if len(examples) != text.count("```html\n"):
-        print("EVENTS.md: HTML that no script stands before")
-        return 1
-    print(f"EVENTS.md: {len(examples)} examples" if not wrong else "EVENTS.md: failed")
-    return 1 if wrong else 0
+        print(f"{page.name}: HTML that no script stands before")
+        return False
+    print(f"{page.name}: {len(examples)} examples" if not wrong else f"{page.name}: failed")
+    return not wrong
+
+
+def main(arguments):
+    """Runs each example; the status to end with."""
+    if arguments == ["--write"]:
+        for page in PAGES:
+            page.write_text(EXAMPLE.sub(told, page.read_text(encoding="utf-8")), encoding="utf-8")
+        return 0
+    return 0 if all([is_right(page) for page in PAGES]) else 1
 
 
 if __name__ == "__main__":

@@ -1,7 +1,7 @@
 """What documents mean: a small model of the rules, for the names that stand in the cases that
 `bench/cases.py` makes.
 
-It goes over trees, and was written from the rules (docs/DEFINITIONS.md says them too) and apart
+It goes over trees, and was written from the rules (docs/DEFINITIONS_MEANING.md has them) and apart
 from the crates, which go over lists of events. A name or an option that it doesn't know is an
 error: whoever makes a case of one adds a row or a method here, from the rules. Lists and block
 quotes have none, so the container around a node is a footnote definition or nothing, and no
