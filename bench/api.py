@@ -111,7 +111,8 @@ def crates_faults(found):
 def header_faults(found):
     """What differs of the C headers, and of what the library exports to them."""
     headers = [(ROOT / "clients" / "c" / name).read_text()
-               for name in ("bivdrazo.h", "bivdrazo_numbers.h")]
+               for name in ("bivdrazo.h", "bivdrazo_types.h", "bivdrazo_alloc.h",
+                            "bivdrazo_numbers.h")]
     header = re.sub(r"/\*.*?\*/", "", "\n".join(headers), flags=re.DOTALL)
     expected = {name for row in found["The C interface"] for name in named(row[0])}
     types = set(re.findall(r"^\} (bivdrazo_\w+);", header, re.MULTILINE))

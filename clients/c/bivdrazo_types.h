@@ -1,0 +1,144 @@
+/* What crosses between C and the library: bivdrazo.h includes this. */
+#ifndef BIVDRAZO_TYPES_H
+#define BIVDRAZO_TYPES_H
+
+#include <stddef.h>
+#include <stdint.h>
+
+#include "bivdrazo_numbers.h"
+
+#ifdef __cplusplus
+#define BIVDRAZO_ASSERT(condition, text) static_assert(condition, text)
+#else
+#define BIVDRAZO_ASSERT(condition, text) _Static_assert(condition, text)
+#endif
+
+/* What a call answers. A field of which the status says nothing is 0. */
+typedef struct bivdrazo_answer {
+    uint32_t status; /* BIVDRAZO_OK, .. */
+    uint32_t rule;   /* BIVDRAZO_RULE_.., where the status is BIVDRAZO_REFUSED */
+    size_t index;    /* of an event or of a name, the number of an option, or a script's line, as
+                        the status says */
+    size_t length;   /* of the text in bytes, where the status is BIVDRAZO_OK or
+                        BIVDRAZO_TOO_SHORT */
+} bivdrazo_answer;
+
+/* An event: at the byte `index` of the document the node `name` begins or ends. */
+typedef struct bivdrazo_event {
+    size_t index;    /* how many of the document's bytes stand before it */
+    uint16_t name;   /* BIVDRAZO_NAME_.. */
+    uint16_t other;  /* read where the name is BIVDRAZO_NAME_OTHER alone */
+    uint8_t kind;    /* BIVDRAZO_ENTER or BIVDRAZO_EXIT */
+    uint8_t columns; /* how many columns of a tab at `index`, 0 to 4, are already taken; 0 where
+                        there is no tab */
+} bivdrazo_event;    /* two bytes that are never read follow */
+
+/* A text that may be unset. `bytes` isn't null, also where it is unset or empty; a text that is
+   set is UTF-8. */
+typedef struct bivdrazo_text {
+    const uint8_t *bytes;
+    size_t length;
+    uint8_t is_set; /* 0: the bytes aren't read; 1: they are */
+} bivdrazo_text;    /* seven bytes that are never read follow */
+
+/* A named character reference: `name` stands between `&` and `;`, `text` is what it stands for.
+   Both are UTF-8. */
+typedef struct bivdrazo_reference {
+    const uint8_t *name;
+    size_t name_length;
+    const uint8_t *text;
+    size_t text_length;
+} bivdrazo_reference;
+
+/*
+ * The options. Begin with bivdrazo_options_default(): a struct of zeros has null pointers.
+ *
+ * The text is safe where allow_any_img_src, allow_dangerous_html and allow_dangerous_protocol are
+ * 0, and gfm_footnote_label_attributes and gfm_footnote_label_tag_name are unset, as in the
+ * default; the others are free.
+ */
+typedef struct bivdrazo_options {
+    uint8_t allow_any_img_src;            /* 1: images may have any source */
+    uint8_t allow_dangerous_html;         /* 1: HTML of the document is left as it is */
+    uint8_t allow_dangerous_protocol;     /* 1: links and images may have any protocol */
+    uint8_t gfm_task_list_item_checkable; /* 1: tasks are printed without `disabled` */
+    uint8_t gfm_tagfilter;                /* 1: some tags of HTML that is left as it
+                                             is are disarmed */
+    uint8_t default_line_ending; /* how lines end where the document has no line ending:
+                                    BIVDRAZO_LINE_FEED, .. */
+    uint8_t gfm_footnote_number_ids; /* 1: footnotes' ids have their numbers in place of their
+                                        identifiers, and each call's ends in which one it is */
+    bivdrazo_text gfm_footnote_back_label;       /* aria-label of a way back; unset:
+                                                    Back to content */
+    bivdrazo_text gfm_footnote_clobber_prefix;   /* what footnotes' ids begin with; unset:
+                                                    user-content- */
+    bivdrazo_text gfm_footnote_label;            /* the heading of the footnotes;
+                                                    unset: Footnotes */
+    bivdrazo_text gfm_footnote_label_attributes; /* that heading's attributes, not escaped; unset:
+                                                    class="sr-only" */
+    bivdrazo_text gfm_footnote_label_tag_name;   /* that heading's tag name; unset: h2 */
+} bivdrazo_options;
+
+/*
+ * What is added to the tags of a text; what is unset isn't. Begin with bivdrazo_attributes_none().
+ * Each text may be any UTF-8: it is escaped.
+ *
+ * The ids of headings are distinct from one another, and from all others where no other begins with
+ * this text: those of footnotes are `footnote-label`, and what gfm_footnote_clobber_prefix says and
+ * `fn`; they are distinct from one another where gfm_footnote_number_ids is 1.
+ */
+typedef struct bivdrazo_attributes {
+    bivdrazo_text rel;         /* the `rel` of each link whose URL isn't empty and
+                                  doesn't begin with # */
+    bivdrazo_text heading_ids; /* what the `id` of each heading without one begins with: its number,
+                                  from 1, follows */
+} bivdrazo_attributes;
+
+/*
+ * How long a text may be, and how much work it may take; SIZE_MAX is no limit. What a call costs is
+ * bounded by both, the number of events and the document's length.
+ *
+ * The work is told from the events alone, before anything is read: the lengths of texts and labels,
+ * by the places of the events (of a parser's events the document's length at most, and that of its
+ * labels once more); for each link and image that leads to a definition, what is read in the
+ * longest one; and for each row of a table, its columns.
+ */
+typedef struct bivdrazo_limits {
+    size_t text; /* how many bytes the text may have */
+    size_t work; /* how much there may be to read and to print */
+} bivdrazo_limits;
+
+/* A heading that got an id. Its text has no tags and is escaped: it may be set into
+   HTML as it is. */
+typedef struct bivdrazo_heading {
+    size_t number;      /* from 1: its id is what was asked for, and this number */
+    const char *text;   /* where it stands in what was read */
+    size_t text_length;
+    uint8_t level; /* from 1 to 6 */
+} bivdrazo_heading;
+
+BIVDRAZO_ASSERT(sizeof(size_t) == 8, "the library is for 64 bits");
+BIVDRAZO_ASSERT(sizeof(bivdrazo_answer) == 24, "an answer's size");
+BIVDRAZO_ASSERT(sizeof(bivdrazo_event) == 16, "an event's size");
+BIVDRAZO_ASSERT(sizeof(bivdrazo_text) == 24, "a text's size");
+BIVDRAZO_ASSERT(sizeof(bivdrazo_reference) == 32, "a reference's size");
+BIVDRAZO_ASSERT(sizeof(bivdrazo_options) == 128, "the options' size");
+BIVDRAZO_ASSERT(sizeof(bivdrazo_attributes) == 48, "the attributes' size");
+BIVDRAZO_ASSERT(sizeof(bivdrazo_limits) == 16, "the limits' size");
+BIVDRAZO_ASSERT(offsetof(bivdrazo_answer, rule) == 4, "an answer's rule");
+BIVDRAZO_ASSERT(offsetof(bivdrazo_answer, index) == 8, "an answer's index");
+BIVDRAZO_ASSERT(offsetof(bivdrazo_answer, length) == 16, "an answer's length");
+BIVDRAZO_ASSERT(offsetof(bivdrazo_event, name) == 8, "an event's name");
+BIVDRAZO_ASSERT(offsetof(bivdrazo_event, other) == 10, "an event's own number");
+BIVDRAZO_ASSERT(offsetof(bivdrazo_event, kind) == 12, "an event's kind");
+BIVDRAZO_ASSERT(offsetof(bivdrazo_event, columns) == 13, "an event's columns");
+BIVDRAZO_ASSERT(offsetof(bivdrazo_text, is_set) == 16, "whether a text is set");
+BIVDRAZO_ASSERT(offsetof(bivdrazo_options, default_line_ending) == 5, "the sixth option");
+BIVDRAZO_ASSERT(offsetof(bivdrazo_options, gfm_footnote_number_ids) == 6,
+                "the last option by its number");
+BIVDRAZO_ASSERT(offsetof(bivdrazo_options, gfm_footnote_back_label) == 8, "the first text");
+BIVDRAZO_ASSERT(offsetof(bivdrazo_options, gfm_footnote_label_tag_name) == 104, "the last text");
+BIVDRAZO_ASSERT(offsetof(bivdrazo_attributes, heading_ids) == 24, "the last attribute");
+BIVDRAZO_ASSERT(offsetof(bivdrazo_limits, work) == 8, "the last limit");
+
+#endif
