@@ -6,12 +6,11 @@
 It judges nothing. It reads the texts that git keeps but data, which nobody reads from end to end:
 the cases, pictures, locks, JSON, and tables of references. What may not become shorter stands in a
 line of its own: crates/md_bench, which stays as it is to the byte, files that a script writes
-whole, as their heads say, and the signatures that the interface promises. Among the lines that are
-too long are those of must-fail edits, which the kit wants in one line each, and of pages two that
-are HTML as it is printed. How often words stand is counted without must-fail edits, the benchmark,
-the list clients/numbers/numbers.txt, and the files that bench/names.py or clients/numbers/generate
-writes whole of that list, as their heads say: nobody touches these. A file of which a script
-writes a part is counted.
+whole, as their heads say, and the signatures that the interface promises. Two lines of pages that
+are too long are HTML as it is printed. How often words stand is counted without must-fail edits,
+the benchmark, the list clients/numbers/numbers.txt, and the files that bench/names.py or
+clients/numbers/generate writes whole of that list, as their heads say: nobody touches these. A file
+of which a script writes a part is counted.
 """
 import collections
 import pathlib
@@ -94,8 +93,6 @@ def kind(path, line):
     """What a line is counted as: by the end of its file's name, and rows of tables apart."""
     if path.endswith(".md"):
         return "rows of tables in pages" if line.startswith("|") else "pages"
-    if path.endswith(".edit"):
-        return "must-fail edits"
     return path[path.rfind("."):] if path.endswith((".rt", ".antt")) else "other code"
 
 
