@@ -6,5 +6,6 @@ pub mod Loosened
 pub mod Telling
 pub mod Opens
 pub mod Passing
+pub mod FactLists
 pub mod FirstIndex
 pub mod Leaves

@@ -72,18 +72,13 @@ grounded-others : (r : List OpenNode) → others_outer (grounded r) ≡ others_o
 grounded-others [] = refl
 grounded-others (x ∷ r) = refl
 
--- a fact that is put among others as a slice of their vector, and one that is pushed after them
+-- a fact that is put among others, and one that is pushed after them
 pub put_then_pushed :
-    (facts : List Fact) (index len : ℕ) (fact whole last alone : Fact) (put pushed : List Fact) →
-    len ≡ length facts → fact ≡ whole → put ≡ set facts index fact → last ≡ alone →
-    pushed ≡ take len (put ++ drop (length put) facts) ++ last ∷ [] →
+    (facts : List Fact) (index : ℕ) (fact whole last alone : Fact) (put pushed : List Fact) →
+    fact ≡ whole → put ≡ set facts index fact → last ≡ alone → pushed ≡ put ++ last ∷ [] →
     pushed ≡ set facts index whole ++ alone ∷ []
-put_then_pushed facts index len fact whole last alone put pushed len_is fact_is
-    put_is last_is pushed_is =
-    pushed_is ∙ ap (λ n. take n (put ++ drop (length put) facts) ++ last ∷ [])
-    (len_is ∙ sym (length-set facts index fact) ∙ ap length (sym put_is))
-    ∙ ap (λ fs. fs ++ last ∷ []) (take-append_seam put (drop (length put) facts) ∙ put_is
-    ∙ ap (λ f. set facts index f) fact_is)
+put_then_pushed facts index fact whole last alone put pushed fact_is put_is last_is pushed_is =
+    pushed_is ∙ ap (λ fs. fs ++ last ∷ []) (put_is ∙ ap (λ f. set facts index f) fact_is)
     ∙ ap (λ f. set facts index whole ++ f ∷ []) last_is
 
 -- the exit of a node, by what each step gave: the node, what is left, and what it is then

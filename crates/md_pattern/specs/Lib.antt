@@ -7,7 +7,8 @@ pub mod Shape
 pub mod Steps
 pub mod Places
 -- What is inferred of a node. `Looseness`, `Alignments`, `Partners` and `Ending` are as the rules
--- say it; `Told`, `Columns`, `Seeking` and `Facts` event by event, as the pass finds it.
+-- say it; `Told`, `Columns`, `Seeking` and `Facts` event by event, as the pass finds it, and
+-- `FactWords` as it keeps it.
 pub mod Looseness
 pub mod Blanks
 pub mod Alignments
@@ -16,4 +17,5 @@ pub mod Columns
 pub mod Seeking
 pub mod Ending
 pub mod Facts
+pub mod FactWords
 pub mod Partners

@@ -8,12 +8,12 @@ ghost use Rattle.md_pattern.specs.Facts as spec;
 ghost use Rattle.md_pattern.specs.Ending.{exits_line_ending, ending_after};
 
 mod following;
+mod list;
 mod nodes;
 
 use self::following::{follow, follow_leaf};
-use self::nodes::{
-    document_node, fact_of, opened, partner_alone, push_fact, push_leaf, push_node, put,
-};
+pub use self::list::FactList;
+use self::nodes::{document_node, fact_of, opened, partner_alone, push_node};
 use crate::columns::Columns;
 use crate::seeking::Sought;
 use crate::told::{Looseness, Told};
@@ -56,7 +56,7 @@ pub struct OpenNode {
 #[derive(Drop)]
 pub struct Facts {
     /// What is found at each event, in the order of the events.
-    pub facts: Vec<Fact>,
+    pub facts: FactList,
     /// The alignments of each table's columns, in the order of the tables' exits.
     pub tables: Vec<Vec<AlignKind>>,
     /// The indices of the events that enter the definitions, in the order of their exits.
@@ -71,7 +71,7 @@ pub struct Facts {
 /// What is found at the events so far.
 #[derive(Drop)]
 pub struct Pass {
-    facts: Vec<Fact>,
+    facts: FactList,
     ended: Ended,
     /// The document itself, around all open nodes.
     document: OpenNode,
@@ -94,7 +94,7 @@ impl Model for Pass {
     ghost Value = { PassState };
 
     ghost view = { λ p. record {
-      facts = p.facts.items;
+      facts = p.facts;
       columns = p.ended.columns;
       definitions = p.ended.definitions.items;
       here = next_outer (opens p.open_nodes.items p.document);
@@ -112,7 +112,7 @@ impl Pass {
         ensures { IfOk result (λ pass. pass ≡ spec.pass_beginning) }
     {
         Ok(Pass {
-            facts: Vec::with_capacity(alloc, events)?,
+            facts: FactList::with_capacity(alloc, events)?,
             ended: Ended {
                 columns: Columns::new(alloc),
                 definitions: Vec::new(alloc),
@@ -148,7 +148,7 @@ impl Pass {
         requires { is_table name ≡ false }
         ensures { OnOk result (self.new ≡ spec.passed_exit name (spec.passed_entry name self.old)) }
     {
-        let entry = push_leaf(&mut self.facts)?;
+        let entry = self.facts.push_leaf()?;
         match self.open_nodes.last_mut() {
             Some(here) => follow_leaf(alloc, here, &mut self.ended, name, entry),
             None => follow_leaf(alloc, &mut self.document, &mut self.ended, name, entry),
@@ -161,7 +161,7 @@ impl Pass {
         ensures { OnOk result (self.new ≡ spec.passed_entry name self.old) }
     {
         let entry = self.facts.len();
-        push_fact(&mut self.facts, partner_alone(0))?;
+        self.facts.push(partner_alone(0))?;
         self.ended.columns.enter(name)?;
         let inside = opened(entry, name, innermost(&self.open_nodes, &self.document));
         push_node(&mut self.open_nodes, inside)
@@ -187,8 +187,8 @@ impl Pass {
     {
         let own = leave_innermost(&mut self.open_nodes, &mut self.document);
         let fact = fact_of(name, self.facts.len(), self.ended.columns.count(), &own);
-        put(&mut self.facts, own.entry, fact);
-        push_fact(&mut self.facts, partner_alone(own.entry))?;
+        self.facts.put(own.entry, fact)?;
+        self.facts.push(partner_alone(own.entry))?;
         match self.open_nodes.last_mut() {
             Some(here) => follow(alloc, here, &mut self.ended, name, &own),
             None => follow(alloc, &mut self.document, &mut self.ended, name, &own),
@@ -197,7 +197,7 @@ impl Pass {
 
     /// What is found at each event.
     pub fn into_facts(self, first_ending: Option<usize>, visits: usize) -> Facts
-        ensures facts { result.facts.items ≡ self.facts }
+        ensures facts { result.facts ≡ self.facts }
         ensures tables { map (λ t. t.items) result.tables.items ≡ self.columns.tables }
         ensures definitions { result.definitions.items ≡ self.definitions }
         ensures first_ending { result.first_ending ≡ first_ending }

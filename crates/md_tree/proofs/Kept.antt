@@ -47,12 +47,12 @@ module _ (inside : Inside) (given : Handed) (index : ℕ) (kept : IsKept inside)
   abbrev pub numbers : List ℕ
   numbers = map (number_for given.bytes (mentions_of kept.0.0)) (mentions_of kept.0.0)
 
-  pub facts_are : inside.facts.items ≡ facts_with numbers (facts_at given.events)
-  facts_are = subst (λ g. AreNumbered g inside.facts.items) same kept.1 kept.0.0 flattened
+  pub facts_are : inside.facts ≡ facts_with numbers (facts_at given.events)
+  facts_are = subst (λ g. AreNumbered g inside.facts) same kept.1 kept.0.0 flattened
 
   -- at an entry no number is kept
   entry-got : (name : Name) → EntersAt given.events index name → (fact : Fact) →
-      slice_get inside.facts.items index ≡ Some fact →
+      slice_get inside.facts index ≡ Some fact →
       slice_get (facts_at given.events) index ≡ Some fact
   entry-got name enters fact got =
       let here = told-at kept.0.0 given.events index enters.0 flattened enters.1 in
@@ -86,15 +86,15 @@ module _ (inside : Inside) (given : Handed) (index : ℕ) (kept : IsKept inside)
       EndedAt-checked is text given index name have (subst IsChecked same kept.0) exits reads
 
   -- the place that is looked up
-  pub ended-place : (there : List Fact) (found : Option Position) → there ≡ inside.facts.items →
-      found ≡ position_ended inside.events.now there index →
+  pub ended-place : (found : Option Position) →
+      found ≡ position_ended inside.events.now inside.facts index →
       found ≡ position_ended given.events (facts_at given.events) index
-  ended-place there found are is =
-      is ∙ ap (λ (g : Handed). position_ended g.events there index) same
-      ∙ ap (λ fs. position_ended given.events fs index) (are ∙ facts_are)
+  ended-place found is =
+      is ∙ ap (λ (g : Handed). position_ended g.events inside.facts index) same
+      ∙ ap (λ fs. position_ended given.events fs index) facts_are
       ∙ ended-with given.events numbers (facts_at given.events) index
 
-  pub facts-inside : EntersSome given.events index → index < length inside.facts.items
+  pub facts-inside : EntersSome given.events index → index < length inside.facts
   facts-inside enters =
       subst (λ xs. index < length xs) (sym facts_are)
       (subst (λ n. index < n) (sym (length-with numbers (facts_at given.events)))
@@ -103,7 +103,7 @@ module _ (inside : Inside) (given : Handed) (index : ℕ) (kept : IsKept inside)
   pub node-entered : EntersSome given.events index → EntersNode given index
   node-entered enters = EntersNode-entered given index enters.0 enters.1 kept.0.0 flattened
 
-  pub fact-kept : (fact : Fact) → slice_get inside.facts.items index ≡ Some fact →
+  pub fact-kept : (fact : Fact) → slice_get inside.facts index ≡ Some fact →
       IsFactAt given index fact
   fact-kept fact got name children enters entered =
       let found = found-entered given index name enters children fact entered
@@ -112,7 +112,7 @@ module _ (inside : Inside) (given : Handed) (index : ℕ) (kept : IsKept inside)
 
   -- a table's columns
   pub columns-kept : EntersAt given.events index GfmTable → (fact : Fact) →
-      slice_get inside.facts.items index ≡ Some fact → (children : Forest) →
+      slice_get inside.facts index ≡ Some fact → (children : Forest) →
       IsEnteredAt given index children →
       slice_get (map (λ t. t.items) inside.tables.items) fact.read_at ≡ Some (alignments children)
   columns-kept enters fact got children entered =
@@ -123,7 +123,7 @@ module _ (inside : Inside) (given : Handed) (index : ℕ) (kept : IsKept inside)
       ∙ found.2 refl
 
   pub columns-inside : EntersAt given.events index GfmTable → (fact : Fact) →
-      slice_get inside.facts.items index ≡ Some fact → fact.read_at < length inside.tables.items
+      slice_get inside.facts index ≡ Some fact → fact.read_at < length inside.tables.items
   columns-inside enters fact got =
       let node = node-entered (GfmTable, enters) in
       subst (λ n. fact.read_at < n) (length-map inside.tables.items (λ t. t.items))
@@ -132,10 +132,10 @@ module _ (inside : Inside) (given : Handed) (index : ℕ) (kept : IsKept inside)
 
   -- the number at an exit
   pub exit-inside : (is : Name → Bool) → ExitsOf is given.events index →
-      index < length inside.facts.items
+      index < length inside.facts
   exit-inside is exits =
       let here = told-at kept.0.0 given.events index exits.1.0 flattened exits.1.1 in
-      got_inside inside.facts.items index
+      got_inside inside.facts index
       (with_number (number_for given.bytes (mentions_of kept.0.0) here.1) here.0)
       (ap (λ xs. slice_get xs index) facts_are
       ∙ got-with (number_for given.bytes (mentions_of kept.0.0)) (mentions_of kept.0.0)
@@ -143,7 +143,7 @@ module _ (inside : Inside) (given : Handed) (index : ℕ) (kept : IsKept inside)
 
   number-kept : (event : Event) → slice_get given.events index ≡ Some event →
       event.kind ≡ Exit → (fact : Fact) →
-      slice_get inside.facts.items index ≡ Some fact → (forest : Forest) (mention : Mention) →
+      slice_get inside.facts index ≡ Some fact → (forest : Forest) (mention : Mention) →
       flatten forest ≡ given.events → slice_get (mentions_of forest) index ≡ Some mention →
       (fact.read_at ≡ number_for given.bytes (mentions_of forest) mention)
       × ((target : Referral) × (mention ≡ mention_of (reading_of (standing_of event.name)) target))
@@ -154,7 +154,7 @@ module _ (inside : Inside) (given : Handed) (index : ℕ) (kept : IsKept inside)
       let two : with_number (number told.1) told.0 ≡ fact =
       one_some (with_number (number told.1) told.0) fact (sym (got-with number (mentions_of forest)
       (facts_at given.events) index told.0 told.1 told.2 told.3) ∙ ap (λ xs. slice_get xs index)
-      (sym (subst (λ g. AreNumbered g inside.facts.items) same kept.1 forest flattens)) ∙ got) in
+      (sym (subst (λ g. AreNumbered g inside.facts) same kept.1 forest flattens)) ∙ got) in
       let at_exit = told.4.1 exits in (
         ap (λ (f : Fact). f.read_at) (sym two) ∙ kept-number (number told.1) told.0 at_exit.0
             ∙ ap number one,
@@ -165,7 +165,7 @@ module _ (inside : Inside) (given : Handed) (index : ℕ) (kept : IsKept inside)
       one_some x y e = cc
 
   pub definition-kept : (exits : ExitsOf is_of_definitions given.events index) (fact : Fact) →
-      slice_get inside.facts.items index ≡ Some fact → (forest : Forest) (mention : Mention) →
+      slice_get inside.facts index ≡ Some fact → (forest : Forest) (mention : Mention) →
       flatten forest ≡ given.events → slice_get (mentions_of forest) index ≡ Some mention →
       place_of fact.read_at ≡ definition_for given.bytes (mentions_of forest) mention
   definition-kept exits fact got forest mention flattens here =
@@ -180,7 +180,7 @@ module _ (inside : Inside) (given : Handed) (index : ℕ) (kept : IsKept inside)
       ∙ ap (definition_for given.bytes all) (sym is)
 
   pub footnote-kept : (exits : ExitsOf is_of_footnotes given.events index) (fact : Fact) →
-      slice_get inside.facts.items index ≡ Some fact → (forest : Forest) (mention : Mention) →
+      slice_get inside.facts index ≡ Some fact → (forest : Forest) (mention : Mention) →
       flatten forest ≡ given.events → slice_get (mentions_of forest) index ≡ Some mention →
       place_of fact.read_at ≡ footnote_for given.bytes (mentions_of forest) mention
   footnote-kept exits fact got forest mention flattens here =

@@ -3,8 +3,8 @@
 use Rattle.std.proofs.Common.{arith, ◌≡◌, ◌⊎◌, ℕ, zero, suc, ◌+◌, ◌<◌, ◌≤◌, Bool, true, false, cond}
 use Rattle.std.proofs.Common.{Option, Some, None, List, [], ◌∷◌, ◌++◌, length, get_or, drop, inl}
 use Rattle.std.proofs.Common.{inr, true≢false, refl, sym, ap, ◌∙◌, subst}
-use Rattle.std.specs.Prelude.{option_map, string_bytes, String, if◌then◌else◌, slice_index_or}
-use Rattle.std.specs.Prelude.{slice_set, slice_get}
+use Rattle.std.specs.Prelude.{option_map, string_bytes, String, if◌then◌else◌}
+use Rattle.std.specs.Prelude.{set, slice_get}
 use Rattle.std.specs.List.{Contains}
 use Rattle.std.specs.Option.{option_cmp, ok_or}
 use Rattle.std.specs.String.{string_cmp}
@@ -317,17 +317,25 @@ put-past (fact ∷ facts) (suc index) number past =
     let lower : length facts ≤ index = omega (arith, past) in
     ap (λ fs. fact ∷ fs) (put-past facts index number lower)
 
+pub put-nowhere : (facts : List Fact) (index number : ℕ) → slice_get facts index ≡ None →
+    put_number index number facts ≡ facts
+put-nowhere [] index number none = refl
+put-nowhere (fact ∷ facts) zero number none = cc
+put-nowhere (fact ∷ facts) (suc index) number none =
+    ap (λ fs. fact ∷ fs) (put-nowhere facts index number none)
+
 pub put-set : (facts : List Fact) (index number : ℕ) (fact : Fact) →
-    index < length facts → 0 < number →
-    fact ≡ slice_index_or facts index fact →
-    slice_set facts index (record fact { read_at = number }) ≡ put_number index number facts
-put-set [] index number fact inside some is = absurd (omega (arith, inside))
-put-set (first ∷ facts) zero zero fact inside some is = absurd (omega (arith, some))
-put-set (first ∷ facts) zero (suc place) fact inside some is =
-    ap (λ (f : Fact). record f { read_at = suc place } ∷ facts) is
-put-set (first ∷ facts) (suc index) number fact inside some is =
-    let lower : index < length facts = omega (arith, inside) in
-    ap (λ fs. first ∷ fs) (put-set facts index number fact lower some is)
+    slice_get facts index ≡ Some fact → 0 < number →
+    set facts index (record fact { read_at = number }) ≡ put_number index number facts
+put-set [] index number fact is some = cc
+put-set (first ∷ facts) zero zero fact is some = absurd (omega (arith, some))
+put-set (first ∷ facts) zero (suc place) fact is some =
+    ap (λ (f : Fact). record f { read_at = suc place } ∷ facts) (sym (same first fact is))
+  where
+    same : (one other : Fact) → Some one ≡ Some other → one ≡ other
+    same one other e = cc
+put-set (first ∷ facts) (suc index) number fact is some =
+    ap (λ fs. first ∷ fs) (put-set facts index number fact is some)
 
 -- a loop over mentions keeps their numbers
 module _ (number : Mention → ℕ) (mentioned : List Mentioned) (i : ℕ) (facts all : List Fact)

@@ -15,7 +15,7 @@ handed_of inside = handed inside.events.now inside.texts inside.names.now
 abbrev pub IsKept : Inside → Type 0
 IsKept inside =
     IsChecked (handed_of inside)
-    × AreNumbered (handed_of inside) inside.facts.items
+    × AreNumbered (handed_of inside) inside.facts
     × (map (λ t. t.items) inside.tables.items ≡ tables_at inside.events.now)
     × (inside.definitions.items ≡ definitions_at inside.events.now)
     × (inside.first_ending ≡ first_index inside.events.now)

@@ -12,7 +12,7 @@ mod read;
 
 use crate::texts::Texts;
 use md_base::{AlignKind, Event, Name};
-use md_pattern::{Fact, Facts};
+use md_pattern::{Fact, FactList, Facts};
 use std::marker::Model;
 
 /// Events, a document's bytes and a table of names that have passed a check: the events are the
@@ -23,7 +23,7 @@ pub struct Checked<'a> {
     /// The document's bytes, of which the text is found that they begin with.
     texts: Texts<'a>,
     names: &'a [(&'a str, &'a str)],
-    facts: Vec<Fact>,
+    facts: FactList,
     /// The alignments of each table.
     tables: Vec<Vec<AlignKind>>,
     /// The entry of each definition.
@@ -71,7 +71,7 @@ impl<'a> Checked<'a> {
         found: Facts,
     ) -> Checked<'a>
         requires grammatical { IsChecked (handed events.now texts names.now) }
-        requires facts { AreNumbered (handed events.now texts names.now) found.facts.items }
+        requires facts { AreNumbered (handed events.now texts names.now) found.facts }
         requires tables { map (λ t. t.items) found.tables.items ≡ tables_at events.now }
         requires definitions { found.definitions.items ≡ definitions_at events.now }
         requires first_ending { found.first_ending ≡ first_index events.now }
@@ -253,11 +253,11 @@ impl<'a> Checked<'a> {
 }
 
 /// What is found at the index.
-fn fact_at(facts: &[Fact], index: usize) -> Fact
+fn fact_at(facts: &FactList, index: usize) -> Fact
     requires { index < length facts.now }
     ensures { slice_get facts.now index ≡ Some result }
 {
-    facts[index]
+    facts.get(index).unwrap()
 }
 
 /// The place that a number stands for: one less, and none for 0.

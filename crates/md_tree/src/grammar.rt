@@ -83,7 +83,7 @@ fn find<'a>(
     ensures grammatical { OnOk result (IsChecked (handed events.now bytes.now names.now)) }
     ensures texts { IfOk result (λ found. found.texts ≡ bytes.now) }
     ensures facts { IfOk result
-        (λ found. AreNumbered (handed events.now bytes.now names.now) found.facts.facts.items) }
+        (λ found. AreNumbered (handed events.now bytes.now names.now) found.facts.facts) }
     ensures tables { IfOk result
         (λ found. map (λ t. t.items) found.facts.tables.items ≡ tables_at events.now) }
     ensures definitions { IfOk result
@@ -131,7 +131,7 @@ fn read_events(input: Input) -> Result<Read, CompileError>
         (λ read. Runs (Unbroken input.entry.bytes.now (name_table input.entry.names.now))
         input.entry.events.now beginning
         (course_of input.entry.events.now (length input.entry.events.now) read.walk)) }
-    ensures facts { IfOk result (λ read. read.found.facts.items ≡ facts_at input.entry.events.now) }
+    ensures facts { IfOk result (λ read. read.found.facts ≡ facts_at input.entry.events.now) }
     ensures tables { IfOk result (λ read. map (λ t. t.items) read.found.tables.items
         ≡ tables_at input.entry.events.now) }
     ensures definitions { IfOk result

@@ -13,7 +13,7 @@ use crate::mention::{Mention, Mentioned};
 use crate::rule::{CompileError, Rule};
 use crate::texts::Texts;
 use md_base::{Position, normalize_identifier};
-use md_pattern::Fact;
+use md_pattern::{Fact, FactList};
 use std::alloc::{AllocError, Global};
 use std::collections::BTreeMap;
 
@@ -32,12 +32,21 @@ fn identifier(alloc: Global, bytes: &Texts, label: Position) -> Result<Option<St
 }
 
 /// Keeps a number in the fact at an index, if there is one.
-fn keep_number(facts: &mut Vec<Fact>, index: usize, number: usize)
-    ensures { facts.new.items ≡ spec.put_number index number facts.old.items }
+fn keep_number(facts: &mut FactList, index: usize, number: usize) -> Result<(), AllocError>
+    ensures { OnOk result (facts.new ≡ spec.put_number index number facts.old) }
 {
-    if number > 0 && index < facts.len() {
-        facts[index].read_at = number;
+    if number > 0 {
+        if let Some(fact) = facts.get(index) {
+            facts.put(
+                index,
+                Fact {
+                    read_at: number,
+                    ..fact
+                },
+            )?;
+        }
     }
+    Ok(())
 }
 
 /// How many definitions are mentioned.
@@ -98,13 +107,13 @@ fn footnotes(
     alloc: Global,
     bytes: &Texts,
     mentions: &[Mentioned],
-    facts: &mut Vec<Fact>,
+    facts: &mut FactList,
 ) -> Result<Numbers, AllocError>
     ensures found { IfOk result
         (λ numbers. spec.Numbers numbers (footnoted bytes.now (mentions_among mentions.now))) }
-    ensures kept { OnOk result (facts.new.items
+    ensures kept { OnOk result (facts.new
         ≡ spec.numbered (spec.footnote_number bytes.now (mentions_among mentions.now))
-        mentions.now facts.old.items) }
+        mentions.now facts.old) }
 {
     let mut numbers = BTreeMap::new(alloc);
     let mut next = 1;
@@ -112,7 +121,7 @@ fn footnotes(
         if let Mention::FootnoteDefinition(label) = mentioned.mention {
             let identifier = identifier(alloc, bytes, label)?;
             let number = number(&mut numbers, identifier, next)?;
-            keep_number(facts, mentioned.index, number);
+            keep_number(facts, mentioned.index, number)?;
             next += 1;
         }
     }
@@ -173,12 +182,12 @@ pub fn resolve(
     alloc: Global,
     bytes: &Texts,
     mentions: &[Mentioned],
-    facts: &mut Vec<Fact>,
+    facts: &mut FactList,
 ) -> Result<(), CompileError>
     ensures ok { OnOk result
         (All (IsResolved bytes.now (mentions_among mentions.now)) (mentions_among mentions.now)) }
-    ensures numbered { OnOk result (facts.new.items
-        ≡ spec.all_numbered bytes.now (mentions_among mentions.now) mentions.now facts.old.items) }
+    ensures numbered { OnOk result (facts.new
+        ≡ spec.all_numbered bytes.now (mentions_among mentions.now) mentions.now facts.old) }
     ensures refused { IfErr result (IsUnresolved bytes.now mentions.now) }
 {
     let definitions = definitions(alloc, bytes, mentions)?;
@@ -186,7 +195,7 @@ pub fn resolve(
     for mentioned in mentions {
         let index = mentioned.index;
         match lead(alloc, bytes, mentioned.mention, &definitions, &footnotes)? {
-            Ok(number) => keep_number(facts, index, number),
+            Ok(number) => keep_number(facts, index, number)?,
             Err(rule) => return Err(CompileError::Event { index, rule }),
         }
     }

@@ -120,19 +120,7 @@ pub(super) fn partner_alone(partner: usize) -> Fact
     }
 }
 
-/// Adds what is known of an event. Mostly there is room, and no call is made.
-#[inline(always)]
-pub(super) fn push_fact(facts: &mut Vec<Fact>, fact: Fact) -> Result<(), AllocError>
-    ensures { OnOk result (facts.new.items ≡ facts.old.items ++ fact ∷ []) }
-{
-    if facts.len() == facts.capacity() {
-        facts.reserve(1)?;
-    }
-    facts.push_reserved(fact);
-    Ok(())
-}
-
-/// Adds an open node, likewise.
+/// Adds an open node. Mostly there is room, and no call is made.
 #[inline(always)]
 pub(super) fn push_node(open_nodes: &mut Vec<OpenNode>, node: OpenNode) -> Result<(), AllocError>
     ensures { OnOk result (open_nodes.new.items ≡ open_nodes.old.items ++ node ∷ []) }
@@ -142,31 +130,4 @@ pub(super) fn push_node(open_nodes: &mut Vec<OpenNode>, node: OpenNode) -> Resul
     }
     open_nodes.push_reserved(node);
     Ok(())
-}
-
-/// Adds what is known of an entry and of its own exit, which comes right after; answers the
-/// index of the entry.
-#[inline(always)]
-pub(super) fn push_leaf(facts: &mut Vec<Fact>) -> Result<usize, AllocError>
-    ensures entry { IfOk result (λ entry. entry ≡ length facts.old.items) }
-    ensures facts { IfOk result
-        (λ entry. facts.new.items ≡ (facts.old.items ++ spec.partner_alone (entry + 1) ∷ [])
-        ++ spec.partner_alone entry ∷ []) }
-{
-    let entry = facts.len();
-    if facts.capacity() - entry < 2 {
-        facts.reserve(2)?;
-    }
-    facts.push_reserved(partner_alone(entry + 1));
-    facts.push_reserved(partner_alone(entry));
-    Ok(entry)
-}
-
-/// Puts a fact at an index, where there is one.
-pub(super) fn put(facts: &mut [Fact], index: usize, fact: Fact)
-    ensures { facts.new ≡ set facts.old index fact }
-{
-    if index < facts.len() {
-        facts[index] = fact;
-    }
 }

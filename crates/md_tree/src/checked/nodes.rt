@@ -8,7 +8,7 @@ ghost use Rattle.md_tree.specs.Texts.{IsEventAt};
 
 use super::Checked;
 use md_base::{Event, Kind, Name, is_same_name};
-use md_pattern::Fact;
+use md_pattern::FactList;
 
 impl<'a> Checked<'a> {
     ghost use Rattle.std.specs.Prelude.{◌↔◌, IsTrue};
@@ -67,7 +67,7 @@ impl<'a> Checked<'a> {
 }
 
 /// The partner of the event at the index, if that is there.
-fn partner_at(facts: &[Fact], index: usize) -> Option<usize>
+fn partner_at(facts: &FactList, index: usize) -> Option<usize>
     ensures { result ≡ option_map (λ fact. Fact.partner fact) (slice_get facts.now index) }
 {
     match facts.get(index) {

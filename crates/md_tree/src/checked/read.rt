@@ -9,7 +9,7 @@ ghost use Rattle.md_tree.specs.Found.{index_if, position_at, position_there, pos
 
 use super::{Checked, fact_at, index_if};
 use md_base::{AlignKind, Event, Point, Position};
-use md_pattern::Fact;
+use md_pattern::{Fact, FactList};
 
 impl<'a> Checked<'a> {
     ghost use Rattle.std.specs.Prelude.{◌≡◌};
@@ -116,7 +116,7 @@ impl<'a> Checked<'a> {
 }
 
 /// Where the node that ends with the event at the index starts and ends.
-fn position_ended(events: &[Event], facts: &[Fact], index: usize) -> Option<Position>
+fn position_ended(events: &[Event], facts: &FactList, index: usize) -> Option<Position>
     ensures { result ≡ position_ended events.now facts.now index }
 {
     let fact = facts.get(index)?;
@@ -129,14 +129,14 @@ fn position_ended(events: &[Event], facts: &[Fact], index: usize) -> Option<Posi
 }
 
 /// Where the node lies that is read of the node of a fact, if there is one.
-fn position_read(events: &[Event], facts: &[Fact], fact: Fact) -> Option<Position>
+fn position_read(events: &[Event], facts: &FactList, fact: Fact) -> Option<Position>
     ensures { result ≡ position_at events.now facts.now fact.read_at }
 {
     position_of(events, facts, index_if(fact.read_at)?)
 }
 
 /// Where the node lies that the event at the index enters.
-fn position_of(events: &[Event], facts: &[Fact], index: usize) -> Option<Position>
+fn position_of(events: &[Event], facts: &FactList, index: usize) -> Option<Position>
     ensures { result ≡ position_there events.now facts.now index }
 {
     let first = events.get(index)?;

@@ -84,7 +84,7 @@ returns-clause-facts c = λ forest flattens.
     (ap (λ opens. opens_seen c.args.events.now (reverse c.in_ok-read.read.walk.targets.items) opens)
     done.0) done.1 in
     rw (c.with_front_alone-texts.ensures, c.in_ok-texts.ensures) at c.in_ok-resolve.ensures.numbered
-    ∙ ap (λ ms. all_numbered given.bytes (mentions_among ms) ms c.in_ok-read.read.found.facts.items)
+    ∙ ap (λ ms. all_numbered given.bytes (mentions_among ms) ms c.in_ok-read.read.found.facts)
     c.deref.ensures.value
     ∙ ap (λ fs. all_numbered given.bytes (mentions_among mentions) mentions fs)
     c.in_ok-read.ensures.facts

@@ -7,7 +7,7 @@ use Rattle.md_tree.specs.Numbers.{which, number_of, footnote_number}
 use Rattle.md_tree.proofs.Numbering.{NumbersBefore-first, NumbersBefore-passed, numbered-kept}
 use Rattle.md_tree.proofs.Numbering.{numbered-passed, footnoted_by-other, footnote_number-other}
 use Rattle.md_tree.proofs.resolve.footnotes.Goals as goal
-use Rattle.md_tree.proofs.resolve.footnotes.Goals.{in-FootnoteDefinition+in_ok-identifier+in_ok-number}
+use Rattle.md_tree.proofs.resolve.footnotes.Goals.{in-FootnoteDefinition+in_ok-identifier+in_ok-number+in_ok-keep_number}
 use Rattle.md_tree.proofs.resolve.footnotes.Goals.{in_default}
 
 -- what footnotes are defined
@@ -31,7 +31,7 @@ loop-mentioned-preserved c =
     let later : List (Option (List ℕ)) = read bytes (drop (index + 1) mentions) in
     let all = mentions_among mentions in
     elim c.match-mentioned.branch [
-      | in-FootnoteDefinition+in_ok-identifier+in_ok-number w ↦
+      | in-FootnoteDefinition+in_ok-identifier+in_ok-number+in_ok-keep_number w ↦
           let before = NumbersBefore-first (read bytes) mentions index c.loop-mentioned.numbers
           c.loop-mentioned.next
           c.loop-mentioned-test.true c.loop-mentioned.invariant.1 _ w.in_ok-identifier.identifier _
@@ -42,13 +42,13 @@ loop-mentioned-preserved c =
             rw (w.numbers-is, w.next-is ∙ one c.loop-mentioned.next)
                 (w.in_ok-number.ensures.numbers later (read bytes mentions) before),
             rw w.facts-is (numbered-kept (footnote_number bytes all) mentions index
-                c.loop-mentioned.facts.items _
+                c.loop-mentioned.facts _
                 c.loop-mentioned-test.true c.loop-mentioned.invariant.2 _ _ w.in_ok-number.number
                 (ap (footnote_number bytes all) w.in-FootnoteDefinition.is
                 ∙ ap (λ x. number_of (which (footnoted bytes all) x))
                 (sym w.in_ok-identifier.ensures)
                 ∙ sym (w.in_ok-number.ensures.number later (read bytes mentions) before))
-                w.keep_number.ensures),
+                w.in_ok-keep_number.ensures),
           )
       | in_default w ↦ (
         no_later c.match-mentioned.next c.loop-mentioned.next index w.next-is
@@ -59,7 +59,7 @@ loop-mentioned-preserved c =
             c.loop-mentioned-test.true c.loop-mentioned.invariant.1 _
             (footnoted_by-other bytes _ later w.in_default.not-FootnoteDefinition)),
         rw w.facts-is (numbered-passed (footnote_number bytes all) mentions index
-            c.loop-mentioned.facts.items _ c.loop-mentioned-test.true c.loop-mentioned.invariant.2 _
+            c.loop-mentioned.facts _ c.loop-mentioned-test.true c.loop-mentioned.invariant.2 _
             (footnote_number-other bytes all _ w.in_default.not-FootnoteDefinition)),
       )
     ]

@@ -12,5 +12,5 @@ invariant-loop-mentioned l =
     (footnoted l.bytes (mentions_among l.mentions))
     × (numbered (footnote_number l.bytes (mentions_among l.mentions))
     (drop l.mentioned-index l.mentions)
-    l.facts.items
-    ≡ numbered (footnote_number l.bytes (mentions_among l.mentions)) l.mentions l.fn.facts.items)
+    l.facts
+    ≡ numbered (footnote_number l.bytes (mentions_among l.mentions)) l.mentions l.fn.facts)

@@ -26,7 +26,7 @@ loop-mentioned-preserved c =
           (get_or (mentions_among mentions) i d)) index (λ i h. c.loop-mentioned.invariant.0 i d h)
           (IsResolved-at bytes mentions index _ d c.loop-mentioned-test.true led.0) k below,
       numbered-kept (leading_number bytes (mentions_among mentions)) mentions index
-          c.loop-mentioned.facts.items _
+          c.loop-mentioned.facts _
           c.loop-mentioned-test.true c.loop-mentioned.invariant.1 _ _ c.in-Ok.number (sym led.1)
-          c.keep_number.ensures,
+          c.in_ok-keep_number-in-Ok.ensures,
     )

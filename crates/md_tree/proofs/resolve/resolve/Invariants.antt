@@ -11,5 +11,5 @@ invariant-loop-mentioned l =
     ((k : ℕ) (d : Mention) → k < l.mentioned-index → IsResolved l.bytes (mentions_among l.mentions)
     (get_or (mentions_among l.mentions) k d))
     × (numbered (leading_number l.bytes (mentions_among l.mentions))
-    (drop l.mentioned-index l.mentions) l.facts.items
-    ≡ all_numbered l.bytes (mentions_among l.mentions) l.mentions l.fn.facts.items)
+    (drop l.mentioned-index l.mentions) l.facts
+    ≡ all_numbered l.bytes (mentions_among l.mentions) l.mentions l.fn.facts)

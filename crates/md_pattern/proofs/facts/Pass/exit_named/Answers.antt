@@ -25,17 +25,16 @@ returns-in-Some c =
     let some : 0 < length items = subst (λ n. 0 < n) counted (search rules) in
     let fact_is : c.fact_of-fact.result ≡ fact_of name (length pass.facts)
     (length (Collected.tables pass.columns)) own.contributing own.sought own.told = search rules in
-    let put_is : c.put.new.facts ≡ set pass.facts own.entry c.fact_of-fact.result = search rules in
     let facts_is =
-    put_then_pushed pass.facts own.entry c.self.inside.facts.len c.fact_of-fact.result _
-    c.partner_alone.result (partner_alone own.entry) c.put.new.facts c.push_fact.new.facts.items
-    c.self.inside.facts.ok.0 fact_is put_is c.partner_alone.ensures c.in_ok-push_fact.ensures in
+    put_then_pushed pass.facts own.entry c.fact_of-fact.result _ c.partner_alone.result
+    (partner_alone own.entry) c.put.new.self c.push.new.self fact_is c.in_ok-put.ensures
+    c.partner_alone.ensures c.in_ok-push.ensures in
     let here_is = c.in-Some.ensures.value ∙ ap (λ n. get_or items (n - 1) here) counted
     ∙ opens-last items document here some in
     let stack_is = ap (λ n. opens (set items (n - 1) after) document) counted
     ∙ opens-set items document after some in
     rw (← c.self.view_is) (on_answer _ _ _ _ (λ after_is columns_is definitions_is.
-    passed_exit-by name pass own here after c.push_fact.new.facts.items c.follow.new.ended.columns
+    passed_exit-by name pass own here after c.push.new.self c.follow.new.ended.columns
     c.follow.new.ended.definitions.items left _ c.leave_innermost-own.ensures.own
     c.leave_innermost-own.ensures.left here_is stack_is after_is facts_is columns_is definitions_is)
     c.follow.result c.follow.ensures.here c.follow.ensures.columns c.follow.ensures.definitions)
@@ -52,14 +51,13 @@ returns-in-None c =
     subst (λ n. n ≡ 0) c.leave_innermost-own.new.open_nodes.ok.0 (search rules) in
     let fact_is : c.fact_of-fact.result ≡ fact_of name (length pass.facts)
     (length (Collected.tables pass.columns)) own.contributing own.sought own.told = search rules in
-    let put_is : c.put.new.facts ≡ set pass.facts own.entry c.fact_of-fact.result = search rules in
     let facts_is =
-    put_then_pushed pass.facts own.entry c.self.inside.facts.len c.fact_of-fact.result _
-    c.partner_alone.result (partner_alone own.entry) c.put.new.facts c.push_fact.new.facts.items
-    c.self.inside.facts.ok.0 fact_is put_is c.partner_alone.ensures c.in_ok-push_fact.ensures in
+    put_then_pushed pass.facts own.entry c.fact_of-fact.result _ c.partner_alone.result
+    (partner_alone own.entry) c.put.new.self c.push.new.self fact_is c.in_ok-put.ensures
+    c.partner_alone.ensures c.in_ok-push.ensures in
     let left_is = sym (opens-alone items document none) ∙ c.leave_innermost-own.ensures.left in
     rw (← c.self.view_is) (on_answer _ _ _ _ (λ after_is columns_is definitions_is.
-    passed_exit-by name pass own document after c.push_fact.new.facts.items
+    passed_exit-by name pass own document after c.push.new.self
     c.follow-in-None.new.ended.columns c.follow-in-None.new.ended.definitions.items (document ∷ [])
     _ c.leave_innermost-own.ensures.own left_is
     refl (opens-alone items after none) after_is facts_is columns_is definitions_is)

@@ -9,15 +9,14 @@ use Rattle.md_tree.proofs.checked.Checked.columns.Goals as goal
 
 pub fact_at-requires : goal.fact_at-requires
 fact_at-requires c =
-    subst (λ xs. c.args.index < length xs) (sym c.deref-2.ensures.value) (facts-inside c.self.inside
-    c.args.self.now c.args.index c.self.invariant c.self.view_is (GfmTable, c.requires))
+    facts-inside c.self.inside c.args.self.now c.args.index c.self.invariant c.self.view_is
+    (GfmTable, c.requires)
 
 pub table_at-requires : goal.table_at-requires
 table_at-requires c =
     subst (λ xs. c.fact_at.result.read_at < length xs) (sym c.deref.ensures.value)
     (columns-inside c.self.inside c.args.self.now c.args.index c.self.invariant
-    c.self.view_is c.requires c.fact_at.result
-    (ap (λ xs. slice_get xs c.args.index) (sym c.deref-2.ensures.value) ∙ c.fact_at.ensures))
+    c.self.view_is c.requires c.fact_at.result c.fact_at.ensures)
 
 pub returns-clause-entered : goal.returns-clause-entered
 returns-clause-entered c =
@@ -33,5 +32,4 @@ returns-clause-aligned c = λ children entered.
     (ap (λ xs. slice_get (map (λ t. t.items) xs) c.fact_at.result.read_at)
     (sym c.deref.ensures.value) ∙ c.table_at.ensures) (columns-kept c.self.inside c.args.self.now
     c.args.index c.self.invariant c.self.view_is c.requires
-    c.fact_at.result (ap (λ xs. slice_get xs c.args.index) (sym c.deref-2.ensures.value)
-    ∙ c.fact_at.ensures) children entered)
+    c.fact_at.result c.fact_at.ensures children entered)

@@ -1,19 +1,16 @@
 -- The number at an exit is that of its mention. The search doesn't know what a `Checked`
 -- keeps: `Kept` says it.
-use Rattle.std.proofs.Common.{◌<◌, length, sym, ap, ◌∙◌, subst}
-use Rattle.std.specs.Prelude.{slice_get}
+use Rattle.std.proofs.Common.{◌∙◌}
 use Rattle.md_tree.specs.Numbers.{is_of_footnotes}
 use Rattle.md_tree.proofs.Kept.{exit-inside, footnote-kept}
 use Rattle.md_tree.proofs.checked.Checked.footnote_of.Goals as goal
 
 pub fact_at-requires : goal.fact_at-requires
 fact_at-requires c =
-    subst (λ xs. c.args.index < length xs) (sym c.deref.ensures.value) (exit-inside c.self.inside
-    c.args.self.now c.args.index c.self.invariant c.self.view_is is_of_footnotes c.requires)
+    exit-inside c.self.inside c.args.self.now c.args.index c.self.invariant c.self.view_is
+    is_of_footnotes c.requires
 
 pub returns : goal.returns
 returns c = λ forest mention flattens here.
     c.place_of.ensures ∙ footnote-kept c.self.inside c.args.self.now c.args.index c.self.invariant
-    c.self.view_is c.requires c.fact_at.result
-    (ap (λ xs. slice_get xs c.args.index) (sym c.deref.ensures.value) ∙ c.fact_at.ensures) forest
-    mention flattens here
+    c.self.view_is c.requires c.fact_at.result c.fact_at.ensures forest mention flattens here

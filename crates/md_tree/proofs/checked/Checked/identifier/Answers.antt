@@ -25,15 +25,15 @@ unwrap-position-requires c =
     let given = c.args.self.now in
     let here = ended c.self.inside given c.args.index c.self.invariant c.self.view_is c.requires in
     place_some c.position_ended.result here.position
-    (ended-place c.self.inside given c.args.index c.self.invariant c.self.view_is c.deref.result.now
-    c.position_ended.result c.deref.ensures.value c.position_ended.ensures ∙ here.there)
+    (ended-place c.self.inside given c.args.index c.self.invariant c.self.view_is
+    c.position_ended.result c.position_ended.ensures ∙ here.there)
 
 pub unwrap-requires : goal.unwrap-requires
 unwrap-requires c =
     let given = c.args.self.now in
     let here = ended c.self.inside given c.args.index c.self.invariant c.self.view_is c.requires in
     let place = ended-place c.self.inside given c.args.index c.self.invariant c.self.view_is
-    c.deref.result.now c.position_ended.result c.deref.ensures.value c.position_ended.ensures in
+    c.position_ended.result c.position_ended.ensures in
     let position = c.unwrap-position.result in
     let bytes =
     ap (λ (g : Handed). label_between g.bytes position.start position.end) c.self.view_is in
@@ -46,7 +46,7 @@ returns c =
     let given = c.args.self.now in
     let here = ended c.self.inside given c.args.index c.self.invariant c.self.view_is c.requires in
     let place = ended-place c.self.inside given c.args.index c.self.invariant c.self.view_is
-    c.deref.result.now c.position_ended.result c.deref.ensures.value c.position_ended.ensures in
+    c.position_ended.result c.position_ended.ensures in
     let position = c.unwrap-position.result in
     let bytes =
     ap (λ (g : Handed). label_between g.bytes position.start position.end) c.self.view_is in

@@ -15,7 +15,7 @@ use Rattle.md_tree.proofs.checked.Checked.partner.Goals as goal
 
 partner_is : (inside : Inside) (given : Handed) (index : ℕ) (partner : Option ℕ) → IsKept inside →
     handed_of inside ≡ given →
-    partner ≡ option_map (λ (f : Fact). f.partner) (slice_get inside.facts.items index) →
+    partner ≡ option_map (λ (f : Fact). f.partner) (slice_get inside.facts index) →
     IsPartnerAt given index partner
 partner_is inside given index partner kept same found =
     let flattened = IsReadAs.flattened kept.0.1 ∙ ap (λ (g : Handed). g.events) same in (
@@ -30,6 +30,4 @@ partner_is inside given index partner kept same found =
 pub returns : goal.returns
 returns c =
     partner_is c.self.inside c.args.self.now c.args.index c.partner_at.result c.self.invariant
-    c.self.view_is (c.partner_at.ensures
-    ∙ ap (λ fs. option_map (λ (f : Fact). f.partner) (slice_get fs c.args.index))
-    c.deref.ensures.value)
+    c.self.view_is c.partner_at.ensures

@@ -1,0 +1,24 @@
+-- The words by which what is found at each event is kept. Only contracts of private functions speak
+-- of them.
+use Rattle.std.specs.Prelude.{ℕ, ◌+◌, ◌-◌, ◌^◌, ◌<◌, if◌then◌else◌, nat_le, List, length, get_or}
+use Rattle.std.specs.Prelude.{map}
+use Rattle.std.specs.List.{All}
+use Rattle.md_pattern.specs.declared.facts.Fact.{Fact}
+use Rattle.md_pattern.specs.Facts.{partner_alone}
+
+-- a word is the index of an event or the number of a record
+abbrev pub IsWord : List Fact → ℕ → Type 0
+IsWord records word = word < 2 ^ 63 + length records
+
+abbrev pub AreWords : List Fact → List ℕ → Type 0
+AreWords records words = All (IsWord records) words
+
+-- what a word says: the partner and nothing else, or what its record has
+abbrev pub fact_of : List Fact → ℕ → Fact
+fact_of records word =
+    if nat_le (2 ^ 63) word then get_or records (word - 2 ^ 63) (partner_alone 0)
+    else partner_alone word
+
+-- what each of some words says
+abbrev pub facts_of : List Fact → List ℕ → List Fact
+facts_of records words = map (fact_of records) words

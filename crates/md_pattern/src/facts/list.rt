@@ -1,0 +1,210 @@
+//! What is found at each event, kept in one word where that is the node's other event alone.
+
+ghost use Rattle.std.specs.Prelude.{◌≡◌, ◌+◌, ◌<◌, ◌^◌, true, OnOk, OnErr, IfOk, ℕ, [], ◌∷◌};
+ghost use Rattle.std.specs.Prelude.{◌++◌};
+ghost use Rattle.std.specs.Prelude.{length, set, slice_get};
+ghost use Rattle.md_pattern.specs.Facts as spec;
+ghost use Rattle.md_pattern.specs.FactWords.{IsWord, fact_of};
+
+use super::Fact;
+use super::nodes::partner_alone;
+use std::alloc::{AllocError, Global};
+use std::marker::Model;
+
+/// From here on a word is the number of a record; below it is the index of an event.
+const RECORDS: usize = 0x8000_0000_0000_0000;
+
+/// What is found at each event, in the order of the events.
+#[derive(Drop)]
+pub struct FactList {
+    /// For each event its partner, where there is nothing else, or the number of its record.
+    words: Vec<usize>,
+    records: Vec<Fact>,
+}
+
+impl Model for FactList {
+    ghost use Rattle.std.specs.Prelude.{List};
+    ghost use Rattle.md_pattern.specs.declared.facts.Fact.{Fact};
+    ghost use Rattle.md_pattern.specs.FactWords.{facts_of, AreWords};
+
+    ghost Value = { List Fact };
+
+    ghost view = { λ list. facts_of list.records.items list.words.items };
+
+    ghost invariant = { λ list. AreWords list.records.items list.words.items };
+}
+
+impl FactList {
+    ghost use Rattle.std.specs.Prelude.{◌≡◌, ◌+◌, OnOk, IfOk, [], ◌∷◌, ◌++◌, length, set, slice_get};
+
+    /// Of no event, with room for so many.
+    ///
+    /// # Errors
+    ///
+    /// `AllocError`, only where memory runs out.
+    pub fn with_capacity(alloc: Global, events: usize) -> Result<FactList, AllocError>
+        ensures { IfOk result (λ list. list ≡ []) }
+    {
+        Ok(FactList {
+            words: Vec::with_capacity(alloc, events)?,
+            records: Vec::new(alloc),
+        })
+    }
+
+    /// Of how many events.
+    #[inline(always)]
+    pub fn len(&self) -> usize
+        ensures { result ≡ length self.now }
+    {
+        self.words.len()
+    }
+
+    /// What is found at the event with this index, if there is one.
+    #[inline(always)]
+    pub fn get(&self, index: usize) -> Option<Fact>
+        ensures { result ≡ slice_get self.now index }
+    {
+        let word = *self.words.get(index)?;
+        Some(fact_of(&self.records, word))
+    }
+
+    /// Adds what is found at the next event.
+    ///
+    /// # Errors
+    ///
+    /// `AllocError`, only where memory runs out.
+    #[inline(always)]
+    pub fn push(&mut self, fact: Fact) -> Result<(), AllocError>
+        ensures { OnOk result (self.new ≡ self.old ++ fact ∷ []) }
+    {
+        let word = word_for(&mut self.records, fact)?;
+        push_word(&mut self.words, word)
+    }
+
+    /// Adds what is found at an entry and at its own exit, which comes right after; answers the
+    /// index of the entry.
+    ///
+    /// # Errors
+    ///
+    /// `AllocError`, only where memory runs out.
+    #[inline(always)]
+    pub fn push_leaf(&mut self) -> Result<usize, AllocError>
+        ensures entry { IfOk result (λ entry. entry ≡ length self.old) }
+        ensures facts { IfOk result
+            (λ entry. self.new ≡ (self.old ++ spec.partner_alone (entry + 1) ∷ [])
+            ++ spec.partner_alone entry ∷ []) }
+    {
+        push_two(&mut self.words)
+    }
+
+    /// Changes what is found at the event with this index, if there is one.
+    ///
+    /// # Errors
+    ///
+    /// `AllocError`, only where memory runs out.
+    #[inline(always)]
+    pub fn put(&mut self, index: usize, fact: Fact) -> Result<(), AllocError>
+        ensures { OnOk result (self.new ≡ set self.old index fact) }
+    {
+        let word = word_for(&mut self.records, fact)?;
+        put_word(&mut self.words, index, word);
+        Ok(())
+    }
+}
+
+/// Whether a fact is the partner alone, and that fits in a word.
+#[inline(always)]
+fn is_partner_alone(fact: &Fact) -> bool
+    ensures alone { result ≡ true → fact.now ≡ spec.partner_alone fact.now.partner }
+    ensures fits { result ≡ true → fact.now.partner < 2 ^ 63 }
+{
+    fact.read_at == 0
+        && !fact.looseness.without_items
+        && !fact.looseness.with_items
+        && !fact.looseness.of_item
+        && fact.partner < RECORDS
+}
+
+/// The word for a fact, which gets a record where it needs one.
+#[inline(always)]
+fn word_for(records: &mut Vec<Fact>, fact: Fact) -> Result<usize, AllocError>
+    ensures word { IfOk result (λ word. IsWord records.new.items word) }
+    ensures fact { IfOk result (λ word. fact_of records.new.items word ≡ fact) }
+    ensures words { (word : ℕ) → IsWord records.old.items word → IsWord records.new.items word }
+    ensures facts { (word : ℕ) → IsWord records.old.items word
+        → fact_of records.new.items word ≡ fact_of records.old.items word }
+{
+    if is_partner_alone(&fact) {
+        Ok(fact.partner)
+    } else {
+        number_of_record(records, fact)
+    }
+}
+
+/// The word for a fact that gets a record.
+#[inline(never)]
+fn number_of_record(records: &mut Vec<Fact>, fact: Fact) -> Result<usize, AllocError>
+    ensures word { IfOk result (λ word. IsWord records.new.items word) }
+    ensures fact { IfOk result (λ word. fact_of records.new.items word ≡ fact) }
+    ensures words { (word : ℕ) → IsWord records.old.items word → IsWord records.new.items word }
+    ensures facts { (word : ℕ) → IsWord records.old.items word
+        → fact_of records.new.items word ≡ fact_of records.old.items word }
+{
+    let number = records.len();
+    records.push(fact)?;
+    Ok(RECORDS + number)
+}
+
+/// What a word says.
+#[inline(always)]
+fn fact_of(records: &[Fact], word: usize) -> Fact
+    requires { IsWord records.now word }
+    ensures { result ≡ fact_of records.now word }
+{
+    if word < RECORDS {
+        partner_alone(word)
+    } else {
+        records[word - RECORDS]
+    }
+}
+
+/// Adds a word. Mostly there is room, and no call is made.
+#[inline(always)]
+fn push_word(words: &mut Vec<usize>, word: usize) -> Result<(), AllocError>
+    ensures pushed { OnOk result (words.new.items ≡ words.old.items ++ word ∷ []) }
+    ensures refused { OnErr result (words.new.items ≡ words.old.items) }
+{
+    if words.len() == words.capacity() {
+        words.reserve(1)?;
+    }
+    words.push_reserved(word);
+    Ok(())
+}
+
+/// Adds the words of an entry and of its own exit, likewise; answers the index of the entry.
+#[inline(always)]
+fn push_two(words: &mut Vec<usize>) -> Result<usize, AllocError>
+    ensures entry { IfOk result (λ entry. entry ≡ length words.old.items) }
+    ensures fits { IfOk result (λ entry. entry + 1 < 2 ^ 63) }
+    ensures pushed { IfOk result
+        (λ entry. words.new.items ≡ (words.old.items ++ (entry + 1) ∷ []) ++ entry ∷ []) }
+    ensures refused { OnErr result (words.new.items ≡ words.old.items) }
+{
+    let entry = words.len();
+    if words.capacity() - entry < 2 {
+        words.reserve(2)?;
+    }
+    words.push_reserved(entry + 1);
+    words.push_reserved(entry);
+    Ok(entry)
+}
+
+/// Puts a word at an index, where there is one.
+#[inline(always)]
+fn put_word(words: &mut Vec<usize>, index: usize, word: usize)
+    ensures { words.new.items ≡ set words.old.items index word }
+{
+    if index < words.len() {
+        words[index] = word;
+    }
+}
