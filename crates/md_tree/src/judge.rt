@@ -20,7 +20,7 @@ use self::broken::{
 };
 use crate::input::{Input, place_at, point_at, text_of};
 use crate::mention::Mention;
-use crate::open_nodes::{Aim, Open};
+use crate::open_nodes::{Aim, Open, Outer};
 use crate::rule::Rule;
 use md_base::Position;
 use md_pattern::{Place, Reading, Symbol};
@@ -62,8 +62,8 @@ pub struct Spot {
     pub exit: usize,
 }
 
-/// Reads a node without children, on a spine that has been read as far as this place: answers the
-/// rule that it breaks, if it breaks one, and goes on with the target of that spine.
+/// Reads a node without children: answers the rule that it breaks, if it breaks one, and goes on
+/// with the target of the spine around it.
 ///
 /// # Errors
 ///
@@ -71,27 +71,25 @@ pub struct Spot {
 #[inline(always)]
 pub fn read_node(
     input: Input,
-    around: Place,
-    before: Option<Symbol>,
-    reading: Reading,
+    outer: &Outer,
     entry: usize,
     exit: usize,
     target: &mut Aim,
 ) -> Result<Option<Rule>, AllocError>
     ensures broken { IfOk result
         (λ broken. broken ≡ broken_rule input.entry.bytes.now (name_table input.entry.names.now)
-        reading (state_of around None).role before (point_at input.entry.events.now entry)
-        (point_at input.entry.events.now exit) Missing) }
+        outer.entry.now.reading (state_of outer.entry.now.place None).role outer.entry.now.before
+        (point_at input.entry.events.now entry) (point_at input.entry.events.now exit) Missing) }
     ensures target { (events : List Event)
-        → target_seen events target.new ≡ target_at reading (target_seen events target.old)
-        Missing (place_at events entry exit) }
+        → target_seen events target.new ≡ target_at outer.entry.now.reading
+        (target_seen events target.old) Missing (place_at events entry exit) }
 {
     // Most nodes are read in one of these ways; the others are read by a call.
-    match reading {
+    match outer.reading {
         Reading::Free => Ok(None),
         Reading::Text => Ok(broken_text(text_of(input, entry, exit))),
         Reading::LineEnding => Ok(broken_ending(text_of(input, entry, exit))),
-        _ => read_rest(input, around, before, reading, entry, exit, target),
+        _ => read_rest(input, outer, entry, exit, target),
     }
 }
 
@@ -104,25 +102,23 @@ pub fn read_node(
 #[inline(always)]
 fn read_rest(
     input: Input,
-    around: Place,
-    before: Option<Symbol>,
-    reading: Reading,
+    outer: &Outer,
     entry: usize,
     exit: usize,
     target: &mut Aim,
 ) -> Result<Option<Rule>, AllocError>
     ensures broken { IfOk result
         (λ broken. broken ≡ broken_rule input.entry.bytes.now (name_table input.entry.names.now)
-        reading (state_of around None).role before (point_at input.entry.events.now entry)
-        (point_at input.entry.events.now exit) Missing) }
+        outer.entry.now.reading (state_of outer.entry.now.place None).role outer.entry.now.before
+        (point_at input.entry.events.now entry) (point_at input.entry.events.now exit) Missing) }
     ensures target { (events : List Event)
-        → target_seen events target.new ≡ target_at reading (target_seen events target.old)
-        Missing (place_at events entry exit) }
+        → target_seen events target.new ≡ target_at outer.entry.now.reading
+        (target_seen events target.old) Missing (place_at events entry exit) }
 {
     let spot = Spot {
-        around,
-        before,
-        reading,
+        around: outer.place,
+        before: outer.before,
+        reading: outer.reading,
         entry,
         exit,
     };

@@ -148,18 +148,24 @@ impl Reader {
         // Most leaves have one of these names: where it is written, what goes by it is computed
         // when this is built.
         match event.name {
-            Name::Data => self.read_named(input, index, event, exit, Name::Data),
-            Name::LineEnding => self.read_named(input, index, event, exit, Name::LineEnding),
-            Name::BlankLineEnding => {
-                self.read_named(input, index, event, exit, Name::BlankLineEnding)
+            Name::Data => self.read_named(input, index, with_name(event, Name::Data), exit),
+            Name::LineEnding => {
+                self.read_named(input, index, with_name(event, Name::LineEnding), exit)
             }
-            Name::SpaceOrTab => self.read_named(input, index, event, exit, Name::SpaceOrTab),
-            Name::Other(number) => self.read_named(input, index, event, exit, Name::Other(number)),
-            name => self.read_named(input, index, event, exit, name),
+            Name::BlankLineEnding => {
+                self.read_named(input, index, with_name(event, Name::BlankLineEnding), exit)
+            }
+            Name::SpaceOrTab => {
+                self.read_named(input, index, with_name(event, Name::SpaceOrTab), exit)
+            }
+            Name::Other(number) => {
+                self.read_named(input, index, with_name(event, Name::Other(number)), exit)
+            }
+            _ => self.read_named(input, index, event, exit),
         }
     }
 
-    /// The same, of a node that has this name.
+    /// The same, where the name may be written at the call.
     #[inline(always)]
     fn read_named(
         &mut self,
@@ -167,12 +173,10 @@ impl Reader {
         index: usize,
         event: Event,
         exit: &Event,
-        name: Name,
     ) -> Result<(), CompileError>
         requires here { slice_get input.events.now index ≡ Some event }
         requires after { slice_get input.events.now (suc index) ≡ Some exit.now }
         requires leaf { IsLeaf event exit.now }
-        requires named { event.name ≡ name }
         requires before { HasRead input.bytes.now (name_table input.names.now)
             input.events.now index self.old }
         ensures read { OnOk result
@@ -182,8 +186,8 @@ impl Reader {
             (IsRefusal (handed input.entry.events.now input.entry.bytes.now
             input.entry.names.now)) }
     {
-        self.walk.leaf(input, index, name)?;
-        self.pass.leaf(input.alloc, name)?;
+        self.walk.leaf(input, index, event.name)?;
+        self.pass.leaf(input.alloc, event.name)?;
         note_ending(&mut self.first_ending, input.events, index + 1);
         Ok(())
     }

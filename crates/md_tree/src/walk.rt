@@ -130,7 +130,7 @@ impl Walk {
                     before: self.before,
                     reading: Reading::Free,
                 };
-                self.open(input, index, name, Role::Childless, outer)
+                self.open(index, name, Role::Childless, outer)
             }
             Standing::Solid(symbol, usual, reading) => {
                 let Some(place) = self.place.after(symbol) else {
@@ -143,7 +143,7 @@ impl Walk {
                     before: self.before,
                     reading,
                 };
-                self.open(input, index, name, role, outer)
+                self.open(index, name, role, outer)
             }
         }
     }
@@ -152,17 +152,15 @@ impl Walk {
     #[inline(always)]
     fn open(
         &mut self,
-        input: Input,
         index: usize,
         name: Name,
         role: Role,
         outer: Outer,
     ) -> Result<(), CompileError>
         ensures ok { OnOk result
-            (course_of input.entry.events.now (suc index) self.new ≡ after_entry (entered_at role
-            (outer_seen input.entry.events.now self.old.target outer)) name
-            (point_at input.entry.events.now index)
-            (course_of input.entry.events.now index self.old)) }
+            ((events : List Event) → course_of events (suc index) self.new
+            ≡ after_entry (entered_at role (outer_seen events self.old.target outer)) name
+            (point_at events index) (course_of events index self.old)) }
         ensures memory { IfErr result (λ error. error ≡ Memory) }
     {
         let aimed = put_aside(&mut self.target, &mut self.targets)?;
@@ -212,18 +210,15 @@ impl Walk {
                 if !self.place.can_hold_empty(self.before, usual) {
                     return refuse(index + 1, Rule::Order);
                 }
-                let before = self.before;
-                let (entry, exit) = (index, index + 1);
-                if let Some(rule) = read_node(
-                    input,
+                let outer = Outer {
                     place,
-                    before,
+                    last: Some(symbol),
+                    before: self.before,
                     reading,
-                    entry,
-                    exit,
-                    &mut self.target,
-                )? {
-                    return refuse(index + 1, rule);
+                };
+                let exit = index + 1;
+                if let Some(rule) = read_node(input, &outer, index, exit, &mut self.target)? {
+                    return refuse(exit, rule);
                 }
                 self.place = place;
                 self.before = Some(symbol);

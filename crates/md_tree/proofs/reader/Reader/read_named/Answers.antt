@@ -20,11 +20,7 @@ returns-in_err-leaf-clause-refused c =
     (IsRefusal-leaf (handed events c.args.input.bytes.now c.args.input.names.now) c.args.index
     c.args.event c.args.exit.now c.requires.leaf c.requires.here c.requires.after
     (course_of events c.args.index c.args.self.now.walk) c.requires.before.walked
-    c.in_err-leaf.field-0.0
-    (subst (λ name. IsStopAtLeaf c.args.input.bytes.now (name_table c.args.input.names.now)
-    c.args.index name (point_at events c.args.index) (point_at events (suc c.args.index))
-    (course_of events c.args.index c.args.self.now.walk) c.in_err-leaf.field-0.0)
-    (sym c.requires.named) c.in_err-leaf.ensures.refused))
+    c.in_err-leaf.field-0.0 c.in_err-leaf.ensures.refused)
 
 pub overflow_add-index : goal.overflow_add-index
 overflow_add-index c =
@@ -43,15 +39,10 @@ returns-clause-read c =
     record {
       walked = Runs-leaf given index entry exit c.requires.leaf c.requires.here c.requires.after
           (course_of events index self.walk) c.requires.before.walked
-          (course_of events (suc (suc index)) c.leaf.new.self) (subst (λ name.
-          Passes (Unbroken c.args.input.bytes.now (name_table c.args.input.names.now)) name
-          (point_at events index) (point_at events (suc index)) (course_of events index self.walk)
-          (course_of events (suc (suc index)) c.leaf.new.self)) (sym c.requires.named)
-          c.in_ok-leaf.ensures.ok);
+          (course_of events (suc (suc index)) c.leaf.new.self) c.in_ok-leaf.ensures.ok;
       passed = passed-leaf_more given index entry exit c.requires.leaf c.requires.here
           c.requires.after self.pass c.leaf-2.new.self c.requires.before.passed
-          (subst (λ name. c.leaf-2.new.self ≡ passed_exit name (passed_entry name self.pass))
-          (sym c.requires.named) c.in_ok-leaf-2.ensures);
+          c.in_ok-leaf-2.ensures;
       first_ending = c.note_ending.ensures exit (rw (add-one index) c.requires.after)
           ∙ ap (λ n. ending_after self.first_ending n exit) (add-one index)
           ∙ first_index-leaf given index entry exit c.requires.leaf c.requires.here c.requires.after
