@@ -35,7 +35,8 @@ impl Model for FactList {
 }
 
 impl FactList {
-    ghost use Rattle.std.specs.Prelude.{◌≡◌, ◌+◌, OnOk, IfOk, [], ◌∷◌, ◌++◌, length, set, slice_get};
+    ghost use Rattle.std.specs.Prelude.{◌≡◌, ◌+◌, OnOk, IfOk, [], ◌∷◌, ◌++◌, length, set};
+    ghost use Rattle.std.specs.Prelude.{slice_get};
 
     /// Of no event, with room for so many.
     ///

@@ -1,5 +1,5 @@
--- What is said with the word that comes is what was said, and then the fact: `FactLists` shows it by
--- induction.
+-- What is said with the word that comes is what was said, and then the fact: `FactLists` shows it
+-- by induction.
 use Rattle.std.proofs.Common.{ap, ◌∙◌}
 use Rattle.md_pattern.specs.FactWords.{facts_of}
 use Rattle.md_pattern.proofs.FactLists.{facts-push, on_ok}

@@ -1,5 +1,5 @@
--- What is said with the word that is put is what was said, with the fact put: `FactLists` shows it by
--- induction.
+-- What is said with the word that is put is what was said, with the fact put: `FactLists` shows it
+-- by induction.
 use Rattle.std.proofs.Common.{sym, ap, ◌∙◌, subst}
 use Rattle.std.specs.Prelude.{set}
 use Rattle.md_pattern.specs.FactWords.{facts_of, AreWords}
