@@ -252,7 +252,8 @@ impl<'a> Checked<'a> {
     }
 }
 
-/// What is found at the index.
+/// What is found at the index. Few events ask for it, and where they do, what asks is short.
+#[inline(never)]
 fn fact_at(facts: &FactList, index: usize) -> Fact
     requires { index < length facts.now }
     ensures { slice_get facts.now index ≡ Some result }

@@ -78,7 +78,7 @@ impl FactList {
     pub fn push(&mut self, fact: Fact) -> Result<(), AllocError>
         ensures { OnOk result (self.new ≡ self.old ++ fact ∷ []) }
     {
-        let word = word_for(&mut self.records, fact)?;
+        let word = word_for(&mut self.records, fact, self.words.capacity())?;
         push_word(&mut self.words, word)
     }
 
@@ -107,7 +107,7 @@ impl FactList {
     pub fn put(&mut self, index: usize, fact: Fact) -> Result<(), AllocError>
         ensures { OnOk result (self.new ≡ set self.old index fact) }
     {
-        let word = word_for(&mut self.records, fact)?;
+        let word = word_for(&mut self.records, fact, self.words.capacity())?;
         put_word(&mut self.words, index, word);
         Ok(())
     }
@@ -126,9 +126,10 @@ fn is_partner_alone(fact: &Fact) -> bool
         && fact.partner < RECORDS
 }
 
-/// The word for a fact, which gets a record where it needs one.
+/// The word for a fact, which gets a record where it needs one: `events` is for how many there is
+/// room.
 #[inline(always)]
-fn word_for(records: &mut Vec<Fact>, fact: Fact) -> Result<usize, AllocError>
+fn word_for(records: &mut Vec<Fact>, fact: Fact, events: usize) -> Result<usize, AllocError>
     ensures word { IfOk result (λ word. IsWord records.new.items word) }
     ensures fact { IfOk result (λ word. fact_of records.new.items word ≡ fact) }
     ensures words { (word : ℕ) → IsWord records.old.items word → IsWord records.new.items word }
@@ -138,13 +139,14 @@ fn word_for(records: &mut Vec<Fact>, fact: Fact) -> Result<usize, AllocError>
     if is_partner_alone(&fact) {
         Ok(fact.partner)
     } else {
-        number_of_record(records, fact)
+        number_of_record(records, fact, events)
     }
 }
 
-/// The word for a fact that gets a record.
-#[inline(never)]
-fn number_of_record(records: &mut Vec<Fact>, fact: Fact) -> Result<usize, AllocError>
+/// The word for a fact that gets a record. Where there is no room, it is made for an eighth of the
+/// events, since making it by and by would copy the records again and again.
+#[inline(always)]
+fn number_of_record(records: &mut Vec<Fact>, fact: Fact, events: usize) -> Result<usize, AllocError>
     ensures word { IfOk result (λ word. IsWord records.new.items word) }
     ensures fact { IfOk result (λ word. fact_of records.new.items word ≡ fact) }
     ensures words { (word : ℕ) → IsWord records.old.items word → IsWord records.new.items word }
@@ -152,7 +154,10 @@ fn number_of_record(records: &mut Vec<Fact>, fact: Fact) -> Result<usize, AllocE
         → fact_of records.new.items word ≡ fact_of records.old.items word }
 {
     let number = records.len();
-    records.push(fact)?;
+    if number == records.capacity() {
+        records.reserve(events / 8 + 1)?;
+    }
+    records.push_reserved(fact);
     Ok(RECORDS + number)
 }
 
