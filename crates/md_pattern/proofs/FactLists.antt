@@ -5,18 +5,19 @@ use Rattle.std.specs.Prelude.{set, OnOk, OnErr, IfOk}
 use Rattle.std.proofs.lemmas.List.{map-append, map-set}
 use Rattle.std.proofs.lemmas.List.Elements.{All-head, All-tail, All-weaker, All-push, All-set}
 use Rattle.md_pattern.specs.declared.facts.Fact.{Fact}
-use Rattle.md_pattern.specs.FactWords.{IsWord, AreWords, fact_of, facts_of}
+use Rattle.md_pattern.specs.FactWords.{IsWord, AreWords, fact_of_word, facts_of_words}
 
 module _ (old new : List Fact) (still : (word : ℕ) → IsWord old word → IsWord new word)
-    (same : (word : ℕ) → IsWord old word → fact_of new word ≡ fact_of old word) where
+    (same : (word : ℕ) → IsWord old word → fact_of_word new word ≡ fact_of_word old word) where
   pub AreWords-still : (words : List ℕ) → AreWords old words → AreWords new words
   AreWords-still words are = All-weaker (IsWord old) (IsWord new) still words are
 
-  pub facts-same : (words : List ℕ) → AreWords old words → facts_of new words ≡ facts_of old words
+  pub facts-same : (words : List ℕ) → AreWords old words →
+      facts_of_words new words ≡ facts_of_words old words
   facts-same [] are = refl
   facts-same (word ∷ words) are =
-      ap (λ fact. fact ∷ facts_of new words) (same word (All-head (IsWord old) word words are))
-      ∙ ap (λ facts. fact_of old word ∷ facts)
+      ap (λ fact. fact ∷ facts_of_words new words) (same word (All-head (IsWord old) word words are))
+      ∙ ap (λ facts. fact_of_word old word ∷ facts)
       (facts-same words (All-tail (IsWord old) word words are))
 
   -- a word that is added
@@ -26,12 +27,12 @@ module _ (old new : List Fact) (still : (word : ℕ) → IsWord old word → IsW
       All-push (IsWord new) words word (AreWords-still words are) is
 
   pub facts-push : (words : List ℕ) (word : ℕ) (fact : Fact) → AreWords old words →
-      fact_of new word ≡ fact →
-      facts_of new (words ++ word ∷ []) ≡ facts_of old words ++ fact ∷ []
+      fact_of_word new word ≡ fact →
+      facts_of_words new (words ++ word ∷ []) ≡ facts_of_words old words ++ fact ∷ []
   facts-push words word fact are says =
-      map-append (fact_of new) words (word ∷ [])
-      ∙ ap (λ facts. facts ++ fact_of new word ∷ []) (facts-same words are)
-      ∙ ap (λ f. facts_of old words ++ f ∷ []) says
+      map-append (fact_of_word new) words (word ∷ [])
+      ∙ ap (λ facts. facts ++ fact_of_word new word ∷ []) (facts-same words are)
+      ∙ ap (λ f. facts_of_words old words ++ f ∷ []) says
 
   -- a word that is put at an index
   pub AreWords-put : (words : List ℕ) (index word : ℕ) → AreWords old words → IsWord new word →
@@ -40,12 +41,12 @@ module _ (old new : List Fact) (still : (word : ℕ) → IsWord old word → IsW
       All-set (IsWord new) words index word is (AreWords-still words are)
 
   pub facts-put : (words : List ℕ) (index word : ℕ) (fact : Fact) → AreWords old words →
-      fact_of new word ≡ fact →
-      facts_of new (set words index word) ≡ set (facts_of old words) index fact
+      fact_of_word new word ≡ fact →
+      facts_of_words new (set words index word) ≡ set (facts_of_words old words) index fact
   facts-put words index word fact are says =
-      map-set (fact_of new) words index word
-      ∙ ap (λ facts. set facts index (fact_of new word)) (facts-same words are)
-      ∙ ap (λ f. set (facts_of old words) index f) says
+      map-set (fact_of_word new) words index word
+      ∙ ap (λ facts. set facts index (fact_of_word new word)) (facts-same words are)
+      ∙ ap (λ f. set (facts_of_words old words) index f) says
 
 -- the index of an event that is low enough is a word
 below_records : (records : List Fact) (index : ℕ) → index < 2 ^ 63 → IsWord records index

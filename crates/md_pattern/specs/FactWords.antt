@@ -14,11 +14,11 @@ abbrev pub AreWords : List Fact → List ℕ → Type 0
 AreWords records words = All (IsWord records) words
 
 -- what a word says: the partner and nothing else, or what its record has
-abbrev pub fact_of : List Fact → ℕ → Fact
-fact_of records word =
+abbrev pub fact_of_word : List Fact → ℕ → Fact
+fact_of_word records word =
     if nat_le (2 ^ 63) word then get_or records (word - 2 ^ 63) (partner_alone 0)
     else partner_alone word
 
 -- what each of some words says
-abbrev pub facts_of : List Fact → List ℕ → List Fact
-facts_of records words = map (fact_of records) words
+abbrev pub facts_of_words : List Fact → List ℕ → List Fact
+facts_of_words records words = map (fact_of_word records) words

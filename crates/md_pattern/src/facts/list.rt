@@ -4,7 +4,7 @@ ghost use Rattle.std.specs.Prelude.{◌≡◌, ◌+◌, ◌<◌, ◌^◌, true, 
 ghost use Rattle.std.specs.Prelude.{◌++◌};
 ghost use Rattle.std.specs.Prelude.{length, set, slice_get};
 ghost use Rattle.md_pattern.specs.Facts as spec;
-ghost use Rattle.md_pattern.specs.FactWords.{IsWord, fact_of};
+ghost use Rattle.md_pattern.specs.FactWords.{IsWord, fact_of_word};
 
 use super::Fact;
 use super::nodes::partner_alone;
@@ -25,11 +25,11 @@ pub struct FactList {
 impl Model for FactList {
     ghost use Rattle.std.specs.Prelude.{List};
     ghost use Rattle.md_pattern.specs.declared.facts.Fact.{Fact};
-    ghost use Rattle.md_pattern.specs.FactWords.{facts_of, AreWords};
+    ghost use Rattle.md_pattern.specs.FactWords.{facts_of_words, AreWords};
 
     ghost Value = { List Fact };
 
-    ghost view = { λ list. facts_of list.records.items list.words.items };
+    ghost view = { λ list. facts_of_words list.records.items list.words.items };
 
     ghost invariant = { λ list. AreWords list.records.items list.words.items };
 }
@@ -66,7 +66,7 @@ impl FactList {
         ensures { result ≡ slice_get self.now index }
     {
         let word = *self.words.get(index)?;
-        Some(fact_of(&self.records, word))
+        Some(fact_of_word(&self.records, word))
     }
 
     /// Adds what is found at the next event.
@@ -131,10 +131,10 @@ fn is_partner_alone(fact: &Fact) -> bool
 #[inline(always)]
 fn word_for(records: &mut Vec<Fact>, fact: Fact, events: usize) -> Result<usize, AllocError>
     ensures word { IfOk result (λ word. IsWord records.new.items word) }
-    ensures fact { IfOk result (λ word. fact_of records.new.items word ≡ fact) }
+    ensures fact { IfOk result (λ word. fact_of_word records.new.items word ≡ fact) }
     ensures words { (word : ℕ) → IsWord records.old.items word → IsWord records.new.items word }
     ensures facts { (word : ℕ) → IsWord records.old.items word
-        → fact_of records.new.items word ≡ fact_of records.old.items word }
+        → fact_of_word records.new.items word ≡ fact_of_word records.old.items word }
 {
     if is_partner_alone(&fact) {
         Ok(fact.partner)
@@ -148,10 +148,10 @@ fn word_for(records: &mut Vec<Fact>, fact: Fact, events: usize) -> Result<usize,
 #[inline(always)]
 fn number_of_record(records: &mut Vec<Fact>, fact: Fact, events: usize) -> Result<usize, AllocError>
     ensures word { IfOk result (λ word. IsWord records.new.items word) }
-    ensures fact { IfOk result (λ word. fact_of records.new.items word ≡ fact) }
+    ensures fact { IfOk result (λ word. fact_of_word records.new.items word ≡ fact) }
     ensures words { (word : ℕ) → IsWord records.old.items word → IsWord records.new.items word }
     ensures facts { (word : ℕ) → IsWord records.old.items word
-        → fact_of records.new.items word ≡ fact_of records.old.items word }
+        → fact_of_word records.new.items word ≡ fact_of_word records.old.items word }
 {
     let number = records.len();
     if number == records.capacity() {
@@ -163,9 +163,9 @@ fn number_of_record(records: &mut Vec<Fact>, fact: Fact, events: usize) -> Resul
 
 /// What a word says.
 #[inline(always)]
-fn fact_of(records: &[Fact], word: usize) -> Fact
+fn fact_of_word(records: &[Fact], word: usize) -> Fact
     requires { IsWord records.now word }
-    ensures { result ≡ fact_of records.now word }
+    ensures { result ≡ fact_of_word records.now word }
 {
     if word < RECORDS {
         partner_alone(word)
