@@ -16,7 +16,8 @@ module _ (old new : List Fact) (still : (word : ℕ) → IsWord old word → IsW
       facts_of_words new words ≡ facts_of_words old words
   facts-same [] are = refl
   facts-same (word ∷ words) are =
-      ap (λ fact. fact ∷ facts_of_words new words) (same word (All-head (IsWord old) word words are))
+      ap (λ fact. fact ∷ facts_of_words new words)
+      (same word (All-head (IsWord old) word words are))
       ∙ ap (λ facts. fact_of_word old word ∷ facts)
       (facts-same words (All-tail (IsWord old) word words are))
 
