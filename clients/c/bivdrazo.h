@@ -104,44 +104,6 @@ bivdrazo_answer bivdrazo_run(const uint8_t *script, size_t script_length, uint8_
 /* The number of the interface that the library was built with: it is to be BIVDRAZO_VERSION. */
 uint32_t bivdrazo_version(void);
 
-/* A text that is set: `bytes` isn't null. */
-static inline bivdrazo_text bivdrazo_text_of(const uint8_t *bytes, size_t length) {
-    bivdrazo_text text = {bytes, length, 1};
-    return text;
-}
-
-/* A text that is unset. */
-static inline bivdrazo_text bivdrazo_text_unset(void) {
-    bivdrazo_text text = {(const uint8_t *)"", 0, 0};
-    return text;
-}
-
-/* The default options, which are safe. */
-static inline bivdrazo_options bivdrazo_options_default(void) {
-    bivdrazo_options options = {0, 0,         0,         0,         0,         BIVDRAZO_LINE_FEED,
-                                0, {0, 0, 0}, {0, 0, 0}, {0, 0, 0}, {0, 0, 0}, {0, 0, 0}};
-    options.gfm_footnote_back_label = bivdrazo_text_unset();
-    options.gfm_footnote_clobber_prefix = bivdrazo_text_unset();
-    options.gfm_footnote_label = bivdrazo_text_unset();
-    options.gfm_footnote_label_attributes = bivdrazo_text_unset();
-    options.gfm_footnote_label_tag_name = bivdrazo_text_unset();
-    return options;
-}
-
-/* No attributes. */
-static inline bivdrazo_attributes bivdrazo_attributes_none(void) {
-    bivdrazo_attributes attributes = {{0, 0, 0}, {0, 0, 0}};
-    attributes.rel = bivdrazo_text_unset();
-    attributes.heading_ids = bivdrazo_text_unset();
-    return attributes;
-}
-
-/* No limits. */
-static inline bivdrazo_limits bivdrazo_limits_none(void) {
-    bivdrazo_limits limits = {SIZE_MAX, SIZE_MAX};
-    return limits;
-}
-
 /*
  * Reads the first heading of a list that ends at `end`, and moves `*at` past it; 0 where none is
  * left. The list is what bivdrazo_compile_attributed() wrote from the text's end up to `length`.

@@ -141,4 +141,42 @@ BIVDRAZO_ASSERT(offsetof(bivdrazo_options, gfm_footnote_label_tag_name) == 104, 
 BIVDRAZO_ASSERT(offsetof(bivdrazo_attributes, heading_ids) == 24, "the last attribute");
 BIVDRAZO_ASSERT(offsetof(bivdrazo_limits, work) == 8, "the last limit");
 
+/* A text that is set: `bytes` isn't null. */
+static inline bivdrazo_text bivdrazo_text_of(const uint8_t *bytes, size_t length) {
+    bivdrazo_text text = {bytes, length, 1};
+    return text;
+}
+
+/* A text that is unset. */
+static inline bivdrazo_text bivdrazo_text_unset(void) {
+    bivdrazo_text text = {(const uint8_t *)"", 0, 0};
+    return text;
+}
+
+/* The default options, which are safe. */
+static inline bivdrazo_options bivdrazo_options_default(void) {
+    bivdrazo_options options = {0, 0,         0,         0,         0,         BIVDRAZO_LINE_FEED,
+                                0, {0, 0, 0}, {0, 0, 0}, {0, 0, 0}, {0, 0, 0}, {0, 0, 0}};
+    options.gfm_footnote_back_label = bivdrazo_text_unset();
+    options.gfm_footnote_clobber_prefix = bivdrazo_text_unset();
+    options.gfm_footnote_label = bivdrazo_text_unset();
+    options.gfm_footnote_label_attributes = bivdrazo_text_unset();
+    options.gfm_footnote_label_tag_name = bivdrazo_text_unset();
+    return options;
+}
+
+/* No attributes. */
+static inline bivdrazo_attributes bivdrazo_attributes_none(void) {
+    bivdrazo_attributes attributes = {{0, 0, 0}, {0, 0, 0}};
+    attributes.rel = bivdrazo_text_unset();
+    attributes.heading_ids = bivdrazo_text_unset();
+    return attributes;
+}
+
+/* No limits. */
+static inline bivdrazo_limits bivdrazo_limits_none(void) {
+    bivdrazo_limits limits = {SIZE_MAX, SIZE_MAX};
+    return limits;
+}
+
 #endif

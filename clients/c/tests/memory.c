@@ -44,7 +44,7 @@ static void test_second_turn(void) {
  */
 static void test_refused_memory(void) {
     static const char script[] =
-        "!gfm_footnote_label=x\n+Paragraph 0\n+GfmFootnoteCall 0\n+Label 0\n+LabelText 0\n"
+        "!gfm_footnote_back_label=x\n+Paragraph 0\n+GfmFootnoteCall 0\n+Label 0\n+LabelText 0\n"
         "-LabelText 1\n-Label 1\n-GfmFootnoteCall 1\n-Paragraph 1\n+GfmFootnoteDefinition 1\n"
         "+GfmFootnoteDefinitionPrefix 1\n+GfmFootnoteDefinitionLabelString 1\n"
         "-GfmFootnoteDefinitionLabelString 2\n-GfmFootnoteDefinitionPrefix 2\n"

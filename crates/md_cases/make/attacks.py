@@ -6,7 +6,7 @@ name, its options and its nodes. `many` has one more attack. `bench/cases.py` ma
 """
 import re
 
-from meaning import meaning
+from meaning import ESCAPED_OPTIONS, meaning
 from trees import Case, Document, Node, script
 
 MARKUP = ["<script>alert(1)</script>", "<img src=x onerror=alert(1)>", "--><svg/onload=alert(1)>",
@@ -151,8 +151,7 @@ def ways_of_autolinks(text):
 
 def ways_of_options(text):
     """The options that are texts and are escaped, each with the attack; the document has it too."""
-    options = {"gfm_footnote_back_label": text, "gfm_footnote_clobber_prefix": text,
-               "gfm_footnote_label": text}
+    options = {option: text for option in sorted(ESCAPED_OPTIONS)}
     return [("footnote options", options, footnote(text))]
 
 

@@ -26,9 +26,9 @@ ENDINGS = {"lf": "\n", "cr": "\r", "crlf": "\r\n"}
 FLAG_OPTIONS = ("allow_any_img_src", "allow_dangerous_html", "allow_dangerous_protocol",
                 "gfm_task_list_item_checkable",
                 "gfm_tagfilter")
-TEXT_OPTIONS = ("gfm_footnote_clobber_prefix", "gfm_footnote_label_tag_name",
-                "gfm_footnote_label_attributes",
-                "gfm_footnote_label", "gfm_footnote_back_label")
+RAW_OPTIONS = ("gfm_footnote_label_tag_name", "gfm_footnote_label_attributes")
+ESCAPED_OPTIONS = ("gfm_footnote_clobber_prefix", "gfm_footnote_label", "gfm_footnote_back_label")
+TEXT_OPTIONS = (ESCAPED_OPTIONS[0], *RAW_OPTIONS, *ESCAPED_OPTIONS[1:])
 OPTIONS = (*FLAG_OPTIONS, *TEXT_OPTIONS, "default_line_ending", "gfm_footnote_number_ids")
 
 

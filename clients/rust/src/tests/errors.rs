@@ -19,8 +19,8 @@ fn statuses() {
     assert_eq!(error(3, 0, 4), Error::Event(4));
     assert_eq!(error(4, 0, 5), Error::Name(5));
     assert_eq!(
-        error(5, 0, 8).to_string(),
-        "option gfm_footnote_label: no such value"
+        error(5, 0, 6).to_string(),
+        "option gfm_footnote_back_label: no such value"
     );
     assert_eq!(
         error(5, 0, 11).to_string(),
