@@ -20,5 +20,7 @@ pub mod HtmlSplit
 pub mod HtmlReading
 pub mod HtmlJoin
 pub mod HtmlIds
+pub mod HtmlAngles
 pub mod HtmlPut
+pub mod HtmlReader
 pub mod HtmlRead
