@@ -1,18 +1,13 @@
 -- What some bytes are with heads put in, where bytes or heads are added, and where there are none.
-use Rattle.std.proofs.Common.{◌≡◌, ℕ, ◌+◌, ◌-◌, ◌≤◌, ◌<◌, ◌⊎◌, ◌==◌, ◌||◌, if◌then◌else◌, inl, inr}
-use Rattle.std.proofs.Common.{Bool, true, false, not, zero, suc, List, [], ◌∷◌, ◌++◌, length, take}
-use Rattle.std.proofs.Common.{drop, set, slice_get, Option, refl, ap, sym, subst, ◌∙◌, arith}
-use Rattle.std.proofs.Common.{append_assoc, length-append}
+use Rattle.std.proofs.Common.{◌≡◌, ℕ, ◌+◌, ◌-◌, ◌≤◌, ◌<◌, ◌⊎◌, ◌==◌, if◌then◌else◌, inl, inr, Bool}
+use Rattle.std.proofs.Common.{true, false, not, zero, suc, List, [], ◌∷◌, ◌++◌, length, take, drop}
+use Rattle.std.proofs.Common.{set, refl, ap, sym, ◌∙◌, arith, append_assoc}
 use Rattle.std.proofs.lemmas.List.{take-take, take-append-le, drop-append-le, drop_all}
-use Rattle.std.proofs.lemmas.List.{take-append-drop, length-take-le, drop-take, length-drop}
-use Rattle.std.proofs.lemmas.List.{length-take}
+use Rattle.std.proofs.lemmas.List.{take-append-drop, length-take-le, drop-take, length-take}
 use Rattle.std.proofs.lemmas.Bool.{eqb-true, true≢false}
-use Rattle.std.specs.Option.{option_map_or}
-use Rattle.std.proofs.lemmas.Str.{IsCharBoundary-from_take}
-use Rattle.std.specs.Str.{IsUtf8, IsCharBoundary}
-use Rattle.md_meaning.specs.Meaning.Layout.{begins_line}
 use Rattle.md_output.specs.declared.heads.Head.{Head}
-use Rattle.md_output.specs.Waiting.{text_of, merged, IsHead, Fit, is_open, without_open, waits}
+use Rattle.md_output.specs.Waiting.{text_of, merged, Fit, is_open, without_open, waits}
+use Rattle.md_output.proofs.HeadsFit.{fit-bound, fit-from}
 
 -- nothing is between a place and itself
 pub nothing : (from : ℕ) (bytes : List ℕ) → drop from (take from bytes) ≡ []
@@ -38,98 +33,6 @@ two bytes from place ordered within =
 pub empty : (heads : List ℕ) (head : Head) → head.from ≡ head.to → text_of heads head ≡ []
 empty heads head e = ap (λ n. drop n (take head.to heads)) e ∙ nothing head.to heads
 
--- ---- where heads fit
-
-pub fit-bound : (bytes heads : List ℕ) (limit from : ℕ) (waiting : List Head) →
-    Fit bytes heads limit from waiting → from ≤ limit
-fit-bound bytes heads limit from [] fit = fit.0
-fit-bound bytes heads limit from (head ∷ waiting) fit =
-    let a : from ≤ head.place = fit.0 in
-    let b : head.place ≤ limit = fit-bound bytes heads limit head.place waiting fit.4 in
-    omega arith
-
-pub fit-utf8 : (bytes heads : List ℕ) (limit from : ℕ) (waiting : List Head) →
-    Fit bytes heads limit from waiting → IsUtf8 (take from bytes)
-fit-utf8 bytes heads limit from [] fit = fit.1
-fit-utf8 bytes heads limit from (head ∷ waiting) fit = fit.1
-
--- the bytes may be parted there
-pub fit-boundary : (bytes heads : List ℕ) (from : ℕ) (waiting : List Head) → IsUtf8 bytes →
-    Fit bytes heads (length bytes) from waiting → IsCharBoundary bytes from
-fit-boundary bytes heads from waiting utf8 fit =
-    IsCharBoundary-from_take bytes from utf8 (fit-bound bytes heads (length bytes) from waiting fit)
-    (fit-utf8 bytes heads (length bytes) from waiting fit)
-
--- from an earlier place on
-pub fit-from : (bytes heads : List ℕ) (limit from place : ℕ) (waiting : List Head) → from ≤ place →
-    IsUtf8 (take from bytes) → Fit bytes heads limit place waiting →
-    Fit bytes heads limit from waiting
-fit-from bytes heads limit from place [] ordered utf8 fit =
-    (let a : place ≤ limit = fit.0 in omega arith, utf8)
-fit-from bytes heads limit from place (head ∷ waiting) ordered utf8 fit =
-    (let a : place ≤ head.place = fit.0 in omega arith, utf8, fit.2, fit.3, fit.4)
-
-pub sooner : (xs ys : List ℕ) (limit from : ℕ) → from ≤ limit → take limit xs ≡ take limit ys →
-    take from xs ≡ take from ys
-sooner xs ys limit from within same =
-    sym (take-take from limit xs within) ∙ ap (λ t. take from t) same
-    ∙ take-take from limit ys within
-
--- with the same bytes before the limit
-pub fit-same : (xs ys heads : List ℕ) (limit from : ℕ) (waiting : List Head) →
-    take limit xs ≡ take limit ys →
-    Fit xs heads limit from waiting → Fit ys heads limit from waiting
-fit-same xs ys heads limit from [] same fit =
-    (fit.0, subst (λ t. IsUtf8 t) (sooner xs ys limit from fit.0 same) fit.1)
-fit-same xs ys heads limit from (head ∷ waiting) same fit = (
-  fit.0,
-  subst (λ t. IsUtf8 t) (sooner xs ys limit from
-      (fit-bound xs heads limit from (head ∷ waiting) fit) same) fit.1,
-  fit.2,
-  fit.3,
-  fit-same xs ys heads limit head.place waiting same fit.4,
-)
-
--- up to a later limit
-pub fit-more : (bytes heads : List ℕ) (limit more from : ℕ) (waiting : List Head) → limit ≤ more →
-    Fit bytes heads limit from waiting → Fit bytes heads more from waiting
-fit-more bytes heads limit more from [] longer fit =
-    (let a : from ≤ limit = fit.0 in omega arith, fit.1)
-fit-more bytes heads limit more from (head ∷ waiting) longer fit = (
-  fit.0,
-  fit.1,
-  fit.2,
-  later head.place (head.from ≡ head.to) fit.3,
-  fit-more bytes heads limit more head.place waiting longer fit.4,
-)
-  where
-    later : (place : ℕ) (P : Type 0) → (P ⊎ (place < limit)) → (P ⊎ (place < more))
-    later place P (inl e) = inl e
-    later place P (inr within) = inr (omega arith)
-
--- with heads that are added
-pub is_head-more : (heads more : List ℕ) (head : Head) → IsHead heads head →
-    IsHead (heads ++ more) head
-is_head-more heads more head is = record {
-  ordered = is.ordered;
-  within = (let a : head.to ≤ length heads = is.within in omega (arith, length-append heads more));
-  from = subst (λ t. IsUtf8 t) (sym (take-append-le head.from heads more
-      (let a : head.to ≤ length heads = is.within in
-      let b : head.from ≤ head.to = is.ordered in omega arith))) is.from;
-  to = subst (λ t. IsUtf8 t) (sym (take-append-le head.to heads more is.within)) is.to;
-}
-
-pub fit-heads : (bytes heads more : List ℕ) (limit from : ℕ) (waiting : List Head) →
-    Fit bytes heads limit from waiting → Fit bytes (heads ++ more) limit from waiting
-fit-heads bytes heads more limit from [] fit = fit
-fit-heads bytes heads more limit from (head ∷ waiting) fit = (
-  fit.0,
-  fit.1,
-  is_head-more heads more head fit.2,
-  fit.3,
-  fit-heads bytes heads more limit head.place waiting fit.4,
-)
-
 pub merged-heads :
     (bytes heads more : List ℕ) (limit from : ℕ) (waiting : List Head) (all : List ℕ) →
     Fit all heads limit from waiting →
@@ -141,13 +44,6 @@ merged-heads bytes heads more limit from (head ∷ waiting) all fit =
     (sym (take-append-le head.to heads more fit.2.within))
     ∙ ap (λ t. drop from (take head.place bytes) ++ (text_of (heads ++ more) head ++ t))
     (merged-heads bytes heads more limit head.place waiting all fit.4)
-
--- so with some that are left out
-pub fit-all : (bytes heads : List ℕ) (some limit from : ℕ) (waiting : List Head) →
-    Fit bytes (take some heads) limit from waiting → Fit bytes heads limit from waiting
-fit-all bytes heads some limit from waiting fit =
-    subst (λ hs. Fit bytes hs limit from waiting) (take-append-drop some heads)
-    (fit-heads bytes (take some heads) (drop some heads) limit from waiting fit)
 
 pub merged-all : (bytes heads : List ℕ) (some limit from : ℕ) (waiting : List Head) (all : List ℕ) →
     Fit all (take some heads) limit from waiting →
@@ -254,7 +150,6 @@ merged-none bytes heads from (head ∷ waiting) e fit =
     at_end (inr before) = absurd (let a : head.place ≡ from = at in omega arith)
 
 -- ---- an empty head before others
-
 pub merged-open : (bytes heads : List ℕ) (from : ℕ) (waiting : List Head) →
     Fit bytes heads (length bytes) from waiting →
     merged bytes heads from (without_open waiting) ≡ merged bytes heads from waiting
@@ -312,83 +207,3 @@ open-within (other ∷ waiting) (suc n) h =
 pub not_open : (waiting : List Head) → is_open waiting ≡ false → without_open waiting ≡ waiting
 not_open [] h = refl
 not_open (other ∷ waiting) h = ap (λ (b : Bool). if b then waiting else other ∷ waiting) h
-
--- ---- its last byte
-
-last-cons : (first next : ℕ) (bytes : List ℕ) →
-    begins_line (first ∷ next ∷ bytes) ≡ begins_line (next ∷ bytes)
-last-cons first next bytes =
-    ap (λ n. ends (slice_get (first ∷ next ∷ bytes) n)) (two_less (length bytes))
-    ∙ ap (λ n. ends (slice_get (next ∷ bytes) n)) (one_less (length bytes))
-  where
-    ends : Option ℕ → Bool
-    ends last = option_map_or (λ byte. byte == 13 || byte == 10) last true
-
-    two_less : (n : ℕ) → suc (suc n) - 1 ≡ suc n
-    two_less n = omega arith
-
-    one_less : (n : ℕ) → n ≡ suc n - 1
-    one_less n = omega arith
-
--- what comes before a text makes no difference to its last byte
-begins-after : (front back : List ℕ) → 0 < length back →
-    begins_line (front ++ back) ≡ begins_line back
-begins-after [] back long = refl
-begins-after (x ∷ []) [] long = absurd (omega arith)
-begins-after (x ∷ []) (y ∷ back) long = last-cons x y back
-begins-after (x ∷ z ∷ front) back long =
-    last-cons x z (front ++ back) ∙ begins-after (z ∷ front) back long
-
--- no text is shorter than its bytes
-pub merged-long : (bytes heads : List ℕ) (from : ℕ) (waiting : List Head) →
-    Fit bytes heads (length bytes) from waiting →
-    length (drop from bytes) ≤ length (merged bytes heads from waiting)
-merged-long bytes heads from [] fit = omega arith
-merged-long bytes heads from (head ∷ waiting) fit =
-    let front = drop from (take head.place bytes) in
-    let rest = merged bytes heads head.place waiting in
-    let e : length (drop from bytes) ≡ length front + length (drop head.place bytes) =
-    ap (λ (t : List ℕ). length t) (sym (two bytes from head.place fit.0
-    (fit-bound bytes heads (length bytes) head.place waiting fit.4)))
-    ∙ length-append front (drop head.place bytes) in
-    let f : length (front ++ (text_of heads head ++ rest))
-    ≡ length front + (length (text_of heads head) + length rest) =
-    length-append front (text_of heads head ++ rest)
-    ∙ ap (λ n. length front + n) (length-append (text_of heads head) rest) in
-    let k : length (drop head.place bytes) ≤ length rest =
-    merged-long bytes heads head.place waiting fit.4 in
-    omega arith
-
--- the last byte is not a head's
-pub merged-ends : (bytes heads : List ℕ) (from : ℕ) (waiting : List Head) →
-    Fit bytes heads (length bytes) from waiting →
-    begins_line (merged bytes heads from waiting) ≡ begins_line (drop from bytes)
-merged-ends bytes heads from [] fit = refl
-merged-ends bytes heads from (head ∷ waiting) fit =
-    by fit.3 (merged-ends bytes heads head.place waiting fit.4)
-    (merged-ends bytes heads from waiting
-    (fit-from bytes heads (length bytes) from head.place waiting fit.0 fit.1 fit.4))
-  where
-    bound : head.place ≤ length bytes
-    bound = fit-bound bytes heads (length bytes) head.place waiting fit.4
-
-    long : head.place < length bytes → 0 < length (drop head.place bytes)
-    long inside = (let l = length-drop head.place bytes in omega arith)
-
-    by : ((head.from ≡ head.to) ⊎ (head.place < length bytes)) →
-        begins_line (merged bytes heads head.place waiting) ≡ begins_line (drop head.place bytes) →
-        begins_line (merged bytes heads from waiting) ≡ begins_line (drop from bytes) →
-        begins_line (merged bytes heads from (head ∷ waiting)) ≡ begins_line (drop from bytes)
-    by (inl same) there here =
-        ap (λ t. begins_line (drop from (take head.place bytes)
-        ++ (t ++ merged bytes heads head.place waiting))) (empty heads head same)
-        ∙ ap (λ t. begins_line t) (skip bytes heads from head.place waiting fit.0 fit.4) ∙ here
-    by (inr inside) there here =
-        ap (λ t. begins_line t)
-        (sym (append_assoc (drop from (take head.place bytes)) (text_of heads head)
-        (merged bytes heads head.place waiting)))
-        ∙ begins-after (drop from (take head.place bytes) ++ text_of heads head) (merged bytes heads
-        head.place waiting) (let l = merged-long bytes heads head.place waiting fit.4 in
-        let m = long inside in omega arith)
-        ∙ there ∙ sym (begins-after (drop from (take head.place bytes)) (drop head.place bytes)
-        (long inside)) ∙ ap (λ t. begins_line t) (two bytes from head.place fit.0 bound)

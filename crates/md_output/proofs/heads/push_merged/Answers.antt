@@ -5,7 +5,8 @@ use Rattle.std.proofs.Common.{append_assoc, drop, take}
 use Rattle.std.proofs.lemmas.Str.{IsCharBoundary-from_take}
 use Rattle.md_output.specs.declared.heads.Head.{Head}
 use Rattle.md_output.specs.Waiting.{text_of, merged, Fit, IsHead}
-use Rattle.md_output.proofs.Merged.{between, fit-boundary}
+use Rattle.md_output.proofs.HeadsFit.{fit-boundary}
+use Rattle.md_output.proofs.Merged.{between}
 use Rattle.md_output.proofs.heads.push_merged.Goals as goal
 
 pub range-requires-clause-start_boundary : goal.range-requires-clause-start_boundary

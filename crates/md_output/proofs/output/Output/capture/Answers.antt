@@ -7,6 +7,7 @@ use Rattle.md_output.specs.declared.output.Start.{Start}
 use Rattle.md_output.specs.Texts.{Texts}
 use Rattle.md_output.specs.Waiting.{texts_of, IsSound}
 use Rattle.md_output.proofs.Sound as sound
+use Rattle.md_output.proofs.Ended as ended
 use Rattle.md_output.proofs.output.Output.capture.Goals as goal
 
 pub invariant_of-self-2 : goal.invariant_of-self-2
@@ -20,7 +21,7 @@ invariant_of-self-2 c =
     let many : c.len-3.result ≡ length (string_bytes o.heads) = search rules in
     subst (λ (os : List Start). IsSound (string_bytes o.bytes) (string_bytes o.heads)
     o.waiting.items next os)
-    (sym (sound.popped c.push.new.self.items o.outers.items o.start c.in_ok-push.ensures.items))
+    (sym (ended.popped c.push.new.self.items o.outers.items o.start c.in_ok-push.ensures.items))
     (sound.capture (string_bytes o.bytes) (string_bytes o.heads) o.waiting.items o.start next outers
     (IsUtf8-string_bytes o.bytes) (IsUtf8-string_bytes o.heads) place first many c.self.invariant)
 
@@ -34,7 +35,7 @@ returns c =
     let first : c.len-2.result ≡ length o.waiting.items = search rules in
     let many : c.len-3.result ≡ length (string_bytes o.heads) = search rules in
     ap (λ (os : List Start). texts_of (string_bytes o.bytes) (string_bytes o.heads) o.waiting.items
-    next os) (sound.popped c.push.new.self.items o.outers.items o.start c.in_ok-push.ensures.items)
+    next os) (ended.popped c.push.new.self.items o.outers.items o.start c.in_ok-push.ensures.items)
     ∙ sound.capture_texts (string_bytes o.bytes) (string_bytes o.heads) o.waiting.items o.start next
     outers place first many
     ∙ ap (λ (t : Texts). record { text = []; below = t.text ∷ t.below }) c.self.view_is

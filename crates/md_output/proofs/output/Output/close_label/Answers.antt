@@ -7,7 +7,7 @@ use Rattle.md_output.specs.declared.heads.Head.{Head}
 use Rattle.md_output.specs.declared.output.Start.{Start}
 use Rattle.md_output.specs.Waiting.{texts_of, IsSound, waits}
 use Rattle.md_output.proofs.Merged.{none_waits}
-use Rattle.md_output.proofs.Sound as sound
+use Rattle.md_output.proofs.Ended as ended
 use Rattle.md_output.proofs.output.Output.close_label.Goals as goal
 
 pub invariant_of-self : goal.invariant_of-self
@@ -17,7 +17,7 @@ invariant_of-self c =
     subst (λ (ws : List Head). IsSound (string_bytes o.bytes)
     (string_bytes o.heads) ws o.start outers)
     (sym c.truncate.ensures.items)
-    (sound.close (string_bytes o.bytes) (string_bytes o.heads) o.waiting.items o.start
+    (ended.close (string_bytes o.bytes) (string_bytes o.heads) o.waiting.items o.start
     outers c.self.invariant)
 
 pub returns-then-not-waits : goal.returns-then-not-waits
@@ -33,6 +33,6 @@ returns-then-not-waits c =
     ap
     (λ (ws : List Head). texts_of (string_bytes o.bytes) (string_bytes o.heads) ws o.start outers)
     c.truncate.ensures.items
-    ∙ sound.close_texts (string_bytes o.bytes) (string_bytes o.heads) o.waiting.items o.start outers
+    ∙ ended.close_texts (string_bytes o.bytes) (string_bytes o.heads) o.waiting.items o.start outers
     none c.self.invariant
     ∙ c.self.view_is

@@ -5,17 +5,17 @@ use Rattle.std.specs.Prelude.{string_bytes}
 use Rattle.md_output.specs.declared.output.Start.{Start}
 use Rattle.md_output.specs.Texts.{Texts, first_or, others_of}
 use Rattle.md_output.specs.Waiting.{texts_of, IsSound}
-use Rattle.md_output.proofs.Sound as sound
+use Rattle.md_output.proofs.Ended as ended
 use Rattle.md_output.proofs.output.Output.end.Goals as goal
 
 pub invariant_of-self : goal.invariant_of-self
 invariant_of-self c =
     let o = c.self.inside in
-    sound.join (string_bytes o.bytes) (string_bytes o.heads) o.waiting.items o.start c.in-Some.outer
+    ended.join (string_bytes o.bytes) (string_bytes o.heads) o.waiting.items o.start c.in-Some.outer
     (reverse c.pop.new.self.items)
     (subst (λ (os : List Start). IsSound (string_bytes o.bytes) (string_bytes o.heads)
     o.waiting.items o.start os)
-    (sound.popped o.outers.items c.pop.new.self.items c.in-Some.outer c.in-Some.ensures.items)
+    (ended.popped o.outers.items c.pop.new.self.items c.in-Some.outer c.in-Some.ensures.items)
     c.self.invariant)
 
 pub returns-in-Some : goal.returns-in-Some
@@ -24,8 +24,8 @@ returns-in-Some c =
     let bytes = string_bytes o.bytes in
     let heads = string_bytes o.heads in
     let e =
-    sound.popped o.outers.items c.pop.new.self.items c.in-Some.outer c.in-Some.ensures.items in
-    sound.join_texts bytes heads o.waiting.items o.start c.in-Some.outer
+    ended.popped o.outers.items c.pop.new.self.items c.in-Some.outer c.in-Some.ensures.items in
+    ended.join_texts bytes heads o.waiting.items o.start c.in-Some.outer
     (reverse c.pop.new.self.items)
     (subst (λ (os : List Start). IsSound bytes heads o.waiting.items o.start os) e c.self.invariant)
     ∙ ap (λ (t : Texts). record { text = first_or [] t.below ++ t.text; below = others_of t.below })

@@ -12,6 +12,7 @@ use Rattle.md_output.specs.Texts.{Texts}
 use Rattle.md_output.specs.Waiting.{texts_of, text_of, IsSound}
 use Rattle.md_output.proofs.Merged.{merged-none}
 use Rattle.md_output.proofs.Sound as sound
+use Rattle.md_output.proofs.HeadsBefore as headed
 use Rattle.md_output.proofs.output.Output.put_before.Goals as goal
 
 pub returns-then-len-self : goal.returns-then-len-self
@@ -36,8 +37,9 @@ invariant_of-self-in_err-wait_first c =
     (sym c.in_ok-push_str.ensures.bytes)
     (subst (λ (ws : List Head). IsSound (string_bytes o.bytes)
     (string_bytes o.heads ++ c.args.head.now) ws o.start outers)
-    (sym c.in_err-wait_first.ensures.err) (sound.grown (string_bytes o.bytes) (string_bytes o.heads)
-    c.args.head.now o.waiting.items o.start outers c.self.invariant))
+    (sym c.in_err-wait_first.ensures.err)
+    (headed.grown (string_bytes o.bytes) (string_bytes o.heads) c.args.head.now o.waiting.items
+    o.start outers c.self.invariant))
 
 pub invariant_of-self-2 : goal.invariant_of-self-2
 invariant_of-self-2 c =
@@ -57,11 +59,11 @@ invariant_of-self-2 c =
     subst (λ hs. IsSound bytes hs c.wait_first.new.waiting.items o.start outers) (sym grown)
     (subst (λ (ws : List Head). IsSound bytes both ws o.start outers)
     (sym c.in_ok-wait_first.ensures.items)
-    (sound.later bytes both o.waiting.items head o.start outers refl inside
-    (sound.is_last heads c.args.head.now head (IsUtf8-string_bytes o.heads)
+    (headed.later bytes both o.waiting.items head o.start outers refl inside
+    (headed.is_last heads c.args.head.now head (IsUtf8-string_bytes o.heads)
     (subst (λ t. IsUtf8 t) grown (IsUtf8-string_bytes c.push_str.new.self)) from
     (to ∙ ap (λ (t : List ℕ). length t) grown))
-    (sound.grown bytes heads c.args.head.now o.waiting.items o.start outers c.self.invariant)))
+    (headed.grown bytes heads c.args.head.now o.waiting.items o.start outers c.self.invariant)))
 
 pub returns : goal.returns
 returns c =
@@ -78,10 +80,10 @@ returns c =
     ap (λ hs. texts_of bytes hs c.wait_first.new.waiting.items o.start outers) grown
     ∙ ap (λ (ws : List Head). texts_of bytes both ws o.start outers)
     c.in_ok-wait_first.ensures.items
-    ∙ sound.later_texts bytes both o.waiting.items head o.start outers refl
-    (sound.grown bytes heads c.args.head.now o.waiting.items o.start outers c.self.invariant)
+    ∙ headed.later_texts bytes both o.waiting.items head o.start outers refl
+    (headed.grown bytes heads c.args.head.now o.waiting.items o.start outers c.self.invariant)
     ∙ ap (λ (t : Texts). record { text = text_of both head ++ t.text; below = t.below })
-    (sound.grown_texts bytes heads c.args.head.now o.waiting.items o.start outers c.self.invariant
+    (headed.grown_texts bytes heads c.args.head.now o.waiting.items o.start outers c.self.invariant
     ∙ c.self.view_is)
     ∙ ap (λ t. record { text = t ++ c.args.self.now.text; below = c.args.self.now.below })
-    (sound.last_text heads c.args.head.now head from (to ∙ ap (λ (t : List ℕ). length t) grown))
+    (headed.last_text heads c.args.head.now head from (to ∙ ap (λ (t : List ℕ). length t) grown))

@@ -1,6 +1,6 @@
 -- The URL comes after the innermost text; where memory runs out all texts are empty.
 -- By itself the search cites no lemma on texts in one another.
-use Rattle.std.proofs.Common.{◌++◌, List, ℕ, ap, sym, subst, ◌∙◌, reverse, Bor, map}
+use Rattle.std.proofs.Common.{◌++◌, List, ℕ, ap, sym, subst, ◌∙◌, reverse}
 use Rattle.std.specs.Prelude.{string_bytes}
 use Rattle.md_text.specs.Url.{sanitized}
 use Rattle.md_output.specs.declared.output.Start.{Start}

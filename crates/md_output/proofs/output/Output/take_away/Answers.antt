@@ -8,13 +8,14 @@ use Rattle.md_output.specs.Texts.{Texts}
 use Rattle.md_output.specs.declared.heads.Head.{Head}
 use Rattle.md_output.specs.Waiting.{texts_of, IsSound, texts_from}
 use Rattle.md_output.proofs.Sound as sound
+use Rattle.md_output.proofs.Ended as ended
 use Rattle.md_output.proofs.output.Output.take_away.Goals as goal
 
 pub forget_from-requires : goal.forget_from-requires
 forget_from-requires c =
     let o = c.self.inside in
     let outers : List Start = reverse o.outers.items in
-    sound.heads-boundary (string_bytes o.bytes) (string_bytes o.heads)
+    ended.heads-boundary (string_bytes o.bytes) (string_bytes o.heads)
     o.waiting.items o.start outers
     (IsUtf8-string_bytes o.heads) c.self.invariant
 
@@ -37,7 +38,7 @@ invariant_of-self c =
     c.forget_from.new.waiting.items o.start outers) (sym c.forget_from.ensures.texts)
     (subst (λ (ws : List Head). IsSound (take o.start.place (string_bytes o.bytes))
     (texts_from o.start.first o.start.heads o.waiting.items (string_bytes o.heads))
-    ws o.start outers) (sym c.forget_from.ensures.items) (sound.clear (string_bytes o.bytes)
+    ws o.start outers) (sym c.forget_from.ensures.items) (ended.clear (string_bytes o.bytes)
     (string_bytes o.heads) o.waiting.items o.start outers c.self.invariant)))
 
 pub returns : goal.returns
@@ -51,6 +52,6 @@ returns c =
     ∙ ap (λ (ws : List Head). texts_of (take o.start.place (string_bytes o.bytes))
     (texts_from o.start.first o.start.heads o.waiting.items (string_bytes o.heads)) ws o.start
     outers) c.forget_from.ensures.items
-    ∙ sound.clear_texts (string_bytes o.bytes) (string_bytes o.heads) o.waiting.items o.start
+    ∙ ended.clear_texts (string_bytes o.bytes) (string_bytes o.heads) o.waiting.items o.start
     outers c.self.invariant
     ∙ ap (λ (t : Texts). record { text = []; below = t.below }) c.self.view_is
