@@ -8,7 +8,10 @@ pub mod Media
 pub mod Options
 pub mod Tables
 pub mod Footnotes
+pub mod FootnoteTexts
+pub mod FootnoteIds
 pub mod Endings
+pub mod Clearing
 use Prim.Native.String.{String}
 use Rattle.std.specs.Prelude.{◌≡◌, ℕ, List, [], ◌∷◌, ◌++◌, codes}
 use Rattle.md_base.specs.declared.event.Point.{Point}

@@ -1,6 +1,7 @@
 //! The meanings of worked trees with line endings where they matter.
 
 ghost use Rattle.md_meaning.specs.Trees.Endings as endings;
+ghost use Rattle.md_meaning.specs.Trees.Clearing as clearing;
 ghost use Rattle.md_meaning.specs.Trees.{Means, MeansWith};
 
 /// The meaning of two endings after a definition.
@@ -39,43 +40,43 @@ pub fn meaning_of_default_line_ending()
 /// one that is used.
 pub fn meaning_of_line_ending_in_a_definition()
     ensures { Means endings.line_ending_in_a_definition_bytes endings.line_ending_in_a_definition
-        endings.line_ending_in_a_definition_text }
+        clearing.line_ending_in_a_definition_text }
 {}
 
 /// The meaning of a line ending after frontmatter and a blank line, which clears.
 pub fn meaning_of_ending_after_a_blank_line()
-    ensures { Means endings.ending_after_a_blank_line_bytes endings.ending_after_a_blank_line
-        endings.ending_after_a_blank_line_text }
+    ensures { Means clearing.ending_after_a_blank_line_bytes clearing.ending_after_a_blank_line
+        clearing.ending_after_a_blank_line_text }
 {}
 
 /// The meaning of a line ending after frontmatter and a block quote, which clears.
 pub fn meaning_of_ending_after_a_quote()
-    ensures { Means endings.ending_after_a_quote_bytes endings.ending_after_a_quote
-        endings.ending_after_a_quote_text }
+    ensures { Means clearing.ending_after_a_quote_bytes clearing.ending_after_a_quote
+        clearing.ending_after_a_quote_text }
 {}
 
 /// The meaning of a line ending after frontmatter and indented code, which clears.
 pub fn meaning_of_ending_after_indented_code()
-    ensures { Means endings.ending_after_indented_code_bytes endings.ending_after_indented_code
-        endings.ending_after_indented_code_text }
+    ensures { Means clearing.ending_after_indented_code_bytes clearing.ending_after_indented_code
+        clearing.ending_after_indented_code_text }
 {}
 
 /// The meaning of a line ending after fenced code, which clears what its fence sets.
 pub fn meaning_of_ending_after_fenced_code()
-    ensures { Means endings.ending_after_fenced_code_bytes endings.ending_after_fenced_code
-        endings.ending_after_fenced_code_text }
+    ensures { Means clearing.ending_after_fenced_code_bytes clearing.ending_after_fenced_code
+        clearing.ending_after_fenced_code_text }
 {}
 
 /// The meaning of a line ending after math, which clears what its fence sets.
 pub fn meaning_of_ending_after_math()
-    ensures { Means endings.ending_after_math_bytes endings.ending_after_math
-        endings.ending_after_math_text }
+    ensures { Means clearing.ending_after_math_bytes clearing.ending_after_math
+        clearing.ending_after_math_text }
 {}
 
 /// The meaning of a line ending after a tight list, whose item clears what its paragraph sets.
 pub fn meaning_of_ending_after_a_tight_list()
-    ensures { Means endings.ending_after_a_tight_list_bytes endings.ending_after_a_tight_list
-        endings.ending_after_a_tight_list_text }
+    ensures { Means clearing.ending_after_a_tight_list_bytes clearing.ending_after_a_tight_list
+        clearing.ending_after_a_tight_list_text }
 {}
 
 /// The meaning of a line ending after frontmatter and code with a line ending, which is no mark.
@@ -108,8 +109,8 @@ pub fn meaning_of_definition_in_another_name()
 
 /// The meaning of a line ending in a cell that prints nothing, which clears.
 pub fn meaning_of_ending_in_a_dropped_cell()
-    ensures { Means endings.ending_in_a_dropped_cell_bytes endings.ending_in_a_dropped_cell
-        endings.ending_in_a_dropped_cell_text }
+    ensures { Means clearing.ending_in_a_dropped_cell_bytes clearing.ending_in_a_dropped_cell
+        clearing.ending_in_a_dropped_cell_text }
 {}
 
 /// The meaning of a blank line before all else, whose line ending is the one that is used.

@@ -1,6 +1,8 @@
 //! The meanings of worked trees with footnotes.
 
 ghost use Rattle.md_meaning.specs.Trees.Footnotes as footnotes;
+ghost use Rattle.md_meaning.specs.Trees.FootnoteTexts as texts;
+ghost use Rattle.md_meaning.specs.Trees.FootnoteIds as ids;
 ghost use Rattle.md_meaning.specs.Trees.{Means, MeansWith};
 
 /// The meaning of footnote.
@@ -23,9 +25,9 @@ pub fn meaning_of_nested_footnote_definition()
 
 /// The meaning of footnote without a paragraph.
 pub fn meaning_of_footnote_without_a_paragraph()
-    ensures { Means footnotes.footnote_without_a_paragraph_bytes
-        footnotes.footnote_without_a_paragraph
-        footnotes.footnote_without_a_paragraph_text }
+    ensures { Means texts.footnote_without_a_paragraph_bytes
+        texts.footnote_without_a_paragraph
+        texts.footnote_without_a_paragraph_text }
 {}
 
 /// The meaning of footnotes in the order of their calls.
@@ -55,8 +57,8 @@ pub fn meaning_of_call_in_its_own_footnote()
 
 /// The meaning of an identifier with a capital letter and white space.
 pub fn meaning_of_folded_identifier()
-    ensures { Means footnotes.folded_identifier_bytes footnotes.folded_identifier
-        footnotes.folded_identifier_text }
+    ensures { Means ids.folded_identifier_bytes ids.folded_identifier
+        ids.folded_identifier_text }
 {}
 
 /// The meaning of footnote without a call.
@@ -67,60 +69,60 @@ pub fn meaning_of_footnote_without_a_call()
 
 /// The meaning of footnote that ends in a quote.
 pub fn meaning_of_footnote_that_ends_in_a_quote()
-    ensures { Means footnotes.footnote_that_ends_in_a_quote_bytes
-        footnotes.footnote_that_ends_in_a_quote
-        footnotes.footnote_that_ends_in_a_quote_text }
+    ensures { Means texts.footnote_that_ends_in_a_quote_bytes
+        texts.footnote_that_ends_in_a_quote
+        texts.footnote_that_ends_in_a_quote_text }
 {}
 
 /// The meaning of a footnote with CR and LF after its last paragraph.
 pub fn meaning_of_footnote_that_ends_in_line_endings()
-    ensures { Means footnotes.footnote_that_ends_in_line_endings_bytes
-        footnotes.footnote_that_ends_in_line_endings
-        footnotes.footnote_that_ends_in_line_endings_text }
+    ensures { Means texts.footnote_that_ends_in_line_endings_bytes
+        texts.footnote_that_ends_in_line_endings
+        texts.footnote_that_ends_in_line_endings_text }
 {}
 
 /// The meaning of empty footnote.
 pub fn meaning_of_empty_footnote()
-    ensures { Means footnotes.empty_footnote_bytes footnotes.empty_footnote
-        footnotes.empty_footnote_text }
+    ensures { Means texts.empty_footnote_bytes texts.empty_footnote
+        texts.empty_footnote_text }
 {}
 
 /// The meaning of empty identifier.
 pub fn meaning_of_empty_identifier()
-    ensures { Means footnotes.empty_identifier_bytes footnotes.empty_identifier
-        footnotes.empty_identifier_text }
+    ensures { Means ids.empty_identifier_bytes ids.empty_identifier
+        ids.empty_identifier_text }
 {}
 
 /// The meaning of a footnote that ends in a paragraph of HTML.
 pub fn meaning_of_footnote_that_ends_in_html()
-    ensures { MeansWith footnotes.footnote_that_ends_in_html_options
-        footnotes.footnote_that_ends_in_html_bytes
-        footnotes.footnote_that_ends_in_html footnotes.footnote_that_ends_in_html_text }
+    ensures { MeansWith texts.footnote_that_ends_in_html_options
+        texts.footnote_that_ends_in_html_bytes
+        texts.footnote_that_ends_in_html texts.footnote_that_ends_in_html_text }
 {}
 
 /// The meaning of a footnote with its ids by number.
 pub fn meaning_of_footnote_by_number()
-    ensures { MeansWith footnotes.ids_by_number footnotes.footnote_bytes footnotes.footnote
-        footnotes.footnote_by_number_text }
+    ensures { MeansWith ids.ids_by_number footnotes.footnote_bytes footnotes.footnote
+        ids.footnote_by_number_text }
 {}
 
 /// The meaning of two footnotes of which one's second call has the id of the other's first.
 pub fn meaning_of_identifiers_that_meet()
-    ensures { Means footnotes.identifiers_that_meet_bytes footnotes.identifiers_that_meet
-        footnotes.identifiers_that_meet_text }
+    ensures { Means ids.identifiers_that_meet_bytes ids.identifiers_that_meet
+        ids.identifiers_that_meet_text }
 {}
 
 /// The meaning of the same two with ids by number, where no two are equal.
 pub fn meaning_of_identifiers_that_meet_by_number()
-    ensures { MeansWith footnotes.ids_by_number footnotes.identifiers_that_meet_bytes
-        footnotes.identifiers_that_meet
-        footnotes.identifiers_that_meet_by_number_text }
+    ensures { MeansWith ids.ids_by_number ids.identifiers_that_meet_bytes
+        ids.identifiers_that_meet
+        ids.identifiers_that_meet_by_number_text }
 {}
 
 /// The meaning of a footnote definition in a tight list, whose paragraph has tags, and after which
 /// the line ending is dropped.
 pub fn meaning_of_footnote_definition_in_a_tight_list()
-    ensures { Means footnotes.footnote_definition_in_a_tight_list_bytes
-        footnotes.footnote_definition_in_a_tight_list
-        footnotes.footnote_definition_in_a_tight_list_text }
+    ensures { Means texts.footnote_definition_in_a_tight_list_bytes
+        texts.footnote_definition_in_a_tight_list
+        texts.footnote_definition_in_a_tight_list_text }
 {}
