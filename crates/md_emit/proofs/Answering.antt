@@ -5,7 +5,8 @@ use Rattle.md_base.specs.declared.event.Name.{Name}
 use Rattle.md_meaning.specs.Meaning.At.{Given}
 use Rattle.md_told.specs.Told.{IsNoticedAt}
 use Rattle.md_shape.specs.Run.{Noticed}
-use Rattle.md_shape.specs.Steps.{State, entered, exited}
+use Rattle.md_shape.specs.State.{State}
+use Rattle.md_shape.specs.Steps.{entered, exited}
 use Rattle.md_emit.specs.declared.given.Given.{Given as Supplied}
 use Rattle.md_emit.specs.Supplies.{Supplies, Enters, Leaves}
 

@@ -7,7 +7,7 @@ use Rattle.md_meaning.specs.Meaning.Layout.{laid_after}
 use Rattle.md_meaning.specs.Meaning.Media.{anchor, picture, href, src}
 use Rattle.std.specs.Fmt.{decimal}
 use Rattle.md_meaning.specs.Meaning.Footnotes.{call_id, count_of, distinct, id_of, place_among}
-use Rattle.md_shape.specs.Steps.{call_pieces}
+use Rattle.md_shape.specs.Sides.{call_pieces}
 use Rattle.md_emit.specs.Heads.{anchor_head, picture_head, picture_tail, title_text}
 
 -- texts one after another, by what they are parts of

@@ -25,7 +25,7 @@ use Rattle.md_base.specs.NameTests.{is_definition}
 use Rattle.md_meaning.specs.Meaning.Layout.{Piece, said}
 use Rattle.md_meaning.specs.Meaning.Spans.{is_at}
 use Rattle.md_meaning.specs.Meaning.Tables.{align_attribute}
-use Rattle.md_shape.specs.Steps.{State}
+use Rattle.md_shape.specs.State.{State}
 
 -- the names of which most nodes are, where they are entered
 abbrev pub is_common_entry : Name → Bool

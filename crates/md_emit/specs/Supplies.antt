@@ -8,7 +8,8 @@ use name_variants.{ListItemMarker, ListItemValue, HeadingAtxSequence}
 use Rattle.md_base.specs.Reference.{name_table}
 use Rattle.md_meaning.specs.Meaning.At.{Given, Target}
 use Rattle.md_meaning.specs.Meaning.Media.{target_defined}
-use Rattle.md_shape.specs.Steps.{State, entered, exited, nowhere}
+use Rattle.md_shape.specs.State.{State}
+use Rattle.md_shape.specs.Steps.{entered, exited, nowhere}
 use Rattle.md_shape.specs.Run.{Noticed}
 use Rattle.md_told.specs.Told.{IsNoticedAt}
 use Rattle.md_told.specs.Definitions.{IsLedTo}

@@ -1,6 +1,6 @@
 -- How the code's surroundings stand for those of the steps.
 use Rattle.md_emit.specs.declared.around.Around.{Around as Kept}
-use Rattle.md_shape.specs.Steps.{Around}
+use Rattle.md_shape.specs.State.{Around}
 
 abbrev pub around_of : Kept → Around
 around_of around = record {

@@ -5,7 +5,7 @@ ghost use Rattle.std.specs.Prelude.{◌||◌, IfOk, string_bytes};
 ghost use Rattle.md_meaning.specs.Meaning.At as At;
 ghost use Rattle.md_shape.specs.Run.{Noticed};
 ghost use Rattle.md_meaning.specs.Meaning.Layout.{laid_after};
-ghost use Rattle.md_shape.specs.Steps as steps;
+ghost use Rattle.md_shape.specs.Sides as sides;
 ghost use Rattle.md_emit.specs.Supplies.{Supplies};
 ghost use Rattle.md_told.specs.Told.{IsNoticedAt};
 ghost use Rattle.md_base.specs.NameTests.{is_transparent};
@@ -38,7 +38,7 @@ impl<'a> Printer<'a> {
         ensures { OnOk result ((all : At.Given) (one : Noticed) → Supplies given.now all
             → IsNoticedAt given.now.checked.now index one → self.new ≡ record self.old {
               text = laid_after all.ending self.old.text
-                  (steps.autolink_closing all one.told plain prefix.now);
+                  (sides.autolink_closing all one.told plain prefix.now);
               ended = Some name;
               marker = 38;
             }) }
@@ -99,7 +99,7 @@ impl<'a> Printer<'a> {
         requires plain { marker name ≡ 38 }
         ensures { OnOk result ((all : At.Given) (one : Noticed) → Supplies given.now all
             → IsNoticedAt given.now.checked.now index one → self.new ≡ record self.old {
-              text = laid_after all.ending self.old.text (steps.autolink_closing all one.told
+              text = laid_after all.ending self.old.text (sides.autolink_closing all one.told
                   (self.old.around.in_image || self.old.around.in_link) prefix.now);
               ended = Some name;
               marker = 38;

@@ -6,6 +6,8 @@ ghost use Rattle.std.specs.Option.{option_map_or};
 ghost use Rattle.md_meaning.specs.Meaning.At as At;
 ghost use Rattle.md_meaning.specs.Meaning.Layout.{Needed, Forced, laid_after, said, on_own_line};
 ghost use Rattle.md_meaning.specs.Meaning.Layout.{when};
+ghost use Rattle.md_shape.specs.State as states;
+ghost use Rattle.md_shape.specs.Sides as sides;
 ghost use Rattle.md_shape.specs.Steps as steps;
 ghost use Rattle.md_base.specs.declared.event.Name.TheVariants as names;
 ghost use Rattle.md_base.specs.NameTests.{is_fence, is_definition, is_transparent};
@@ -133,7 +135,7 @@ impl<'a> Printer<'a> {
 
     /// Leaves a block quote.
     pub(crate) fn leave_quote(&mut self, ending: &str) -> Result<(), AllocError>
-        ensures { OnOk result ((given : At.Given) (told : steps.Told) → given.ending ≡ ending.now
+        ensures { OnOk result ((given : At.Given) (told : states.Told) → given.ending ≡ ending.now
             → self.new ≡ steps.exited given told names.BlockQuote self.old) }
     {
         self.turn_back();
@@ -144,7 +146,7 @@ impl<'a> Printer<'a> {
     /// Leaves indented code.
     pub(crate) fn leave_indented(&mut self, ending: &str) -> Result<(), AllocError>
         ensures { OnOk result (self.new ≡ record self.old {
-          text = laid_after ending.now self.old.text (steps.code_closing self.old);
+          text = laid_after ending.now self.old.text (sides.code_closing self.old);
           slurps = if self.old.around.in_definition then self.old.slurps else false;
           ended = Some names.CodeIndented;
           marker = 38;
@@ -157,7 +159,7 @@ impl<'a> Printer<'a> {
     /// The end of code, on its own line where there is a line of code.
     fn close_code(&mut self, ending: &str) -> Result<(), AllocError>
         ensures { OnOk result (self.new ≡ record self.old {
-          text = laid_after ending.now self.old.text (steps.code_closing self.old);
+          text = laid_after ending.now self.old.text (sides.code_closing self.old);
         }) }
     {
         if self.has_chunk {
@@ -172,7 +174,7 @@ impl<'a> Printer<'a> {
         requires solid { is_transparent name ≡ false }
         requires plain { marker name ≡ 38 }
         ensures { OnOk result (self.new ≡ record self.old {
-          text = laid_after ending.now self.old.text (steps.fenced_closing self.old self.old.ended);
+          text = laid_after ending.now self.old.text (sides.fenced_closing self.old self.old.ended);
           slurps = if self.old.around.in_definition then self.old.slurps else false;
           ended = Some name;
           marker = 38;
@@ -186,7 +188,7 @@ impl<'a> Printer<'a> {
     /// The end of fenced code, with what an unclosed fence lacks.
     fn close_fenced(&mut self, ending: &str) -> Result<(), AllocError>
         ensures { OnOk result (self.new ≡ record self.old {
-          text = laid_after ending.now self.old.text (steps.fenced_closing self.old self.old.ended);
+          text = laid_after ending.now self.old.text (sides.fenced_closing self.old self.old.ended);
         }) }
     {
         let runs_out = self.runs_out();

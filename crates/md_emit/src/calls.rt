@@ -3,6 +3,7 @@
 ghost use Rattle.std.specs.Prelude.{◌≡◌, ◌∷◌, ◌++◌, [], OnOk, Some, None, not, ℕ, List, unwrap_or};
 ghost use Rattle.std.specs.Prelude.{◌+◌, ◌<◌, IfOk, string_bytes};
 ghost use Rattle.md_meaning.specs.Meaning.Layout.{laid_after, when};
+ghost use Rattle.md_shape.specs.Sides as sides;
 ghost use Rattle.md_shape.specs.Steps as steps;
 ghost use Rattle.md_base.specs.declared.event.Name.TheVariants as names;
 ghost use Rattle.md_tree.specs.Texts.{ExitsAt};
@@ -39,7 +40,7 @@ impl<'a> Printer<'a> {
     ) -> Result<(), AllocError>
         ensures { OnOk result ((ending : List ℕ) → self.new ≡ record self.old {
           text = laid_after ending self.old.text (when (not self.old.around.in_image)
-              (steps.call_pieces options.now self.old.calls identifier.now));
+              (sides.call_pieces options.now self.old.calls identifier.now));
         }) }
     {
         let is_hidden = self.is_in_image();
@@ -58,7 +59,7 @@ impl<'a> Printer<'a> {
     ) -> Result<(), AllocError>
         ensures { OnOk result (self.new ≡ record self.old {
           text = laid_after [] self.old.text
-              (steps.call_pieces options.now self.old.calls identifier.now);
+              (sides.call_pieces options.now self.old.calls identifier.now);
         }) }
     {
         let scratch = &mut self.scratch;
@@ -116,7 +117,7 @@ fn put_call_on(
 ) -> Result<(), AllocError>
     ensures { OnOk result (output.new ≡ record output.old {
       text = laid_after [] output.old.text
-          (steps.call_pieces options.now footnotes.now.calls identifier.now);
+          (sides.call_pieces options.now footnotes.now.calls identifier.now);
     }) }
 {
     scratch.clear();

@@ -5,6 +5,8 @@ ghost use Rattle.std.specs.Prelude.{if◌then◌else◌, unwrap_or, ◌+◌, ◌
 ghost use Rattle.md_meaning.specs.Meaning.At as At;
 ghost use Rattle.md_shape.specs.Run.{Noticed};
 ghost use Rattle.md_meaning.specs.Meaning.Layout.{laid_after};
+ghost use Rattle.md_shape.specs.State as states;
+ghost use Rattle.md_shape.specs.Sides as sides;
 ghost use Rattle.md_shape.specs.Steps as steps;
 ghost use Rattle.md_emit.specs.Supplies.{Supplies, Leaves};
 ghost use Rattle.md_told.specs.Told.{IsNoticedAt};
@@ -31,11 +33,11 @@ impl<'a> Printer<'a> {
         requires solid { is_transparent name ≡ false }
         requires plain { marker name ≡ 38 }
         ensures { OnOk result ((ending : List ℕ) → self.new ≡ record self.old {
-          text = laid_after ending (steps.first_or [] self.old.below) (steps.code_text_closing
-              (record self.old { around = steps.first_or steps.outside self.old.arounds })
+          text = laid_after ending (steps.first_or [] self.old.below) (sides.code_text_closing
+              (record self.old { around = steps.first_or states.outside self.old.arounds })
               self.old.text);
           below = steps.others_of self.old.below;
-          around = steps.first_or steps.outside self.old.arounds;
+          around = steps.first_or states.outside self.old.arounds;
           arounds = steps.others_of self.old.arounds;
           ended = Some name;
           marker = 38;
@@ -88,7 +90,7 @@ impl<'a> Printer<'a> {
         ensures { OnOk result ((all : At.Given) (one : Noticed) → Supplies given.now all
             → IsNoticedAt given.now.checked.now index one → self.new ≡ record self.old {
               text = self.old.text
-                  ++ encoded self.old.around.is_escaping (steps.html_text all one.told);
+                  ++ encoded self.old.around.is_escaping (sides.html_text all one.told);
               ended = Some name;
               marker = 38;
             }) }

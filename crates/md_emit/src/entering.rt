@@ -4,6 +4,7 @@ ghost use Rattle.std.specs.Prelude.{◌≡◌, OnOk, None, true, false, ◌<◌}
 ghost use Rattle.md_base.specs.declared.event.Name.TheVariants.{ListOrdered};
 ghost use Rattle.md_meaning.specs.Meaning.At as At;
 ghost use Rattle.md_tree.specs.Texts.{EntersAt};
+ghost use Rattle.md_shape.specs.State as states;
 ghost use Rattle.md_shape.specs.Steps as steps;
 ghost use Rattle.md_emit.specs.Supplies.{Enters};
 ghost use Rattle.md_emit.specs.Parts as parts;
@@ -135,7 +136,7 @@ impl<'a> Printer<'a> {
     fn enter_captured(&mut self, name: Name) -> Result<(), AllocError>
         requires common { parts.is_common_entry name ≡ false }
         requires block { parts.is_block_entry name ≡ false }
-        ensures { OnOk result ((given : At.Given) (told : steps.Told)
+        ensures { OnOk result ((given : At.Given) (told : states.Told)
             → self.new ≡ steps.entered given told name self.old) }
     {
         self.enters();

@@ -3,6 +3,7 @@
 ghost use Rattle.std.specs.Prelude.{◌≡◌, OnOk, Some, false, ◌<◌, ◌^◌};
 ghost use Rattle.md_base.specs.declared.event.Name.TheVariants.{ListOrdered};
 ghost use Rattle.md_meaning.specs.Meaning.At as At;
+ghost use Rattle.md_shape.specs.State as states;
 ghost use Rattle.md_shape.specs.Steps as steps;
 ghost use Rattle.md_emit.specs.Parts as parts;
 ghost use Rattle.md_meaning.specs.Meaning.Spans.{marker};
@@ -220,7 +221,7 @@ impl<'a> Printer<'a> {
         requires span { parts.is_block_exit name ≡ false }
         requires captured { parts.is_text_exit name ≡ false }
         requires quiet { parts.is_captured_exit name ≡ false }
-        ensures { OnOk result ((given : At.Given) (told : steps.Told)
+        ensures { OnOk result ((given : At.Given) (told : states.Told)
             → self.new ≡ steps.exited given told name self.old) }
     {
         self.ended = Some(name);

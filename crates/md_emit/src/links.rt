@@ -4,6 +4,8 @@ ghost use Rattle.std.specs.Prelude.{◌≡◌, ◌∷◌, ◌++◌, [], OnOk, So
 ghost use Rattle.std.specs.Prelude.{unwrap_or, ◌+◌, ◌<◌, IfOk, option_copied};
 ghost use Rattle.md_meaning.specs.Meaning.At as At;
 ghost use Rattle.md_shape.specs.Run.{Noticed};
+ghost use Rattle.md_shape.specs.State as states;
+ghost use Rattle.md_shape.specs.Sides as sides;
 ghost use Rattle.md_shape.specs.Steps as steps;
 ghost use Rattle.md_emit.specs.Supplies.{Supplies, Leaves, target_at};
 ghost use Rattle.md_told.specs.Told.{IsNoticedAt};
@@ -124,7 +126,7 @@ impl<'a> Printer<'a> {
         ensures { IfOk result (λ found. (all : At.Given) (one : Noticed) → Supplies given.now all
             → IsNoticedAt given.now.checked.now index one
             → unwrap_or self.now.resource (unwrap_or (option_copied found) steps.nowhere)
-            ≡ steps.leads all self.now one.told) }
+            ≡ sides.leads all self.now one.told) }
     {
         if self.has_resource {
             return Ok(None);
@@ -185,7 +187,7 @@ impl<'a> Printer<'a> {
         ensures { OnOk result (self.new ≡ record self.old {
           text = steps.first_or [] self.old.below;
           below = steps.others_of self.old.below;
-          around = steps.first_or steps.outside self.old.arounds;
+          around = steps.first_or states.outside self.old.arounds;
           arounds = steps.others_of self.old.arounds;
           ended = Some name;
           marker = 38;

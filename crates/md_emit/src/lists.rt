@@ -11,6 +11,8 @@ ghost use Rattle.md_meaning.specs.Meaning.Layout.{Needed, Text, laid_after, said
 ghost use Rattle.md_meaning.specs.Meaning.Layout.{when};
 ghost use Rattle.md_meaning.specs.Meaning.Blocks.{without_zeros};
 ghost use Rattle.md_tree.specs.Texts.{EntersAt};
+ghost use Rattle.md_shape.specs.State as states;
+ghost use Rattle.md_shape.specs.Sides as sides;
 ghost use Rattle.md_shape.specs.Steps as steps;
 ghost use Rattle.md_emit.specs.Supplies.{Supplies};
 ghost use Rattle.md_told.specs.Told.{IsNoticedAt};
@@ -47,7 +49,7 @@ impl<'a> Printer<'a> {
         ensures { OnOk result ((all : At.Given) (one : Noticed) → Supplies given.now all
             → IsNoticedAt given.now.checked.now index one → self.new ≡ record self.old {
               text = laid_after given.now.ending.now self.old.text (on_own_line (codes "<ol")
-                  ++ (steps.list_opening all one.told ++ said (codes ">")));
+                  ++ (sides.list_opening all one.told ++ said (codes ">")));
               ended = None;
               marker = 38;
             }) }
@@ -63,7 +65,7 @@ impl<'a> Printer<'a> {
         ensures { OnOk result ((all : At.Given) (one : Noticed) → Supplies given.now all
             → IsNoticedAt given.now.checked.now index one → (ending : List ℕ)
             → self.new ≡ record self.old {
-              text = laid_after ending self.old.text (steps.list_opening all one.told);
+              text = laid_after ending self.old.text (sides.list_opening all one.told);
             }) }
     {
         match number_at(given.checked, index) {
@@ -115,9 +117,9 @@ impl<'a> Printer<'a> {
     /// Leaves an item, on a line of its own unless its last child says otherwise.
     pub(crate) fn leave_item(&mut self, ending: &str, last: Option<Name>) -> Result<(), AllocError>
         ensures { OnOk result
-            ((told : steps.Told) → told.contributing ≡ last → self.new ≡ record self.old {
+            ((told : states.Told) → told.contributing ≡ last → self.new ≡ record self.old {
               text = laid_after ending.now self.old.text
-                  ((if steps.item_ends_in_line self.old told then [] else Needed ∷ [])
+                  ((if sides.item_ends_in_line self.old told then [] else Needed ∷ [])
                   ++ said (codes "</li>"));
               slurps = if self.old.around.in_definition then self.old.slurps else false;
               ended = Some names.ListItem;
@@ -143,7 +145,7 @@ impl<'a> Printer<'a> {
         requires plain { marker name ≡ 38 }
         ensures { OnOk result (self.new ≡ record self.old {
           text = (self.old.text ++ ending.now) ++ tag.now;
-          around = steps.first_or steps.outside self.old.arounds;
+          around = steps.first_or states.outside self.old.arounds;
           arounds = steps.others_of self.old.arounds;
           ended = Some name;
           marker = 38;
@@ -183,9 +185,9 @@ fn has_leading_zero(digits: &str) -> bool
 
 /// An item's last child that contributes ends its line: its prefix, or a paragraph of a tight list.
 fn ends_in_line(is_tight: bool, last: Option<Name>) -> bool
-    ensures { (state : steps.State) (told : steps.Told) → state.around.is_tight ≡ is_tight
+    ensures { (state : states.State) (told : states.Told) → state.around.is_tight ≡ is_tight
         → told.contributing ≡ last
-        → result ≡ steps.item_ends_in_line state told }
+        → result ≡ sides.item_ends_in_line state told }
 {
     match last {
         Some(Name::ListItemPrefix) => true,

@@ -6,6 +6,7 @@ ghost use Rattle.md_meaning.specs.Meaning.Layout.{Needed, laid_after, said, on_o
 ghost use Rattle.md_meaning.specs.Meaning.Layout.{when};
 ghost use Rattle.md_meaning.specs.Meaning.Spans.{marker};
 ghost use Rattle.md_text.specs.Encode.{encoded};
+ghost use Rattle.md_shape.specs.State as states;
 ghost use Rattle.md_shape.specs.Steps as steps;
 ghost use Rattle.md_emit.specs.View.{around_of};
 
@@ -51,10 +52,11 @@ pub struct Printer<'a> {
 
 impl<'a> Model for Printer<'a> {
     ghost use Rattle.std.specs.Prelude.{map, reverse, string_bytes, Some, None, if◌then◌else◌};
+    ghost use Rattle.md_shape.specs.State as states;
     ghost use Rattle.md_shape.specs.Steps as steps;
     ghost use Rattle.md_emit.specs.View.{around_of};
 
-    ghost Value = { steps.State };
+    ghost Value = { states.State };
 
     ghost view = { λ p. record {
       text = p.output.text;
@@ -193,7 +195,7 @@ impl<'a> Printer<'a> {
     /// Comes back to the surroundings before.
     pub(crate) fn turn_back(&mut self)
         ensures { self.new ≡ record self.old {
-          around = steps.first_or steps.outside self.old.arounds;
+          around = steps.first_or states.outside self.old.arounds;
           arounds = steps.others_of self.old.arounds;
         } }
     {

@@ -6,7 +6,7 @@ ghost use Rattle.std.specs.Option.{option_map_or};
 ghost use Rattle.md_meaning.specs.Meaning.At as At;
 ghost use Rattle.md_shape.specs.Run.{Noticed};
 ghost use Rattle.md_meaning.specs.Meaning.Layout.{laid_after, said, when};
-ghost use Rattle.md_shape.specs.Steps as steps;
+ghost use Rattle.md_shape.specs.Sides as sides;
 ghost use Rattle.md_emit.specs.Supplies.{Supplies};
 ghost use Rattle.md_told.specs.Told.{IsNoticedAt};
 ghost use Rattle.md_emit.specs.Parts as parts;
@@ -171,7 +171,7 @@ impl<'a> Printer<'a> {
         requires { ExitsAt given.now.checked.now.events index names.GfmAutolinkLiteralEmail }
         ensures { OnOk result ((all : At.Given) (one : Noticed) → Supplies given.now all
             → IsNoticedAt given.now.checked.now index one → self.new ≡ record self.old {
-              text = laid_after all.ending self.old.text (steps.autolink_closing all one.told
+              text = laid_after all.ending self.old.text (sides.autolink_closing all one.told
                   (self.old.around.in_image || self.old.around.in_link) (codes "mailto:"));
               ended = Some names.GfmAutolinkLiteralEmail;
               marker = 38;

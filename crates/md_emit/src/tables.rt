@@ -4,6 +4,7 @@ ghost use Rattle.std.specs.Prelude.{◌≡◌, ◌∷◌, ◌++◌, [], OnOk, So
 ghost use Rattle.std.specs.Prelude.{if◌then◌else◌, codes, slice_get, ◌+◌, ◌<◌, ◌^◌, drop};
 ghost use Rattle.std.specs.Option.{option_map_or};
 ghost use Rattle.md_meaning.specs.Meaning.Layout.{laid_after, on_own_line};
+ghost use Rattle.md_shape.specs.Sides as sides;
 ghost use Rattle.md_shape.specs.Steps as steps;
 ghost use Rattle.md_emit.specs.Parts as parts;
 ghost use Rattle.std.specs.List.{flat_map};
@@ -36,7 +37,7 @@ impl<'a> Printer<'a> {
         ensures { OnOk result (self.new ≡ record self.old {
           text = [];
           below = laid_after ending.now self.old.text
-              (option_map_or (λ kind. steps.cell_opening self.old.around.in_head kind)
+              (option_map_or (λ kind. sides.cell_opening self.old.around.in_head kind)
               (slice_get self.old.around.columns self.old.cells) []) ∷ self.old.below;
           ended = None;
           marker = 38;
@@ -51,7 +52,7 @@ impl<'a> Printer<'a> {
     fn open_cell(&mut self, ending: &str) -> Result<(), AllocError>
         ensures { OnOk result (self.new ≡ record self.old {
           text = laid_after ending.now self.old.text
-              (option_map_or (λ kind. steps.cell_opening self.old.around.in_head kind)
+              (option_map_or (λ kind. sides.cell_opening self.old.around.in_head kind)
               (slice_get self.old.around.columns self.old.cells) []);
         }) }
     {
@@ -65,7 +66,7 @@ impl<'a> Printer<'a> {
     fn open_column(&mut self, ending: &str, kind: AlignKind) -> Result<(), AllocError>
         ensures { OnOk result (self.new ≡ record self.old {
           text =
-              laid_after ending.now self.old.text (steps.cell_opening self.old.around.in_head kind);
+              laid_after ending.now self.old.text (sides.cell_opening self.old.around.in_head kind);
         }) }
     {
         let tag = cell_start(self.around.in_head, kind);
@@ -91,7 +92,7 @@ impl<'a> Printer<'a> {
         requires { self.old.cells < 2 ^ 63 }
         ensures { OnOk result ((ending : List ℕ) → self.new ≡ record self.old {
           text = laid_after ending (steps.first_or [] self.old.below)
-              (option_map_or (λ kind. steps.cell_closing self.old.around.in_head self.old.text)
+              (option_map_or (λ kind. sides.cell_closing self.old.around.in_head self.old.text)
               (slice_get self.old.around.columns self.old.cells) []);
           below = steps.others_of self.old.below;
           cells = self.old.cells + 1;

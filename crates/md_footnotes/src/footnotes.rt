@@ -3,7 +3,8 @@
 ghost use Rattle.std.specs.Prelude.{◌≡◌, ◌∷◌, [], ◌++◌, OnOk, string_bytes};
 ghost use Rattle.md_meaning.specs.Meaning.Layout.{laid_after};
 ghost use Rattle.md_meaning.specs.Meaning.Footnotes.{section};
-ghost use Rattle.md_shape.specs.Steps.{noted, call_pieces};
+ghost use Rattle.md_shape.specs.Sides.{call_pieces};
+ghost use Rattle.md_shape.specs.Steps.{noted};
 ghost use Rattle.md_footnotes.specs.Seen.{given_by};
 
 use crate::called::{Called, Settings};

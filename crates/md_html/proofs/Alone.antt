@@ -6,7 +6,8 @@ use name_variants.{Data, LineEnding, SpaceOrTab, BlockQuotePrefix, Other, BlankL
 use name_variants.{ListItemMarker, ListItemValue, HeadingAtxSequence, Definition}
 use Rattle.md_base.proofs.Lies.{lie}
 use Rattle.md_meaning.specs.Meaning.At.{Given}
-use Rattle.md_shape.specs.Steps.{State, Told, entered, exited, is_passed}
+use Rattle.md_shape.specs.State.{State, Told}
+use Rattle.md_shape.specs.Steps.{entered, exited, is_passed}
 use Rattle.md_emit.specs.Supplies.{is_alone}
 
 pub not_passed : (name : Name) → is_alone name ≡ true → is_passed name ≡ false

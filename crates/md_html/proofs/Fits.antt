@@ -17,8 +17,11 @@ use Rattle.md_meaning.specs.Meaning.At.{Given}
 use Rattle.md_meaning.specs.Meaning.Layout.{Piece, Text, Needed, Forced, laid_after, begins_line}
 use Rattle.md_told.proofs.Running.{noticed-length}
 use Rattle.md_shape.specs.Run.{Noticed, noticed, passes, stepped, run}
-use Rattle.md_shape.specs.Steps.{State, Told, told_of, entered, exited, restored, passed, is_passed}
-use Rattle.md_shape.specs.Steps.{captures, opens, closes, first_or, others_of}
+use Rattle.md_shape.specs.State.{State, Told, told_of}
+use Rattle.md_shape.specs.Steps.{entered, exited, restored, passed, is_passed}
+use Rattle.md_shape.specs.State.{captures}
+use Rattle.md_shape.specs.Sides.{opens, closes}
+use Rattle.md_shape.specs.Steps.{first_or, others_of}
 use Rattle.md_html.specs.Fits.{begins, ends, is_none, may_end, captured_after, fits}
 
 -- ---- lengths

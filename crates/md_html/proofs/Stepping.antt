@@ -15,7 +15,8 @@ use Rattle.md_meaning.specs.Meaning.At.{Given}
 use Rattle.md_tree.specs.Grammar.{Handed}
 use Rattle.md_tree.specs.Texts.{EntersAt}
 use Rattle.md_shape.specs.Run.{Noticed, noticed, passes, stepped}
-use Rattle.md_shape.specs.Steps.{State, Told, entered, exited, passed, is_passed, is_row, is_raw}
+use Rattle.md_shape.specs.State.{State, Told}
+use Rattle.md_shape.specs.Steps.{entered, exited, passed, is_passed, is_row, is_raw}
 use Rattle.md_shape.specs.Steps.{cells_after}
 use Rattle.md_told.specs.Told.{IsNoticedAt}
 use Rattle.md_told.proofs.Nodes.{NodeAt, node-entered, node-exited, noticed_in}

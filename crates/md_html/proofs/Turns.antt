@@ -9,7 +9,8 @@ use Rattle.md_base.specs.Tree.{Forest, flatten}
 use Rattle.md_meaning.specs.Meaning.At.{Given}
 use Rattle.md_tree.specs.Grammar.{IsChecked, IsReadAs}
 use Rattle.md_shape.specs.Run.{Noticed, noticed, passes, stepped, run}
-use Rattle.md_shape.specs.Steps.{State, entered, exited, passed, is_passed}
+use Rattle.md_shape.specs.State.{State}
+use Rattle.md_shape.specs.Steps.{entered, exited, passed, is_passed}
 use Rattle.md_told.specs.Told.{IsNoticedAt}
 use Rattle.md_told.proofs.Nodes.{same-document}
 use Rattle.md_emit.specs.Supplies.{Supplies}

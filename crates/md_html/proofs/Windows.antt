@@ -6,7 +6,7 @@ use Rattle.std.proofs.lemmas.List.{drop-drop}
 use Rattle.md_base.specs.declared.event.Event.{Event}
 use Rattle.md_meaning.specs.Meaning.At.{Given}
 use Rattle.md_shape.specs.Run.{Noticed, passes, stepped, run}
-use Rattle.md_shape.specs.Steps.{State}
+use Rattle.md_shape.specs.State.{State}
 use Rattle.md_html.specs.Windows.{window}
 
 drop-got : {A : Type 0} (xs : List A) (i : ℕ) (x : A) → slice_get xs i ≡ Some x →

@@ -5,7 +5,8 @@ use Rattle.std.specs.Prelude.{[], ◌∷◌}
 use Rattle.md_base.specs.declared.event.Event.{Event}
 use Rattle.md_base.specs.declared.event.Kind.TheVariants.{Enter, Exit}
 use Rattle.md_shape.specs.Run.{Noticed, passes}
-use Rattle.md_shape.specs.Steps.{captures, is_passed}
+use Rattle.md_shape.specs.State.{captures}
+use Rattle.md_shape.specs.Steps.{is_passed}
 
 -- a text begins at an event, or one ends there
 abbrev pub begins : Event → Bool

@@ -5,7 +5,8 @@ use Rattle.md_meaning.specs.Meaning.At.{Given}
 use Rattle.md_meaning.specs.Meaning.Footnotes.{section}
 use Rattle.md_meaning.specs.Meaning.Layout.{laid_after}
 use Rattle.md_shape.specs.Run.{noticed, run}
-use Rattle.md_shape.specs.Steps.{State, beginning}
+use Rattle.md_shape.specs.State.{State}
+use Rattle.md_shape.specs.Steps.{beginning}
 
 abbrev pub text_of : Given → Forest → List ℕ
 text_of at document =

@@ -7,7 +7,8 @@ use Rattle.md_meaning.specs.Meaning.At.{Given}
 use Rattle.md_base.specs.Tree.{Forest, flatten}
 use Rattle.md_shape.specs.Run.{Noticed, noticed, run, stepped, passes}
 use Rattle.md_tree.specs.Texts.{ExitsAt}
-use Rattle.md_shape.specs.Steps.{State, entered, passed, is_passed}
+use Rattle.md_shape.specs.State.{State}
+use Rattle.md_shape.specs.Steps.{entered, passed, is_passed}
 use Rattle.md_told.specs.Told.{IsNoticedAt}
 use Rattle.md_emit.specs.Supplies.{Supplies, Leaves, is_alone}
 use Rattle.md_emit.specs.declared.given.Given.{Given as Supplied}

@@ -36,7 +36,8 @@ use Rattle.md_shape.specs.Content.{Content, Blocks, Spans, Strings, Html, Lines,
 use Rattle.md_shape.specs.Content.{BeforeLabel, AfterLabel, Sources, Rows, Cells, Parts, Nothing}
 use Rattle.md_shape.specs.Content.{Childless, Fits, is_allowed, content_inside, content_past}
 use Rattle.md_shape.specs.Content.{content_after_node}
-use Rattle.md_shape.specs.Steps.{State, told_of, entered, over, beginning, is_passed}
+use Rattle.md_shape.specs.State.{State, told_of}
+use Rattle.md_shape.specs.Steps.{entered, over, beginning, is_passed}
 use Rattle.md_shape.specs.Claim.{Done, at_node, inner_of, next_before, node_of}
 use Rattle.md_shape.specs.Run.{defined}
 use Rattle.md_shape.proofs.Past.{or_else-none}

@@ -15,7 +15,8 @@ use Rattle.md_meaning.specs.Meaning.Around.{inside}
 use Rattle.md_meaning.specs.Meaning.At.{Target, Given, Before}
 use Rattle.md_meaning.specs.Meaning.Before.{before_children}
 use Rattle.md_shape.specs.Content.{Content, Childless, content_inside}
-use Rattle.md_shape.specs.Steps.{State, told_of, entered, turns, turned, is_row, is_raw}
+use Rattle.md_shape.specs.State.{State, told_of, turns, turned}
+use Rattle.md_shape.specs.Steps.{entered, is_row, is_raw}
 use Rattle.md_shape.specs.Steps.{is_labelled, is_ending, is_value}
 use Rattle.md_shape.specs.Claim.{Knows, KnowsEnded, KnowsCells, KnowsLines, KnowsResource}
 use Rattle.md_shape.specs.Claim.{has_marks, mark_after, at_node}

@@ -31,7 +31,8 @@ use Rattle.md_shape.proofs.Decoding.{last-got}
 use Rattle.md_shape.specs.Content.{Content, Strings, Lines, BeforeLabel, AfterLabel, Sources, Cells}
 use Rattle.md_shape.specs.Content.{Nothing, Childless, is_allowed, content_inside, content_past}
 use Rattle.md_shape.specs.Content.{content_after, content_after_node}
-use Rattle.md_shape.specs.Steps.{State, cells_after, target_after, resource_after, heading_after}
+use Rattle.md_shape.specs.State.{State}
+use Rattle.md_shape.specs.Steps.{cells_after, target_after, resource_after, heading_after}
 use Rattle.md_shape.specs.Steps.{calls_after, noted, footnotes_after, slurps_after, nowhere, is_row}
 use Rattle.md_shape.specs.Steps.{is_raw, begins_target, is_labelled}
 use Rattle.md_shape.specs.Claim.{KnowsCells, KnowsLines, KnowsResource, TargetAfter, ResourceAfter}

@@ -31,9 +31,13 @@ use Rattle.md_shape.specs.Underlined.{is_underline, waits_past, waits_after, IsU
 use Rattle.md_shape.specs.Content.{Content, Blocks, Strings, Lines, BeforeLabel, AfterLabel}
 use Rattle.md_shape.specs.Content.{Sources, Cells, Nothing, Childless, Fits, is_allowed, content_of}
 use Rattle.md_shape.specs.Content.{content_inside, content_past, content_after, content_after_node}
-use Rattle.md_shape.specs.Steps.{State, Told, Around, told_of, entered, exited, restored, over}
-use Rattle.md_shape.specs.Steps.{passed, is_passed, captures, turns, turned, opens, closes}
-use Rattle.md_shape.specs.Steps.{first_or, others_of, outside, is_raw, slurps_after, heading_after}
+use Rattle.md_shape.specs.State.{State, Told, Around, told_of}
+use Rattle.md_shape.specs.Steps.{entered, exited, restored, over}
+use Rattle.md_shape.specs.State.{captures, turns, turned}
+use Rattle.md_shape.specs.Sides.{opens, closes}
+use Rattle.md_shape.specs.Steps.{passed, is_passed}
+use Rattle.md_shape.specs.State.{outside}
+use Rattle.md_shape.specs.Steps.{first_or, others_of, is_raw, slurps_after, heading_after}
 use Rattle.md_shape.specs.Steps.{is_value, beginning}
 use Rattle.md_meaning.specs.Meaning.Spans.{marker}
 use Rattle.md_shape.specs.Claim.{Knows, KnowsEnded, KnowsCells, KnowsLines, TargetAfter}

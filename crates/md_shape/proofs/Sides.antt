@@ -51,9 +51,10 @@ use Rattle.md_meaning.specs.Meaning.Tables.{cell_of}
 use Rattle.md_meaning.specs.Meaning.Media.{anchor, picture, target_defined}
 use Rattle.md_meaning.specs.Meaning.Footnotes.{call, call_id, count_of, distinct, id_of}
 use Rattle.md_meaning.specs.Meaning.Footnotes.{place_among}
-use Rattle.md_shape.specs.Steps.{State, Told, turns, turned, captures, opens, closes, cell_opening}
-use Rattle.md_shape.specs.Steps.{cell_closing, fenced_closing, code_closing, call_closing}
-use Rattle.md_shape.specs.Steps.{list_opening}
+use Rattle.md_shape.specs.State.{State, Told, turns, turned, captures}
+use Rattle.md_shape.specs.Sides.{opens, closes, cell_opening}
+use Rattle.md_shape.specs.Sides.{cell_closing, fenced_closing, code_closing, call_closing}
+use Rattle.md_shape.specs.Sides.{list_opening}
 use Rattle.md_shape.specs.Claim.{seen, mark_after}
 use Rattle.md_shape.proofs.Places.{place-so-far}
 

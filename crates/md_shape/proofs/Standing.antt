@@ -14,7 +14,8 @@ use Rattle.md_shape.specs.Content.{Content, Blocks, Spans, Strings, Html, Lines,
 use Rattle.md_shape.specs.Content.{BeforeLabel, AfterLabel, Sources, Rows, Cells, Parts, Nothing}
 use Rattle.md_shape.specs.Content.{Childless, Fits, is_allowed, content_inside, content_past}
 use Rattle.md_shape.specs.Content.{content_after, content_after_node}
-use Rattle.md_shape.specs.Steps.{captures, is_row, is_raw, begins_target, is_labelled}
+use Rattle.md_shape.specs.State.{captures}
+use Rattle.md_shape.specs.Steps.{is_row, is_raw, begins_target, is_labelled}
 use Rattle.md_shape.specs.Claim.{is_laid, keeps_cells, keeps_lines, has_marks}
 use Rattle.md_shape.proofs.Sides.{is_set_aside}
 

@@ -18,7 +18,8 @@ use Rattle.md_meaning.specs.Meaning.Before.{before_children, nothing_before}
 use Rattle.md_meaning.specs.Meaning.Nodes.{outcome}
 use Rattle.md_shape.proofs.Underlines.{grammatical-underlined}
 use Rattle.md_shape.specs.Content.{Blocks}
-use Rattle.md_shape.specs.Steps.{State, Told, told_of, entered, exited, passed, is_passed, over}
+use Rattle.md_shape.specs.State.{State, Told, told_of}
+use Rattle.md_shape.specs.Steps.{entered, exited, passed, is_passed, over}
 use Rattle.md_shape.specs.Steps.{beginning}
 use Rattle.md_shape.specs.Claim.{Done, noted_all, next_before}
 use Rattle.md_shape.specs.Run.{Noticed, noticed, run, defined, stepped, passes, given_alone}

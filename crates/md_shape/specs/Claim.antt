@@ -23,7 +23,8 @@ use Rattle.md_meaning.specs.Meaning.Before.{before_children}
 use Rattle.md_meaning.specs.Meaning.Spans.{marker}
 use Rattle.md_meaning.specs.Meaning.Nodes.{Outcome, node, outcome, before_next}
 use Rattle.md_shape.specs.Underlined.{waits_after}
-use Rattle.md_shape.specs.Steps.{State, Around, noted}
+use Rattle.md_shape.specs.State.{State, Around}
+use Rattle.md_shape.specs.Steps.{noted}
 use Rattle.md_shape.specs.Content.{Content, Blocks, Strings, Lines, BeforeLabel, AfterLabel}
 use Rattle.md_shape.specs.Content.{Sources, Rows, Cells, Nothing, Childless, content_after}
 

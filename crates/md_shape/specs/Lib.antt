@@ -5,6 +5,8 @@ pub mod Leads
 pub mod Underlined
 -- The printer of one text: what may stand where, and what it does at each event.
 pub mod Content
+pub mod State
+pub mod Sides
 pub mod Steps
 pub mod Claim
 pub mod Run

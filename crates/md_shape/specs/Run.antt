@@ -12,7 +12,8 @@ use Rattle.md_meaning.specs.Meaning.Finds.{first_ending}
 use Rattle.md_meaning.specs.Meaning.Footnotes.{section}
 use Rattle.md_meaning.specs.Meaning.Layout.{laid_after}
 use Rattle.md_text.specs.declared.options.CompileOptions.{CompileOptions}
-use Rattle.md_shape.specs.Steps.{State, Told, told_of, entered, exited, passed, is_passed, over}
+use Rattle.md_shape.specs.State.{State, Told, told_of}
+use Rattle.md_shape.specs.Steps.{entered, exited, passed, is_passed, over}
 use Rattle.md_shape.specs.Steps.{beginning}
 
 -- what was found of a node, and how many events come after its entry up to its exit

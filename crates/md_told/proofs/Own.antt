@@ -15,7 +15,8 @@ use Rattle.md_shape.specs.Built.{Blocks}
 use Rattle.md_shape.specs.Leads.{Everywhere}
 use Rattle.md_shape.proofs.Grammatical.{grammatical-built}
 use Rattle.md_tree.specs.Grammar.{Handed, IsChecked}
-use Rattle.md_shape.specs.Steps.{State, told_of, entered, is_passed, over, beginning}
+use Rattle.md_shape.specs.State.{State, told_of}
+use Rattle.md_shape.specs.Steps.{entered, is_passed, over, beginning}
 use Rattle.md_shape.specs.Run.{Noticed, noticed, run, defined}
 use Rattle.md_told.specs.Told.{IsNoticedAt}
 use Rattle.md_told.specs.Definitions.{within, own_defined}

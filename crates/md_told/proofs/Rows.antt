@@ -21,7 +21,7 @@ use Rattle.md_tree.specs.Rules.{reading_of, target_of}
 use Rattle.md_tree.proofs.Entering.{get_at}
 use Rattle.md_tree.proofs.Placing.{at_entry, in_node, after_node}
 use Rattle.md_shape.specs.Leads.{Everywhere}
-use Rattle.md_shape.specs.Steps.{told_of}
+use Rattle.md_shape.specs.State.{told_of}
 use Rattle.md_shape.specs.Run.{Noticed, noticed}
 
 -- an event of a node: whether it enters it; the node's name, its two ends and its children, whether

@@ -7,7 +7,8 @@ use Rattle.md_base.specs.declared.event.Event.{Event}
 use Rattle.md_base.specs.Tree.{Forest, Empty, Node, flatten, exiting}
 use Rattle.md_base.specs.Children.{is_empty}
 use Rattle.md_meaning.specs.Meaning.At.{Given}
-use Rattle.md_shape.specs.Steps.{State, Told, told_of, entered, exited, passed, is_passed, over}
+use Rattle.md_shape.specs.State.{State, Told, told_of}
+use Rattle.md_shape.specs.Steps.{entered, exited, passed, is_passed, over}
 use Rattle.md_shape.specs.Run.{Noticed, noticed, run}
 
 pub noticed-length : (bytes : List ℕ) (outermost : Bool) (forest : Forest) →

@@ -15,7 +15,8 @@ use Rattle.md_meaning.specs.Meaning.Layout.{when}
 use Rattle.md_shape.specs.Built.{Content, Sources, Strings, Nothing, IsBuilt, content_inside}
 use Rattle.md_shape.specs.Built.{content_past, content_after, content_after_node, may_stand}
 use Rattle.md_shape.specs.Leads.{Everywhere, defined_in}
-use Rattle.md_shape.specs.Steps.{is_passed, over, entered, told_of, beginning}
+use Rattle.md_shape.specs.State.{told_of}
+use Rattle.md_shape.specs.Steps.{is_passed, over, entered, beginning}
 use Rattle.md_shape.specs.Run.{defined}
 
 -- no definition is among some nodes, at any depth

@@ -2,8 +2,8 @@
 use Rattle.std.proofs.Common.{◌≡◌, ◌∷◌, ◌++◌, [], ℕ, List, Bool, true, false, not, Option, Some}
 use Rattle.std.proofs.Common.{None, refl, ap, sym, ◌∙◌}
 use Rattle.std.specs.Prelude.{codes, if◌then◌else◌, unwrap_or, ◌||◌, ◌&&◌}
-use Rattle.md_shape.specs.Steps as steps
-use Rattle.md_shape.specs.Steps.{State, Told}
+use Rattle.md_shape.specs.Sides as sides
+use Rattle.md_shape.specs.State.{State, Told}
 use Rattle.md_meaning.specs.Meaning.Layout.{Needed, Text, laid_after, said, on_own_line, when}
 use Rattle.md_output.specs.Texts.{Texts}
 use Rattle.md_emit.proofs.LinkHeads.{call-laid}
@@ -19,5 +19,5 @@ returns c =
     let with : List ℕ → Texts = λ t. record { text = t; below = old.below } in
     on_ok _ _
     (λ e. e ∙ ap (λ t. with (old.text ++ t)) (c.as_str.ensures.value ∙ c.in_ok-push_call.ensures
-    ∙ ap (λ s. laid_after [] s (steps.call_pieces options calls identifier)) c.clear.ensures.bytes)
+    ∙ ap (λ s. laid_after [] s (sides.call_pieces options calls identifier)) c.clear.ensures.bytes)
     ∙ ap with (call-laid old.text options calls identifier)) c.put.result c.put.ensures

@@ -4,7 +4,8 @@ use Rattle.md_base.specs.declared.event.Name.TheVariants.{Definition}
 use Rattle.md_tree.specs.Grammar.{IsReadAs}
 use Rattle.md_told.specs.Definitions.{within}
 use Rattle.md_shape.specs.Run.{noticed, run}
-use Rattle.md_shape.specs.Steps.{State, entered}
+use Rattle.md_shape.specs.State.{State}
+use Rattle.md_shape.specs.Steps.{entered}
 use Rattle.md_html.specs.Windows.{window}
 use Rattle.md_html.proofs.Owns.{window-within}
 use Rattle.md_html.proofs.Stepping.{inside-within}

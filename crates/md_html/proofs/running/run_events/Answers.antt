@@ -7,7 +7,7 @@ use Rattle.md_base.specs.declared.event.Event.{Event}
 use Rattle.md_base.specs.Tree.{flatten}
 use Rattle.md_emit.specs.declared.given.Given.{Given as Supplied}
 use Rattle.md_shape.specs.Run.{noticed, run}
-use Rattle.md_shape.specs.Steps.{State}
+use Rattle.md_shape.specs.State.{State}
 use Rattle.md_html.specs.Stepping.{Goes}
 use Rattle.md_html.proofs.Turns.{turn-within, turn-cells, turn-fences, leaf-cells, leaf-fences}
 use Rattle.md_html.proofs.Turns.{goes-turn, goes-leaf}

@@ -3,8 +3,8 @@ use Rattle.std.proofs.Common.{◌≡◌, ◌∷◌, ◌++◌, [], ℕ, List, Boo
 use Rattle.std.proofs.Common.{None, refl, ap, sym, ◌∙◌}
 use Rattle.std.specs.Prelude.{codes, if◌then◌else◌, unwrap_or, ◌||◌}
 use Rattle.md_base.specs.declared.event.Name.TheVariants as names
-use Rattle.md_shape.specs.Steps as steps
-use Rattle.md_shape.specs.Steps.{State, Told}
+use Rattle.md_shape.specs.Sides as sides
+use Rattle.md_shape.specs.State.{State, Told}
 use Rattle.md_meaning.specs.Meaning.Layout.{Needed, Text, laid_after, said, on_own_line, when}
 use Rattle.md_base.specs.declared.event.AlignKind.{AlignKind}
 use Rattle.md_meaning.specs.Meaning.Blocks.{heading_tag}
@@ -42,7 +42,7 @@ returns-in_ok-open_list-in-ListOrdered c =
     c.turn_list-in-ListOrdered.new.self c.in-ListOrdered.is (λ given one supplies there.
     let tagged : State = record old {
       text = laid_after code.ending.now old.text (on_own_line (codes "<ol")
-          ++ (steps.list_opening given one.told ++ said (codes ">")));
+          ++ (sides.list_opening given one.told ++ said (codes ">")));
       ended = None;
       marker = 38;
     } in

@@ -2,7 +2,7 @@
 use Rattle.std.proofs.Common.{◌≡◌, ◌∷◌, [], ℕ, List, Bool, true, false, Some, ap, ◌∙◌}
 use Rattle.std.specs.Prelude.{if◌then◌else◌}
 use Rattle.md_base.specs.declared.event.Name.TheVariants as names
-use Rattle.md_shape.specs.Steps.{State}
+use Rattle.md_shape.specs.State.{State}
 use Rattle.md_meaning.specs.Meaning.Layout.{Needed, laid_after, when}
 use Rattle.md_emit.proofs.Answering.{leaves-by}
 use Rattle.md_emit.proofs.printer.Printer.leaf.Goals as goal

@@ -3,8 +3,9 @@ use Rattle.std.proofs.Common.{◌≡◌, ◌∷◌, ◌++◌, [], ℕ, List, Boo
 use Rattle.std.proofs.Common.{None, refl, ap, sym, ◌∙◌}
 use Rattle.std.specs.Prelude.{codes, if◌then◌else◌, unwrap_or, ◌||◌, string_bytes}
 use Rattle.md_base.specs.declared.event.Name.TheVariants as names
+use Rattle.md_shape.specs.Sides as sides
 use Rattle.md_shape.specs.Steps as steps
-use Rattle.md_shape.specs.Steps.{State, Told}
+use Rattle.md_shape.specs.State.{State, Told}
 use Rattle.md_meaning.specs.Meaning.Layout.{Needed, Text, laid_after, said, on_own_line, when}
 use Rattle.md_text.specs.declared.options.CompileOptions.{CompileOptions}
 use Rattle.md_emit.proofs.Answering.{on_ok, enters-by, leaves-by, ending_in}
@@ -22,7 +23,7 @@ returns c =
     } in
     let printed : State → CompileOptions → List ℕ → State = λ s options identifier. record s {
       text = laid_after code.ending.now s.text (when (not s.around.in_image)
-          (steps.call_pieces options s.calls identifier));
+          (sides.call_pieces options s.calls identifier));
     } in
     let counted : State → List ℕ → State =
     λ s identifier. record s { calls = s.calls ++ identifier ∷ [] } in

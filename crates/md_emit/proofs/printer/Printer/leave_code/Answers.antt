@@ -3,8 +3,9 @@ use Rattle.std.proofs.Common.{◌≡◌, ◌∷◌, ◌++◌, [], ℕ, List, Boo
 use Rattle.std.proofs.Common.{None, refl, ap, sym, ◌∙◌}
 use Rattle.std.specs.Prelude.{codes, if◌then◌else◌, unwrap_or, ◌||◌, ◌&&◌}
 use Rattle.md_base.specs.declared.event.Name.TheVariants as names
+use Rattle.md_shape.specs.State as states
 use Rattle.md_shape.specs.Steps as steps
-use Rattle.md_shape.specs.Steps.{State, Told}
+use Rattle.md_shape.specs.State.{State, Told}
 use Rattle.md_meaning.specs.Meaning.Layout.{Needed, Text, laid_after, said, on_own_line, when}
 use Rattle.md_meaning.specs.Meaning.Spans.{trimmed, without_escapes}
 use Rattle.md_emit.proofs.Answering.{on_ok}
@@ -14,7 +15,7 @@ pub returns : goal.returns
 returns c =
     let old = c.args.self.now in
     let left : State = record old {
-      around = steps.first_or steps.outside old.arounds;
+      around = steps.first_or states.outside old.arounds;
       arounds = steps.others_of old.arounds;
       ended = Some c.args.name;
       marker = 38;

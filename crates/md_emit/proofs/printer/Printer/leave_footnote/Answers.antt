@@ -3,8 +3,9 @@ use Rattle.std.proofs.Common.{◌≡◌, ◌∷◌, ◌++◌, [], ℕ, List, Boo
 use Rattle.std.proofs.Common.{None, refl, ap, sym, ◌∙◌}
 use Rattle.std.specs.Prelude.{codes, if◌then◌else◌, unwrap_or, ◌||◌, string_bytes}
 use Rattle.md_base.specs.declared.event.Name.TheVariants as names
+use Rattle.md_shape.specs.State as states
 use Rattle.md_shape.specs.Steps as steps
-use Rattle.md_shape.specs.Steps.{State, Told}
+use Rattle.md_shape.specs.State.{State, Told}
 use Rattle.md_emit.proofs.Answering.{on_ok, enters-by, leaves-by, ending_in}
 use Rattle.md_emit.proofs.printer.Printer.leave_footnote.Goals as goal
 
@@ -13,7 +14,7 @@ returns c =
     let old = c.args.self.now in
     let code = c.args.given.now in
     let back : State = record old {
-      around = steps.first_or steps.outside old.arounds;
+      around = steps.first_or states.outside old.arounds;
       arounds = steps.others_of old.arounds;
       ended = Some names.GfmFootnoteDefinition;
       marker = 38;

@@ -3,8 +3,10 @@ use Rattle.std.proofs.Common.{◌≡◌, ◌∷◌, ◌++◌, [], ℕ, List, Boo
 use Rattle.std.proofs.Common.{None, refl, ap, sym, ◌∙◌}
 use Rattle.std.specs.Prelude.{codes, if◌then◌else◌, unwrap_or, ◌||◌}
 use Rattle.md_base.specs.declared.event.Name.TheVariants as names
+use Rattle.md_shape.specs.State as states
+use Rattle.md_shape.specs.Sides as sides
 use Rattle.md_shape.specs.Steps as steps
-use Rattle.md_shape.specs.Steps.{State, Told}
+use Rattle.md_shape.specs.State.{State, Told}
 use Rattle.md_meaning.specs.Meaning.Layout.{Needed, Text, laid_after, said, on_own_line, when}
 use Rattle.md_text.specs.declared.options.CompileOptions.{CompileOptions}
 use Rattle.md_meaning.specs.Meaning.At.{Target}
@@ -18,7 +20,7 @@ pub returns : goal.returns
 returns c =
     let old = c.args.self.now in
     let code = c.args.given.now in
-    let around = steps.first_or steps.outside old.arounds in
+    let around = steps.first_or states.outside old.arounds in
     let under = steps.first_or [] old.below in
     let left : State = record old {
       around = around;
@@ -39,11 +41,11 @@ returns c =
     ∙ c.if-is_label_alone.false in
     on_ok _ _ (λ e. leaves-by code c.args.index names.Link names.Link old c.put_link.new.self refl
     (λ given one supplies there.
-    let target = steps.leads given left one.told in
+    let target = sides.leads given left one.told in
     let pieces = anchor given.options target old.text in
     e ∙ ap (λ t. printed c.ends.new.self code.options.now t)
     (c.in_ok-found.ensures given one supplies there)
-    ∙ ap (λ s. printed s code.options.now (steps.leads given s one.told)) came
+    ∙ ap (λ s. printed s code.options.now (sides.leads given s one.told)) came
     ∙ ap (λ o. printed left o target) (sym supplies.options)
     ∙ ap laid (sym (anchor-laid code.ending.now under given.options target old.text))
     ∙ ap (λ b. laid (laid_after code.ending.now under (if b then said old.text else pieces)))

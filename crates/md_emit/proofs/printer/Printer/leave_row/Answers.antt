@@ -3,8 +3,7 @@ use Rattle.std.proofs.Common.{◌≡◌, ◌∷◌, ◌++◌, [], ℕ, List, Boo
 use Rattle.std.proofs.Common.{None, refl, ap, sym, ◌∙◌}
 use Rattle.std.specs.Prelude.{codes, if◌then◌else◌, unwrap_or, ◌||◌, ◌&&◌}
 use Rattle.md_base.specs.declared.event.Name.TheVariants as names
-use Rattle.md_shape.specs.Steps as steps
-use Rattle.md_shape.specs.Steps.{State, Told}
+use Rattle.md_shape.specs.State.{State, Told}
 use Rattle.md_meaning.specs.Meaning.Layout.{Needed, Text, laid_after, said, on_own_line, when}
 use Rattle.std.specs.Prelude.{drop}
 use Rattle.std.specs.List.{flat_map}

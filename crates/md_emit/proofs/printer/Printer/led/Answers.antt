@@ -2,8 +2,7 @@
 use Rattle.std.proofs.Common.{◌≡◌, ◌∷◌, ◌++◌, [], ℕ, List, Bool, true, false, not, Option, Some}
 use Rattle.std.proofs.Common.{None, refl, ap, sym, ◌∙◌}
 use Rattle.std.specs.Prelude.{codes, if◌then◌else◌, unwrap_or, ◌||◌}
-use Rattle.md_shape.specs.Steps as steps
-use Rattle.md_shape.specs.Steps.{State, Told}
+use Rattle.md_shape.specs.State.{State, Told}
 use Rattle.md_emit.proofs.printer.Printer.led.Goals as goal
 
 pub returns : goal.returns

@@ -3,7 +3,7 @@ use Rattle.std.proofs.Common.{◌∷◌, [], ap, ◌∙◌}
 use Rattle.std.specs.Prelude.{codes, if◌then◌else◌}
 use Rattle.md_meaning.specs.Meaning.Layout.{Needed, laid_after, on_own_line}
 use Rattle.md_meaning.specs.Meaning.Tables.{align_attribute}
-use Rattle.md_shape.specs.Steps.{State}
+use Rattle.md_shape.specs.State.{State}
 use Rattle.md_emit.specs.Parts.{cell_start}
 use Rattle.md_emit.proofs.Answering.{on_ok}
 use Rattle.md_emit.proofs.Cells.{started}

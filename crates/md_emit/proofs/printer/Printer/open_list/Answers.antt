@@ -2,8 +2,8 @@
 use Rattle.std.proofs.Common.{◌≡◌, ◌∷◌, ◌++◌, [], ℕ, List, Bool, true, false, not, Option, Some}
 use Rattle.std.proofs.Common.{None, refl, ap, sym, ◌∙◌}
 use Rattle.std.specs.Prelude.{codes, if◌then◌else◌, unwrap_or, ◌||◌}
-use Rattle.md_shape.specs.Steps as steps
-use Rattle.md_shape.specs.Steps.{State, Told}
+use Rattle.md_shape.specs.Sides as sides
+use Rattle.md_shape.specs.State.{State, Told}
 use Rattle.md_meaning.specs.Meaning.Layout.{Needed, Text, laid_after, said, on_own_line, when}
 use Rattle.md_shape.proofs.Laid.{laid-append}
 use Rattle.md_emit.proofs.Answering.{on_ok}
@@ -16,7 +16,7 @@ returns c =
     let tag : List ℕ = laid_after ending old.text (on_own_line (codes "<ol")) in
     let entered : List ℕ → State = λ t. record old { text = t; ended = None; marker = 38 } in
     on_ok _ _ (λ e all one supplies there.
-    let more = steps.list_opening all one.told in
+    let more = sides.list_opening all one.told in
     e ∙ ap (λ (s : State). record s { text = s.text ++ codes ">" })
     (c.in_ok-open_start.ensures all one supplies there ending
     ∙ ap (λ (s : State). record s { text = laid_after ending s.text more })

@@ -4,8 +4,8 @@ use Rattle.std.proofs.Common.{None, refl, ap, sym, ◌∙◌}
 use Rattle.std.specs.Prelude.{codes, if◌then◌else◌, unwrap_or, ◌||◌}
 use Rattle.std.specs.Prelude.{bytes_eq}
 use Rattle.md_base.specs.declared.event.Position.{Position}
-use Rattle.md_shape.specs.Steps as steps
-use Rattle.md_shape.specs.Steps.{State, Told}
+use Rattle.md_shape.specs.Sides as sides
+use Rattle.md_shape.specs.State.{State, Told}
 use Rattle.md_meaning.specs.Meaning.Layout.{Needed, Text, laid_after, said, on_own_line, when}
 use Rattle.md_meaning.specs.Meaning.At.{text_in}
 use Rattle.md_meaning.specs.Meaning.Blocks.{without_zeros}
@@ -25,7 +25,7 @@ returns-in-Some c =
     ∙ ap with (c.without_zeros.ensures ∙ ap without_zeros (c.text_of_leaf-digits.ensures
     ∙ ap (λ bytes. text_in bytes place) (sym supplies.bytes)))
     ∙ ap (λ (o : Option Position). record old {
-      text = laid_after ending old.text (steps.list_opening all (record one.told { number = o }));
+      text = laid_after ending old.text (sides.list_opening all (record one.told { number = o }));
     }) (sym c.in-Some.is ∙ c.number_at.ensures one there))
     c.open_number.result c.open_number.ensures
 
@@ -33,5 +33,5 @@ pub returns-in-None : goal.returns-in-None
 returns-in-None c = λ all one supplies there ending.
     let old = c.args.self.now in
     ap (λ (o : Option Position). record old {
-      text = laid_after ending old.text (steps.list_opening all (record one.told { number = o }));
+      text = laid_after ending old.text (sides.list_opening all (record one.told { number = o }));
     }) (sym c.in-None.is ∙ c.number_at.ensures one there)

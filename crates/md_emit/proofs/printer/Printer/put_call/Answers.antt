@@ -2,8 +2,8 @@
 use Rattle.std.proofs.Common.{◌≡◌, ◌∷◌, ◌++◌, [], ℕ, List, Bool, true, false, not, Option, Some}
 use Rattle.std.proofs.Common.{None, refl, ap, sym, ◌∙◌}
 use Rattle.std.specs.Prelude.{codes, if◌then◌else◌, unwrap_or, ◌||◌, ◌&&◌}
-use Rattle.md_shape.specs.Steps as steps
-use Rattle.md_shape.specs.Steps.{State, Told}
+use Rattle.md_shape.specs.Sides as sides
+use Rattle.md_shape.specs.State.{State, Told}
 use Rattle.md_meaning.specs.Meaning.Layout.{Needed, Text, laid_after, said, on_own_line, when}
 use Rattle.md_emit.proofs.Answering.{on_ok}
 use Rattle.md_emit.proofs.printer.Printer.put_call.Goals as goal
@@ -11,7 +11,7 @@ use Rattle.md_emit.proofs.printer.Printer.put_call.Goals as goal
 pub returns : goal.returns
 returns c =
     let old = c.args.self.now in
-    let pieces = steps.call_pieces c.args.options.now old.calls c.args.identifier.now in
+    let pieces = sides.call_pieces c.args.options.now old.calls c.args.identifier.now in
     on_ok _ _ (λ e ending. e
     ∙ ap (λ b. record old { text = laid_after ending old.text (when (not b) pieces) })
     (sym (sym c.is_in_image-is_hidden.ensures ∙ c.if-is_hidden.false)))

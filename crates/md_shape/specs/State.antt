@@ -1,0 +1,170 @@
+-- What the printer keeps of the text and of the nodes around, what it is told of a node, and how
+-- the surroundings change in one.
+use Rattle.std.specs.Prelude.{ℕ, Bool, true, false, not, List, [], Option}
+use Rattle.std.specs.Option.{option_map_or}
+use Rattle.md_base.specs.declared.event.AlignKind.{AlignKind}
+use Rattle.md_base.specs.declared.event.Name.{Name}
+use Rattle.md_base.specs.declared.event.Name.TheVariants as name_variants
+use name_variants.{BlockQuote, ListOrdered, ListUnordered, GfmFootnoteDefinition}
+use name_variants.{GfmFootnoteDefinitionPrefix, CodeFencedFenceMeta, MathFlowFenceMeta, CodeText}
+use name_variants.{MathText, HtmlFlow, HtmlText, Definition, DefinitionDestinationString}
+use name_variants.{DefinitionTitleString, Link, Image, Resource, ResourceDestinationString}
+use name_variants.{ResourceTitleString, ReferenceString, GfmFootnoteCall, HeadingSetextText}
+use name_variants.{GfmTable, GfmTableHead, GfmTableCell, GfmTableDelimiterRow, Frontmatter}
+use Rattle.md_base.specs.declared.event.Point.{Point}
+use Rattle.md_base.specs.declared.event.Position.{Position}
+use Rattle.md_base.specs.Tree.{Forest}
+use Rattle.md_base.specs.Children.{last_contributing}
+use Rattle.md_pattern.specs.Looseness.{is_loose}
+use Rattle.md_pattern.specs.Alignments.{alignments}
+use Rattle.md_text.specs.declared.options.CompileOptions.{CompileOptions}
+use Rattle.md_tree.specs.Rules.{place, columns}
+use Rattle.md_meaning.specs.Meaning.At.{Target, Footnote, identifier_of}
+use Rattle.md_meaning.specs.Meaning.Finds.{first_named, number_in_list}
+use Rattle.md_base.specs.declared.event.Name.TheVariants.{HeadingAtxSequence}
+
+-- what is known of the nodes around, with the alignments of the innermost table
+pub record Around : Type 0 where
+  pub is_contained : Bool
+  pub is_tight : Bool
+  pub in_image : Bool
+  pub in_link : Bool
+  pub in_table : Bool
+  pub in_head : Bool
+  pub in_code : Bool
+  pub in_definition : Bool
+  pub is_escaping : Bool
+  pub columns : List AlignKind
+
+-- the text since the innermost capture, and those before it; the surroundings, and those to come
+-- back to; whether the next line ending is slurped; the node that ended right before; the mark
+-- of a reference; the fences and whether there is a chunk of the code so far; the text of the
+-- latest heading; the cells of the row so far; where the resource or the definition leads so
+-- far, and where the resource after the latest label leads; the calls so far, and the first
+-- footnote with each identifier
+pub record State : Type 0 where
+  pub text : List ℕ
+  pub below : List (List ℕ)
+  pub around : Around
+  pub arounds : List Around
+  pub slurps : Bool
+  pub ended : Option Name
+  pub marker : ℕ
+  pub fences : ℕ
+  pub has_chunk : Bool
+  pub heading : List ℕ
+  pub cells : ℕ
+  pub target : Target
+  pub resource : Option Target
+  pub calls : List (List ℕ)
+  pub footnotes : List Footnote
+
+-- what the check found of a node, at both of its events: whether it is loose, as a list, and its
+-- number; its columns, as a table; its last child that contributes, as an item; how long its first
+-- mark is, as a heading; by what it refers or is referred to; its place; whether nothing follows
+-- it in the document
+pub record Told : Type 0 where
+  pub loose : Bool
+  pub number : Option Position
+  pub columns : List AlignKind
+  pub contributing : Option Name
+  pub rank : ℕ
+  pub identifier : List ℕ
+  pub place : Position
+  pub last : Bool
+
+abbrev pub told_of : List ℕ → Bool → Forest → Point → Point → Told
+told_of bytes last children start end = record {
+  loose = is_loose children;
+  number = number_in_list children;
+  columns = alignments children;
+  contributing = last_contributing children;
+  rank = option_map_or (λ mark. columns mark.start mark.end)
+      (first_named HeadingAtxSequence children) 0;
+  identifier = identifier_of bytes children;
+  place = place start end;
+  last = last;
+}
+
+-- what is known outside all nodes
+abbrev pub outside : Around
+outside = record {
+  is_contained = false;
+  is_tight = false;
+  in_image = false;
+  in_link = false;
+  in_table = false;
+  in_head = false;
+  in_code = false;
+  in_definition = false;
+  is_escaping = true;
+  columns = [];
+}
+
+-- the surroundings change in nodes of this name
+abbrev pub turns : Name → Bool
+turns name = elim name [
+  | BlockQuote ↦ true
+  | GfmFootnoteDefinition ↦ true
+  | ListOrdered ↦ true
+  | ListUnordered ↦ true
+  | Image ↦ true
+  | Link ↦ true
+  | GfmTable ↦ true
+  | GfmTableHead ↦ true
+  | CodeText ↦ true
+  | MathText ↦ true
+  | Definition ↦ true
+  | HtmlFlow ↦ true
+  | HtmlText ↦ true
+  | DefinitionDestinationString ↦ true
+  | ResourceDestinationString ↦ true
+  | _ ↦ false
+]
+
+-- the surroundings in a node
+abbrev pub turned : CompileOptions → Told → Name → Around → Around
+turned options told name around = elim name [
+  | BlockQuote ↦ record around { is_contained = true; is_tight = false }
+  | GfmFootnoteDefinition ↦ record around { is_contained = true; is_tight = false }
+  | ListOrdered ↦ record around { is_contained = true; is_tight = not told.loose }
+  | ListUnordered ↦ record around { is_contained = true; is_tight = not told.loose }
+  | Image ↦ record around { in_image = true }
+  | Link ↦ record around { in_link = true }
+  | GfmTable ↦ record around { in_table = true; columns = told.columns }
+  | GfmTableHead ↦ record around { in_head = true }
+  | CodeText ↦ record around { in_code = true }
+  | MathText ↦ record around { in_code = true }
+  | Definition ↦ record around { in_definition = true }
+  | HtmlFlow ↦ record around { is_escaping = not options.allow_dangerous_html }
+  | HtmlText ↦ record around { is_escaping = not options.allow_dangerous_html }
+  | DefinitionDestinationString ↦ record around { is_escaping = false }
+  | ResourceDestinationString ↦ record around { is_escaping = false }
+  | _ ↦ around
+]
+
+-- the text of these nodes is captured
+abbrev pub captures : Name → Bool
+captures name = elim name [
+  | HeadingSetextText ↦ true
+  | CodeFencedFenceMeta ↦ true
+  | MathFlowFenceMeta ↦ true
+  | CodeText ↦ true
+  | MathText ↦ true
+  | Link ↦ true
+  | Image ↦ true
+  | Resource ↦ true
+  | ReferenceString ↦ true
+  | DefinitionDestinationString ↦ true
+  | DefinitionTitleString ↦ true
+  | ResourceDestinationString ↦ true
+  | ResourceTitleString ↦ true
+  | GfmTableCell ↦ true
+  | GfmTableDelimiterRow ↦ true
+  | GfmFootnoteCall ↦ true
+  | GfmFootnoteDefinition ↦ true
+  | GfmFootnoteDefinitionPrefix ↦ true
+  | Definition ↦ true
+  | Frontmatter ↦ true
+  | _ ↦ false
+]
