@@ -1,8 +1,8 @@
 -- Each reference of a document of the grammar decodes, by the mark that stands before its value.
 use Rattle.std.proofs.Common.{◌≡◌, inl, inr, ℕ, zero, suc, Bool, true, false, ◌&&◌, Option, Some}
 use Rattle.std.proofs.Common.{None, List, [], ◌∷◌, ◌++◌, refl, sym, ap, ◌∙◌, subst, append_assoc}
-use Rattle.std.proofs.Common.{append-nil, arith}
-use Rattle.std.specs.Prelude.{if◌then◌else◌, is_some, replicate, unwrap_or, length, slice_get, ◌-◌}
+use Rattle.std.proofs.Common.{append-nil}
+use Rattle.std.specs.Prelude.{if◌then◌else◌, is_some, replicate, unwrap_or}
 use Rattle.std.specs.Option.{option_map_or}
 use Rattle.std.specs.List.{list_all}
 use Rattle.std.proofs.lemmas.Bool.{and_parts, and_from}
@@ -35,12 +35,13 @@ use Rattle.md_meaning.specs.Surroundings.{last_of, spine_inside, spine_after_nod
 use Rattle.md_meaning.specs.Meaning.Spans.{marker}
 use Rattle.md_shape.specs.Leads.{EverywhereAfter, Decodes}
 use Rattle.md_shape.proofs.Symbols.{Told, told}
-use Rattle.md_shape.proofs.Firsts.{IsFine, AreFine, fine, shaped}
-use Rattle.md_shape.proofs.Fitting.{unless-holds}
+use Rattle.md_shape.proofs.FineNodes.{IsFine, AreFine, fine, shaped}
+use Rattle.md_shape.proofs.RanksAndNumbers.{unless-holds}
 use Rattle.md_shape.proofs.Letters.{letters, fits-all}
+use Rattle.md_shape.proofs.LastNames.{symbol_in, symbol_of, last-got, last-symbols, solid-here}
+use Rattle.md_shape.proofs.LastNames.{solid-names}
 
 -- ---- values stand after marks
-
 abbrev is_mark : Option Symbol → Bool
 is_mark (Some symbol.ReferenceMarker) = true
 is_mark (Some symbol.ReferenceNumeric) = true
@@ -121,107 +122,7 @@ well-split before (seen ∷ symbols) others h =
     let rest = well-split (Some seen) symbols others parts.1 in
     (and_from (stands_well before seen) (are_well (Some seen) symbols) parts.0 rest.0, rest.1)
 
--- ---- the last name on a spine, and the last symbol
-
-abbrev symbol_in : Standing → Option Symbol
-symbol_in (Solid seen usual reading) = Some seen
-symbol_in _ = None
-
-abbrev symbol_of : Option Name → Option Symbol
-symbol_of None = None
-symbol_of (Some n) = symbol_in (standing_of n)
-
-abbrev is_solid : Standing → Bool
-is_solid (Solid seen usual reading) = true
-is_solid _ = false
-
-last-push : (names : List Name) (n : Name) → last_of (names ++ n ∷ []) ≡ Some n
-last-push [] n = refl
-last-push (other ∷ names) n = ap (λ o. Some (unwrap_or o other)) (last-push names n)
-
-solid-shown : (standing : Standing) (before : Option Symbol) (symbols : List Symbol) →
-    is_solid standing ≡ true →
-    last_symbol before (shown standing [] ++ symbols) ≡ last_symbol (symbol_in standing) symbols
-solid-shown (Solid seen usual reading) before symbols h = refl
-solid-shown Through before symbols h = lie h
-solid-shown Space before symbols h = lie h
-solid-shown Mdx before symbols h = lie h
-
--- names that stand on a spine follow others
-last-symbols : (names earlier : List Name) (before : Option Symbol) →
-    list_all (λ n. is_solid (standing_of n)) names ≡ true → before ≡ symbol_of (last_of earlier) →
-    last_symbol before (symbols_of names) ≡ symbol_of (last_of (earlier ++ names))
-last-symbols [] earlier before h e =
-    e ∙ ap (λ ns. symbol_of (last_of ns)) (sym (append-nil earlier))
-last-symbols (n ∷ names) earlier before h e =
-    let parts =
-    and_parts (is_solid (standing_of n)) (list_all (λ m. is_solid (standing_of m)) names) h in
-    solid-shown (standing_of n) before (symbols_of names) parts.0
-    ∙ last-symbols names (earlier ++ n ∷ []) (symbol_in (standing_of n)) parts.1
-    (ap symbol_of (sym (last-push earlier n)))
-    ∙ ap (λ ns. symbol_of (last_of ns)) (append_assoc earlier (n ∷ []) names)
-
-solid-append : (names others : List Name) → list_all (λ n. is_solid (standing_of n)) names ≡ true →
-    list_all (λ n. is_solid (standing_of n)) others ≡ true →
-    list_all (λ n. is_solid (standing_of n)) (names ++ others) ≡ true
-solid-append [] others h g = g
-solid-append (n ∷ names) others h g =
-    let parts =
-    and_parts (is_solid (standing_of n)) (list_all (λ m. is_solid (standing_of m)) names) h in
-    and_from (is_solid (standing_of n))
-    (list_all (λ m. is_solid (standing_of m)) (names ++ others)) parts.0
-    (solid-append names others parts.1 g)
-
-solid-here :
-    (standing : Standing) (n : Name) (children : Forest) (around : Role) (before : Option Symbol) →
-    standing_of n ≡ standing → Told standing n → IsStanding standing around before children →
-    list_all (λ m. is_solid (standing_of m)) (spine_names children) ≡ true →
-    list_all (λ m. is_solid (standing_of m))
-    (if is_transparent n then spine_names children else n ∷ []) ≡ true
-solid-here Through n children around before e says is inner =
-    ap (λ t. list_all (λ m. is_solid (standing_of m)) (if t then spine_names children else n ∷ []))
-    says ∙ inner
-solid-here Space n children around before e says is inner =
-    ap (λ t. list_all (λ m. is_solid (standing_of m)) (if t then spine_names children else n ∷ []))
-    says ∙ ap (λ c. list_all (λ m. is_solid (standing_of m)) (spine_names c)) is
-solid-here (Solid seen usual reading) n children around before e says is inner =
-    ap (λ t. list_all (λ m. is_solid (standing_of m)) (if t then spine_names children else n ∷ []))
-    says.0 ∙ ap (λ s. is_solid s && true) e
-solid-here Mdx n children around before e says is inner = absurd is
-
-solid-names : (forest : Forest) (around : Role) (before : Option Symbol) →
-    AreShaped forest around before →
-    list_all (λ n. is_solid (standing_of n)) (spine_names forest) ≡ true
-solid-names Empty around before shaped = refl
-solid-names (Node n start end children rest) around before shaped =
-    solid-append (if is_transparent n then spine_names children else n ∷ []) (spine_names rest)
-    (solid-here (standing_of n) n children around before refl (told n) shaped.0.1
-    (solid-names children _ _ shaped.1)) (solid-names rest _ _ shaped.2)
-
--- the last of some names is the one at the last place
-got-later : (n : Name) (names : List Name) (k : ℕ) →
-    slice_get (n ∷ names) (suc k) ≡ slice_get names k
-got-later n names k = refl
-
-pub last-got : (names : List Name) → last_of names ≡ slice_get names (length names - 1)
-last-got [] = refl
-last-got (n ∷ []) = refl
-last-got (n ∷ other ∷ names) =
-    let next : suc (length names) - 1 ≡ length names = omega arith in
-    let later : suc (suc (length names)) - 1 ≡ suc (length names) = omega arith in
-    ap (λ o. Some (unwrap_or o n)) (last-got (other ∷ names))
-    ∙ ap (λ k. Some (unwrap_or (slice_get (other ∷ names) k) n)) next
-    ∙ there names other
-    ∙ sym (ap (λ k. slice_get (n ∷ other ∷ names) k) later)
-  where
-    there : (names : List Name) (other : Name) →
-        Some (unwrap_or (slice_get (other ∷ names) (length names)) n)
-        ≡ slice_get (other ∷ names) (length names)
-    there [] other = refl
-    there (more ∷ names) other = there names more
-
 -- ---- references
-
 mark-name : (n : Name) → is_mark (symbol_in (standing_of n)) ≡ true →
     marker_after (symbol_in (standing_of n)) ≡ Some (marker n)
 mark-name name.CharacterReferenceMarker h = refl

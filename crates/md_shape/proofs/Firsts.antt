@@ -1,77 +1,24 @@
 -- The first node on a spine that passes a test: there is one where the pattern begins with it. So a
 -- heading's mark, a fence and a label are found where the meaning looks for them.
-use Rattle.std.proofs.Common.{◌≡◌, ◌⊎◌, inl, inr, ℕ, Bool, true, false, ◌||◌, cond, Option, Some}
-use Rattle.std.proofs.Common.{None, List, [], ◌∷◌, ◌++◌, refl, sym, ap, ◌∙◌, subst, length, arith}
-use Rattle.std.specs.List.{list_all, list_any}
-use Rattle.std.proofs.lemmas.Bool.{and_parts}
+use Rattle.std.proofs.Common.{◌≡◌, inl, inr, ℕ, Bool, true, false, ◌||◌, cond, Option, Some, None}
+use Rattle.std.proofs.Common.{List, [], ◌∷◌, ◌++◌, refl, sym, ap, ◌∙◌, subst}
+use Rattle.std.specs.List.{list_any}
 use Rattle.md_base.proofs.Lies.{lie}
 use Rattle.md_base.specs.declared.event.Name.{Name}
 use Rattle.md_base.specs.declared.event.Point.{Point}
 use Rattle.md_pattern.specs.declared.kinds.Symbol.{Symbol}
 use Rattle.md_pattern.specs.declared.kinds.Role.{Role}
-use Rattle.md_pattern.specs.declared.kinds.Class.{Class}
-use Rattle.md_pattern.specs.declared.kinds.Item.{Item}
-use Rattle.md_pattern.specs.declared.kinds.Item.TheVariants.{Once}
 use Rattle.md_pattern.specs.declared.kinds.Standing.{Standing}
 use Rattle.md_pattern.specs.declared.kinds.Standing.TheVariants.{Through, Space, Solid, Mdx}
 use Rattle.md_base.specs.Tree.{Forest, Empty, Node}
 use Rattle.md_pattern.specs.Standing.{standing_of}
-use Rattle.md_pattern.specs.Pattern.{members, takes, pattern_of, Fits}
-use Rattle.md_pattern.specs.Spine.{spine, shown, IsGrouped, Matches}
-use Rattle.md_pattern.specs.Shape.{Claim, EachNode, IsShapedNode, IsStanding, AreShaped, inner_role}
-use Rattle.md_pattern.specs.Shape.{inner_before, last_symbol}
-use Rattle.md_tree.specs.Rules.{MeetsRules, MeetRules}
+use Rattle.md_pattern.specs.Spine.{spine, shown}
+use Rattle.md_pattern.specs.Shape.{IsStanding, inner_role, inner_before, last_symbol}
 use Rattle.md_base.specs.NameTests.{is_transparent}
 use Rattle.md_base.specs.Children.{or_else, first_on_spine}
 use Rattle.md_shape.proofs.Symbols.{Told, told}
-use Rattle.md_shape.proofs.Admitted.{taken}
-
--- a node has its shape and meets the rules
-abbrev pub IsFine : List ℕ → List (List ℕ × List ℕ) → Claim
-IsFine bytes names around before name start end children =
-    IsShapedNode around before name start end children
-    × MeetsRules bytes names around before name start end children
-
-abbrev pub AreFine : List ℕ → List (List ℕ × List ℕ) → Forest → Role → Option Symbol → Type 0
-AreFine bytes names forest around before = EachNode (IsFine bytes names) forest around before
-
-pub fine : (bytes : List ℕ) (names : List (List ℕ × List ℕ)) (forest : Forest) (around : Role)
-    (before : Option Symbol) → AreShaped forest around before →
-    MeetRules bytes names forest around before →
-    AreFine bytes names forest around before
-fine bytes names Empty around before shaped rules = tt
-fine bytes names (Node name start end children rest) around before shaped rules = (
-  (shaped.0, rules.0),
-  fine bytes names children _ _ shaped.1 rules.1,
-  fine bytes names rest _ _ shaped.2 rules.2,
-)
-
-pub shaped : (bytes : List ℕ) (names : List (List ℕ × List ℕ)) (forest : Forest) (around : Role)
-    (before : Option Symbol) → AreFine bytes names forest around before →
-    AreShaped forest around before
-shaped bytes names Empty around before all = tt
-shaped bytes names (Node name start end children rest) around before all =
-    (all.0.0, shaped bytes names children _ _ all.1, shaped bytes names rest _ _ all.2)
-
--- the symbol of a node that stands on its spine passes a test
-abbrev pub shows : (Symbol → Bool) → Standing → Bool
-shows test (Solid symbol usual reading) = test symbol
-shows test _ = false
-
--- the first symbol passes a test
-abbrev pub begins : (Symbol → Bool) → List Symbol → Bool
-begins test [] = false
-begins test (symbol ∷ symbols) = test symbol
-
--- a test on names that tells the same as a test on symbols
-abbrev pub Agree : (Symbol → Bool) → (Name → Bool) → Type 0
-Agree of_symbols of_names = (name : Name) → of_names name ≡ shows of_symbols (standing_of name)
-
-begins-split : (test : Symbol → Bool) (symbols others : List Symbol) →
-    begins test (symbols ++ others) ≡ true →
-    (begins test symbols ≡ true) ⊎ ((symbols ≡ []) × (begins test others ≡ true))
-begins-split test [] others h = inr (refl, h)
-begins-split test (symbol ∷ symbols) others h = inl h
+use Rattle.md_shape.proofs.FineNodes.{IsFine, AreFine}
+use Rattle.md_shape.proofs.Begins.{shows, begins, Agree, begins-split}
 
 -- holds of the first, if there is one
 abbrev pub OfFirst : {A : Type 0} → (A → Type 0) → Option A → Type 0
@@ -308,25 +255,3 @@ module _ {A : Type 0} (of_symbols : Symbol → Bool) (of_names : Name →
       (λ passes. each before name start end children passes all.0 all.1) all.1
       (λ b f. of_first Holds around each children b f))
       (of_first Holds around each rest _ all.2)
-
--- a spine that matches a pattern begins with a symbol that the first item has once
-begins_once : (test : Symbol → Bool) (class : Class) (items : List Item)
-    (own others firsts spine : List Symbol) →
-    list_all test (members class) ≡ true → list_all (takes class) own ≡ true → length own ≡ 1 →
-    firsts ≡ own ++ others → IsGrouped firsts spine → begins test spine ≡ true
-begins_once test class items [] others firsts spine members_pass own_taken count e g =
-    absurd (omega arith)
-begins_once test class items (symbol ∷ own) others firsts spine members_pass own_taken count e g =
-    let grouped = subst (λ symbols. IsGrouped symbols spine) e g in
-    subst (λ symbols. begins test symbols ≡ true) (sym grouped.2)
-    (taken test (members class) symbol
-    (and_parts (takes class symbol) (list_all (takes class) own) own_taken).0 members_pass)
-
-pub begins_with :
-    (test : Symbol → Bool) (role : Role) (class : Class) (items : List Item) (spine : List Symbol) →
-    pattern_of role ≡ Once class ∷ items → list_all test (members class) ≡ true →
-    Matches role spine →
-    begins test spine ≡ true
-begins_with test role class items spine pattern members_pass match =
-    let fit = subst (λ is. Fits is match.0) pattern match.2 in
-    begins_once test class items fit.0 fit.1 match.0 spine members_pass fit.3 fit.4 fit.2 match.1

@@ -13,7 +13,7 @@ use Rattle.md_shape.specs.Built.{Content, Blocks, content_inside, content_after_
 use Rattle.md_shape.proofs.Symbols.{admits, told}
 use Rattle.md_shape.proofs.Admitted.{matches_admitted}
 use Rattle.md_shape.proofs.Spots.{after_spine, spot}
-use Rattle.md_shape.proofs.Firsts.{AreFine, fine, shaped}
+use Rattle.md_shape.proofs.FineNodes.{AreFine, fine, shaped}
 use Rattle.md_shape.proofs.Fitting.{fit}
 
 -- nodes whose spine may stand somewhere are built so

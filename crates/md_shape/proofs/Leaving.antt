@@ -27,7 +27,7 @@ use Rattle.md_meaning.specs.Meaning.Nodes.{found_at}
 use Rattle.md_meaning.specs.Meaning.Spans.{marker}
 use Rattle.md_meaning.specs.Surroundings.{last_of}
 use Rattle.md_shape.specs.Underlined.{waits_past}
-use Rattle.md_shape.proofs.Decoding.{last-got}
+use Rattle.md_shape.proofs.LastNames.{last-got}
 use Rattle.md_shape.specs.Content.{Content, Strings, Lines, BeforeLabel, AfterLabel, Sources, Cells}
 use Rattle.md_shape.specs.Content.{Nothing, Childless, is_allowed, content_inside, content_past}
 use Rattle.md_shape.specs.Content.{content_after, content_after_node}

@@ -25,7 +25,7 @@ use Rattle.md_tree.specs.Rules.{place, target_at, target_after, target_of}
 use Rattle.md_base.specs.NameTests.{is_transparent}
 use Rattle.md_base.specs.Children.{or_else, first_on_spine}
 use Rattle.md_shape.proofs.Symbols.{Told, told}
-use Rattle.md_shape.proofs.Firsts.{Agree, shows}
+use Rattle.md_shape.proofs.Begins.{Agree, shows}
 
 -- a node on a spine
 pub record Stand : Type 0 where

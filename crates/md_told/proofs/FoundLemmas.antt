@@ -24,9 +24,9 @@ use Rattle.md_meaning.specs.Places.{length_of}
 use Rattle.md_pattern.specs.declared.kinds.Role.TheVariants as role
 use Rattle.md_shape.specs.Built.{IsFit}
 use Rattle.md_shape.specs.Leads.{Everywhere}
-use Rattle.md_shape.proofs.Firsts.{fine}
+use Rattle.md_shape.proofs.FineNodes.{fine}
 use Rattle.md_shape.proofs.Fitting.{fit}
-use Rattle.md_shape.proofs.Resolved.{everywhere}
+use Rattle.md_shape.proofs.TextsThere.{everywhere}
 use Rattle.md_tree.specs.Entered.{IsEnteredAt}
 use Rattle.md_tree.specs.Found.{EntersSome}
 use Rattle.md_tree.specs.Grammar.{Handed, IsChecked, IsGrammatical, IsReadAs}

@@ -1,5 +1,5 @@
 -- By the rules of nodes, and by the marks before values.
-use Rattle.md_shape.proofs.Resolved.{texts-there, labels-there}
+use Rattle.md_shape.proofs.TextsThere.{texts-there, labels-there}
 use Rattle.md_shape.proofs.Decoding.{references-decode}
 use Rattle.md_shape.proofs.laws.texts_are_there.Goals as goal
 
