@@ -27,16 +27,28 @@ pub mod Grammatical
 pub mod Underlines
 -- Lemmas; other crates use those on pieces that are laid in parts.
 mod ContentSymbols
+mod RoleContents
 mod ContentFits
 mod Past
 pub mod Laid
 mod Places
+mod EachSide
 mod Sides
 mod Standing
+mod Staying
 mod Noted
 mod Inside
+mod Counting
+mod Targets
 mod Leaving
 mod Quiet
+mod CapturedTexts
+mod NodeLeaves
+mod NodeRuns
+mod PassedOver
+mod FoundInBoth
 mod Runs
+mod AlikeStrings
+mod BlocksApart
 mod Defined
 mod Whole

@@ -24,8 +24,9 @@ use Rattle.md_meaning.specs.Meaning.Nodes.{outcome}
 use Rattle.md_shape.specs.Content.{Content, Nothing, Childless, Fits, content_of, content_inside}
 use Rattle.md_shape.specs.Content.{content_past, content_after_node}
 use Rattle.md_shape.specs.Claim.{at_node, inner_of, next_before}
-use Rattle.md_shape.proofs.Sides.{is_quiet}
-use Rattle.md_shape.proofs.Standing.{allowed-facts, is_callless, node-same, stays, childless}
+use Rattle.md_shape.proofs.EachSide.{is_quiet}
+use Rattle.md_shape.proofs.Standing.{allowed-facts, is_callless}
+use Rattle.md_shape.proofs.Staying.{node-same, stays, childless}
 
 abbrev pub here_before : Given → Surroundings → Before → Name → Point → Point →
     Forest → Forest → Before

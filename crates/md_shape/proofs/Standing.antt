@@ -1,23 +1,20 @@
 -- What content tells of the names that may stand in it: computed once for each
 -- content, for all names.
-use Rattle.std.proofs.Common.{◌≡◌, Bool, true, false, not, ◌&&◌, refl, ap, ◌∙◌}
+use Rattle.std.proofs.Common.{◌≡◌, Bool, true, false, not, ◌&&◌, refl}
 use Rattle.std.specs.Prelude.{if◌then◌else◌}
 use Rattle.std.proofs.lemmas.Bool.{and_parts}
 use Rattle.md_base.specs.declared.event.Name.{Name}
-use Rattle.md_base.specs.declared.event.Name.TheVariants.{SpaceOrTab, BlockQuotePrefix, Other, Data}
-use Rattle.md_base.specs.declared.event.Name.TheVariants.{Label}
+use Rattle.md_base.specs.declared.event.Name.TheVariants.{Data, Label}
 use Rattle.md_base.proofs.Lies.{lie}
-use Rattle.md_base.specs.Tree.{Forest, Empty, Node}
 use Rattle.md_base.specs.NameTests.{is_transparent, is_fence, is_chunk, is_call, is_cell}
 use Rattle.md_base.specs.NameTests.{is_footnote_definition}
 use Rattle.md_shape.specs.Content.{Content, Blocks, Spans, Strings, Html, Lines, Fences}
 use Rattle.md_shape.specs.Content.{BeforeLabel, AfterLabel, Sources, Rows, Cells, Parts, Nothing}
-use Rattle.md_shape.specs.Content.{Childless, Fits, is_allowed, content_inside, content_past}
-use Rattle.md_shape.specs.Content.{content_after, content_after_node}
+use Rattle.md_shape.specs.Content.{Childless, is_allowed, content_inside}
 use Rattle.md_shape.specs.State.{captures}
 use Rattle.md_shape.specs.Steps.{is_row, is_raw, begins_target, is_labelled}
-use Rattle.md_shape.specs.Claim.{is_laid, keeps_cells, keeps_lines, has_marks}
-use Rattle.md_shape.proofs.Sides.{is_set_aside}
+use Rattle.md_shape.specs.Claim.{is_laid, keeps_cells, keeps_lines}
+use Rattle.md_shape.proofs.EachSide.{is_set_aside}
 
 -- where a resource or a definition leads is kept, and the resource after a label
 abbrev pub keeps_target : Content → Bool
@@ -239,71 +236,3 @@ allowed-facts c n h =
           (a.0, a.1);
       nothing = λ t. follows (is_nothing c) (is_transparent n) p9.1 t;
     }
-
--- ---- a content that nothing changes, and tests that it passes
-
-one_or_other : {A : Type 0} (b : Bool) {x y z : A} → x ≡ z → y ≡ z → (if b then x else y) ≡ z
-one_or_other true h k = h
-one_or_other false h k = k
-
-pub stays : (content : Content) (forest : Forest) → content_past content ≡ content →
-    content_after content forest ≡ content
-stays content Empty h = refl
-stays content (Node name start end children rest) h =
-    ap (λ c. content_after c rest) (one_or_other (is_transparent name) (stays content children h) h)
-    ∙ stays content rest h
-
-pub node-stays : (content : Content) (name : Name) (children : Forest) →
-    content_past content ≡ content →
-    content_after_node content name children ≡ content
-node-stays content name children h = one_or_other (is_transparent name) (stays content children h) h
-
-either : (p : Content → Bool) (b : Bool) (x y : Content) (v : Bool) → p x ≡ v → p y ≡ v →
-    p (if b then x else y) ≡ v
-either p true x y v h k = h
-either p false x y v h k = k
-
--- a test that says the same of what is past a content says the same of what is after it
-pub after-same : (p : Content → Bool) → ((c : Content) → p (content_past c) ≡ p c) →
-    (content : Content) (forest : Forest) → p (content_after content forest) ≡ p content
-after-same p past content Empty = refl
-after-same p past content (Node name start end children rest) =
-    after-same p past
-    (if is_transparent name then content_after content children else content_past content) rest
-    ∙ either p (is_transparent name) (content_after content children) (content_past content)
-    (p content) (after-same p past content children) (past content)
-
-pub node-same : (p : Content → Bool) → ((c : Content) → p (content_past c) ≡ p c) →
-    (content : Content) (name : Name) (children : Forest) →
-    p (content_after_node content name children) ≡ p content
-node-same p past content name children =
-    either p (is_transparent name) (content_after content children) (content_past content)
-    (p content) (after-same p past content children) (past content)
-
-pub past-cells : (c : Content) → keeps_cells (content_past c) ≡ keeps_cells c
-past-cells BeforeLabel = refl
-past-cells _ = refl
-
-pub past-lines : (c : Content) → keeps_lines (content_past c) ≡ keeps_lines c
-past-lines BeforeLabel = refl
-past-lines _ = refl
-
-pub past-marks : (c : Content) → has_marks (content_past c) ≡ has_marks c
-past-marks BeforeLabel = refl
-past-marks _ = refl
-
-pub past-laid : (c : Content) → is_laid (content_past c) ≡ is_laid c
-past-laid BeforeLabel = refl
-past-laid _ = refl
-
--- nothing stands there
-pub childless : (forest : Forest) → Fits Childless forest → forest ≡ Empty
-childless Empty fits = refl
-childless (Node name start end children rest) fits = lie fits.0
-
--- names that are looked through
-pub through-row : (n : Name) → is_transparent n ≡ true → (is_row n ≡ false) × (is_cell n ≡ false)
-through-row SpaceOrTab h = (refl, refl)
-through-row BlockQuotePrefix h = (refl, refl)
-through-row (Other number) h = (refl, refl)
-through-row _ h = lie h
