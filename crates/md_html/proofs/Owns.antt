@@ -13,7 +13,7 @@ use Rattle.md_tree.specs.Texts.{EntersAt}
 use Rattle.md_shape.specs.Run.{Noticed, noticed, defined}
 use Rattle.md_told.specs.Told.{IsNoticedAt}
 use Rattle.md_told.specs.Definitions.{within, own_defined}
-use Rattle.md_told.proofs.Nodes.{noticed-entered}
+use Rattle.md_told.proofs.Noticed.{noticed-entered}
 use Rattle.md_told.proofs.Own.{own-defined, own-length}
 use Rattle.md_html.specs.Windows.{window}
 

@@ -19,7 +19,8 @@ use Rattle.md_shape.specs.State.{State, Told}
 use Rattle.md_shape.specs.Steps.{entered, exited, passed, is_passed, is_row, is_raw}
 use Rattle.md_shape.specs.Steps.{cells_after}
 use Rattle.md_told.specs.Told.{IsNoticedAt}
-use Rattle.md_told.proofs.Nodes.{NodeAt, node-entered, node-exited, noticed_in}
+use Rattle.md_told.proofs.Nodes.{NodeAt, node-entered, node-exited}
+use Rattle.md_told.proofs.Noticed.{noticed_in}
 
 -- ---- the event
 

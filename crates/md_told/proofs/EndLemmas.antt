@@ -11,7 +11,8 @@ use Rattle.md_tree.specs.Texts.{EntersAt, ExitsAt}
 use Rattle.md_tree.proofs.Entering.{got_inside}
 use Rattle.md_shape.specs.Run.{Noticed, noticed}
 use Rattle.md_told.specs.Told.{IsNoticedAt}
-use Rattle.md_told.proofs.Nodes.{NodeAt, node-entered, Entered, entered, Exited, exited}
+use Rattle.md_told.proofs.Nodes.{NodeAt, node-entered}
+use Rattle.md_told.proofs.Noticed.{Entered, entered, Exited, exited}
 
 pub some-there : {A : Type 0} (o : Option A) (x : A) → o ≡ Some x → IsSome o
 some-there (Some y) x e = refl

@@ -35,7 +35,8 @@ use Rattle.md_tree.specs.Rules.{columns}
 use Rattle.md_tree.specs.Texts.{EntersAt}
 use Rattle.md_tree.proofs.Entering.{get_at}
 use Rattle.md_tree.proofs.Placing.{at_entry, after_node, length_events}
-use Rattle.md_told.proofs.Nodes.{NodeAt, node-entered, node-everywhere, same-document}
+use Rattle.md_told.proofs.Nodes.{NodeAt, node-entered, same-document}
+use Rattle.md_told.proofs.Noticed.{node-everywhere}
 
 -- a list of either kind
 pub enters-list : (events : List Event) (index : ℕ) → EntersAt events index ListOrdered

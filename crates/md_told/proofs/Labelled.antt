@@ -34,7 +34,7 @@ use Rattle.md_tree.specs.Reads.{reads}
 use Rattle.md_tree.specs.Rules.{reading_of, target_of}
 use Rattle.md_tree.specs.Texts.{EntersAt}
 use Rattle.md_told.specs.Told.{is_labelled}
-use Rattle.md_told.proofs.Nodes.{Known, known, node-everywhere}
+use Rattle.md_told.proofs.Noticed.{Known, known, node-everywhere}
 use Rattle.md_told.proofs.FoundLemmas.{grammatical-there}
 
 -- the identifier of a label that is a target

@@ -31,7 +31,8 @@ use Rattle.md_told.specs.Told.{IsNoticedAt}
 use Rattle.md_told.specs.Definitions.{AreKnown}
 use Rattle.md_told.proofs.FoundLemmas.{grammatical-there}
 use Rattle.md_told.proofs.Labelled.{media}
-use Rattle.md_told.proofs.Nodes.{NodeAt, node-exited, node-everywhere, Exited, exited}
+use Rattle.md_told.proofs.Nodes.{NodeAt, node-exited}
+use Rattle.md_told.proofs.Noticed.{node-everywhere, Exited, exited}
 use Rattle.md_told.proofs.Nodes.{same-document}
 use Rattle.md_told.proofs.Undefined.{built-frees, identifiers-defined}
 

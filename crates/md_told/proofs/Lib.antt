@@ -1,6 +1,8 @@
 -- Lemmas.
 pub mod Rows
+pub mod PairedRows
 pub mod Nodes
+pub mod Noticed
 pub mod Answered
 pub mod EndLemmas
 pub mod FoundLemmas
@@ -8,5 +10,6 @@ pub mod Labelled
 pub mod Undefined
 pub mod Leading
 pub mod Running
+pub mod Picked
 pub mod Own
 pub mod Unnamed

@@ -26,7 +26,7 @@ use Rattle.md_told.specs.Told.{IsNoticedAt}
 use Rattle.md_told.specs.Definitions.{AreKnown}
 use Rattle.md_told.proofs.FoundLemmas.{grammatical-there}
 use Rattle.md_told.proofs.Leading.{known-in}
-use Rattle.md_told.proofs.Nodes.{noticed-entered}
+use Rattle.md_told.proofs.Noticed.{noticed-entered}
 use Rattle.md_told.proofs.Own.{own-defined, own-length}
 use Rattle.md_told.proofs.Undefined.{built-frees, identifiers-defined}
 

@@ -2,7 +2,7 @@
 use Rattle.std.proofs.Common.{sym, ap, ◌∙◌}
 use Rattle.md_base.specs.declared.event.Name.TheVariants.{GfmTable}
 use Rattle.md_shape.specs.Run.{Noticed}
-use Rattle.md_told.proofs.Nodes.{entered}
+use Rattle.md_told.proofs.Noticed.{entered}
 use Rattle.md_emit.proofs.told.columns_at.Goals as goal
 
 pub returns : goal.returns

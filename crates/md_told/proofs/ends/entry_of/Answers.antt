@@ -2,7 +2,7 @@
 use Rattle.std.proofs.Common.{◌≡◌, ℕ, Option, Some, subst}
 use Rattle.md_tree.specs.Texts.{EntersAt}
 use Rattle.md_told.specs.Told.{IsNoticedAt}
-use Rattle.md_told.proofs.Nodes.{partner-exited}
+use Rattle.md_told.proofs.Noticed.{partner-exited}
 use Rattle.md_told.proofs.EndLemmas.{some-there}
 use Rattle.md_told.proofs.ends.entry_of.Goals as goal
 

@@ -2,7 +2,7 @@
 use Rattle.std.proofs.Common.{◌≡◌, ◌≤◌, ◌+◌, ℕ, Option, Some, subst}
 use Rattle.md_tree.specs.Texts.{ExitsAt}
 use Rattle.md_told.specs.Told.{IsNoticedAt}
-use Rattle.md_told.proofs.Nodes.{partner-entered}
+use Rattle.md_told.proofs.Noticed.{partner-entered}
 use Rattle.md_told.proofs.EndLemmas.{some-there}
 use Rattle.md_told.proofs.ends.exit_of.Goals as goal
 

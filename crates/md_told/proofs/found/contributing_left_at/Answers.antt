@@ -10,7 +10,7 @@ use Rattle.md_tree.specs.Grammar.{Handed}
 use Rattle.md_tree.specs.Texts.{EntersAt}
 use Rattle.md_tree.proofs.Entering.{got_inside}
 use Rattle.md_shape.specs.Run.{Noticed}
-use Rattle.md_told.proofs.Nodes.{entered}
+use Rattle.md_told.proofs.Noticed.{entered}
 use Rattle.md_told.proofs.FoundLemmas.{Named, contributing-named}
 use Rattle.md_told.proofs.found.contributing_left_at.Goals as goal
 

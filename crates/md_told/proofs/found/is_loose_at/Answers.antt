@@ -1,7 +1,7 @@
 -- The list is loose as its children say, which are those of the node that is noticed.
 use Rattle.std.proofs.Common.{sym, ap, ◌∙◌}
 use Rattle.md_shape.specs.Run.{Noticed}
-use Rattle.md_told.proofs.Nodes.{entered}
+use Rattle.md_told.proofs.Noticed.{entered}
 use Rattle.md_told.proofs.FoundLemmas.{enters-list}
 use Rattle.md_told.proofs.found.is_loose_at.Goals as goal
 

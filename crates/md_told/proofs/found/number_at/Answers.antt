@@ -2,7 +2,7 @@
 use Rattle.std.proofs.Common.{refl, sym, ap, ◌∙◌}
 use Rattle.md_base.specs.declared.event.Name.TheVariants.{ListOrdered}
 use Rattle.md_shape.specs.Run.{Noticed}
-use Rattle.md_told.proofs.Nodes.{entered}
+use Rattle.md_told.proofs.Noticed.{entered}
 use Rattle.md_told.proofs.FoundLemmas.{number-same}
 use Rattle.md_told.proofs.found.number_at.Goals as goal
 

@@ -3,7 +3,7 @@ use Rattle.std.proofs.Common.{Some, None, refl, sym, ap, ◌∙◌}
 use Rattle.md_base.specs.declared.event.Name.TheVariants.{HeadingAtx}
 use Rattle.md_meaning.specs.Places.{length_of}
 use Rattle.md_shape.specs.Run.{Noticed}
-use Rattle.md_told.proofs.Nodes.{entered}
+use Rattle.md_told.proofs.Noticed.{entered}
 use Rattle.md_told.proofs.FoundLemmas.{rank-found}
 use Rattle.md_told.proofs.found.rank_at.Goals as goal
 

@@ -8,7 +8,7 @@ use Rattle.md_meaning.specs.Places.{identifier_at}
 use Rattle.md_tree.specs.Reads.{is_reader}
 use Rattle.md_shape.specs.Run.{Noticed}
 use Rattle.md_told.specs.Told.{is_labelled}
-use Rattle.md_told.proofs.Nodes.{entered}
+use Rattle.md_told.proofs.Noticed.{entered}
 use Rattle.md_told.proofs.Labelled.{labelled}
 use Rattle.md_told.proofs.identifiers.label_read_at.Goals as goal
 
