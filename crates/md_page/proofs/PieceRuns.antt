@@ -10,7 +10,8 @@ use Rattle.md_text.specs.Html.{Attribute, written_attributes}
 use Rattle.md_text.proofs.HtmlWriting.{attributes_before, written_attributes-before}
 use Rattle.md_safe.specs.Input.{with_line_feeds, begins_with_line_feed}
 use Rattle.md_safe.specs.Token.{Token, Character, StartTag, EndTag, EndOfFile}
-use Rattle.md_safe.specs.Tokenizer.{Data, IsTokenized}
+use Rattle.md_safe.specs.TokenizerStates.{Data}
+use Rattle.md_safe.specs.Tokenizer.{IsTokenized}
 use Rattle.md_safe.specs.Tokens.{seen, seen_attributes}
 use Rattle.md_safe.proofs.LineFeeds.{line_feeds-append, line_feeds-name, line_feeds-escaped}
 use Rattle.md_safe.proofs.GoodNames.{is_good_byte, is_good_name, begins_tag, are_good}

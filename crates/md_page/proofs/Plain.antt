@@ -13,7 +13,7 @@ use Rattle.md_base.specs.Identifier.{is_nonempty}
 use Rattle.md_text.specs.Bytes.{is_between, is_letter, is_one_of}
 use Rattle.md_text.specs.References.{is_escaped}
 use Rattle.md_text.specs.Html.{Attribute, is_tag, are_attributes, elements, void_tags}
-use Rattle.md_safe.specs.Tokenizer.{is_space, switching}
+use Rattle.md_safe.specs.TokenizerStates.{is_space, switching}
 use Rattle.md_safe.proofs.GoodNames.{is_good_byte, is_good_name, is_good_attribute_name, begins_tag}
 use Rattle.md_safe.proofs.GoodNames.{are_good}
 use Rattle.md_page.specs.Pieces.{is_name_byte, is_name, is_tag_name, begins_with_letter, are_plain}

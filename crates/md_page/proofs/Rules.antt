@@ -5,7 +5,8 @@ use Rattle.md_text.specs.Html.{Attribute}
 use Rattle.md_text.specs.Url.{link_protocols, image_protocols}
 use Rattle.md_safe.specs.Input.{with_line_feeds}
 use Rattle.md_safe.specs.Token.{Token}
-use Rattle.md_safe.specs.Tokenizer.{Data, IsTokenized}
+use Rattle.md_safe.specs.TokenizerStates.{Data}
+use Rattle.md_safe.specs.Tokenizer.{IsTokenized}
 use Rattle.md_safe.specs.SafeTokens.{is_permitted, has_safe_links, has_safe_images}
 use Rattle.md_safe.proofs.OneRun.{one_run}
 use Rattle.md_page.specs.Added.{with_attribute, added}

@@ -8,7 +8,7 @@ use Rattle.md_text.specs.Bytes.{is_between, is_one_of}
 use Rattle.md_text.specs.References.{is_escaped}
 use Rattle.md_text.specs.Html.{Attribute, written_attributes}
 use Rattle.md_safe.specs.Token.{Token, Character, StartTag, EndTag, EndOfFile}
-use Rattle.md_safe.specs.Tokenizer.{switching}
+use Rattle.md_safe.specs.TokenizerStates.{switching}
 use Rattle.md_safe.specs.Tokens.{seen, seen_attributes}
 use Rattle.md_safe.specs.SafeTokens.{has_safe_links, has_safe_images}
 use Rattle.md_page.specs.Attributed.{is_listed_beside}

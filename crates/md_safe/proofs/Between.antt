@@ -4,7 +4,8 @@ use Rattle.std.proofs.Common.{append-nil, append_assoc}
 use Rattle.md_text.specs.Html.{Forest, IsReading}
 use Rattle.md_safe.specs.Input.{with_line_feeds}
 use Rattle.md_safe.specs.Token.{Token, EndOfFile}
-use Rattle.md_safe.specs.Tokenizer.{Data, IsRun, IsTokenized}
+use Rattle.md_safe.specs.TokenizerStates.{Data}
+use Rattle.md_safe.specs.Tokenizer.{IsRun, IsTokenized}
 use Rattle.md_safe.specs.Tokens.{tokens}
 use Rattle.md_safe.specs.Leads.{Leads}
 use Rattle.md_safe.specs.Embedded.{EndsInDataState, HasTokensAfter, splits_newline}

@@ -4,7 +4,8 @@ use Rattle.std.proofs.Common.{◌≡◌, ℕ, ◌==◌, Bool, true, false, ◌||
 use Rattle.std.proofs.Common.{◌∙◌, codes}
 use Rattle.std.specs.List.{list_any}
 use Rattle.md_safe.specs.Token.{Token, Character, StartTag, EndOfFile}
-use Rattle.md_safe.specs.Tokenizer.{Data, IsRun}
+use Rattle.md_safe.specs.TokenizerStates.{Data}
+use Rattle.md_safe.specs.Tokenizer.{IsRun}
 use Rattle.md_safe.proofs.OneRun.{one_run}
 use Rattle.md_safe.proofs.Steps.{attribute}
 use Rattle.md_safe.specs.Leads.{Leads}

@@ -11,7 +11,7 @@ use Rattle.md_text.specs.References.{is_escaped}
 use Rattle.md_text.proofs.HtmlWriting.{attributes_before, forest_before, written-before}
 use Rattle.md_safe.specs.Input.{with_line_feeds, begins_with_line_feed}
 use Rattle.md_safe.specs.Token.{Token, Character, StartTag, EndTag}
-use Rattle.md_safe.specs.Tokenizer.{Data}
+use Rattle.md_safe.specs.TokenizerStates.{Data}
 use Rattle.md_safe.specs.Tokens.{tokens, seen, seen_attributes}
 use Rattle.md_safe.proofs.LineFeeds.{line_feeds-append, line_feeds-name, line_feeds-escaped}
 use Rattle.md_safe.proofs.GoodNames.{is_good_byte, is_good_name, are_good, begins_tag, element-good}

@@ -11,7 +11,8 @@ use Rattle.md_text.specs.References.{is_escaped}
 use Rattle.md_text.proofs.HtmlWriting.{attributes_before, forest_before, written-before}
 use Rattle.md_safe.specs.Input.{with_line_feeds, begins_with_line_feed}
 use Rattle.md_safe.specs.Token.{Token, Character, StartTag, EndTag, EndOfFile}
-use Rattle.md_safe.specs.Tokenizer.{Data, IsRun, IsTokenized}
+use Rattle.md_safe.specs.TokenizerStates.{Data}
+use Rattle.md_safe.specs.Tokenizer.{IsRun, IsTokenized}
 use Rattle.md_safe.specs.Tokens.{tokens, seen, seen_attributes}
 use Rattle.md_safe.proofs.LineFeeds.{line_feeds-append, line_feeds-name, line_feeds-escaped}
 use Rattle.md_safe.proofs.GoodNames.{is_good_byte, is_good_name, begins_tag, element-good}

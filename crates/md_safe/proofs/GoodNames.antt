@@ -10,7 +10,7 @@ use Rattle.md_base.specs.Identifier.{is_nonempty}
 use Rattle.md_text.specs.Bytes.{is_between, is_letter, is_one_of}
 use Rattle.md_text.specs.References.{is_escaped}
 use Rattle.md_text.specs.Html.{Attribute, is_tag, are_attributes, elements, void_tags}
-use Rattle.md_safe.specs.Tokenizer.{is_space, switching}
+use Rattle.md_safe.specs.TokenizerStates.{is_space, switching}
 
 -- a byte of a name that ends no name and stays as it is
 abbrev pub is_good_byte : ℕ → Bool

@@ -2,7 +2,8 @@
 use Rattle.std.proofs.Common.{◌≡◌, ℕ, List, [], ◌++◌, refl, sym, ap, ◌∙◌, subst, append_assoc}
 use Rattle.std.proofs.Common.{Option, Some, None, option_map, zero, suc}
 use Rattle.md_safe.specs.Token.{Token}
-use Rattle.md_safe.specs.Tokenizer.{State, Data, Step, Goes, Stops, Stuck, step, run, after_step}
+use Rattle.md_safe.specs.TokenizerStates.{State, Data, Step, Goes, Stops, Stuck}
+use Rattle.md_safe.specs.Tokenizer.{step, run, after_step}
 use Rattle.md_safe.specs.Tokenizer.{IsRun}
 use Rattle.md_safe.specs.Leads.{Leads, emitted_before, and_then, steps}
 

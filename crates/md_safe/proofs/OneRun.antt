@@ -2,7 +2,8 @@
 use Rattle.std.proofs.Common.{◌≡◌, ℕ, List, ◌++◌, refl, sym, ap, ◌∙◌, Option, Some, None}
 use Rattle.std.proofs.Common.{option_map, zero, suc}
 use Rattle.md_safe.specs.Token.{Token}
-use Rattle.md_safe.specs.Tokenizer.{State, Step, Goes, Stops, Stuck, step, run, after_step, IsRun}
+use Rattle.md_safe.specs.TokenizerStates.{State, Step, Goes, Stops, Stuck}
+use Rattle.md_safe.specs.Tokenizer.{step, run, after_step, IsRun}
 
 map_none : (out x : List Token) → option_map (λ later. out ++ later) None ≡ Some x → ⊥
 map_none out x e = cc

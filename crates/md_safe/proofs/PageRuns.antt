@@ -7,7 +7,8 @@ use Rattle.md_text.specs.Html.{HasOneReadingWith}
 use Rattle.md_text.specs.Safe.{is_safe_link, is_safe_image}
 use Rattle.md_safe.specs.Input.{with_line_feeds}
 use Rattle.md_safe.specs.Token.{Token, Doctype, Character, StartTag, EndTag, EndOfFile}
-use Rattle.md_safe.specs.Tokenizer.{Data, Rcdata, IsRun, IsTokenized}
+use Rattle.md_safe.specs.TokenizerStates.{Data, Rcdata}
+use Rattle.md_safe.specs.Tokenizer.{IsRun, IsTokenized}
 use Rattle.md_safe.specs.Tokens.{seen, tokens}
 use Rattle.md_safe.specs.PageTokens.{charset as charset_seen, page_text, page_tokens, plain_tag}
 use Rattle.md_safe.specs.PageTokens.{IsTokenizedPage}

@@ -12,9 +12,12 @@ use Rattle.md_text.proofs.HtmlWriting.{attributes_before}
 use Rattle.md_safe.specs.Input.{with_line_feeds}
 use Rattle.md_safe.specs.Token.{Token, StartTag, EndTag, TokenAttribute}
 use Rattle.md_safe.specs.Tag.{Tag, with_tag_name, with_name, kept}
-use Rattle.md_safe.specs.Tokenizer.{State, Data, TagOpen, EndTagOpen, TagName, BeforeAttributeName}
-use Rattle.md_safe.specs.Tokenizer.{AttributeName, AfterAttributeValueQuoted, Goes, Stuck, emitted}
-use Rattle.md_safe.specs.Tokenizer.{step, is_space, in_name, in_value}
+use Rattle.md_safe.specs.TokenizerStates.{State, Data, TagOpen, EndTagOpen, TagName}
+use Rattle.md_safe.specs.TokenizerStates.{BeforeAttributeName}
+use Rattle.md_safe.specs.TokenizerStates.{AttributeName, AfterAttributeValueQuoted, Goes, Stuck}
+use Rattle.md_safe.specs.TokenizerStates.{emitted}
+use Rattle.md_safe.specs.TokenizerStates.{is_space, in_name, in_value}
+use Rattle.md_safe.specs.Tokenizer.{step}
 use Rattle.md_safe.specs.Tokens.{seen, seen_attributes}
 use Rattle.md_safe.proofs.LineFeeds.{line_feeds-escaped}
 use Rattle.md_safe.proofs.GoodNames.{is_good_byte, is_good_name, is_good_attribute_name, are_good}

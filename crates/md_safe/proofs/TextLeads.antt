@@ -7,7 +7,8 @@ use Rattle.md_text.specs.References.{is_escaped, read_back}
 use Rattle.md_text.proofs.EncodeLaws.{read_back-other}
 use Rattle.md_safe.specs.Token.{Token, Character, TokenAttribute}
 use Rattle.md_safe.specs.Tag.{Tag, with_value}
-use Rattle.md_safe.specs.Tokenizer.{State, Data, AttributeValueDoubleQuoted, Goes, step}
+use Rattle.md_safe.specs.TokenizerStates.{State, Data, AttributeValueDoubleQuoted, Goes}
+use Rattle.md_safe.specs.Tokenizer.{step}
 use Rattle.md_safe.proofs.EscapedCases.{IsPlain, by_escaped}
 use Rattle.md_safe.proofs.Steps.{past, tag_with, attribute, AtValue}
 use Rattle.md_safe.specs.Leads.{Leads, emitted_before, and_then, steps}

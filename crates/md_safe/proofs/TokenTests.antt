@@ -12,7 +12,8 @@ use Rattle.md_text.specs.Html.{are_attributes, begins_with_text, elements, void_
 use Rattle.md_text.specs.Html.{all_attributes, any_attribute, HasOneReadingWith}
 use Rattle.md_safe.specs.Input.{with_line_feeds}
 use Rattle.md_safe.specs.Token.{Token, Character, StartTag, EndTag, EndOfFile, TokenAttribute}
-use Rattle.md_safe.specs.Tokenizer.{Data, IsTokenized, leaves_state}
+use Rattle.md_safe.specs.TokenizerStates.{Data, leaves_state}
+use Rattle.md_safe.specs.Tokenizer.{IsTokenized}
 use Rattle.md_safe.specs.Tokens.{tokens, seen, seen_attributes, is_listed, is_tag_of}
 use Rattle.md_safe.proofs.GoodNames.{element-good, void-good, good-leaves}
 use Rattle.md_safe.proofs.OneRun.{one_run}

@@ -5,7 +5,8 @@ use Rattle.md_text.specs.Html.{Attribute, HasOneReadingWith}
 use Rattle.md_text.specs.Safe.{is_safe_link, is_safe_image}
 use Rattle.md_safe.specs.Input.{with_line_feeds}
 use Rattle.md_safe.specs.Token.{Token, EndOfFile}
-use Rattle.md_safe.specs.Tokenizer.{Data, IsTokenized}
+use Rattle.md_safe.specs.TokenizerStates.{Data}
+use Rattle.md_safe.specs.Tokenizer.{IsTokenized}
 use Rattle.md_safe.specs.Tokens.{tokens}
 use Rattle.md_safe.specs.SafeTokens.{has_safe_links, has_safe_images}
 use Rattle.md_safe.specs.Tokenized.{HasTokensWith, IsTokenizedAsRead, IsSafelyTokenized}

@@ -1,6 +1,6 @@
 -- Two documents that stand on one page.
 use Rattle.std.specs.Str.{bytes_eq}
-use Rattle.std.specs.Prelude.{ℕ, Bool, true, false, not, ◌||◌, IsTrue, List, option_map, codes}
+use Rattle.std.specs.Prelude.{ℕ, Bool, false, not, ◌||◌, IsTrue, List, option_map, codes}
 use Rattle.std.specs.Prelude.{string_bytes}
 use Rattle.std.specs.Option.{option_map_or}
 use Rattle.std.specs.List.{list_any, list_all}

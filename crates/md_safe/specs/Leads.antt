@@ -2,7 +2,8 @@
 -- the steps after.
 use Rattle.std.specs.Prelude.{◌≡◌, ℕ, zero, suc, List, [], ◌++◌}
 use Rattle.md_safe.specs.Token.{Token}
-use Rattle.md_safe.specs.Tokenizer.{State, Data, Step, Goes, Stops, Stuck, step}
+use Rattle.md_safe.specs.TokenizerStates.{State, Data, Step, Goes, Stops, Stuck}
+use Rattle.md_safe.specs.Tokenizer.{step}
 
 -- a step, with what was emitted before it
 abbrev pub emitted_before : List Token → Step → Step

@@ -9,6 +9,7 @@ pub mod Placed
 pub mod Input
 pub mod Token
 pub mod Tag
+pub mod TokenizerStates
 pub mod Tokenizer
 pub mod Tokens
 pub mod Scheme

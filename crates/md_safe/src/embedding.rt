@@ -6,7 +6,8 @@ ghost use Rattle.std.specs.Prelude.{◌≡◌, ℕ, false, true, [], ◌∷◌, 
 ghost use Rattle.md_text.specs.Html.{Forest, IsReading};
 ghost use Rattle.md_safe.specs.Input.{with_line_feeds};
 ghost use Rattle.md_safe.specs.Token.{Token, EndOfFile};
-ghost use Rattle.md_safe.specs.Tokenizer.{Data, IsTokenized};
+ghost use Rattle.md_safe.specs.TokenizerStates.{Data};
+ghost use Rattle.md_safe.specs.Tokenizer.{IsTokenized};
 ghost use Rattle.md_safe.specs.Tokens.{tokens};
 ghost use Rattle.md_safe.specs.Tokenized.{IsSafelyTokenized};
 ghost use Rattle.md_safe.specs.Leads.{Leads};

@@ -10,7 +10,8 @@ ghost use Rattle.md_text.specs.Safe.{is_safe_link, is_safe_image, is_safe_value}
 ghost use Rattle.md_text.specs.Url.{link_protocols, image_protocols};
 ghost use Rattle.md_safe.specs.Input.{begins_with_line_feed};
 ghost use Rattle.md_safe.specs.Token.{Token, EndOfFile};
-ghost use Rattle.md_safe.specs.Tokenizer.{State, IsRun, IsTokenized, leaves_state};
+ghost use Rattle.md_safe.specs.TokenizerStates.{State, leaves_state};
+ghost use Rattle.md_safe.specs.Tokenizer.{IsRun, IsTokenized};
 ghost use Rattle.md_safe.specs.Tokens.{tokens, seen, is_listed};
 ghost use Rattle.md_safe.specs.PageTokens.{page_text, page_tokens, IsTokenizedPage};
 ghost use Rattle.md_safe.specs.Tokenized.{HasTokensWith, IsTokenizedAsRead};

@@ -6,7 +6,7 @@ ghost use Rattle.md_text.specs.Html.{Forest, is_forest};
 ghost use Rattle.md_safe.specs.PageTokens.{page_tokens, plain_tag};
 ghost use Rattle.md_safe.specs.Token.{TokenAttribute, Doctype, Character, StartTag, EndTag};
 ghost use Rattle.md_safe.specs.Token.{EndOfFile};
-ghost use Rattle.md_safe.specs.Tokenizer.{begins_title};
+ghost use Rattle.md_safe.specs.TokenizerStates.{begins_title};
 ghost use Rattle.md_safe.specs.Contents.{Flow, is_contained, IsUnnested};
 ghost use Rattle.md_safe.specs.Node.{Nodes, Empty, Text, Element, Open, Entry, Marker, Mode};
 ghost use Rattle.md_safe.specs.Node.{InBody, InCell, is_text, Parser};

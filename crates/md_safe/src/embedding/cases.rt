@@ -3,7 +3,8 @@
 ghost use Rattle.std.specs.Prelude.{◌≡◌, List, [], ◌∷◌, Some, false, true, codes};
 ghost use Rattle.md_safe.specs.Input.{with_line_feeds};
 ghost use Rattle.md_safe.specs.Token.{Token, Doctype, Character, StartTag, EndOfFile};
-ghost use Rattle.md_safe.specs.Tokenizer.{Data, run};
+ghost use Rattle.md_safe.specs.TokenizerStates.{Data};
+ghost use Rattle.md_safe.specs.Tokenizer.{run};
 ghost use Rattle.md_safe.specs.Leads.{Leads};
 ghost use Rattle.md_safe.specs.Embedded.{EndsInDataState, splits_newline};
 

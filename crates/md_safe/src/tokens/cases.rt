@@ -7,7 +7,8 @@ ghost use Rattle.md_text.specs.Url.{link_protocols, image_protocols};
 ghost use Rattle.md_safe.specs.Scheme.{scheme_of, has_permitted_scheme};
 ghost use Rattle.md_safe.specs.Input.{with_line_feeds};
 ghost use Rattle.md_safe.specs.Token.{Doctype, Character, StartTag, EndTag, EndOfFile};
-ghost use Rattle.md_safe.specs.Tokenizer.{Data, run};
+ghost use Rattle.md_safe.specs.TokenizerStates.{Data};
+ghost use Rattle.md_safe.specs.Tokenizer.{run};
 
 /// CR LF is one line feed, and so is each other CR.
 pub fn line_ends()
