@@ -16,7 +16,8 @@ use Rattle.md_shape.proofs.Grammatical.{grammatical-built}
 use Rattle.md_shape.proofs.Underlines.{grammatical-underlined}
 use Rattle.md_safe.specs.Links.{has_nested_link}
 use Rattle.md_safe.specs.Options.{KeepsGrammar, KeepsLinks, KeepsImages, KeepsIds}
-use Rattle.md_safe.proofs.Whole.{one-reading, safe-links, safe-images, distinct-ids}
+use Rattle.md_safe.proofs.Whole.{one-reading, safe-links, safe-images}
+use Rattle.md_safe.proofs.WholeIds.{distinct-ids}
 use Rattle.md_safe.proofs.ContainedWhole.{meaning-contained, meaning-unnested}
 use Rattle.md_safe.specs.Built.{IsBuiltAsRead}
 use Rattle.md_safe.specs.Contents.{IsContained, IsUnnested}

@@ -39,9 +39,10 @@ use Rattle.md_safe.proofs.Texts.{Escaped, zeros-escaped}
 use Rattle.md_safe.proofs.Laid.{Adds, adds-append, adds-text, adds-weaker, adds-alone}
 use Rattle.md_safe.proofs.Tags.{attribute, adds-flat, are_texts}
 use Rattle.md_safe.proofs.Tags.{flat as flattened}
-use Rattle.md_safe.proofs.Elements.{IsInfo, IsRaw, code_tag, math_tag, code_closing}
-use Rattle.md_safe.proofs.BlockNodes.{setext-fits, chunk-escaped}
-use Rattle.md_safe.proofs.CountedForest.{Document, read_in}
+use Rattle.md_safe.proofs.Elements.{code_closing}
+use Rattle.md_safe.proofs.RawElements.{IsInfo, IsRaw, code_tag, math_tag}
+use Rattle.md_safe.proofs.FlowNodes.{setext-fits, chunk-escaped}
+use Rattle.md_safe.proofs.Costs.{Document, read_in}
 use Rattle.md_safe.specs.Contents.{Content, Flow, Phrasing, Linked, Items, Parts, Rows, Cells}
 use Rattle.md_safe.specs.Contents.{Preformatted, Characters, held_in}
 use Rattle.md_safe.specs.Placed.{Block, sort_of, is_inner, may_stand}

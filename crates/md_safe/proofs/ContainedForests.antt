@@ -26,12 +26,16 @@ use Rattle.md_shape.specs.Built.{Content as Grammatical}
 use Rattle.md_shape.specs.Built.{Blocks, is_part, is_source, may_stand, content_of, content_inside}
 use Rattle.md_shape.specs.Built.{content_after_node, content_past, content_after, IsBuilt}
 use Rattle.md_safe.proofs.Laid.{adds-alone}
-use Rattle.md_safe.proofs.Contents.{is_blocks, stays-after, second}
+use Rattle.md_safe.proofs.Contents.{stays-after}
+use Rattle.md_safe.proofs.Following.{second}
+use Rattle.md_safe.proofs.BlocksAsked.{is_blocks}
 use Rattle.md_safe.proofs.Nodes.{not_part}
-use Rattle.md_safe.proofs.Forests.{Ready, AreFound, ready-inside, ready-after, inside-means}
+use Rattle.md_safe.proofs.Findings.{AreFound}
+use Rattle.md_safe.proofs.Forests.{Ready, ready-inside, ready-after, inside-means}
 use Rattle.md_safe.proofs.Forests.{found-at}
 use Rattle.md_safe.proofs.Forests.{Means as SafeMeans, means as safe-means}
-use Rattle.md_safe.proofs.CountedForest.{Document, read_in, no_footnotes}
+use Rattle.md_safe.proofs.Costs.{Document, read_in}
+use Rattle.md_safe.proofs.PlainCosts.{no_footnotes}
 use Rattle.md_safe.specs.Contents.{Content, Flow, Phrasing}
 use Rattle.md_safe.specs.Links.{has_nested_link}
 use Rattle.md_safe.specs.Placed.{Block, sort_of, IsPlaced}

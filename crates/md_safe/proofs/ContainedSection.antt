@@ -22,10 +22,11 @@ use Rattle.md_safe.proofs.Texts.{Escaped, decimal-escaped}
 use Rattle.md_safe.proofs.Laid.{Adds, adds-text}
 use Rattle.md_safe.proofs.Tags.{attribute, adds-flat}
 use Rattle.md_safe.proofs.Tags.{flat as flattened}
-use Rattle.md_safe.proofs.Media.{id-escaped, call_id-escaped, label-escaped}
-use Rattle.md_safe.proofs.Section.{tag_of, attributes_of, heading_label_of, heading_text, rest-ends}
+use Rattle.md_safe.proofs.Calls.{id-escaped, call_id-escaped, label-escaped}
+use Rattle.md_safe.proofs.FootnoteBodies.{rest-ends}
+use Rattle.md_safe.proofs.Section.{tag_of, attributes_of, heading_label_of, heading_text}
 use Rattle.md_safe.proofs.Section.{text_among, section_end, li_id}
-use Rattle.md_safe.proofs.CountedForest.{Document}
+use Rattle.md_safe.proofs.Costs.{Document}
 use Rattle.md_safe.specs.Contents.{Flow, Phrasing, Linked, Items}
 use Rattle.md_safe.proofs.Stands.{Stands, stands-join, stands-nothing, stands-tag, stands-wider}
 use Rattle.md_safe.proofs.Stands.{Turns, turns-tag, turns-plain, IsWhite}

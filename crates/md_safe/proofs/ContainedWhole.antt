@@ -21,8 +21,9 @@ use Rattle.md_shape.specs.Built.{Blocks, IsBuilt}
 use Rattle.md_shape.proofs.Grammatical.{grammatical-built}
 use Rattle.md_safe.specs.Options.{KeepsGrammar}
 use Rattle.md_safe.proofs.Laid.{adds-alone}
-use Rattle.md_safe.proofs.CountedForest.{Document, read_in}
-use Rattle.md_safe.proofs.Whole.{IsEnding, first-is_ending, outermost-ready, prepared, reads-whole}
+use Rattle.md_safe.proofs.Costs.{Document, read_in}
+use Rattle.md_safe.proofs.Prepared.{IsEnding, first-is_ending, outermost-ready, prepared}
+use Rattle.md_safe.proofs.Prepared.{reads-whole}
 use Rattle.md_base.proofs.Lies.{lie}
 use Rattle.md_safe.specs.Contents.{Flow, Phrasing, IsContained, IsUnnested}
 use Rattle.md_safe.specs.Links.{has_nested_link}

@@ -15,7 +15,7 @@ use Rattle.md_meaning.specs.Meaning.At.{Footnote}
 use Rattle.md_safe.proofs.Claim.{Claim}
 use Rattle.md_safe.proofs.Texts.{Escaped}
 use Rattle.md_safe.proofs.Tags.{IsTest, attribute}
-use Rattle.md_safe.proofs.Media.{a_call, call_text, call-regrouped}
+use Rattle.md_safe.proofs.Calls.{a_call, call_text, call-regrouped}
 
 -- an id stands in a text at most so often
 abbrev pub counting : List ℕ → ℕ → Claim

@@ -28,14 +28,17 @@ use Rattle.md_safe.proofs.Texts.{Escaped}
 use Rattle.md_safe.proofs.Claim.{Claim}
 use Rattle.md_safe.proofs.Laid.{adds-append, adds-nothing, adds-alone}
 use Rattle.md_safe.proofs.Tags.{Turns, bracket-tag, attribute}
-use Rattle.md_safe.proofs.Media.{label-escaped, id-escaped}
+use Rattle.md_safe.proofs.Calls.{label-escaped, id-escaped}
 use Rattle.md_safe.proofs.Spot.{Setting, Prints}
 use Rattle.md_safe.proofs.Section.{turn-after, li_id, item-prints, section-around, section_end}
 use Rattle.md_safe.proofs.Section.{text_among, heading_label_of}
 use Rattle.md_safe.proofs.Counted.{counting, counts-heading, TextsCount}
 use Rattle.md_safe.proofs.BlockNodes.{holds-none}
-use Rattle.md_safe.proofs.CountedForest.{Document, counted_in, read_in, counts-none, Costs, spent}
-use Rattle.md_safe.proofs.Distinct.{ids_after, note_ids, label_id, document-once}
+use Rattle.md_safe.proofs.Costs.{Document, counted_in, read_in, counts-none, Costs}
+use Rattle.md_safe.proofs.CountedForest.{spent}
+use Rattle.md_safe.proofs.CallNumbers.{ids_after}
+use Rattle.md_safe.proofs.IdsOnce.{note_ids}
+use Rattle.md_safe.proofs.Distinct.{label_id, document-once}
 
 -- the texts of the footnotes with some identifiers
 abbrev TextsFor : List ℕ → ℕ → List Footnote → List (List ℕ) → Type 0

@@ -25,15 +25,19 @@ use Rattle.md_shape.specs.Built.{is_code_fence, is_math_fence, may_stand, conten
 use Rattle.md_shape.specs.Built.{content_after, IsBuilt}
 use Rattle.md_safe.proofs.Texts.{Escaped}
 use Rattle.md_safe.proofs.Laid.{adds-append, adds-text, adds-nothing, adds-weaker, adds-any}
-use Rattle.md_safe.proofs.Elements.{IsRaw, IsInCode, IsDone, bare-in_code, info-in_code, raw-code}
-use Rattle.md_safe.proofs.Elements.{raw-math, code_tag, math_tag}
-use Rattle.md_safe.proofs.Contents.{is_blocks, Holds, Suits, Follows, second, holds-nothing}
-use Rattle.md_safe.proofs.Contents.{later-inside}
+use Rattle.md_safe.proofs.Elements.{IsDone}
+use Rattle.md_safe.proofs.RawElements.{IsRaw, IsInCode, bare-in_code, info-in_code, raw-code}
+use Rattle.md_safe.proofs.RawElements.{raw-math, code_tag, math_tag}
+use Rattle.md_safe.proofs.Contents.{Holds, Suits, Follows, holds-nothing}
+use Rattle.md_safe.proofs.Following.{second}
+use Rattle.md_safe.proofs.BlocksAsked.{is_blocks}
+use Rattle.md_safe.proofs.LaterFences.{later-inside}
 use Rattle.md_safe.proofs.Spot.{IsWhole, Setting, IsFitAt, IsGoodTarget, Here, Prints, Inside}
 use Rattle.md_safe.proofs.Spot.{narrow-wide, wide-escaped}
 use Rattle.md_safe.proofs.StringNodes.{string-node, line_ending-escaped}
 use Rattle.md_safe.proofs.SpanNodes.{span-node, media-node, autolink-node}
-use Rattle.md_safe.proofs.BlockNodes.{Reads, block-node, when-needed, chunk-escaped}
+use Rattle.md_safe.proofs.FlowNodes.{Reads, when-needed, chunk-escaped}
+use Rattle.md_safe.proofs.BlockNodes.{block-node}
 
 abbrev IsNil : List ℕ → Type 0
 IsNil x = x ≡ []

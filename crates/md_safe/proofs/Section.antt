@@ -1,34 +1,32 @@
 -- The section of footnotes has a reading: its heading, its items and their ways back.
-use Rattle.std.proofs.Common.{◌≡◌, ℕ, suc, ◌≤◌, ◌-◌, ◌==◌, Bool, true, false, not, ◌&&◌, ◌||◌, cond}
-use Rattle.std.proofs.Common.{List, [], ◌∷◌, ◌++◌, length, take, drop, refl, sym, ap, ◌∙◌, subst}
-use Rattle.std.proofs.Common.{arith, append_assoc, append-nil, codes, eqb-true, length-drop}
+use Rattle.std.proofs.Common.{◌≡◌, ℕ, ◌==◌, Bool, true, false, not, cond, List, [], ◌∷◌, ◌++◌}
+use Rattle.std.proofs.Common.{length, refl, sym, ap, ◌∙◌, subst, append_assoc, codes}
 use Rattle.std.specs.Prelude.{Some, None, option_map, find, bytes_eq, string_bytes}
 use Rattle.std.specs.Option.{option_map_or}
 use Rattle.std.specs.List.{flat_map}
-use Rattle.std.proofs.lemmas.Bool.{cond_both, and_parts, and_from}
-use Rattle.std.proofs.lemmas.List.{take-append-drop, drop-append-le}
-use Rattle.std.proofs.lemmas.Slice.Eq.{bytes_eq-Decides}
+use Rattle.std.proofs.lemmas.Bool.{cond_both}
 use Rattle.md_text.specs.Html.{HasReadingWith, is_tag, elements}
-use Rattle.md_text.specs.Laws.{is_line_ends}
 use Rattle.md_text.proofs.EscapedLemmas.{escaped-append}
-use Rattle.md_text.proofs.HtmlJoin.{text, join}
+use Rattle.md_text.proofs.HtmlJoin.{text}
 use Rattle.md_text.specs.declared.options.CompileOptions.{CompileOptions}
 use Rattle.md_meaning.specs.Meaning.At.{Footnote}
 use Rattle.md_meaning.specs.Meaning.Layout.{Piece, Text, Needed, Forced}
-use Rattle.md_meaning.specs.Meaning.Footnotes.{option_or, id_of, backreferences, unended_length}
-use Rattle.md_meaning.specs.Meaning.Footnotes.{body, item, section_start, section, distinct}
-use Rattle.md_meaning.specs.Meaning.Footnotes.{place_among, count_of}
+use Rattle.md_meaning.specs.Meaning.Footnotes.{option_or, id_of, backreferences, body, item}
+use Rattle.md_meaning.specs.Meaning.Footnotes.{section_start, section, distinct, place_among}
+use Rattle.md_meaning.specs.Meaning.Footnotes.{count_of}
 use Rattle.md_safe.proofs.Texts.{Escaped}
 use Rattle.md_safe.proofs.Claim.{Claim, plain_of}
-use Rattle.md_safe.proofs.Laid.{adds-append, adds-text, adds-nothing, adds-needed, adds-forced}
+use Rattle.md_safe.proofs.Laid.{adds-append, adds-nothing, adds-needed, adds-forced}
 use Rattle.md_safe.proofs.Tags.{attribute, Turns, Bracket, adds-turned, IsFramed, bracket-tag}
-use Rattle.md_safe.proofs.Tags.{element-read, adds-pair, adds-flat, adds-framed, adds-before}
-use Rattle.md_safe.proofs.Tags.{adds-after, adds-escaped, framed-needed, framed-forced, flat}
-use Rattle.md_safe.proofs.Media.{label-escaped, id-escaped, backreferences-read}
+use Rattle.md_safe.proofs.Tags.{element-read, adds-pair, adds-framed, framed-needed, framed-forced}
+use Rattle.md_safe.proofs.Tags.{flat}
+use Rattle.md_safe.proofs.Calls.{label-escaped, id-escaped, backreferences-read}
 use Rattle.md_safe.proofs.Elements.{bracket-plain, adds-framed_flat}
 use Rattle.md_safe.proofs.Spot.{PassesIds, IsWhole, Setting, Prints}
-use Rattle.md_safe.proofs.BlockNodes.{Reads, holds-none}
-use Rattle.md_safe.proofs.Forests.{AreRead}
+use Rattle.md_safe.proofs.FlowNodes.{Reads}
+use Rattle.md_safe.proofs.BlockNodes.{holds-none}
+use Rattle.md_safe.proofs.Findings.{AreRead}
+use Rattle.md_safe.proofs.FootnoteBodies.{body-prints}
 
 -- an element before what stands in a bracket
 pub turn-after : (p q : Claim) (o c h : List ℕ) → Bracket q o c →
@@ -103,66 +101,6 @@ section-turn s q turn no_tag no_attributes =
     (heading_label_of s.given.options)) (codes "</section>")) (sym tag)
     (subst (λ attributes. Turns s.p q (heading_text (codes "h2") attributes
     (heading_label_of s.given.options)) (codes "</section>")) (sym attributes) turn)
-
--- at the end of a text there are only CR and LF
-pub rest-ends : (text : List ℕ) → is_line_ends (drop (unended_length text) text) ≡ true
-rest-ends [] = refl
-rest-ends (byte ∷ bytes) =
-    let ending : Bool = (byte == 13) || (byte == 10) in
-    let none : Bool = unended_length bytes == 0 in
-    cond_both (ending && none) 0 (suc (unended_length bytes))
-    (λ n. is_line_ends (drop n (byte ∷ bytes)) ≡ true)
-    (λ h.
-    let parts = and_parts ending none h in
-    and_from ending (is_line_ends bytes) parts.0
-    (subst (λ n. is_line_ends (drop n bytes) ≡ true) (eqb-true (unended_length bytes) 0 parts.1)
-    (rest-ends bytes)))
-    (λ _. rest-ends bytes)
-
--- where a paragraph ends a text, the ways back stand before its end
-in_paragraph : (p : Claim) (x back : List ℕ) → p.holds x → HasReadingWith p.test back →
-    bytes_eq (drop (unended_length x - 4) (take (unended_length x) x)) (codes "</p>") ≡ true →
-    p.holds (take (unended_length x - 4) x ++ ((32 ∷ back) ++ drop (unended_length x - 4) x))
-in_paragraph p x back r rb h =
-    let m : ℕ = unended_length x in
-    let n : ℕ = m - 4 in
-    let endings : List ℕ = drop m x in
-    let tag : drop n (take m x) ≡ codes "</p>" =
-    (bytes_eq-Decides (drop n (take m x)) (codes "</p>")).0 h in
-    let fits : n ≤ length (take m x) = omega (arith, length-drop n (take m x), ap length tag) in
-    let last : drop n x ≡ codes "</p>" ++ endings = ap (λ y. drop n y) (sym (take-append-drop m x))
-    ∙ drop-append-le n (take m x) endings fits ∙ ap (λ y. y ++ endings) tag in
-    let cut : x ≡ take n x ++ codes "</p>" ++ endings =
-    sym (take-append-drop n x) ∙ ap (λ y. take n x ++ y) last
-    ∙ sym (append_assoc (take n x) (codes "</p>") endings) in
-    let put : p.holds (take n x ++ (32 ∷ back) ++ codes "</p>" ++ endings) =
-    p.takes (take n x) endings (32 ∷ back) (rest-ends x) (subst p.holds cut r)
-    (join p.test (32 ∷ []) back (text p.test (32 ∷ []) refl) rb) in
-    subst p.holds
-    (append_assoc (take n x ++ (32 ∷ back)) (codes "</p>") endings
-    ∙ append_assoc (take n x) (32 ∷ back) (codes "</p>" ++ endings)
-    ∙ ap (λ y. take n x ++ ((32 ∷ back) ++ y)) (sym last))
-    put
-
-body-prints : (s : Setting) (x back : List ℕ) → Reads s x → HasReadingWith s.p.test back →
-    Prints s (Reads s) (body x back)
-body-prints s x back r rb =
-    let n : ℕ = unended_length x - 4 in
-    let split : List Piece =
-    Text (take n x) ∷ Text (codes " ") ∷ Text back ∷ Text (drop n x) ∷ [] in
-    cond_both (bytes_eq (drop n (take (unended_length x) x)) (codes "</p>")) split
-    (Text x ∷ Needed ∷ Text back ∷ [])
-    (Prints s (Reads s))
-    (λ is.
-    adds-flat s.given.ending (Reads s) split refl
-    (subst (Reads s) (ap (λ y. take n x ++ (32 ∷ (back ++ y))) (sym (append-nil (drop n x))))
-    (in_paragraph s.p x back r rb is)))
-    (λ _.
-    adds-after s.p s.given.ending (Text x ∷ []) (Needed ∷ Text back
-    ∷ []) (adds-text s.given.ending (Reads s) x r)
-    (adds-before (plain_of s.p) s.given.ending (Needed ∷ []) (Text back
-    ∷ []) (adds-escaped s.p s.given.ending (Needed ∷ []) (adds-needed s.given.ending s.ending))
-    (adds-text s.given.ending (HasReadingWith s.p.test) back rb)))
 
 -- an item
 pub li_id : (v : List ℕ) → Escaped v →

@@ -26,7 +26,8 @@ use Rattle.md_safe.proofs.Texts.{Escaped, pipes-escaped, trimmed-escaped}
 use Rattle.md_base.specs.NameTests.{is_call}
 use Rattle.md_safe.proofs.Laid.{adds-text, adds-nothing, adds-weaker, adds-alone}
 use Rattle.md_safe.proofs.Tags.{Bracket, void-read, adds-flat, adds-pair, framed-text}
-use Rattle.md_safe.proofs.Media.{adds-link, adds-image, adds-call, call_tags}
+use Rattle.md_safe.proofs.Media.{adds-link, adds-image}
+use Rattle.md_safe.proofs.Calls.{adds-call, call_tags}
 use Rattle.md_safe.proofs.Elements.{IsDone, bracket-plain, adds-code, adds-math, adds-task}
 use Rattle.md_safe.proofs.Contents.{Holds}
 use Rattle.md_safe.proofs.Spot.{Setting, Here, Prints, Inside, IsWide, IsGoodTarget, PassesIds}

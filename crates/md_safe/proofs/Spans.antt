@@ -39,16 +39,19 @@ use Rattle.md_safe.proofs.Texts.{Escaped, pipes-escaped, trimmed-escaped, decima
 use Rattle.md_safe.proofs.Laid.{Adds, adds-append, adds-text, adds-alone, adds-weaker}
 use Rattle.md_safe.proofs.Tags.{attribute, adds-flat, are_texts}
 use Rattle.md_safe.proofs.Tags.{flat as flattened}
-use Rattle.md_safe.proofs.Media.{href-escaped, src-escaped, IsEscapedTitle, id-escaped}
-use Rattle.md_safe.proofs.Media.{call_id-escaped, call_text, call_tags, call-regrouped, a_call}
+use Rattle.md_safe.proofs.Media.{href-escaped, src-escaped, IsEscapedTitle}
+use Rattle.md_safe.proofs.Calls.{id-escaped}
+use Rattle.md_safe.proofs.Calls.{call_id-escaped, call_text, call_tags, call-regrouped, a_call}
 use Rattle.md_safe.proofs.Elements.{IsDone, task_tag}
-use Rattle.md_safe.proofs.Contents.{is_blocks}
+use Rattle.md_safe.proofs.BlocksAsked.{is_blocks}
 use Rattle.md_safe.proofs.Spot.{Inside, IsFitAt, IsGoodTarget, encoded-escaped, target-title}
 use Rattle.md_safe.proofs.StringNodes.{line_ending-escaped}
 use Rattle.md_safe.proofs.SpanNodes.{html-escaped}
-use Rattle.md_safe.proofs.BlockNodes.{is_hidden, is_silent, hidden-prints, silent-prints}
-use Rattle.md_safe.proofs.BlockNodes.{silent-block, chunk-escaped, when-needed}
-use Rattle.md_safe.proofs.CountedForest.{Document, read_in}
+use Rattle.md_safe.proofs.BlockSorts.{is_hidden, is_silent}
+use Rattle.md_safe.proofs.BlockNodes.{hidden-prints, silent-prints}
+use Rattle.md_safe.proofs.FlowNodes.{chunk-escaped, when-needed}
+use Rattle.md_safe.proofs.BlockNodes.{silent-block}
+use Rattle.md_safe.proofs.Costs.{Document, read_in}
 use Rattle.md_safe.specs.Contents.{Content, Phrasing, Linked, Characters, voids_in}
 use Rattle.md_safe.specs.Links.{prints_link}
 use Rattle.md_safe.specs.Placed.{place_of}

@@ -1,0 +1,155 @@
+-- The numbers of calls and their occurrences tell them, and so do their ids.
+use Rattle.std.proofs.Common.{◌≡◌, ℕ, ◌+◌, ◌≤◌, ◌<◌, ◌^◌, suc, Bool, true, false, not, ◌||◌, cond}
+use Rattle.std.proofs.Common.{List, [], ◌∷◌, ◌++◌, length, refl, sym, ap, ◌∙◌, arith, append_assoc}
+use Rattle.std.proofs.Common.{append-nil, bytes_eq}
+use Rattle.std.specs.Prelude.{filter}
+use Rattle.std.proofs.lemmas.List.{length-append}
+use Rattle.md_base.proofs.Lies.{lie}
+use Rattle.md_text.specs.References.{read_back}
+use Rattle.md_text.specs.declared.options.CompileOptions.{CompileOptions}
+use Rattle.md_meaning.specs.Meaning.Footnotes.{distinct, place_among, count_of, call_id}
+use Rattle.md_meaning.proofs.Identifiers.{is_in, same, itself, is_in-distinct}
+use Rattle.md_safe.proofs.NumberedIds.{back_prefix, call_tail, call-back, same-call}
+
+place-first : (xs : List (List ℕ)) (x : List ℕ) → 1 ≤ place_among xs x
+place-first [] x = omega arith
+place-first (y ∷ ys) x = by (bytes_eq y x)
+  where
+    by : (is : Bool) → 1 ≤ cond is 1 (suc (place_among ys x))
+    by true = omega arith
+    by false = omega arith
+
+-- places tell identifiers
+pub same-place : (xs : List (List ℕ)) (x y : List ℕ) → is_in x xs ≡ true →
+    place_among xs x ≡ place_among xs y → x ≡ y
+same-place [] x y h e = lie h
+same-place (z ∷ zs) x y h e = by (bytes_eq z x) refl (bytes_eq z y) refl h e (same-place zs x y)
+  where
+    by : (a : Bool) → bytes_eq z x ≡ a → (b : Bool) → bytes_eq z y ≡ b → (a || is_in x zs) ≡ true
+        → cond a 1 (suc (place_among zs x)) ≡ cond b 1 (suc (place_among zs y))
+        → (is_in x zs ≡ true → place_among zs x ≡ place_among zs y → x ≡ y) → x ≡ y
+    by true f true g h e later = sym (same z x f) ∙ same z y g
+    by true f false g h e later = absurd (omega (e, place-first zs y, arith))
+    by false f true g h e later = absurd (omega (e, place-first zs x, arith))
+    by false f false g h e later = later h (omega (e, arith))
+
+pub is_in-middle : (xs ys : List (List ℕ)) (x : List ℕ) → is_in x (xs ++ x ∷ ys) ≡ true
+is_in-middle [] ys x = ap (λ b. b || is_in x ys) (itself x)
+is_in-middle (z ∷ zs) ys x = by (bytes_eq z x) (is_in-middle zs ys x)
+  where
+    by : (is : Bool) → is_in x (zs ++ x ∷ ys) ≡ true → (is || is_in x (zs ++ x ∷ ys)) ≡ true
+    by true h = refl
+    by false h = h
+
+count-append : (xs ys : List (List ℕ)) (x : List ℕ) →
+    count_of (xs ++ ys) x ≡ count_of xs x + count_of ys x
+count-append [] ys x = omega arith
+count-append (z ∷ zs) ys x = by (bytes_eq z x) (count-append zs ys x)
+  where
+    by : (is : Bool) → count_of (zs ++ ys) x ≡ count_of zs x + count_of ys x →
+        (cond is 1 0) + count_of (zs ++ ys) x ≡ (cond is 1 0) + count_of zs x + count_of ys x
+    by true e = omega (e, arith)
+    by false e = omega (e, arith)
+
+count-middle : (xs ys : List (List ℕ)) (x : List ℕ) →
+    suc (count_of xs x) ≤ count_of (xs ++ x ∷ ys) x
+count-middle xs ys x = by (bytes_eq x x) (itself x) (count-append xs (x ∷ ys) x)
+  where
+    by : (is : Bool) → is ≡ true →
+        count_of (xs ++ x ∷ ys) x ≡ count_of xs x + ((cond is 1 0) + count_of ys x) →
+        suc (count_of xs x) ≤ count_of (xs ++ x ∷ ys) x
+    by true h e = omega (e, arith)
+    by false h e = lie h
+
+-- two calls have another number, or another occurrence
+calls-differ : (all before mid : List (List ℕ)) (x y : List ℕ) → is_in x all ≡ true →
+    place_among (distinct all) x ≡ place_among (distinct all) y →
+    suc (count_of before x) ≡ suc (count_of (before ++ x ∷ mid) y) → ⊥
+calls-differ all before mid x y among numbers occurrences =
+    let one : x ≡ y = same-place (distinct all) x y (is_in-distinct all x ∙ among) numbers in
+    let counted : count_of before x ≡ count_of (before ++ x ∷ mid) x =
+    omega (occurrences, arith) ∙ ap (λ z. count_of (before ++ x ∷ mid) z) (sym one) in
+    omega (counted, count-middle before mid x, arith)
+
+-- numbers and occurrences are no greater than the calls are many, and one
+place-last : (xs : List (List ℕ)) (x : List ℕ) → place_among xs x ≤ suc (length xs)
+place-last [] x = omega arith
+place-last (y ∷ ys) x = by (bytes_eq y x) (place-last ys x)
+  where
+    by : (is : Bool) → place_among ys x ≤ suc (length ys) →
+        cond is 1 (suc (place_among ys x)) ≤ suc (suc (length ys))
+    by true h = omega arith
+    by false h = omega (h, arith)
+
+count-last : (xs : List (List ℕ)) (x : List ℕ) → count_of xs x ≤ length xs
+count-last [] x = omega arith
+count-last (y ∷ ys) x = by (bytes_eq y x) (count-last ys x)
+  where
+    by : (is : Bool) → count_of ys x ≤ length ys → (cond is 1 0) + count_of ys x ≤ suc (length ys)
+    by true h = omega (h, arith)
+    by false h = omega (h, arith)
+
+filter-fewer : (p : List ℕ → Bool) (xs : List (List ℕ)) → length (filter p xs) ≤ length xs
+filter-fewer p [] = omega arith
+filter-fewer p (x ∷ xs) = by (p x) (filter-fewer p xs)
+  where
+    by : (is : Bool) → length (filter p xs) ≤ length xs →
+        length (cond is (x ∷ filter p xs) (filter p xs)) ≤ suc (length xs)
+    by true h = omega (h, arith)
+    by false h = omega (h, arith)
+
+pub distinct-fewer : (calls : List (List ℕ)) → length (distinct calls) ≤ length calls
+distinct-fewer [] = omega arith
+distinct-fewer (call ∷ calls) =
+    omega (
+      filter-fewer (λ other. not (bytes_eq other call)) (distinct calls),
+      distinct-fewer calls,
+      arith,
+    )
+
+pub number-bound : (all : List (List ℕ)) (x : List ℕ) →
+    place_among (distinct all) x ≤ suc (length all)
+number-bound all x = omega (place-last (distinct all) x, distinct-fewer all, arith)
+
+-- the id of a call after others, its references read back; `all` are all calls
+abbrev pub id_after : CompileOptions → List (List ℕ) → List (List ℕ) → List ℕ → List ℕ
+id_after options all before identifier = read_back (call_id options identifier
+    (place_among (distinct all) identifier) (suc (count_of before identifier)))
+
+-- the ids of some calls after others
+abbrev pub ids_after : CompileOptions → List (List ℕ) → List (List ℕ) →
+    List (List ℕ) → List (List ℕ)
+ids_after options all before [] = []
+ids_after options all before (identifier ∷ calls) =
+    id_after options all before identifier
+    ∷ ids_after options all (before ++ (identifier ∷ [])) calls
+
+pub ids-append : (options : CompileOptions) (all before xs ys : List (List ℕ)) →
+    ids_after options all before (xs ++ ys)
+    ≡ ids_after options all before xs ++ ids_after options all (before ++ xs) ys
+ids-append options all before [] ys = ap (λ b. ids_after options all b ys) (sym (append-nil before))
+ids-append options all before (x ∷ xs) ys =
+    ap (λ ids. id_after options all before x ∷ ids)
+    (ids-append options all (before ++ (x ∷ [])) xs ys
+    ∙ ap (λ b. ids_after options all (before ++ (x ∷ [])) xs ++ ids_after options all b ys)
+    (append_assoc before (x ∷ []) xs))
+
+-- a later call has another id
+pub ids-differ : (options : CompileOptions) → options.gfm_footnote_number_ids ≡ true →
+    (all before mid : List (List ℕ)) (x y : List ℕ) → is_in x all ≡ true → length all + 1 < 2 ^ 64 →
+    length (before ++ x ∷ mid) + 1 < 2 ^ 64 →
+    id_after options all (before ++ x ∷ mid) y ≡ id_after options all before x → ⊥
+ids-differ options on all before mid x y among few small e =
+    let n : ℕ = place_among (distinct all) x in
+    let k : ℕ = suc (count_of before x) in
+    let m : ℕ = place_among (distinct all) y in
+    let l : ℕ = suc (count_of (before ++ x ∷ mid) y) in
+    let fewer : length before ≤ length (before ++ x ∷ mid) =
+    omega (length-append before (x ∷ mid), arith) in
+    let tails : back_prefix options ++ call_tail n k ≡ back_prefix options ++ call_tail m l =
+    sym (call-back options on x n k) ∙ sym e ∙ call-back options on y m l in
+    let parts = same-call options n m k l (omega (number-bound all x, few, arith))
+    (omega (number-bound all y, few, arith))
+    (omega (count-last before x, fewer, small, arith))
+    (omega (count-last (before ++ x ∷ mid) y, small, arith)) tails in
+    calls-differ all before mid x y among parts.0 parts.1

@@ -1,0 +1,186 @@
+-- What a node costs: how often an id stands in what it prints, as often as calls have it at most.
+use Rattle.std.proofs.Common.{◌≡◌, ℕ, ◌+◌, ◌≤◌, Bool, true, false, ◌&&◌, List, [], ◌∷◌, ◌++◌, refl}
+use Rattle.std.proofs.Common.{sym, ap, ◌∙◌, subst, arith, append-nil}
+use Rattle.std.specs.Prelude.{unwrap_or}
+use Rattle.md_base.proofs.Lies.{lie}
+use Rattle.md_base.specs.declared.event.Name.{Name}
+use Rattle.md_base.specs.declared.event.Name.TheVariants as name_variants
+use name_variants.{Other, BlockQuotePrefix, SpaceOrTab, GfmFootnoteDefinition, GfmFootnoteCall}
+use Rattle.md_base.specs.declared.event.Point.{Point}
+use Rattle.md_base.specs.Is.{is as named}
+use Rattle.md_base.specs.Tree.{Forest}
+use Rattle.md_base.specs.NameTests.{is_transparent}
+use Rattle.md_base.specs.Children.{is_empty}
+use Rattle.md_pattern.specs.Looseness.{is_loose}
+use Rattle.md_text.specs.Html.{any_attribute}
+use Rattle.md_text.proofs.HtmlJoin.{nothing}
+use Rattle.md_text.proofs.HtmlIds.{occurs, occurs-append, is_without, Counts, counts-plain}
+use Rattle.md_tree.specs.Rules.{place}
+use Rattle.md_meaning.specs.declared.context.Surroundings.{Surroundings}
+use Rattle.md_meaning.specs.Meaning.Around.{inside}
+use Rattle.md_meaning.specs.Meaning.At.{Given, Before, At, identifier_of}
+use Rattle.md_meaning.specs.Meaning.Before.{before_children}
+use Rattle.md_meaning.specs.Meaning.Layout.{layout, when}
+use Rattle.md_meaning.specs.Meaning.Nodes.{Outcome, node, outcome}
+use Rattle.md_shape.specs.Underlined.{waits_after}
+use Rattle.md_safe.proofs.Texts.{Escaped}
+use Rattle.md_safe.proofs.Claim.{reading}
+use Rattle.md_safe.proofs.Laid.{Adds}
+use Rattle.md_safe.proofs.Spot.{Setting, AreTitles}
+use Rattle.md_safe.proofs.Forests.{means}
+use Rattle.md_safe.proofs.Counted.{counting, without-test, Waiting, TextsCount}
+use Rattle.md_safe.proofs.CallNumbers.{ids_after, ids-append}
+
+-- a document whose HTML is escaped
+pub record Document : Type 0 where
+  pub given : Given
+  pub html : given.options.allow_dangerous_html ≡ false
+  pub ending : Escaped given.ending
+  pub titles : AreTitles given.definitions
+
+-- a setting in which an id is counted
+abbrev pub counted_in : Document → List ℕ → ℕ → Setting
+counted_in d w n = record {
+  p = counting w n;
+  given = d.given;
+  test = without-test w d.given.options d.html;
+  ending = d.ending;
+  titles = d.titles;
+}
+
+-- a setting in which texts have readings
+abbrev pub read_in : Document → Setting
+read_in d = record {
+  p = reading any_attribute;
+  given = d.given;
+  test = record {
+    other = λ name value h. refl;
+    link = λ destination. refl;
+    anchor = λ rest. refl;
+    image = λ destination. refl;
+    html = d.html;
+  };
+  ending = d.ending;
+  titles = d.titles;
+}
+
+-- how many of some calls after others have the id
+abbrev pub due : Document → List ℕ → (before calls : List (List ℕ)) → ℕ
+due d w before calls = occurs w (ids_after d.given.options d.given.calls before calls)
+
+pub due-append : (d : Document) (w : List ℕ) (before xs ys : List (List ℕ)) →
+    due d w before (xs ++ ys) ≡ due d w before xs + due d w (before ++ xs) ys
+due-append d w before xs ys =
+    ap (occurs w) (ids-append d.given.options d.given.calls before xs ys)
+    ∙ occurs-append w (ids_after d.given.options d.given.calls before xs)
+    (ids_after d.given.options d.given.calls (before ++ xs) ys)
+
+-- what is printed has the id so often, the heading that waits after it so often, and footnotes so
+-- often: together at most so often as the heading that waits before it, and as calls
+pub record Costs (d : Document) (w : List ℕ) (before : Before) (m : ℕ) (waits : Bool)
+    (means : Outcome) : Type 0 where
+  pub body : ℕ
+  pub left : ℕ
+  pub notes : ℕ
+  pub prints : Adds d.given.ending (Counts w body) means.pieces
+  pub heading : Waiting w waits left (unwrap_or means.found.heading before.heading)
+  pub texts : TextsCount w notes means.footnotes
+  pub few : body + left + notes ≤ m + due d w before.calls means.calls
+
+-- where a node is
+pub record Place : Type 0 where
+  pub around : Surroundings
+  pub before : Before
+  pub start : Point
+  pub end : Point
+  pub children : Forest
+  pub rest : Forest
+
+abbrev pub inner_around : Document → Place → Name → Surroundings
+inner_around d p name = inside d.given.options (is_loose p.children) name p.around
+
+abbrev pub inner_before : Place → Name → Before
+inner_before p name = before_children name p.children p.before
+
+abbrev pub inner_of : Document → Place → Name → Outcome
+inner_of d p name = outcome d.given (inner_around d p name) (inner_before p name) p.children
+
+abbrev pub at_of : Document → Place → Name → At
+at_of d p name = record {
+  around = p.around;
+  before = p.before;
+  children = p.children;
+  found = (inner_of d p name).found;
+  calls = p.before.calls ++ (inner_of d p name).calls;
+  place = place p.start p.end;
+  is_last = p.around.is_outermost && is_empty p.rest;
+}
+
+abbrev pub here_of : Document → Place → Name → Outcome
+here_of d p name = node d.given (at_of d p name) name (inner_of d p name)
+
+-- the children, where blocks stand in the node
+abbrev pub Below : Document → List ℕ → Place → Name → Bool → ℕ → Type 0
+Below d w p name waits m =
+    Costs d w (inner_before p name) m (waits_after waits p.children) (inner_of d p name)
+
+-- what a node costs is what its children do, and it itself where it is a call
+pub cost-parts : (d : Document) (w : List ℕ) (p : Place) (name : Name) →
+    due d w p.before.calls (here_of d p name).calls
+    ≡ due d w p.before.calls (inner_of d p name).calls
+    + due d w (p.before.calls ++ (inner_of d p name).calls)
+    (when (named GfmFootnoteCall name) (identifier_of d.given.bytes p.children ∷ []))
+cost-parts d w p name = due-append d w p.before.calls (inner_of d p name).calls
+    (when (named GfmFootnoteCall name) (identifier_of d.given.bytes p.children ∷ []))
+
+pub cost-least : (d : Document) (w : List ℕ) (p : Place) (name : Name) →
+    due d w p.before.calls (inner_of d p name).calls
+    ≤ due d w p.before.calls (here_of d p name).calls
+cost-least d w p name = omega (cost-parts d w p name, arith)
+
+-- nothing of no text
+pub counts-none : (w : List ℕ) → Counts w 0 []
+counts-none w = counts-plain w [] (nothing (is_without w))
+
+-- what isn't a footnote has those of its children
+pub no-footnote : (d : Document) (w : List ℕ) (n : ℕ) (p : Place) (name : Name) →
+    named GfmFootnoteDefinition name ≡ false → TextsCount w n (inner_of d p name).footnotes →
+    TextsCount w n (here_of d p name).footnotes
+no-footnote d w n p name none h =
+    subst (λ b. TextsCount w n ((inner_of d p name).footnotes ++ when b (record {
+      identifier = identifier_of d.given.bytes p.children;
+      text = layout d.given.ending (inner_of d p name).pieces;
+    } ∷ []))) (sym none) (subst (TextsCount w n) (sym (append-nil (inner_of d p name).footnotes)) h)
+
+-- a node that is looked through
+pub through-spent : (d : Document) (w : List ℕ) (p : Place) (name : Name) (waits : Bool) (m : ℕ) →
+    is_transparent name ≡ true → Below d w p name waits m →
+    Costs d w p.before m (waits_after waits p.children) (here_of d p name)
+through-spent d w p (Other number) waits m is b = record {
+  body = b.body;
+  left = b.left;
+  notes = b.notes;
+  prints = b.prints;
+  heading = b.heading;
+  texts = no-footnote d w b.notes p (Other number) refl b.texts;
+  few = omega (b.few, cost-least d w p (Other number), arith);
+}
+through-spent d w p BlockQuotePrefix waits m is b = record {
+  body = b.body;
+  left = b.left;
+  notes = b.notes;
+  prints = b.prints;
+  heading = b.heading;
+  texts = no-footnote d w b.notes p BlockQuotePrefix refl b.texts;
+  few = omega (b.few, cost-least d w p BlockQuotePrefix, arith);
+}
+through-spent d w p SpaceOrTab waits m is b = record {
+  body = b.body;
+  left = b.left;
+  notes = b.notes;
+  prints = b.prints;
+  heading = b.heading;
+  texts = no-footnote d w b.notes p SpaceOrTab refl b.texts;
+  few = omega (b.few, cost-least d w p SpaceOrTab, arith);
+}
+through-spent d w p _ waits m is b = lie is

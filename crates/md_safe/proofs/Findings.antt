@@ -1,0 +1,156 @@
+-- What is found where a node stands is good: a heading's text, titles, and the texts of footnotes.
+use Rattle.std.proofs.Common.{◌≡◌, ℕ, Bool, true, ◌||◌, List, [], ◌∷◌, ◌++◌, refl}
+use Rattle.std.specs.Prelude.{Option, Some, None, unwrap_or}
+use Rattle.std.proofs.lemmas.Bool.{or_left, or_right}
+use Rattle.md_base.proofs.Lies.{lie}
+use Rattle.md_base.specs.declared.event.Name.{Name}
+use Rattle.md_base.specs.declared.event.Name.TheVariants as name_variants
+use name_variants.{Other, BlockQuotePrefix, SpaceOrTab, HeadingSetextText}
+use name_variants.{DefinitionDestinationString, DefinitionTitleString, GfmFootnoteDefinition}
+use name_variants.{Resource, ResourceDestinationString, ResourceTitleString}
+use Rattle.md_base.specs.Is.{is as named}
+use Rattle.md_base.specs.NameTests.{is_transparent}
+use Rattle.md_base.specs.Children.{or_else}
+use Rattle.md_meaning.specs.Meaning.At.{Target, Defined, Footnote, Found, nothing_found, At}
+use Rattle.md_meaning.specs.Meaning.Layout.{Piece, layout}
+use Rattle.md_meaning.specs.Meaning.Nodes.{found_at}
+use Rattle.md_shape.specs.Built.{Content, Blocks, Sources, may_stand, content_inside, IsBuilt}
+use Rattle.md_safe.proofs.Texts.{Escaped}
+use Rattle.md_safe.proofs.Media.{IsEscapedTitle}
+use Rattle.md_safe.proofs.Contents.{Holds}
+use Rattle.md_safe.proofs.BlocksAsked.{is_blocks}
+use Rattle.md_safe.proofs.Contents.{Suits}
+use Rattle.md_safe.proofs.Spot.{Setting, AreTitles, IsGoodTarget, IsFitAt}
+use Rattle.md_safe.proofs.SpanNodes.{text-holds}
+use Rattle.md_safe.proofs.FlowNodes.{Reads}
+use Rattle.md_safe.proofs.Nodes.{inside-alone, Before as PrintsBefore}
+
+-- what holds of a text among blocks is what is claimed
+blocks-read : (s : Setting) (escaping in_image : Bool) (content : Content) →
+    is_blocks content ≡ true →
+    (x : List ℕ) → Holds s.p escaping in_image content x → Reads s x
+blocks-read s escaping in_image Blocks is x h = h
+blocks-read s escaping in_image _ is x h = lie is
+
+-- a footnote stands among blocks
+note-blocks : (content : Content) → may_stand content GfmFootnoteDefinition ≡ true →
+    is_blocks content ≡ true
+note-blocks Blocks h = refl
+note-blocks _ h = lie h
+
+-- where a title may stand, special characters are escaped
+suits-title : (escaping in_image : Bool) (content : Content) →
+    (may_stand content DefinitionTitleString || may_stand content ResourceTitleString) ≡ true →
+    Suits escaping in_image content → escaping ≡ true
+suits-title escaping in_image Sources s h = h
+suits-title escaping in_image _ s h = lie s
+
+-- a heading's text that was found is as claimed
+abbrev pub IsRead : Setting → Option (List ℕ) → Type 0
+IsRead s None = Unit {0}
+IsRead s (Some x) = Reads s x
+
+-- what is found: among blocks a heading as is claimed, and titles that are escaped
+pub record AreFound (s : Setting) (content : Content) (found : Found) : Type 0 where
+  pub heading : is_blocks content ≡ true → IsRead s found.heading
+  pub title : IsEscapedTitle found.title
+  pub resource : IsGoodTarget found.resource
+
+-- the texts of some footnotes are as claimed
+abbrev pub AreRead : Setting → List Footnote → Type 0
+AreRead s [] = Unit {0}
+AreRead s (footnote ∷ others) = Reads s footnote.text × AreRead s others
+
+pub titles-append : (xs ys : List Defined) → AreTitles xs → AreTitles ys → AreTitles (xs ++ ys)
+titles-append [] ys a b = b
+titles-append (x ∷ xs) ys a b = (a.0, titles-append xs ys a.1 b)
+
+pub read-append : (s : Setting) (xs ys : List Footnote) → AreRead s xs → AreRead s ys →
+    AreRead s (xs ++ ys)
+read-append s [] ys a b = b
+read-append s (x ∷ xs) ys a b = (a.0, read-append s xs ys a.1 b)
+
+-- a node and its children: what may stand where, and what the children print
+pub record Inner (s : Setting) (t : At) (content : Content) (name : Name)
+    (inner : List Piece) : Type 0 where
+  pub stands : (is_transparent name || may_stand content name) ≡ true
+  pub fit : IsFitAt s t name
+  pub suits : Suits t.around.is_escaping t.around.in_image content
+  pub built : IsBuilt s.given.bytes (content_inside content name) t.children
+  pub before : PrintsBefore s t (content_inside content name) name inner
+  pub found : AreFound s (content_inside content name) t.found
+
+pub nothing-found : (s : Setting) (content : Content) → AreFound s content nothing_found
+nothing-found s content = record { heading = λ _. tt; title = tt; resource = tt }
+
+-- what is found where a node stands
+pub found-node : (s : Setting) (t : At) (content : Content) (name : Name) (inner : List Piece) →
+    Inner s t content name inner →
+    AreFound s content (found_at t name (layout s.given.ending inner))
+found-node s t content HeadingSetextText inner i = record {
+  heading = λ is.
+      blocks-read s t.around.is_escaping t.around.in_image content is (layout s.given.ending inner)
+      (text-holds s (Holds s.p t.around.is_escaping t.around.in_image content) inner
+      (inside-alone s t content HeadingSetextText i.stands i.fit i.built inner i.before));
+  title = tt;
+  resource = tt;
+}
+found-node s t content DefinitionDestinationString inner i =
+    record { heading = λ _. tt; title = tt; resource = tt }
+found-node s t content ResourceDestinationString inner i =
+    record { heading = λ _. tt; title = tt; resource = tt }
+found-node s t content DefinitionTitleString inner i = record {
+  heading = λ _. tt;
+  title = text-holds s (λ x. t.around.is_escaping ≡ true → Escaped x) inner
+      (inside-alone s t content DefinitionTitleString i.stands i.fit i.built inner i.before)
+      (suits-title t.around.is_escaping t.around.in_image content (or_left (may_stand content
+      DefinitionTitleString) (may_stand content ResourceTitleString) i.stands) i.suits);
+  resource = tt;
+}
+found-node s t content ResourceTitleString inner i = record {
+  heading = λ _. tt;
+  title = text-holds s (λ x. t.around.is_escaping ≡ true → Escaped x) inner
+      (inside-alone s t content ResourceTitleString i.stands i.fit i.built inner i.before)
+      (suits-title t.around.is_escaping t.around.in_image content (or_right (may_stand content
+      DefinitionTitleString) (may_stand content ResourceTitleString) i.stands) i.suits);
+  resource = tt;
+}
+found-node s t content Resource inner i =
+    record { heading = λ _. tt; title = tt; resource = i.found.title }
+found-node s t content (Other number) inner i = i.found
+found-node s t content BlockQuotePrefix inner i = i.found
+found-node s t content SpaceOrTab inner i = i.found
+found-node s t content _ inner i = nothing-found s content
+
+-- the text of a footnote that is the node
+pub note-node : (s : Setting) (t : At) (content : Content) (name : Name) (inner : List Piece) →
+    Inner s t content name inner → named GfmFootnoteDefinition name ≡ true →
+    Reads s (layout s.given.ending inner)
+note-node s t content GfmFootnoteDefinition inner i is =
+    blocks-read s t.around.is_escaping t.around.in_image content (note-blocks content i.stands)
+    (layout s.given.ending inner)
+    (text-holds s (Holds s.p t.around.is_escaping t.around.in_image content) inner
+    (inside-alone s t content GfmFootnoteDefinition i.stands i.fit i.built inner i.before))
+note-node s t content _ inner i is = lie is
+
+-- of two things that were found the later one
+pub later-heading : (s : Setting) (first later : Option (List ℕ)) → IsRead s first →
+    IsRead s later → IsRead s (or_else later first)
+later-heading s first None f g = f
+later-heading s first (Some x) f g = g
+
+pub later-title : (first later : Option (List ℕ)) → IsEscapedTitle first → IsEscapedTitle later →
+    IsEscapedTitle (or_else later first)
+later-title first None f g = f
+later-title first (Some x) f g = g
+
+pub later-resource : (first later : Option Target) → IsGoodTarget first → IsGoodTarget later →
+    IsGoodTarget (or_else later first)
+later-resource first None f g = f
+later-resource first (Some x) f g = g
+
+pub heading-before : (s : Setting) (found : Option (List ℕ)) (before : List ℕ) →
+    IsRead s found → Reads s before →
+    Reads s (unwrap_or found before)
+heading-before s None before f g = g
+heading-before s (Some x) before f g = f

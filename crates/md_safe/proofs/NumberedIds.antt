@@ -1,0 +1,201 @@
+-- Ids by number: which number each has is read back of it.
+use Rattle.std.proofs.Common.{◌≡◌, ℕ, ◌<◌, ◌^◌, ◌==◌, ◌/◌, ◌%◌, zero, suc, true, false, not, ◌&&◌}
+use Rattle.std.proofs.Common.{◌||◌, cond, List, [], ◌∷◌, ◌++◌, refl, sym, ap, ◌∙◌, subst, arith}
+use Rattle.std.proofs.Common.{append_assoc, codes}
+use Rattle.std.specs.Prelude.{Option, Some, None}
+use Rattle.std.specs.Option.{option_map_or}
+use Rattle.std.specs.List.{list_all}
+use Rattle.std.specs.Fmt.{decimal, digits, digits_onto, digit_glyph}
+use Rattle.std.proofs.lemmas.Bool.{and_parts, and_from, cond_both, agree_below_at}
+use Rattle.std.proofs.lemmas.Fmt.{decimal_injective}
+use Rattle.std.proofs.lemmas.List.{append_cancel_left}
+use Rattle.std.proofs.lemmas.List.Folds.{list_all-append}
+use Rattle.md_base.proofs.Lies.{lie}
+use Rattle.md_text.specs.Encode.{encoded}
+use Rattle.md_text.specs.References.{read_back}
+use Rattle.md_text.proofs.EncodeLaws.{read_back-before, read_back-other}
+use Rattle.md_text.proofs.HtmlSplit.{split}
+use Rattle.md_text.specs.declared.options.CompileOptions.{CompileOptions}
+use Rattle.md_text.specs.Url.{sanitized}
+use Rattle.md_meaning.specs.Meaning.Footnotes.{id_of, call_id}
+use Rattle.md_shape.specs.Built.{is_digit}
+use Rattle.md_safe.specs.Apart.{prefix_of}
+use Rattle.md_safe.proofs.Calls.{prefix_given, id_prefix}
+use Rattle.md_safe.proofs.Texts.{digit-plain}
+use Rattle.md_text.proofs.ProtocolLemmas.{no_and}
+
+-- ---- what decimal writes
+glyph-digit : (d : ℕ) → d < 10 → is_digit (digit_glyph false d) ≡ true
+glyph-digit d l = agree_below_at (λ d. is_digit (digit_glyph false d)) (λ d. true) 10 d refl l
+
+onto-digits : (k n : ℕ) (acc : List ℕ) → list_all is_digit acc ≡ true →
+    list_all is_digit (digits_onto k 10 false n acc) ≡ true
+onto-digits zero n acc h = h
+onto-digits (suc k) n acc h =
+    let l : n % 10 < 10 = omega arith in
+    let first : list_all is_digit (digit_glyph false (n % 10) ∷ acc) ≡ true =
+    and_from (is_digit (digit_glyph false (n % 10))) (list_all is_digit acc)
+    (glyph-digit (n % 10) l) h in
+    cond_both (n / 10 == 0) (digit_glyph false (n % 10) ∷ acc)
+    (digits_onto k 10 false (n / 10) (digit_glyph false (n % 10) ∷ acc))
+    (λ x. list_all is_digit x ≡ true)
+    (λ _. first) (λ _. onto-digits k (n / 10) (digit_glyph false (n % 10) ∷ acc) first)
+
+pub decimal-digits : (n : ℕ) → list_all is_digit (decimal n) ≡ true
+unfolding digits
+decimal-digits n = onto-digits 64 n [] refl
+
+-- the last byte of a text, or 0
+abbrev last_byte : List ℕ → ℕ
+last_byte [] = 0
+last_byte (b ∷ []) = b
+last_byte (b ∷ c ∷ bytes) = last_byte (c ∷ bytes)
+
+abbrev pub EndsInDigit : List ℕ → Type 0
+EndsInDigit x = is_digit (last_byte x) ≡ true
+
+onto-ends : (k n c : ℕ) (acc : List ℕ) → EndsInDigit (c ∷ acc) →
+    EndsInDigit (digits_onto k 10 false n (c ∷ acc))
+onto-ends zero n c acc h = h
+onto-ends (suc k) n c acc h =
+    cond_both (n / 10 == 0) (digit_glyph false (n % 10) ∷ c ∷ acc)
+    (digits_onto k 10 false (n / 10) (digit_glyph false (n % 10) ∷ c ∷ acc)) EndsInDigit
+    (λ _. h) (λ _. onto-ends k (n / 10) (digit_glyph false (n % 10)) (c ∷ acc) h)
+
+onto-first : (k n : ℕ) → EndsInDigit (digits_onto (suc k) 10 false n [])
+onto-first k n =
+    let l : n % 10 < 10 = omega arith in
+    cond_both (n / 10 == 0) (digit_glyph false (n % 10) ∷ [])
+    (digits_onto k 10 false (n / 10) (digit_glyph false (n % 10) ∷ [])) EndsInDigit
+    (λ _. glyph-digit (n % 10) l)
+    (λ _. onto-ends k (n / 10) (digit_glyph false (n % 10)) [] (glyph-digit (n % 10) l))
+
+decimal-ends : (n : ℕ) → EndsInDigit (decimal n)
+unfolding digits
+decimal-ends n = onto-first 63 n
+
+last-append : (x y : List ℕ) → EndsInDigit y → EndsInDigit (x ++ y)
+last-append [] y h = h
+last-append (b ∷ []) [] h = lie h
+last-append (b ∷ []) (c ∷ y) h = h
+last-append (b ∷ c ∷ x) y h = last-append (c ∷ x) y h
+
+-- ---- what is read back
+digit-no_and : (b : ℕ) → is_digit b ≡ true → no_and b ≡ true
+digit-no_and b h =
+    (and_parts (not ((b == 0) || (b == 60) || (b == 62) || (b == 34))) (not (b == 38))
+    (digit-plain b h)).1
+
+digits-no_and : (x : List ℕ) → list_all is_digit x ≡ true → list_all no_and x ≡ true
+digits-no_and [] h = refl
+digits-no_and (b ∷ x) h =
+    let parts = and_parts (is_digit b) (list_all is_digit x) h in
+    and_from (no_and b) (list_all no_and x) (digit-no_and b parts.0) (digits-no_and x parts.1)
+
+-- a text without `&` is read back as it is
+plain-back : (x : List ℕ) → list_all no_and x ≡ true → read_back x ≡ x
+plain-back [] h = refl
+plain-back (b ∷ x) h =
+    let parts = and_parts (not (b == 38)) (list_all no_and x) h in
+    read_back-other b x (λ e. lie (subst (λ b. not (b == 38) ≡ true) e parts.0))
+    ∙ ap (λ y. b ∷ y) (plain-back x parts.1)
+
+no_and-append : (x y : List ℕ) → list_all no_and x ≡ true → list_all no_and y ≡ true →
+    list_all no_and (x ++ y) ≡ true
+no_and-append x y h g =
+    list_all-append no_and x y ∙ and_from (list_all no_and x) (list_all no_and y) h g
+
+-- the prefix, read back
+abbrev pub back_prefix : CompileOptions → List ℕ
+back_prefix options = prefix_of options
+
+prefix-back : (options : CompileOptions) (x : List ℕ) →
+    read_back (id_prefix options ++ x) ≡ back_prefix options ++ read_back x
+prefix-back options x = by (prefix_given options)
+  where
+    by : (given : Option (List ℕ)) →
+        read_back (option_map_or (encoded true) given (codes "user-content-") ++ x)
+        ≡ option_map_or (encoded false) given (codes "user-content-") ++ read_back x
+    by None = refl
+    by (Some text) = read_back-before text x
+
+-- ---- ids by number
+
+-- what stands after the prefix in the id of a footnote, and in that of a call
+abbrev pub note_tail : ℕ → List ℕ
+note_tail number = codes "fn-" ++ decimal number
+
+abbrev pub call_tail : ℕ → ℕ → List ℕ
+call_tail number occurrence = codes "fnref-" ++ (decimal number ++ (45 ∷ decimal occurrence))
+
+pub note-back : (options : CompileOptions) → options.gfm_footnote_number_ids ≡ true →
+    (identifier : List ℕ) (number : ℕ) →
+    read_back (id_of options (codes "fn-") identifier number)
+    ≡ back_prefix options ++ note_tail number
+note-back options on identifier number =
+    let prefix : List ℕ = id_prefix options in
+    ap
+    (λ b. read_back (prefix ++ (codes "fn-" ++ cond b (decimal number) (sanitized identifier)))) on
+    ∙ prefix-back options (note_tail number)
+    ∙ ap (λ x. back_prefix options ++ x)
+    (plain-back (note_tail number) (digits-no_and (decimal number) (decimal-digits number)))
+
+pub call-back : (options : CompileOptions) → options.gfm_footnote_number_ids ≡ true →
+    (identifier : List ℕ)
+    (number occurrence : ℕ) → read_back (call_id options identifier number occurrence)
+    ≡ back_prefix options ++ call_tail number occurrence
+call-back options on identifier number occurrence =
+    let prefix : List ℕ = id_prefix options in
+    ap
+    (λ b. read_back ((prefix ++ (codes "fnref-" ++ cond b (decimal number) (sanitized identifier)))
+    ++ cond (not b && occurrence == 1) [] (45 ∷ decimal occurrence))) on
+    ∙ ap read_back
+    (append_assoc prefix (codes "fnref-" ++ decimal number) (45 ∷ decimal occurrence))
+    ∙ prefix-back options (call_tail number occurrence)
+    ∙ ap (λ x. back_prefix options ++ x) (plain-back (call_tail number occurrence)
+    (no_and-append (decimal number) (45 ∷ decimal occurrence) (digits-no_and (decimal number)
+    (decimal-digits number)) (digits-no_and (decimal occurrence) (decimal-digits occurrence))))
+
+-- numbers are told by their ids
+pub same-note : (options : CompileOptions) (n m : ℕ) → n < 2 ^ 64 → m < 2 ^ 64 →
+    back_prefix options ++ note_tail n ≡ back_prefix options ++ note_tail m → n ≡ m
+same-note options n m hn hm e =
+    let tails : note_tail n ≡ note_tail m =
+    append_cancel_left (back_prefix options) (note_tail n) (note_tail m) e in
+    decimal_injective n m hn hm (cc tails)
+
+pub same-call : (options : CompileOptions) (n m k l : ℕ) → n < 2 ^ 64 → m < 2 ^ 64 →
+    k < 2 ^ 64 → l < 2 ^ 64 →
+    back_prefix options ++ call_tail n k ≡ back_prefix options ++ call_tail m l → (n ≡ m) × (k ≡ l)
+same-call options n m k l hn hm hk hl e =
+    let tails : call_tail n k ≡ call_tail m l =
+    append_cancel_left (back_prefix options) (call_tail n k) (call_tail m l) e in
+    let numbers : decimal n ++ (45 ∷ decimal k) ≡ decimal m ++ (45 ∷ decimal l) = cc tails in
+    let parts =
+    split is_digit (decimal n) (decimal m) (45 ∷ decimal k) (45 ∷ decimal l) (decimal-digits n)
+    (decimal-digits m) refl refl numbers in
+    let last : decimal k ≡ decimal l = cc (parts.1) in
+    (decimal_injective n m hn hm parts.0, decimal_injective k l hk hl last)
+
+-- a footnote's id is no call's, and neither is that of the heading
+pub note-no_call : (options : CompileOptions) (n m k : ℕ) → back_prefix options ++ note_tail n
+    ≡ back_prefix options ++ call_tail m k → ⊥
+note-no_call options n m k e =
+    let tails : note_tail n ≡ call_tail m k =
+    append_cancel_left (back_prefix options) (note_tail n) (call_tail m k) e in
+    cc tails
+
+pub label-no_digit : (x : List ℕ) → codes "footnote-label" ≡ x → EndsInDigit x → ⊥
+label-no_digit x e ends = lie (subst EndsInDigit (sym e) ends)
+
+pub note-ends : (options : CompileOptions) (n : ℕ) →
+    EndsInDigit (back_prefix options ++ note_tail n)
+note-ends options n = last-append (back_prefix options) (note_tail n)
+    (last-append (codes "fn-") (decimal n) (decimal-ends n))
+
+pub call-ends : (options : CompileOptions) (n k : ℕ) →
+    EndsInDigit (back_prefix options ++ call_tail n k)
+call-ends options n k =
+    last-append (back_prefix options) (call_tail n k)
+    (last-append (codes "fnref-") (decimal n ++ (45 ∷ decimal k))
+    (last-append (decimal n) (45 ∷ decimal k) (last-append (45 ∷ []) (decimal k) (decimal-ends k))))

@@ -1,0 +1,203 @@
+-- What nodes cost whose names have no rule of their own.
+use Rattle.std.proofs.Common.{◌≡◌, ℕ, Bool, true, false, ◌||◌, List, [], ◌∷◌, ◌++◌, refl, sym, ap}
+use Rattle.std.proofs.Common.{◌∙◌, subst, arith}
+use Rattle.std.specs.Prelude.{None, unwrap_or}
+use Rattle.md_base.proofs.Lies.{lie}
+use Rattle.md_base.specs.declared.event.Name.{Name}
+use Rattle.md_base.specs.declared.event.Name.TheVariants as name_variants
+use name_variants.{Other, BlockQuotePrefix, SpaceOrTab, LineEnding, HeadingSetextText}
+use name_variants.{HeadingSetextUnderlineSequence, GfmFootnoteDefinition}
+use Rattle.md_base.specs.Is.{is as named}
+use Rattle.md_base.specs.Tree.{Forest, Empty, Node}
+use Rattle.md_base.specs.NameTests.{is_transparent, is_call}
+use Rattle.md_meaning.specs.declared.context.Surroundings.{Surroundings}
+use Rattle.md_meaning.specs.Meaning.At.{Footnote, Before, At, identifier_of}
+use Rattle.md_meaning.specs.Meaning.Layout.{Piece, layout, when}
+use Rattle.md_meaning.specs.Meaning.Nodes.{Outcome, found_at, before_next, outcome}
+use Rattle.md_shape.specs.Underlined.{is_underline, waits_past}
+use Rattle.md_shape.specs.Built.{Content, Blocks, is_part, is_source, may_stand, content_of}
+use Rattle.md_shape.specs.Built.{content_inside, content_after_node, IsBuilt, IsFit}
+use Rattle.md_safe.proofs.Contents.{Holds}
+use Rattle.md_safe.proofs.BlocksAsked.{is_blocks, inside-blocks, asked-after-node}
+use Rattle.md_safe.proofs.Spot.{Setting, Prints, Inside}
+use Rattle.md_safe.proofs.BlockNodes.{block-node}
+use Rattle.md_safe.proofs.Forests.{Ready, Means, means, inside-means}
+use Rattle.md_safe.proofs.Counted.{Waiting, TextsCount}
+use Rattle.md_safe.proofs.Costs.{Document, read_in, Place, inner_around, inner_before, inner_of}
+use Rattle.md_safe.proofs.Costs.{counted_in, Costs, at_of, here_of, Below, cost-least, no-footnote}
+
+-- what is known of a node that isn't looked through
+pub record Stands (d : Document) (p : Place) (name : Name) : Type 0 where
+  pub solid : is_transparent name ≡ false
+  pub whole : (is_part name || is_source name) ≡ false
+  pub stands : (is_transparent name || may_stand Blocks name) ≡ true
+  pub fit : IsFit d.given.bytes name p.start p.end p.children
+  pub built : IsBuilt d.given.bytes (content_inside Blocks name) p.children
+  pub ready : Ready (read_in d) p.around p.before Blocks
+  pub within : Ready (read_in d) (inner_around d p name) (inner_before p name)
+      (content_inside Blocks name)
+  pub known : Means (read_in d) (inner_around d p name) (content_inside Blocks name)
+      p.children (inner_of d p name)
+
+-- the parts of a heading whose underline comes later
+abbrev pub is_setext : Name → Bool
+is_setext HeadingSetextText = true
+is_setext HeadingSetextUnderlineSequence = true
+is_setext _ = false
+
+-- a name with a rule of its own
+abbrev pub is_special : Name → Bool
+is_special name = is_setext name || (is_call name || named GfmFootnoteDefinition name)
+
+-- no other name than these waits for an underline after it, or keeps it waiting
+no_wait : (name : Name) → is_setext name ≡ false → is_blocks (content_of name Blocks) ≡ true →
+    (waits : Bool) →
+    waits_past waits name ≡ false
+no_wait HeadingSetextText other blocks waits = lie (sym other)
+no_wait LineEnding other blocks waits = lie blocks
+no_wait _ other blocks waits = refl
+
+keeps_wait : (w : List ℕ) (m : ℕ) (name : Name) → is_setext name ≡ false →
+    (waits : Bool) (x : List ℕ) →
+    Waiting w waits m x → Waiting w (waits_past waits name) m x
+keeps_wait w m HeadingSetextText other waits x h = lie (sym other)
+keeps_wait w m LineEnding other waits x h = h
+keeps_wait w m _ other waits x h = tt
+
+-- nor is a heading found at it
+no_heading : (t : At) (name : Name) (x : List ℕ) → is_transparent name ≡ false →
+    is_setext name ≡ false →
+    (found_at t name x).heading ≡ None
+no_heading t HeadingSetextText x solid other = lie (sym other)
+no_heading t (Other number) x solid other = lie (sym solid)
+no_heading t BlockQuotePrefix x solid other = lie (sym solid)
+no_heading t SpaceOrTab x solid other = lie (sym solid)
+no_heading t _ x solid other = refl
+
+no_underline : (name : Name) → is_setext name ≡ false → is_underline name ≡ true → false ≡ true
+no_underline HeadingSetextUnderlineSequence other is = sym other
+no_underline _ other is = is
+
+pub is_blocks-same : (content : Content) → is_blocks content ≡ true → content ≡ Blocks
+is_blocks-same Blocks h = refl
+is_blocks-same _ h = lie h
+
+-- what a name of no rule of its own is
+pub record IsPlain (name : Name) : Type 0 where
+  pub setext : is_setext name ≡ false
+  pub call : is_call name ≡ false
+  pub footnote : named GfmFootnoteDefinition name ≡ false
+
+-- a node in which blocks stand
+pub around-blocks : (d : Document) (w : List ℕ) (p : Place) (name : Name) (waits : Bool) (m : ℕ) →
+    Stands d p name →
+    IsPlain name → is_blocks (content_of name Blocks) ≡ true → Below d w p name false 0 →
+    Costs d w p.before m (waits_past waits name) (here_of d p name)
+around-blocks d w p name waits m k plain blocks b =
+    let s : Setting = counted_in d w b.body in
+    let t : At = at_of d p name in
+    let inner : List Piece = (inner_of d p name).pieces in
+    let within : Inside s t Blocks name inner =
+    subst (λ c. Prints s
+    (Holds s.p (inner_around d p name).is_escaping (inner_around d p name).in_image c) inner)
+    (sym (is_blocks-same (content_of name Blocks) blocks)) b.prints in
+    record {
+      body = b.body;
+      left = 0;
+      notes = b.notes;
+      prints = block-node s t name k.ready.suits k.solid k.whole k.fit
+          (λ call. lie (sym plain.call ∙ call))
+          (λ is. lie (no_underline name plain.setext is)) k.known.found.resource inner within;
+      heading =
+          subst (λ b. Waiting w b 0 (unwrap_or (here_of d p name).found.heading p.before.heading))
+          (sym (no_wait name plain.setext blocks waits)) tt;
+      texts = no-footnote d w b.notes p name plain.footnote b.texts;
+      few = omega (b.few, cost-least d w p name, arith);
+    }
+
+differ : {b : Bool} → b ≡ false → b ≡ true → false ≡ true
+differ other same = sym other ∙ same
+
+isn't : (b : Bool) → (b ≡ true → false ≡ true) → b ≡ false
+isn't true h = sym (h refl)
+isn't false h = refl
+
+no_definition : (content : Content) → may_stand content GfmFootnoteDefinition ≡ true →
+    is_blocks content ≡ true
+no_definition Blocks h = refl
+no_definition _ h = lie h
+
+none_here : (content : Content) (name : Name) →
+    (is_transparent name || may_stand content name) ≡ true →
+    is_blocks content ≡ false → named GfmFootnoteDefinition name ≡ false
+none_here content GfmFootnoteDefinition stands other =
+    lie (differ other (no_definition content stands))
+none_here content _ stands other = refl
+
+-- no footnote is defined but among blocks
+pub no_footnotes :
+    (d : Document) (content : Content) (forest : Forest) (around : Surroundings) (before : Before) →
+    is_blocks content ≡ false → IsBuilt d.given.bytes content forest →
+    (outcome d.given around before forest).footnotes ≡ []
+no_footnotes d content Empty around before other built = refl
+no_footnotes d content (Node name start end children rest) around before other built =
+    let p : Place = record {
+      around = around;
+      before = before;
+      start = start;
+      end = end;
+      children = children;
+      rest = rest;
+    } in
+    let here : Outcome = here_of d p name in
+    let next : Before = before_next (at_of d p name) name here in
+    let own : Footnote = record {
+      identifier = identifier_of d.given.bytes children;
+      text = layout d.given.ending (inner_of d p name).pieces;
+    } in
+    ap (λ fs. (fs ++ when (named GfmFootnoteDefinition name) (own ∷ []))
+    ++ (outcome d.given around next rest).footnotes)
+    (no_footnotes d (content_inside content name) children (inner_around d p name)
+    (inner_before p name) (isn't (is_blocks (content_inside content name))
+    (λ h. differ other (inside-blocks content name h))) built.2)
+    ∙ ap (λ b. when b (own ∷ []) ++ (outcome d.given around next rest).footnotes)
+    (none_here content name built.0 other)
+    ∙ no_footnotes d (content_after_node content name children) rest around next
+    (isn't (is_blocks (content_after_node content name children))
+    (asked-after-node (false ≡ true) content name children (λ h. differ other h))) built.3
+
+-- a node in which something else stands
+pub around-others : (d : Document) (w : List ℕ) (p : Place) (name : Name) (waits : Bool) (m : ℕ) →
+    Stands d p name →
+    IsPlain name → is_blocks (content_inside Blocks name) ≡ false →
+    Waiting w waits m p.before.heading →
+    Costs d w p.before m (waits_past waits name) (here_of d p name)
+around-others d w p name waits m k plain blocks h =
+    let s : Setting = counted_in d w 0 in
+    let t : At = at_of d p name in
+    let inner : Outcome = inner_of d p name in
+    let counted : Means s (inner_around d p name) (content_inside Blocks name) p.children inner =
+    means s p.children (inner_around d p name) (inner_before p name)
+    (content_inside Blocks name) k.built (record {
+      suits = k.within.suits;
+      follows = k.within.follows;
+      whole = λ is. lie (sym blocks ∙ is);
+      heading = λ is. lie (sym blocks ∙ is);
+    }) in
+    record {
+      body = 0;
+      left = m;
+      notes = 0;
+      prints = block-node s t name k.ready.suits k.solid k.whole k.fit
+          (λ call. lie (sym plain.call ∙ call))
+          (λ is. lie (no_underline name plain.setext is)) k.known.found.resource inner.pieces
+          (inside-means s t Blocks name inner k.solid k.stands k.fit k.built counted);
+      heading =
+          subst (λ found. Waiting w (waits_past waits name) m (unwrap_or found p.before.heading))
+          (sym (no_heading t name (layout d.given.ending inner.pieces) k.solid plain.setext))
+          (keeps_wait w m name plain.setext waits p.before.heading h);
+      texts = no-footnote d w 0 p name plain.footnote (subst (TextsCount w 0)
+          (sym (no_footnotes d (content_inside Blocks name) p.children (inner_around d p name)
+          (inner_before p name) blocks k.built)) tt);
+      few = omega arith;
+    }

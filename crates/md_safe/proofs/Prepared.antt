@@ -1,0 +1,152 @@
+-- What the inductions need is known at the beginning of a document.
+use Rattle.std.proofs.Common.{◌≡◌, ℕ, Bool, true, cond, List, [], refl, ap}
+use Rattle.std.specs.Prelude.{Option, Some, None}
+use Rattle.std.specs.Option.{option_map_or}
+use Rattle.md_base.specs.declared.event.Name.{Name}
+use Rattle.md_base.specs.declared.event.Name.TheVariants.{LineEnding, BlankLineEnding}
+use Rattle.md_base.specs.declared.event.Point.{Point}
+use Rattle.md_base.specs.declared.event.Position.{Position}
+use Rattle.md_text.specs.declared.line_ending.LineEnding.{LineEnding as Ending}
+use Rattle.md_text.specs.declared.line_ending.LineEnding.TheVariants.{CarriageReturnLineFeed}
+use Rattle.md_text.specs.declared.line_ending.LineEnding.TheVariants.{CarriageReturn, LineFeed}
+use Rattle.md_text.specs.Laws.{is_line_ends}
+use Rattle.md_text.specs.LineEnding.{ending_text}
+use Rattle.md_text.specs.Html.{Attribute, any_attribute}
+use Rattle.md_text.proofs.HtmlJoin.{join}
+use Rattle.md_base.specs.Tree.{Forest, Empty, Node}
+use Rattle.md_base.specs.Children.{or_else}
+use Rattle.md_text.specs.Ids.{ids}
+use Rattle.md_base.specs.NameTests.{is_line_ending}
+use Rattle.md_text.specs.declared.options.CompileOptions.{CompileOptions}
+use Rattle.md_tree.specs.Rules.{place as position}
+use Rattle.md_meaning.specs.Meaning.{ending_at}
+use Rattle.md_meaning.specs.Meaning.Around.{outermost}
+use Rattle.md_meaning.specs.Meaning.At.{Given, text_in}
+use Rattle.md_meaning.specs.Meaning.Before.{nothing_before}
+use Rattle.md_meaning.specs.Meaning.Finds.{first_ending}
+use Rattle.md_meaning.specs.Meaning.Nodes.{outcome}
+use Rattle.md_shape.specs.Built.{Content, Blocks, content_inside, content_after_node, content_past}
+use Rattle.md_shape.specs.Built.{content_after, IsBuilt, IsFit}
+use Rattle.md_safe.specs.Options.{KeepsGrammar}
+use Rattle.md_safe.proofs.Texts.{Escaped, line_ends-escaped}
+use Rattle.md_safe.proofs.Claim.{reading}
+use Rattle.md_safe.proofs.Tags.{IsTest}
+use Rattle.md_safe.proofs.Contents.{stays-after}
+use Rattle.md_safe.proofs.Spot.{PassesIds, IsWhole, Setting, AreTitles}
+use Rattle.md_safe.proofs.BlockNodes.{holds-none}
+use Rattle.md_safe.proofs.Forests.{Ready, Means, means}
+
+-- a place, where there is one, has the text of line endings
+abbrev pub IsEnding : List ℕ → Option Position → Type 0
+IsEnding bytes place = option_map_or (λ found. is_line_ends (text_in bytes found)) place true ≡ true
+
+first_of_two : (bytes : List ℕ) (first second : Option Position) → IsEnding bytes first →
+    IsEnding bytes second →
+    IsEnding bytes (or_else first second)
+first_of_two bytes None second f g = g
+first_of_two bytes (Some place) second f g = f
+
+own-ending : (bytes : List ℕ) (name : Name) (start end : Point) (children : Forest) →
+    IsFit bytes name start end children → IsEnding bytes
+    (cond (is_line_ending name) (Some (position start end)) None)
+own-ending bytes LineEnding start end children fit = fit
+own-ending bytes BlankLineEnding start end children fit = fit
+own-ending bytes _ start end children fit = refl
+
+-- the first line ending of a document is one
+pub first-is_ending : (bytes : List ℕ) (content : Content) (forest : Forest) →
+    IsBuilt bytes content forest →
+    IsEnding bytes (first_ending forest)
+first-is_ending bytes content Empty built = refl
+first-is_ending bytes content (Node name start end children rest) built =
+    let own : Option Position = cond (is_line_ending name) (Some (position start end)) None in
+    first_of_two bytes (first_ending children) (or_else own (first_ending rest))
+    (first-is_ending bytes (content_inside content name) children built.2)
+    (first_of_two bytes own (first_ending rest) (own-ending bytes name start end children built.1)
+    (first-is_ending bytes (content_after_node content name children) rest built.3))
+
+default-escaped : (ending : Ending) → Escaped (ending_text ending)
+default-escaped CarriageReturnLineFeed = refl
+default-escaped CarriageReturn = refl
+default-escaped LineFeed = refl
+
+ending-escaped : (options : CompileOptions) (bytes : List ℕ) (place : Option Position) →
+    IsEnding bytes place →
+    Escaped (ending_at options bytes place)
+ending-escaped options bytes None h = default-escaped _
+ending-escaped options bytes (Some place) h = line_ends-escaped (text_in bytes place) h
+
+-- blocks stand after blocks
+pub blocks-stay : (forest : Forest) → content_after Blocks forest ≡ Blocks
+blocks-stay forest = stays-after (λ content. content ≡ Blocks)
+    (λ content name e. ap (λ content. content_past content name) e) Blocks forest refl
+
+-- what is known at the document's beginning
+pub outermost-ready : (s : Setting) → IsWhole s.p → Ready s outermost nothing_before Blocks
+outermost-ready s whole = record {
+  suits = refl;
+  follows = tt;
+  whole = λ _. whole;
+  heading = λ _. holds-none s;
+}
+
+-- any attribute passes
+pub any-test : (options : CompileOptions) → KeepsGrammar options → IsTest any_attribute options
+any-test options keeps = record {
+  other = λ name value h. refl;
+  link = λ destination. refl;
+  anchor = λ rest. refl;
+  image = λ destination. refl;
+  html = keeps.escapes_html;
+}
+
+-- a reading is claimed as a whole
+pub reads-whole : (p : Attribute → Bool) → PassesIds p → IsWhole (reading p)
+reads-whole p ids = record { both = join p; ids = ids }
+
+-- the line ending that is used is escaped, and so are the titles of definitions
+pub prepared : (bytes : List ℕ) (names : List (List ℕ × List ℕ)) (options : CompileOptions)
+    (document : Forest) →
+    IsBuilt bytes Blocks document → KeepsGrammar options →
+    Escaped (ending_at options bytes (first_ending document))
+    × AreTitles (outcome (record {
+      bytes = bytes;
+      names = names;
+      options = options;
+      ending = ending_at options bytes (first_ending document);
+      calls = (outcome (record {
+        bytes = bytes;
+        names = names;
+        options = options;
+        ending = ending_at options bytes (first_ending document);
+        calls = [];
+        definitions = [];
+      }) outermost nothing_before document).calls;
+      definitions = [];
+    }) outermost nothing_before document).definitions
+prepared bytes names options document built keeps =
+    let ending : List ℕ = ending_at options bytes (first_ending document) in
+    let escaped : Escaped ending = ending-escaped options bytes (first_ending document)
+    (first-is_ending bytes Blocks document built) in
+    let alone : Given = record {
+      bytes = bytes;
+      names = names;
+      options = options;
+      ending = ending;
+      calls = [];
+      definitions = [];
+    } in
+    let called : Given =
+    record alone { calls = (outcome alone outermost nothing_before document).calls } in
+    let before : Setting = record {
+      p = reading any_attribute;
+      given = called;
+      test = any-test options keeps;
+      ending = escaped;
+      titles = tt;
+    } in
+    let known :
+    Means before outermost Blocks document (outcome called outermost nothing_before document) =
+    means before document outermost nothing_before Blocks built
+    (outermost-ready before (reads-whole any_attribute (λ value. refl))) in
+    (escaped, known.titles)
