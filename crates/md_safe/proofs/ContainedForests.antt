@@ -1,67 +1,48 @@
 -- What the nodes of a document mean stands where they are: one induction over blocks, beside that
 -- of `md_safe`, which is enough for what stands in strings, in code and in images.
-use Rattle.std.proofs.Common.{◌≡◌, ℕ, Bool, true, false, ◌&&◌, ◌||◌, cond, List, [], ◌∷◌, ◌++◌}
-use Rattle.std.proofs.Common.{refl, sym, ap, ◌∙◌, subst, append-nil}
-use Rattle.std.specs.Prelude.{Option, Some, None, unwrap_or}
+use Rattle.std.proofs.Common.{◌≡◌, Bool, true, false, ◌&&◌, ◌||◌, cond, [], ◌∷◌, ◌++◌, refl, sym}
+use Rattle.std.proofs.Common.{ap, ◌∙◌, subst, append-nil}
 use Rattle.std.proofs.lemmas.Bool.{cond_both}
 use Rattle.md_base.proofs.Lies.{lie}
 use Rattle.md_base.specs.declared.event.Name.{Name}
 use Rattle.md_base.specs.declared.event.Name.TheVariants as name_variants
-use name_variants.{Other, BlockQuotePrefix, SpaceOrTab, Image, HeadingSetextText}
-use name_variants.{GfmFootnoteDefinition}
+use name_variants.{Other, BlockQuotePrefix, SpaceOrTab, GfmFootnoteDefinition}
 use Rattle.md_base.specs.Is.{is as named}
 use Rattle.md_base.specs.Tree.{Forest, Empty, Node}
 use Rattle.md_base.specs.NameTests.{is_transparent}
-use Rattle.md_base.specs.Children.{is_empty, or_else}
+use Rattle.md_base.specs.Children.{is_empty}
 use Rattle.md_pattern.specs.Looseness.{is_loose}
-use Rattle.md_text.specs.declared.options.CompileOptions.{CompileOptions}
 use Rattle.md_tree.specs.Rules.{place}
 use Rattle.md_meaning.specs.declared.context.Surroundings.{Surroundings}
 use Rattle.md_meaning.specs.Meaning.Around.{inside}
 use Rattle.md_meaning.specs.Meaning.At.{Footnote, Before, At, identifier_of}
 use Rattle.md_meaning.specs.Meaning.Before.{before_children}
 use Rattle.md_meaning.specs.Meaning.Layout.{layout, when}
-use Rattle.md_meaning.specs.Meaning.Nodes.{Outcome, found_at, node, before_next, outcome}
-use Rattle.md_shape.specs.Built.{Content as Grammatical}
+use Rattle.md_meaning.specs.Meaning.Nodes.{Outcome, node, before_next, outcome}
 use Rattle.md_shape.specs.Built.{Blocks, is_part, is_source, may_stand, content_of, content_inside}
-use Rattle.md_shape.specs.Built.{content_after_node, content_past, content_after, IsBuilt}
-use Rattle.md_safe.proofs.Laid.{adds-alone}
-use Rattle.md_safe.proofs.Contents.{stays-after}
+use Rattle.md_shape.specs.Built.{IsBuilt}
 use Rattle.md_safe.proofs.Following.{second}
 use Rattle.md_safe.proofs.BlocksAsked.{is_blocks}
 use Rattle.md_safe.proofs.Nodes.{not_part}
 use Rattle.md_safe.proofs.Findings.{AreFound}
-use Rattle.md_safe.proofs.Forests.{Ready, ready-inside, ready-after, inside-means}
-use Rattle.md_safe.proofs.Forests.{found-at}
+use Rattle.md_safe.proofs.Forests.{Ready, ready-inside, ready-after, inside-means, found-at}
 use Rattle.md_safe.proofs.Forests.{Means as SafeMeans, means as safe-means}
 use Rattle.md_safe.proofs.Costs.{Document, read_in}
 use Rattle.md_safe.proofs.PlainCosts.{no_footnotes}
-use Rattle.md_safe.specs.Contents.{Content, Flow, Phrasing}
+use Rattle.md_safe.specs.Contents.{Content, Phrasing}
 use Rattle.md_safe.specs.Links.{has_nested_link}
-use Rattle.md_safe.specs.Placed.{Block, sort_of, IsPlaced}
-use Rattle.md_safe.specs.Placed.{may_stand as may_place}
+use Rattle.md_safe.specs.Placed.{sort_of, IsPlaced, may_stand as may_place}
 use Rattle.md_safe.proofs.Linking.{is_spans, with_links, place_in, inner_place, inner-place-with}
 use Rattle.md_safe.proofs.Linking.{IsLinked, linked-inside, unnested-inside, unnested-after}
 use Rattle.md_safe.proofs.Linking.{unlinked-here, unlinked-spans}
-use Rattle.md_safe.proofs.Stands.{Stands, stands-nothing, IsWhite}
+use Rattle.md_safe.proofs.Stands.{Stands, IsWhite}
 use Rattle.md_safe.proofs.ContainedLaid.{lays-nothing, lays-both}
-use Rattle.md_safe.proofs.Spans.{Prints, Known, Own, Spanning}
+use Rattle.md_safe.proofs.SpanContents.{Prints, Known, Own}
+use Rattle.md_safe.proofs.Spans.{Spanning}
 use Rattle.md_safe.proofs.Blocks.{solid-node}
-
--- a heading's text that was found is phrasing content
-abbrev pub IsHeading : (nested : Bool) → Option (List ℕ) → Type 0
-IsHeading nested None = Unit {0}
-IsHeading nested (Some x) = Stands nested Phrasing x
-
--- the texts of some footnotes are flow content
-abbrev pub AreFlow : (nested : Bool) → List Footnote → Type 0
-AreFlow nested [] = Unit {0}
-AreFlow nested (footnote ∷ others) = Stands nested Flow footnote.text × AreFlow nested others
-
-flow-append : (nested : Bool) (xs ys : List Footnote) → AreFlow nested xs → AreFlow nested ys →
-    AreFlow nested (xs ++ ys)
-flow-append nested [] ys a b = b
-flow-append nested (x ∷ xs) ys a b = (a.0, flow-append nested xs ys a.1 b)
+use Rattle.md_safe.proofs.FlowFindings.{IsHeading, AreFlow, flow-append, heading-found, note-found}
+use Rattle.md_safe.proofs.FlowFindings.{still-outside, is_blocks-same, after-blocks, heading-both}
+use Rattle.md_safe.proofs.FlowFindings.{heading-next, heading-inside}
 
 -- what nodes mean, where their content stands
 pub record Means (nested : Bool) (d : Document) (content : Content) (means : Outcome) : Type 0 where
@@ -91,72 +72,6 @@ through nested d content SpaceOrTab t inner is same m = record {
   texts = subst (AreFlow nested) (sym (append-nil inner.footnotes)) m.texts;
 }
 through nested d content _ t inner is same m = lie is
-
--- blocks stand in flow content
-block-flow : (content : Content) → may_place (with_links content) Block ≡ true → content ≡ Flow
-block-flow Flow h = refl
-block-flow _ h = lie h
-
--- what is found at a node that isn't looked through
-heading-found :
-    (nested : Bool) (d : Document) (content : Content) (name : Name) (t : At) (inner : Outcome) →
-    is_transparent name ≡ false → may_place (with_links content) (sort_of name) ≡ true →
-    Own nested d content name inner.pieces → IsHeading nested (found_at t name
-    (layout d.given.ending inner.pieces)).heading
-heading-found nested d content HeadingSetextText t inner solid stands a =
-    adds-alone d.given.ending (Stands nested Phrasing) inner.pieces
-    (subst (λ c. Prints nested d (place_in nested c HeadingSetextText) inner.pieces)
-    (block-flow content stands) (a refl))
-heading-found nested d content (Other number) t inner solid stands a = lie (sym solid)
-heading-found nested d content BlockQuotePrefix t inner solid stands a = lie (sym solid)
-heading-found nested d content SpaceOrTab t inner solid stands a = lie (sym solid)
-heading-found nested d content _ t inner solid stands a = tt
-
--- the text of a footnote
-note-found : (nested : Bool) (d : Document) (content : Content) (name : Name) (inner : Outcome) →
-    named GfmFootnoteDefinition name ≡ true → may_place (with_links content) (sort_of name) ≡ true →
-    Own nested d content name inner.pieces → Stands nested Flow (layout d.given.ending inner.pieces)
-note-found nested d content GfmFootnoteDefinition inner is stands a =
-    adds-alone d.given.ending (Stands nested Flow) inner.pieces
-    (subst (λ c. Prints nested d (place_in nested c GfmFootnoteDefinition) inner.pieces)
-    (block-flow content stands) (a refl))
-note-found nested d content _ inner is stands a = lie is
-
--- images alone begin an image, and no blocks stand in them
-still-outside : (options : CompileOptions) (loose : Bool) (name : Name) (around : Surroundings) →
-    is_blocks (content_inside Blocks name) ≡ true → around.in_image ≡ false →
-    (inside options loose name around).in_image ≡ false
-still-outside options loose Image around blocks out = lie blocks
-still-outside options loose _ around blocks out = out
-
-is_blocks-same : (content : Grammatical) → is_blocks content ≡ true → content ≡ Blocks
-is_blocks-same Blocks h = refl
-is_blocks-same _ h = lie h
-
-after-blocks : (name : Name) (children : Forest) → content_after_node Blocks name children ≡ Blocks
-after-blocks name children =
-    cond_both (is_transparent name) (content_after Blocks children) Blocks (λ c. c ≡ Blocks)
-    (λ _. stays-after (λ content. content ≡ Blocks)
-    (λ content name e. ap (λ content. content_past content name) e)
-    Blocks children refl) (λ _. refl)
-
-heading-both : (nested : Bool) (first later : Option (List ℕ)) → IsHeading nested first →
-    IsHeading nested later →
-    IsHeading nested (or_else later first)
-heading-both nested first None a b = a
-heading-both nested first (Some x) a b = b
-
-heading-next : (nested : Bool) (found : Option (List ℕ)) (before : List ℕ) →
-    IsHeading nested found →
-    Stands nested Phrasing before →
-    Stands nested Phrasing (unwrap_or found before)
-heading-next nested None before a b = b
-heading-next nested (Some x) before a b = a
-
-heading-inside : (nested : Bool) (is : Bool) (before : List ℕ) → Stands nested Phrasing before →
-    Stands nested Phrasing (cond is before [])
-heading-inside nested true before h = h
-heading-inside nested false before h = stands-nothing nested Phrasing
 
 -- what is known where some nodes stand
 pub record Fits (nested : Bool) (d : Document) (around : Surroundings) (before : Before)

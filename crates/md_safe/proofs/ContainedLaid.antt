@@ -9,7 +9,8 @@ use Rattle.md_text.proofs.EscapedLemmas.{escaped-append}
 use Rattle.md_meaning.specs.Meaning.Layout.{Piece, Text, Needed, Forced, begins_line, when}
 use Rattle.md_safe.proofs.Laid.{Grows, Adds, adds-append, adds-text, adds-weaker, adds-nothing}
 use Rattle.md_safe.specs.Contents.{Content, Flow, Phrasing, is_space}
-use Rattle.md_safe.proofs.Stands.{Stands, stands-join, stands-nothing, stands-wider, stands-white}
+use Rattle.md_safe.proofs.Stands.{Stands, stands-join, stands-nothing, stands-white}
+use Rattle.md_safe.proofs.Wider.{stands-wider}
 use Rattle.md_safe.proofs.Stands.{IsWhite, is_spaced, Turns}
 
 -- what pieces add stands as this content

@@ -1,111 +1,38 @@
 -- The section of footnotes is flow content: its heading, its items and their ways back.
-use Rattle.std.proofs.Common.{◌≡◌, ℕ, zero, suc, ◌≤◌, ◌-◌, ◌==◌, Bool, true, false, not, cond, List}
-use Rattle.std.proofs.Common.{[], ◌∷◌, ◌++◌, length, take, drop, refl, sym, ap, ◌∙◌, subst, arith}
+use Rattle.std.proofs.Common.{◌≡◌, ℕ, ◌≤◌, ◌-◌, ◌==◌, Bool, true, false, not, cond, List, [], ◌∷◌}
+use Rattle.std.proofs.Common.{◌++◌, length, take, drop, refl, sym, ap, ◌∙◌, subst, arith}
 use Rattle.std.proofs.Common.{append_assoc, append-nil, codes, length-drop}
-use Rattle.std.specs.Prelude.{Option, Some, None, option_map, find, bytes_eq, string_bytes}
+use Rattle.std.specs.Prelude.{Some, None, option_map, find, bytes_eq, string_bytes}
 use Rattle.std.specs.Option.{option_map_or}
 use Rattle.std.specs.List.{flat_map}
-use Rattle.std.specs.Fmt.{decimal}
 use Rattle.std.proofs.lemmas.Bool.{cond_both}
 use Rattle.std.proofs.lemmas.List.{take-append-drop, drop-append-le}
 use Rattle.std.proofs.lemmas.Slice.Eq.{bytes_eq-Decides}
-use Rattle.md_text.specs.Html.{is_tag, elements}
-use Rattle.md_text.proofs.EncodeLaws.{is_escaped-encoded}
 use Rattle.md_text.specs.declared.options.CompileOptions.{CompileOptions}
 use Rattle.md_meaning.specs.Meaning.At.{Footnote}
 use Rattle.md_meaning.specs.Meaning.Layout.{Piece, Text, Needed, Forced}
-use Rattle.md_meaning.specs.Meaning.Footnotes.{option_or, id_of, call_id, backreference}
-use Rattle.md_meaning.specs.Meaning.Footnotes.{backreferences, unended_length, body, item}
-use Rattle.md_meaning.specs.Meaning.Footnotes.{section_start, section, distinct, place_among}
-use Rattle.md_meaning.specs.Meaning.Footnotes.{count_of}
-use Rattle.md_safe.proofs.Texts.{Escaped, decimal-escaped}
+use Rattle.md_meaning.specs.Meaning.Footnotes.{option_or, id_of, backreferences, unended_length}
+use Rattle.md_meaning.specs.Meaning.Footnotes.{body, item, section_start, section, distinct}
+use Rattle.md_meaning.specs.Meaning.Footnotes.{place_among, count_of}
+use Rattle.md_safe.proofs.Texts.{Escaped}
 use Rattle.md_safe.proofs.Laid.{Adds, adds-text}
-use Rattle.md_safe.proofs.Tags.{attribute, adds-flat}
-use Rattle.md_safe.proofs.Tags.{flat as flattened}
-use Rattle.md_safe.proofs.Calls.{id-escaped, call_id-escaped, label-escaped}
+use Rattle.md_safe.proofs.Tags.{attribute, adds-flat, flat as flattened}
+use Rattle.md_safe.proofs.Calls.{id-escaped, label-escaped}
 use Rattle.md_safe.proofs.FootnoteBodies.{rest-ends}
 use Rattle.md_safe.proofs.Section.{tag_of, attributes_of, heading_label_of, heading_text}
 use Rattle.md_safe.proofs.Section.{text_among, section_end, li_id}
 use Rattle.md_safe.proofs.Costs.{Document}
-use Rattle.md_safe.specs.Contents.{Flow, Phrasing, Linked, Items}
-use Rattle.md_safe.proofs.Stands.{Stands, stands-join, stands-nothing, stands-tag, stands-wider}
+use Rattle.md_safe.specs.Contents.{Flow, Phrasing, Items}
+use Rattle.md_safe.proofs.Stands.{Stands, stands-join, stands-nothing, stands-tag}
+use Rattle.md_safe.proofs.Wider.{stands-wider}
 use Rattle.md_safe.proofs.Stands.{Turns, turns-tag, turns-plain, IsWhite}
 use Rattle.md_safe.proofs.ContainedLaid.{lays-white, lays-nothing, lays-both, lays-turned, IsSpaced}
 use Rattle.md_safe.proofs.ContainedLaid.{spaced, spaced-needed, spaced-forced, white-nil}
 use Rattle.md_safe.proofs.ContainedLaid.{white-needed, white-forced}
-use Rattle.md_safe.proofs.Linking.{in_link}
-use Rattle.md_safe.proofs.Spans.{linked-text, Prints, flat, phrase}
+use Rattle.md_safe.proofs.SpanContents.{Prints, flat, phrase}
 use Rattle.md_safe.proofs.Paragraphs.{paragraph-takes}
-use Rattle.md_safe.proofs.ContainedForests.{AreFlow}
-
--- ---- the ways back
-
--- which of its footnote's calls it is, from the second on
-abbrev occurrence_mark : ℕ → List ℕ
-occurrence_mark occurrence =
-    cond (occurrence == 1) [] (codes "<sup>" ++ (decimal occurrence ++ codes "</sup>"))
-
-abbrev arrow : List ℕ
-arrow = 226 ∷ 134 ∷ 169 ∷ []
-
-mark-stands : (nested : Bool) (occurrence : ℕ) →
-    Stands nested (in_link nested) (occurrence_mark occurrence)
-mark-stands nested occurrence =
-    cond_both (occurrence == 1) [] (codes "<sup>" ++ (decimal occurrence ++ codes "</sup>"))
-    (Stands nested (in_link nested)) (λ _. stands-nothing nested (in_link nested)) (λ _. by nested)
-  where
-    by : (nested : Bool) →
-        Stands nested (in_link nested) (codes "<sup>" ++ (decimal occurrence ++ codes "</sup>"))
-    by true = stands-tag true Phrasing Phrasing (codes "sup") [] (decimal occurrence) refl refl
-        (linked-text true (decimal occurrence) (decimal-escaped occurrence))
-    by false = stands-tag false Linked Linked (codes "sup") [] (decimal occurrence) refl refl
-        (linked-text false (decimal occurrence) (decimal-escaped occurrence))
-
-a_back : (v t : List ℕ) → Escaped v → Escaped t →
-    is_tag elements (codes "a") (attribute (codes "href") (35 ∷ v)
-    ∷ attribute (codes "data-footnote-backref") [] ∷ attribute (codes "aria-label") t
-    ∷ attribute (codes "class") (codes "data-footnote-backref") ∷ []) ≡ true
-a_back v t h g = rw (h, g) refl
-
-back-stands : (nested : Bool) (v t m : List ℕ) → Escaped v → Escaped t →
-    Stands nested (in_link nested) m
-    → Stands nested Phrasing
-    (codes "<a href=\"#" ++ (v ++ (codes "\" data-footnote-backref=\"\" aria-label=\""
-    ++ (t ++ (codes "\" class=\"data-footnote-backref\">" ++ (arrow ++ (m ++ codes "</a>")))))))
-back-stands nested v t m h g r =
-    stands-tag nested Phrasing (in_link nested) (codes "a") (attribute (codes "href") (35 ∷ v)
-    ∷ attribute (codes "data-footnote-backref") [] ∷ attribute (codes "aria-label") t
-    ∷ attribute (codes "class") (codes "data-footnote-backref") ∷ [])
-    (arrow ++ m) (a_back v t h g) refl
-    (stands-join nested (in_link nested) arrow m (linked-text nested arrow refl) r)
-
-label-of-option : (text : Option (List ℕ)) (unset : List ℕ) → Escaped unset →
-    Escaped (option_or text unset)
-label-of-option None unset h = h
-label-of-option (Some x) unset h = is_escaped-encoded x
-
-backreference-stands : (nested : Bool) (options : CompileOptions) (identifier : List ℕ)
-    (number occurrence : ℕ) →
-    Stands nested Phrasing (backreference options identifier number occurrence)
-backreference-stands nested options identifier number occurrence =
-    back-stands nested (call_id options identifier number occurrence)
-    (option_or (option_map string_bytes options.gfm_footnote_back_label) (codes "Back to content"))
-    (occurrence_mark occurrence) (call_id-escaped options identifier number occurrence)
-    (label-of-option (option_map string_bytes options.gfm_footnote_back_label)
-    (codes "Back to content") refl) (mark-stands nested occurrence)
-
-backreferences-stand : (nested : Bool) (options : CompileOptions) (identifier : List ℕ)
-    (number count : ℕ) →
-    Stands nested Phrasing (backreferences options identifier number count)
-backreferences-stand nested options identifier number zero = stands-nothing nested Phrasing
-backreferences-stand nested options identifier number (suc count) =
-    stands-join nested Phrasing (backreferences options identifier number count)
-    ((cond (count == 0) [] (32 ∷ [])) ++ backreference options identifier number (suc count))
-    (backreferences-stand nested options identifier number count) (stands-join nested Phrasing
-    (cond (count == 0) [] (32 ∷ [])) (backreference options identifier number (suc count))
-    (cond_both (count == 0) [] (32 ∷ []) (Stands nested Phrasing)
-    (λ _. stands-nothing nested Phrasing) (λ _. phrase nested (32 ∷ []) refl))
-    (backreference-stands nested options identifier number (suc count)))
+use Rattle.md_safe.proofs.FlowFindings.{AreFlow}
+use Rattle.md_safe.proofs.ContainedBacks.{backreferences-stand}
 
 -- ---- a footnote's text
 
@@ -159,7 +86,6 @@ body-prints nested d w x back r rb =
     (adds-text d.given.ending (Stands nested Flow) back (stands-wider nested back rb))))
 
 -- ---- an item
-
 abbrev item_tag : List ℕ → List ℕ
 item_tag v = codes "<li id=\"" ++ (v ++ (codes "\">" ++ []))
 
@@ -223,7 +149,6 @@ items-print nested d w footnotes (identifier ∷ identifiers) h =
     (items-print nested d w footnotes identifiers h)
 
 -- ---- the section
-
 heading-turns : (nested : Bool) (label : List ℕ) → Escaped label →
     Turns nested Flow Flow (heading_text (codes "h2") (codes "class=\"sr-only\"") label)
     (codes "</section>")

@@ -41,12 +41,24 @@ pub mod WholeIds
 -- and of what stands in what.
 pub mod Placing
 pub mod Stands
+pub mod Wider
 pub mod ContainedLaid
 pub mod Linking
+pub mod SpanContents
+pub mod LinksAndImages
+pub mod TasksAndCalls
+pub mod SpanCases
 pub mod Spans
+pub mod OwnLines
+pub mod HeadingsAndLists
+pub mod CodeBlocks
+pub mod CellsAndRows
+pub mod FlowCases
 pub mod Blocks
 pub mod Paragraphs
+pub mod FlowFindings
 pub mod ContainedForests
+pub mod ContainedBacks
 pub mod ContainedSection
 pub mod ContainedWhole
 -- The lemmas of the laws: of the tokenizer,

@@ -1,13 +1,11 @@
 -- Texts that stand as some content: nothing, a text, tags around what stands in them, and two
 -- such texts joined.
-use Rattle.std.specs.Str.{bytes_eq}
 use Rattle.std.specs.List.{list_all}
 use Rattle.std.specs.Option.{option_map_or}
-use Rattle.std.proofs.Common.{◌≡◌, ℕ, ◌==◌, Bool, true, false, ◌||◌, cond, List, [], ◌∷◌, ◌++◌}
-use Rattle.std.proofs.Common.{refl, sym, ap, ap₂, ◌∙◌, subst, inl, inr, append-nil, append_assoc}
-use Rattle.std.proofs.Common.{eqb-true}
-use Rattle.std.specs.Prelude.{Option, Some, None, find, option_map}
-use Rattle.std.proofs.lemmas.Bool.{and_parts, and_from, or_cases, or_right}
+use Rattle.std.proofs.Common.{◌≡◌, ℕ, ◌==◌, Bool, true, false, ◌||◌, List, [], ◌∷◌, ◌++◌, refl, sym}
+use Rattle.std.proofs.Common.{ap, ap₂, ◌∙◌, subst, inl, inr, append-nil, append_assoc, eqb-true}
+use Rattle.std.specs.Prelude.{Some}
+use Rattle.std.proofs.lemmas.Bool.{and_parts, and_from, or_cases}
 use Rattle.std.proofs.lemmas.List.Folds.{list_all-append}
 use Rattle.md_base.proofs.Lies.{lie}
 use Rattle.md_text.specs.Laws.{is_line_ends}
@@ -20,8 +18,8 @@ use Rattle.md_text.proofs.HtmlReading.{only_reading, all-any}
 use Rattle.md_text.proofs.HtmlWriting.{attributes_before, written_attributes-before}
 use Rattle.md_safe.proofs.Texts.{Escaped, line_ends-escaped}
 use Rattle.md_safe.specs.Contents.{Content, Flow, Phrasing, Linked, Items, Parts, Rows, Cells}
-use Rattle.md_safe.specs.Contents.{Preformatted, Characters, span_elements, block_elements, held_in}
-use Rattle.md_safe.specs.Contents.{voids_in, is_space, may_say, is_contained, IsContainedAs}
+use Rattle.md_safe.specs.Contents.{Preformatted, Characters, held_in, voids_in, is_space, may_say}
+use Rattle.md_safe.specs.Contents.{is_contained, IsContainedAs}
 
 -- a text has a reading in which everything stands where it may
 pub record Stands (nested : Bool) (content : Content) (x : List ℕ) : Type 0 where
@@ -188,61 +186,6 @@ stands-tag nested content held name attributes inside h opens within =
     (written_attributes-before attributes (62 ∷ (inside ++ (60 ∷ 47 ∷ (name ++ (62 ∷ []))))))
     (stands-element nested content held name attributes inside h opens within)
 
--- ---- spans stand among blocks
-
-find-first : {A : Type 0} (test : A → Bool) (xs ys : List A) (x : A) → find test xs ≡ Some x →
-    find test (xs ++ ys) ≡ Some x
-find-first test [] ys x e = cc
-find-first test (first ∷ xs) ys x e = by (test first) e (find-first test xs ys x)
-  where
-    by : (passes : Bool) → cond passes (Some first) (find test xs) ≡ Some x →
-        (find test xs ≡ Some x → find test (xs ++ ys) ≡ Some x) →
-        cond passes (Some first) (find test (xs
-        ++ ys)) ≡ Some x
-    by true e later = e
-    by false e later = later e
-
-held-wider : (nested : Bool) (name : List ℕ) (inner : Forest) →
-    is_held nested Phrasing name inner ≡ true →
-    is_held nested Flow name inner ≡ true
-held-wider nested name inner h =
-    by (find (λ element. bytes_eq element.0 name) (span_elements nested)) refl h
-  where
-    by : (found : Option (List ℕ × Content)) → find (λ element. bytes_eq element.0 name)
-        (span_elements nested) ≡ found →
-        option_map_or (λ held. is_contained nested held inner)
-        (option_map (λ element. element.1) found) false ≡ true →
-        is_held nested Flow name inner ≡ true
-    by None e h = lie h
-    by (Some element) e h =
-        ap (λ found. option_map_or (λ held. is_contained nested held inner) (option_map
-        (λ element. element.1) found) false) (find-first (λ element. bytes_eq element.0 name)
-        (span_elements nested) block_elements element e) ∙ h
-
-contained-wider : (nested : Bool) (f : Forest) → is_contained nested Phrasing f ≡ true →
-    is_contained nested Flow f ≡ true
-contained-wider nested Empty h = refl
-contained-wider nested (Text bytes rest) h = contained-wider nested rest h
-contained-wider nested (Void name attributes rest) h =
-    let parts =
-    and_parts (is_one_of (voids_in Phrasing) name) (is_contained nested Phrasing rest) h in
-    and_from (is_one_of (voids_in Flow) name) (is_contained nested Flow rest)
-    (or_right (bytes_eq name (104 ∷ 114 ∷ [])) (is_one_of (voids_in Phrasing) name) parts.0)
-    (contained-wider nested rest parts.1)
-contained-wider nested (Element name attributes inner rest) h =
-    let parts =
-    and_parts (is_held nested Phrasing name inner) (is_contained nested Phrasing rest) h in
-    and_from (is_held nested Flow name inner) (is_contained nested Flow rest)
-    (held-wider nested name inner parts.0)
-    (contained-wider nested rest parts.1)
-
-pub stands-wider : (nested : Bool) (x : List ℕ) → Stands nested Phrasing x → Stands nested Flow x
-stands-wider nested x h = record {
-  forest = h.forest;
-  reading = h.reading;
-  contained = contained-wider nested h.forest h.contained;
-}
-
 -- ---- white space
 
 -- only white space, and escaped
@@ -282,7 +225,6 @@ pub line_ends-white : (x : List ℕ) → is_line_ends x ≡ true → IsWhite x
 line_ends-white x h = (line_ends-escaped x h, line_ends-space x h)
 
 -- ---- what is turned into what by two texts around it
-
 abbrev pub Turns : (nested : Bool) → Content → Content → List ℕ → List ℕ → Type 0
 Turns nested held content o c =
     (x : List ℕ) → Stands nested held x → Stands nested content (o ++ (x ++ c))

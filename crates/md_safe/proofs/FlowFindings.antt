@@ -1,0 +1,115 @@
+-- What is found among blocks: phrasing content as a heading's text, flow content of footnotes.
+use Rattle.std.proofs.Common.{◌≡◌, ℕ, Bool, true, false, cond, List, [], ◌∷◌, ◌++◌, refl, sym, ap}
+use Rattle.std.proofs.Common.{subst}
+use Rattle.std.specs.Prelude.{Option, Some, None, unwrap_or}
+use Rattle.std.proofs.lemmas.Bool.{cond_both}
+use Rattle.md_base.proofs.Lies.{lie}
+use Rattle.md_base.specs.declared.event.Name.{Name}
+use Rattle.md_base.specs.declared.event.Name.TheVariants as name_variants
+use name_variants.{Other, BlockQuotePrefix, SpaceOrTab, Image, HeadingSetextText}
+use name_variants.{GfmFootnoteDefinition}
+use Rattle.md_base.specs.Is.{is as named}
+use Rattle.md_base.specs.Tree.{Forest}
+use Rattle.md_base.specs.NameTests.{is_transparent}
+use Rattle.md_base.specs.Children.{or_else}
+use Rattle.md_text.specs.declared.options.CompileOptions.{CompileOptions}
+use Rattle.md_meaning.specs.declared.context.Surroundings.{Surroundings}
+use Rattle.md_meaning.specs.Meaning.Around.{inside}
+use Rattle.md_meaning.specs.Meaning.At.{Footnote, At}
+use Rattle.md_meaning.specs.Meaning.Layout.{layout}
+use Rattle.md_meaning.specs.Meaning.Nodes.{Outcome, found_at}
+use Rattle.md_shape.specs.Built.{Content as Grammatical, Blocks, content_inside, content_after_node}
+use Rattle.md_shape.specs.Built.{content_past, content_after}
+use Rattle.md_safe.proofs.Laid.{adds-alone}
+use Rattle.md_safe.proofs.Contents.{stays-after}
+use Rattle.md_safe.proofs.BlocksAsked.{is_blocks}
+use Rattle.md_safe.proofs.Costs.{Document}
+use Rattle.md_safe.specs.Contents.{Content, Flow, Phrasing}
+use Rattle.md_safe.specs.Placed.{Block, sort_of, may_stand as may_place}
+use Rattle.md_safe.proofs.Linking.{with_links, place_in}
+use Rattle.md_safe.proofs.Stands.{Stands, stands-nothing}
+use Rattle.md_safe.proofs.SpanContents.{Prints, Own}
+
+-- a heading's text that was found is phrasing content
+abbrev pub IsHeading : (nested : Bool) → Option (List ℕ) → Type 0
+IsHeading nested None = Unit {0}
+IsHeading nested (Some x) = Stands nested Phrasing x
+
+-- the texts of some footnotes are flow content
+abbrev pub AreFlow : (nested : Bool) → List Footnote → Type 0
+AreFlow nested [] = Unit {0}
+AreFlow nested (footnote ∷ others) = Stands nested Flow footnote.text × AreFlow nested others
+
+pub flow-append : (nested : Bool) (xs ys : List Footnote) → AreFlow nested xs → AreFlow nested ys →
+    AreFlow nested (xs ++ ys)
+flow-append nested [] ys a b = b
+flow-append nested (x ∷ xs) ys a b = (a.0, flow-append nested xs ys a.1 b)
+
+-- blocks stand in flow content
+block-flow : (content : Content) → may_place (with_links content) Block ≡ true → content ≡ Flow
+block-flow Flow h = refl
+block-flow _ h = lie h
+
+-- what is found at a node that isn't looked through
+pub heading-found :
+    (nested : Bool) (d : Document) (content : Content) (name : Name) (t : At) (inner : Outcome) →
+    is_transparent name ≡ false → may_place (with_links content) (sort_of name) ≡ true →
+    Own nested d content name inner.pieces → IsHeading nested (found_at t name
+    (layout d.given.ending inner.pieces)).heading
+heading-found nested d content HeadingSetextText t inner solid stands a =
+    adds-alone d.given.ending (Stands nested Phrasing) inner.pieces
+    (subst (λ c. Prints nested d (place_in nested c HeadingSetextText) inner.pieces)
+    (block-flow content stands) (a refl))
+heading-found nested d content (Other number) t inner solid stands a = lie (sym solid)
+heading-found nested d content BlockQuotePrefix t inner solid stands a = lie (sym solid)
+heading-found nested d content SpaceOrTab t inner solid stands a = lie (sym solid)
+heading-found nested d content _ t inner solid stands a = tt
+
+-- the text of a footnote
+pub note-found : (nested : Bool) (d : Document) (content : Content) (name : Name)
+    (inner : Outcome) →
+    named GfmFootnoteDefinition name ≡ true → may_place (with_links content) (sort_of name) ≡ true →
+    Own nested d content name inner.pieces → Stands nested Flow (layout d.given.ending inner.pieces)
+note-found nested d content GfmFootnoteDefinition inner is stands a =
+    adds-alone d.given.ending (Stands nested Flow) inner.pieces
+    (subst (λ c. Prints nested d (place_in nested c GfmFootnoteDefinition) inner.pieces)
+    (block-flow content stands) (a refl))
+note-found nested d content _ inner is stands a = lie is
+
+-- images alone begin an image, and no blocks stand in them
+pub still-outside : (options : CompileOptions) (loose : Bool) (name : Name)
+    (around : Surroundings) →
+    is_blocks (content_inside Blocks name) ≡ true → around.in_image ≡ false →
+    (inside options loose name around).in_image ≡ false
+still-outside options loose Image around blocks out = lie blocks
+still-outside options loose _ around blocks out = out
+
+pub is_blocks-same : (content : Grammatical) → is_blocks content ≡ true → content ≡ Blocks
+is_blocks-same Blocks h = refl
+is_blocks-same _ h = lie h
+
+pub after-blocks : (name : Name) (children : Forest) →
+    content_after_node Blocks name children ≡ Blocks
+after-blocks name children =
+    cond_both (is_transparent name) (content_after Blocks children) Blocks (λ c. c ≡ Blocks)
+    (λ _. stays-after (λ content. content ≡ Blocks)
+    (λ content name e. ap (λ content. content_past content name) e)
+    Blocks children refl) (λ _. refl)
+
+pub heading-both : (nested : Bool) (first later : Option (List ℕ)) → IsHeading nested first →
+    IsHeading nested later →
+    IsHeading nested (or_else later first)
+heading-both nested first None a b = a
+heading-both nested first (Some x) a b = b
+
+pub heading-next : (nested : Bool) (found : Option (List ℕ)) (before : List ℕ) →
+    IsHeading nested found →
+    Stands nested Phrasing before →
+    Stands nested Phrasing (unwrap_or found before)
+heading-next nested None before a b = b
+heading-next nested (Some x) before a b = a
+
+pub heading-inside : (nested : Bool) (is : Bool) (before : List ℕ) → Stands nested Phrasing before →
+    Stands nested Phrasing (cond is before [])
+heading-inside nested true before h = h
+heading-inside nested false before h = stands-nothing nested Phrasing

@@ -1,0 +1,128 @@
+-- What is known where spans stand, and of what their children print.
+use Rattle.std.proofs.Common.{◌≡◌, ℕ, Bool, true, false, cond, List, ◌++◌, refl, sym, subst, codes}
+use Rattle.md_base.proofs.Lies.{lie}
+use Rattle.md_base.specs.Is.{is as named}
+use Rattle.md_base.specs.declared.event.Name.{Name}
+use Rattle.md_base.specs.declared.event.Name.TheVariants as name_variants
+use name_variants.{Link}
+use Rattle.md_text.specs.Bytes.{is_one_of}
+use Rattle.md_meaning.specs.Meaning.At.{At}
+use Rattle.md_meaning.specs.Meaning.Layout.{Piece, said}
+use Rattle.md_meaning.specs.Meaning.Spans.{span, code}
+use Rattle.md_shape.specs.Built.{Blocks, content_of}
+use Rattle.md_safe.proofs.Texts.{Escaped}
+use Rattle.md_safe.proofs.Laid.{adds-text}
+use Rattle.md_safe.proofs.Tags.{adds-flat, are_texts, flat as flattened}
+use Rattle.md_safe.proofs.BlocksAsked.{is_blocks}
+use Rattle.md_safe.proofs.Spot.{Inside, IsFitAt, IsGoodTarget}
+use Rattle.md_safe.proofs.Costs.{Document, read_in}
+use Rattle.md_safe.specs.Contents.{Content, Phrasing, Linked, Characters, voids_in}
+use Rattle.md_safe.specs.Links.{prints_link}
+use Rattle.md_safe.proofs.Linking.{is_spans, in_link, place_in}
+use Rattle.md_safe.proofs.Stands.{Opens, is_spaced, Stands, stands-text, Turns, IsWhite}
+use Rattle.md_safe.proofs.ContainedLaid.{Lays, lays-turned, spaced-text}
+
+-- what pieces add in a document
+abbrev pub Prints : (nested : Bool) → Document → Content → List Piece → Type 0
+Prints nested d content pieces = Lays nested d.given.ending content pieces
+
+-- what is known of a node that isn't looked through: what its children print, as content and as
+-- the grammar says
+pub record Known (nested : Bool) (d : Document) (t : At) (name : Name)
+    (inner : List Piece) : Type 0 where
+  pub white : IsWhite d.given.ending
+  pub escaping : t.around.is_escaping ≡ true
+  pub outside : t.around.in_image ≡ false
+  pub fit : IsFitAt (read_in d) t name
+  pub resource : IsGoodTarget t.found.resource
+  pub heading : Stands nested Phrasing t.before.heading
+  pub within : Inside (read_in d) t Blocks name inner
+
+-- what children print as content, where to the grammar they are blocks
+abbrev pub Own : (nested : Bool) → Document → Content → Name → List Piece → Type 0
+Own nested d content name inner = is_blocks (content_of name Blocks) ≡ true →
+    Prints nested d (place_in nested content name) inner
+
+-- what is known of spans, with links or without
+pub record AreSpans (nested : Bool) (content : Content) : Type 0 where
+  pub text : (x : List ℕ) → Escaped x → Stands nested content x
+  pub em : Opens nested content content (codes "em")
+  pub strong : Opens nested content content (codes "strong")
+  pub del : Opens nested content content (codes "del")
+  pub sup : Opens nested content content (codes "sup")
+  pub code : Opens nested content Characters (codes "code")
+  pub br : is_one_of (voids_in content) (codes "br") ≡ true
+  pub img : is_one_of (voids_in content) (codes "img") ≡ true
+  pub input : is_one_of (voids_in content) (codes "input") ≡ true
+  pub spaced : is_spaced content ≡ true
+
+pub are-spans : (nested : Bool) (content : Content) → is_spans content ≡ true →
+    AreSpans nested content
+are-spans nested Phrasing is = record {
+  text = λ x h. stands-text nested Phrasing x h refl;
+  em = refl;
+  strong = refl;
+  del = refl;
+  sup = refl;
+  code = refl;
+  br = refl;
+  img = refl;
+  input = refl;
+  spaced = refl;
+}
+are-spans nested Linked is = record {
+  text = λ x h. stands-text nested Linked x h refl;
+  em = refl;
+  strong = refl;
+  del = refl;
+  sup = refl;
+  code = refl;
+  br = refl;
+  img = refl;
+  input = refl;
+  spaced = refl;
+}
+are-spans nested _ is = lie is
+
+-- what a node's children print among spans, unless it is a link
+abbrev pub Inner : (nested : Bool) → Document → Content → Name → List Piece → Type 0
+Inner nested d content name inner =
+    is_blocks (content_of name Blocks) ≡ true → named Link name ≡ false →
+    Prints nested d content inner
+
+-- where spans stand: what is known of them, what children print, and of a node that prints a
+-- link that it may
+pub record Here (nested : Bool) (d : Document) (t : At) (content : Content) (name : Name)
+    (inner : List Piece) : Type 0 where
+  pub spans : AreSpans nested content
+  pub own : Inner nested d content name inner
+  pub label : named Link name ≡ true → Prints nested d (in_link nested) inner
+  pub free : prints_link name ≡ true → content ≡ Phrasing
+  pub plain : t.around.in_link ≡ false → content ≡ Phrasing
+
+-- tags around what children print
+pub pair : (nested : Bool) (d : Document) (t : At) (content : Content) → is_spaced content ≡ true →
+    t.around.in_image ≡ false →
+    (o c : List ℕ) → Turns nested content content o c → (inner : List Piece) →
+    Prints nested d content inner →
+    Prints nested d content (span t (said o) inner (said c))
+pair nested d t content is out o c turn inner a =
+    subst (λ b. Prints nested d content (cond b inner (said o ++ (inner ++ said c)))) (sym out)
+    (lays-turned nested d.given.ending content content o c (said o) inner (said c) is is turn
+    (spaced-text d.given.ending o) a (spaced-text d.given.ending c))
+
+-- some texts in a row
+pub flat : (nested : Bool) (d : Document) (content : Content) (pieces : List Piece) →
+    are_texts pieces ≡ true →
+    Stands nested content (flattened pieces) → Prints nested d content pieces
+flat nested d content pieces texts h =
+    adds-flat d.given.ending (Stands nested content) pieces texts h
+
+pub phrase : (nested : Bool) (x : List ℕ) → Escaped x → Stands nested Phrasing x
+phrase nested x h = stands-text nested Phrasing x h refl
+
+pub prints-escaped :
+    (nested : Bool) (d : Document) (content : Content) (f : AreSpans nested content) (x : List ℕ) →
+    Escaped x → Prints nested d content (said x)
+prints-escaped nested d content f x h =
+    adds-text d.given.ending (Stands nested content) x (f.text x h)

@@ -1,0 +1,65 @@
+-- What stands among spans stands among blocks.
+use Rattle.std.specs.Str.{bytes_eq}
+use Rattle.std.specs.Option.{option_map_or}
+use Rattle.std.proofs.Common.{◌≡◌, ℕ, Bool, true, false, cond, List, [], ◌∷◌, ◌++◌, refl, ap, ◌∙◌}
+use Rattle.std.specs.Prelude.{Option, Some, None, find, option_map}
+use Rattle.std.proofs.lemmas.Bool.{and_parts, and_from, or_right}
+use Rattle.md_base.proofs.Lies.{lie}
+use Rattle.md_text.specs.Bytes.{is_one_of}
+use Rattle.md_text.specs.Html.{Forest, Empty, Text, Void, Element}
+use Rattle.md_safe.specs.Contents.{Content, Flow, Phrasing, span_elements, block_elements, voids_in}
+use Rattle.md_safe.specs.Contents.{is_contained}
+use Rattle.md_safe.proofs.Stands.{is_held, Stands}
+
+find-first : {A : Type 0} (test : A → Bool) (xs ys : List A) (x : A) → find test xs ≡ Some x →
+    find test (xs ++ ys) ≡ Some x
+find-first test [] ys x e = cc
+find-first test (first ∷ xs) ys x e = by (test first) e (find-first test xs ys x)
+  where
+    by : (passes : Bool) → cond passes (Some first) (find test xs) ≡ Some x →
+        (find test xs ≡ Some x → find test (xs ++ ys) ≡ Some x) →
+        cond passes (Some first) (find test (xs
+        ++ ys)) ≡ Some x
+    by true e later = e
+    by false e later = later e
+
+held-wider : (nested : Bool) (name : List ℕ) (inner : Forest) →
+    is_held nested Phrasing name inner ≡ true →
+    is_held nested Flow name inner ≡ true
+held-wider nested name inner h =
+    by (find (λ element. bytes_eq element.0 name) (span_elements nested)) refl h
+  where
+    by : (found : Option (List ℕ × Content)) → find (λ element. bytes_eq element.0 name)
+        (span_elements nested) ≡ found →
+        option_map_or (λ held. is_contained nested held inner)
+        (option_map (λ element. element.1) found) false ≡ true →
+        is_held nested Flow name inner ≡ true
+    by None e h = lie h
+    by (Some element) e h =
+        ap (λ found. option_map_or (λ held. is_contained nested held inner) (option_map
+        (λ element. element.1) found) false) (find-first (λ element. bytes_eq element.0 name)
+        (span_elements nested) block_elements element e) ∙ h
+
+contained-wider : (nested : Bool) (f : Forest) → is_contained nested Phrasing f ≡ true →
+    is_contained nested Flow f ≡ true
+contained-wider nested Empty h = refl
+contained-wider nested (Text bytes rest) h = contained-wider nested rest h
+contained-wider nested (Void name attributes rest) h =
+    let parts =
+    and_parts (is_one_of (voids_in Phrasing) name) (is_contained nested Phrasing rest) h in
+    and_from (is_one_of (voids_in Flow) name) (is_contained nested Flow rest)
+    (or_right (bytes_eq name (104 ∷ 114 ∷ [])) (is_one_of (voids_in Phrasing) name) parts.0)
+    (contained-wider nested rest parts.1)
+contained-wider nested (Element name attributes inner rest) h =
+    let parts =
+    and_parts (is_held nested Phrasing name inner) (is_contained nested Phrasing rest) h in
+    and_from (is_held nested Flow name inner) (is_contained nested Flow rest)
+    (held-wider nested name inner parts.0)
+    (contained-wider nested rest parts.1)
+
+pub stands-wider : (nested : Bool) (x : List ℕ) → Stands nested Phrasing x → Stands nested Flow x
+stands-wider nested x h = record {
+  forest = h.forest;
+  reading = h.reading;
+  contained = contained-wider nested h.forest h.contained;
+}
