@@ -16,7 +16,8 @@ use Rattle.md_safe.specs.Tokens.{seen, seen_attributes}
 use Rattle.md_safe.proofs.LineFeeds.{line_feeds-append, line_feeds-name, line_feeds-escaped}
 use Rattle.md_safe.proofs.GoodNames.{is_good_byte, is_good_name, begins_tag, are_good}
 use Rattle.md_safe.proofs.Steps.{along, text-runs}
-use Rattle.md_safe.proofs.TagRuns.{lined, line_feeds-attributes, good-no_return, element-runs}
+use Rattle.md_safe.proofs.TagNames.{good-no_return}
+use Rattle.md_safe.proofs.TagRuns.{lined, line_feeds-attributes, element-runs}
 use Rattle.md_safe.proofs.TagRuns.{void-runs, end-runs}
 use Rattle.md_page.specs.Pieces.{Piece, Words, Opening, Single, Closing, all_written, all_tokens}
 use Rattle.md_page.specs.Pieces.{are_sound, are_plain, is_tag_name, void_names, begins_with_words}

@@ -16,7 +16,8 @@ use Rattle.md_safe.specs.Tokens.{tokens, seen, seen_attributes}
 use Rattle.md_safe.proofs.LineFeeds.{line_feeds-append, line_feeds-name, line_feeds-escaped}
 use Rattle.md_safe.proofs.GoodNames.{is_good_byte, is_good_name, are_good, begins_tag, element-good}
 use Rattle.md_safe.proofs.GoodNames.{void-good}
-use Rattle.md_safe.proofs.TagRuns.{lined, line_feeds-attributes, good-no_return}
+use Rattle.md_safe.proofs.TagNames.{good-no_return}
+use Rattle.md_safe.proofs.TagRuns.{lined, line_feeds-attributes}
 use Rattle.md_safe.specs.Embedded.{EndsInDataState}
 use Rattle.md_safe.proofs.TextLeads.{To, arrived, along, text-leads}
 use Rattle.md_safe.proofs.TagLeads.{element-leads, void-leads, end-leads}

@@ -18,7 +18,8 @@ use Rattle.md_safe.proofs.LineFeeds.{line_feeds-append, line_feeds-name, line_fe
 use Rattle.md_safe.proofs.GoodNames.{is_good_byte, is_good_name, begins_tag, element-good}
 use Rattle.md_safe.proofs.GoodNames.{void-good}
 use Rattle.md_safe.proofs.Steps.{along, text-runs}
-use Rattle.md_safe.proofs.TagRuns.{lined, line_feeds-attributes, good-no_return, element-runs}
+use Rattle.md_safe.proofs.TagNames.{good-no_return}
+use Rattle.md_safe.proofs.TagRuns.{lined, line_feeds-attributes, element-runs}
 use Rattle.md_safe.proofs.TagRuns.{void-runs, end-runs}
 
 -- after a text no line feed comes, unless it comes after all

@@ -66,10 +66,12 @@ pub mod EscapedCases
 pub mod LineFeeds
 pub mod GoodNames
 pub mod Steps
+pub mod TagNames
 pub mod TagRuns
 pub mod ForestRuns
 pub mod OneRun
 pub mod TokenTests
+pub mod NoProtocol
 pub mod Schemes
 pub mod SafeTokens
 pub mod PageRuns

@@ -23,7 +23,8 @@ use Rattle.md_safe.proofs.LineFeeds.{line_feeds-escaped}
 use Rattle.md_safe.proofs.GoodNames.{is_good_byte, is_good_name, is_good_attribute_name, are_good}
 use Rattle.md_safe.proofs.GoodNames.{begins_tag, good-leaves, good-not_title}
 use Rattle.md_safe.proofs.Steps.{past, here, tag_with, attribute}
-use Rattle.md_safe.proofs.TagRuns.{IsGoodByte, lined}
+use Rattle.md_safe.proofs.TagNames.{IsGoodByte}
+use Rattle.md_safe.proofs.TagRuns.{lined}
 use Rattle.md_safe.proofs.TextLeads.{To, quiet, loud, along, value-leads}
 
 -- ---- names

@@ -1,0 +1,128 @@
+-- The name of a tag, and the names of its attributes, byte after byte.
+use Rattle.std.proofs.Common.{◌≡◌, ℕ, ◌==◌, Bool, true, false, not, ◌||◌, List, [], ◌∷◌, ◌++◌, refl}
+use Rattle.std.proofs.Common.{sym, ap, ◌∙◌, subst, append-nil, append_assoc}
+use Rattle.std.specs.List.{list_all}
+use Rattle.std.proofs.lemmas.Bool.{and_parts, and_from, not-true, or_from}
+use Rattle.md_base.proofs.Lies.{lie}
+use Rattle.md_text.specs.Bytes.{is_between, lower}
+use Rattle.md_text.specs.References.{is_escaped, read_back}
+use Rattle.md_safe.specs.Token.{Token, TokenAttribute}
+use Rattle.md_safe.specs.Tag.{Tag, with_tag_name, with_name}
+use Rattle.md_safe.specs.TokenizerStates.{State, TagName, BeforeAttributeName, AttributeName}
+use Rattle.md_safe.specs.TokenizerStates.{AfterAttributeValueQuoted, Goes, is_space, in_name}
+use Rattle.md_safe.specs.TokenizerStates.{in_value}
+use Rattle.md_safe.specs.Tokenizer.{step, IsRun}
+use Rattle.md_safe.proofs.LineFeeds.{no_return}
+use Rattle.md_safe.proofs.GoodNames.{is_good_byte, is_good_attribute_name}
+use Rattle.md_safe.proofs.Steps.{past, quiet, tag_with, attribute, value-runs}
+
+pub record IsGoodByte (b : ℕ) : Type 0 where
+  pub no_space : is_space b ≡ false
+  pub no_slash : (b == 47) ≡ false
+  pub no_angle : (b == 62) ≡ false
+  pub no_equals : (b == 61) ≡ false
+  pub no_upper : is_between 65 90 b ≡ false
+  pub no_nul : (b == 0) ≡ false
+  pub no_return : (b == 13) ≡ false
+
+good_parts : (b : ℕ) → is_good_byte b ≡ true → IsGoodByte b
+good_parts b h =
+    let p = and_parts (not (is_space b)) _ h in
+    let q = and_parts (not (b == 47)) _ p.1 in
+    let r = and_parts (not (b == 62)) _ q.1 in
+    let s = and_parts (not (b == 61)) _ r.1 in
+    let u = and_parts (not (is_between 65 90 b)) _ s.1 in
+    let v = and_parts (not (b == 0)) (not (b == 13)) u.1 in
+    record {
+      no_space = not-true (is_space b) p.0;
+      no_slash = not-true (b == 47) q.0;
+      no_angle = not-true (b == 62) r.0;
+      no_equals = not-true (b == 61) s.0;
+      no_upper = not-true (is_between 65 90 b) u.0;
+      no_nul = not-true (b == 0) v.0;
+      no_return = not-true (b == 13) v.1;
+    }
+
+pub good-no_return : (name : List ℕ) → list_all is_good_byte name ≡ true →
+    list_all no_return name ≡ true
+good-no_return [] h = refl
+good-no_return (b ∷ name) h =
+    let p = and_parts (is_good_byte b) (list_all is_good_byte name) h in
+    and_from (no_return b) (list_all no_return name) (ap not (good_parts b p.0).no_return)
+    (good-no_return name p.1)
+
+lower-good : (b : ℕ) → is_between 65 90 b ≡ false → lower b ≡ b
+lower-good b e = past _ e refl
+
+-- such a byte is appended to a name as it is
+in_name-good : (b : ℕ) → IsGoodByte b → in_name b ≡ b ∷ []
+in_name-good b g = ap in_value (lower-good b g.no_upper) ∙ past _ g.no_nul refl
+
+tag_name_step : (tag : Tag) (b : ℕ) (rest : List ℕ) → IsGoodByte b →
+    step (TagName tag) (b ∷ rest) ≡ Goes [] (TagName (with_tag_name tag (b ∷ []))) rest
+tag_name_step tag b rest g =
+    past _ g.no_space (past _ g.no_slash (past _ g.no_angle
+    (ap (λ bytes. Goes [] (TagName (with_tag_name tag bytes)) rest) (in_name-good b g))))
+
+-- a tag's name, after a first part of it
+pub tag_name-runs : (is_end : Bool) (before name r : List ℕ) (t : List Token) →
+    list_all is_good_byte name ≡ true →
+    IsRun (TagName (tag_with is_end (before ++ name) [])) r t →
+    IsRun (TagName (tag_with is_end before [])) (name ++ r) t
+tag_name-runs is_end before [] r t g h =
+    subst (λ n. IsRun (TagName (tag_with is_end n [])) r t) (append-nil before) h
+tag_name-runs is_end before (b ∷ name) r t g h =
+    let p = and_parts (is_good_byte b) (list_all is_good_byte name) g in
+    quiet (tag_name_step (tag_with is_end before []) b (name ++ r) (good_parts b p.0))
+    (tag_name-runs is_end (before ++ (b ∷ [])) name r t p.1
+    (subst (λ n. IsRun (TagName (tag_with is_end n [])) r t)
+    (sym (append_assoc before (b ∷ []) name)) h))
+
+attribute_name_step : (tag : Tag) (b : ℕ) (rest : List ℕ) → IsGoodByte b →
+    step (AttributeName tag) (b ∷ rest) ≡ Goes [] (AttributeName (with_name tag (b ∷ []))) rest
+attribute_name_step tag b rest g =
+    past _ (or_from (is_space b || (b == 47)) (b == 62)
+    (or_from (is_space b) (b == 47) g.no_space g.no_slash) g.no_angle) (past _ g.no_equals
+    (ap (λ bytes. Goes [] (AttributeName (with_name tag bytes)) rest) (in_name-good b g)))
+
+-- where an attribute's name is read, up to here
+abbrev AtName : List ℕ → List TokenAttribute → List ℕ → State
+AtName tag earlier name = AttributeName (tag_with false tag (attribute name [] ∷ earlier))
+
+attribute_name-runs :
+    (tag : List ℕ) (earlier : List TokenAttribute) (before name r : List ℕ) (t : List Token) →
+    list_all is_good_byte name ≡ true → IsRun (AtName tag earlier (before ++ name)) r t →
+    IsRun (AtName tag earlier before) (name ++ r) t
+attribute_name-runs tag earlier before [] r t g h =
+    subst (λ n. IsRun (AtName tag earlier n) r t) (append-nil before) h
+attribute_name-runs tag earlier before (b ∷ name) r t g h =
+    let p = and_parts (is_good_byte b) (list_all is_good_byte name) g in
+    quiet (attribute_name_step (tag_with false tag (attribute before [] ∷ earlier)) b
+    (name ++ r) (good_parts b p.0))
+    (attribute_name-runs tag earlier (before ++ (b ∷ [])) name r t p.1
+    (subst (λ n. IsRun (AtName tag earlier n) r t) (sym (append_assoc before (b ∷ []) name)) h))
+
+-- a name begins another attribute
+attribute-begins :
+    (tag : List ℕ) (earlier : List TokenAttribute) (name r : List ℕ) (t : List Token) →
+    is_good_attribute_name name ≡ true → IsRun (AtName tag earlier name) r t →
+    IsRun (BeforeAttributeName (tag_with false tag earlier)) (name ++ r) t
+attribute-begins tag earlier [] r t g h = lie g
+attribute-begins tag earlier (b ∷ name) r t g h =
+    let p = and_parts (is_good_byte b) (list_all is_good_byte name) g in
+    let q = good_parts b p.0 in
+    quiet (past _ q.no_space
+    (past _ (or_from (b == 47) (b == 62) q.no_slash q.no_angle) (past _ q.no_equals refl)))
+    (attribute_name-runs tag earlier [] (b ∷ name) r t g h)
+
+-- a name, `="`, a value and `"`
+pub attribute-runs :
+    (tag : List ℕ) (earlier : List TokenAttribute) (name value r : List ℕ) (t : List Token) →
+    is_good_attribute_name name ≡ true → is_escaped value ≡ true →
+    IsRun (AfterAttributeValueQuoted (tag_with false tag
+    (attribute name (read_back value) ∷ earlier))) r t →
+    IsRun (BeforeAttributeName (tag_with false tag earlier))
+    (name ++ (61 ∷ 34 ∷ (value ++ (34 ∷ r)))) t
+attribute-runs tag earlier name value r t g e h =
+    attribute-begins tag earlier name (61 ∷ 34 ∷ (value ++ (34 ∷ r))) t g
+    (quiet refl (quiet refl (value-runs value e tag earlier name [] (34 ∷ r) t (quiet refl h))))
