@@ -25,8 +25,8 @@ use Rattle.md_safe.proofs.Following.{second}
 use Rattle.md_safe.proofs.BlocksAsked.{is_blocks}
 use Rattle.md_safe.proofs.Nodes.{not_part}
 use Rattle.md_safe.proofs.Findings.{AreFound}
-use Rattle.md_safe.proofs.Forests.{Ready, ready-inside, ready-after, inside-means, found-at}
-use Rattle.md_safe.proofs.Forests.{Means as SafeMeans, means as safe-means}
+use Rattle.md_safe.proofs.Forests.{Ready, ready-inside, ready-after, inside-means}
+use Rattle.md_safe.proofs.Forests.{found-at, Means as SafeMeans, means as safe-means}
 use Rattle.md_safe.proofs.Costs.{Document, read_in}
 use Rattle.md_safe.proofs.PlainCosts.{no_footnotes}
 use Rattle.md_safe.specs.Contents.{Content, Phrasing}

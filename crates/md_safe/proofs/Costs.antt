@@ -27,7 +27,6 @@ use Rattle.md_safe.proofs.Texts.{Escaped}
 use Rattle.md_safe.proofs.Claim.{reading}
 use Rattle.md_safe.proofs.Laid.{Adds}
 use Rattle.md_safe.proofs.Spot.{Setting, AreTitles}
-use Rattle.md_safe.proofs.Forests.{means}
 use Rattle.md_safe.proofs.Counted.{counting, without-test, Waiting, TextsCount}
 use Rattle.md_safe.proofs.CallNumbers.{ids_after, ids-append}
 

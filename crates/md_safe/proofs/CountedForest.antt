@@ -32,7 +32,7 @@ use Rattle.md_safe.proofs.Costs.{Document, read_in, Costs, Place, here_of, due-a
 use Rattle.md_safe.proofs.Costs.{inner_before, inner_of, at_of, counts-none, through-spent}
 use Rattle.md_safe.proofs.PlainCosts.{Stands, is_setext, is_special, IsPlain, around-blocks}
 use Rattle.md_safe.proofs.PlainCosts.{around-others, is_blocks-same}
-use Rattle.md_safe.proofs.SpecialCosts.{footnote, call, BelowBlocks, IsAwaited, special-spent}
+use Rattle.md_safe.proofs.SpecialCosts.{BelowBlocks, IsAwaited, special-spent}
 
 -- what is known where some nodes stand: blocks, each underline where a heading waits for it
 pub record Fits (d : Document) (around : Surroundings) (before : Before) (waits : Bool)

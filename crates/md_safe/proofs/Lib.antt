@@ -88,8 +88,16 @@ pub mod Cuts
 -- and of tree construction.
 pub mod Lists
 pub mod TreeSteps
+pub mod PhrasingNames
+pub mod FormattingElements
+pub mod PhrasingRules
 pub mod Phrasing
+pub mod TableTexts
+pub mod TableContents
+pub mod TableCells
 pub mod Tables
+pub mod FlowBlocks
+pub mod FlowRules
 pub mod Flow
 pub mod WholeTrees
 pub mod Pages

@@ -8,7 +8,7 @@ use name_variants.{Link}
 use Rattle.md_text.specs.Bytes.{is_one_of}
 use Rattle.md_meaning.specs.Meaning.At.{At}
 use Rattle.md_meaning.specs.Meaning.Layout.{Piece, said}
-use Rattle.md_meaning.specs.Meaning.Spans.{span, code}
+use Rattle.md_meaning.specs.Meaning.Spans.{span}
 use Rattle.md_shape.specs.Built.{Blocks, content_of}
 use Rattle.md_safe.proofs.Texts.{Escaped}
 use Rattle.md_safe.proofs.Laid.{adds-text}

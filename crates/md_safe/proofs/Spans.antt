@@ -33,7 +33,6 @@ use Rattle.md_safe.proofs.Linking.{place-other}
 use Rattle.md_safe.proofs.Stands.{Stands}
 use Rattle.md_safe.proofs.ContainedLaid.{lays-nothing}
 use Rattle.md_safe.proofs.SpanContents.{Prints, Known, Here, Own, are-spans}
-use Rattle.md_safe.proofs.LinksAndImages.{link}
 use Rattle.md_safe.proofs.SpanCases.{string-node, span-node, media-node, autolink-node}
 
 -- a line of code, or of HTML

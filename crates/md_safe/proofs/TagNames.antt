@@ -10,8 +10,8 @@ use Rattle.md_safe.specs.Token.{Token, TokenAttribute}
 use Rattle.md_safe.specs.Tag.{Tag, with_tag_name, with_name}
 use Rattle.md_safe.specs.TokenizerStates.{State, TagName, BeforeAttributeName, AttributeName}
 use Rattle.md_safe.specs.TokenizerStates.{AfterAttributeValueQuoted, Goes, is_space, in_name}
-use Rattle.md_safe.specs.TokenizerStates.{in_value}
 use Rattle.md_safe.specs.Tokenizer.{step, IsRun}
+use Rattle.md_safe.specs.TokenizerStates.{in_value}
 use Rattle.md_safe.proofs.LineFeeds.{no_return}
 use Rattle.md_safe.proofs.GoodNames.{is_good_byte, is_good_attribute_name}
 use Rattle.md_safe.proofs.Steps.{past, quiet, tag_with, attribute, value-runs}
