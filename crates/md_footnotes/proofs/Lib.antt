@@ -3,6 +3,8 @@
 -- of what is given.
 mod Tally
 mod Placing
+mod MappedPlaces
+mod PlacedCalls
 mod Numbers
 mod Lists
 mod Endings

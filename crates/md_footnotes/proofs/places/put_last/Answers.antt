@@ -2,7 +2,7 @@
 -- finds each place. By itself the search can't follow each look-up into the longer list.
 use Rattle.std.proofs.Common.{◌≡◌, ◌∷◌, [], ◌++◌, ap, sym, ◌∙◌, rules, string_bytes}
 use Rattle.md_footnotes.specs.Entries.{place_in}
-use Rattle.md_footnotes.proofs.Placing.{places-push}
+use Rattle.md_footnotes.proofs.MappedPlaces.{places-push}
 use Rattle.md_footnotes.proofs.places.put_last.Goals as goal
 
 pub returns-clause-found : goal.returns-clause-found

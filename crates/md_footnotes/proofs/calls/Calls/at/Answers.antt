@@ -6,7 +6,7 @@ use Rattle.std.specs.Prelude.{slice_get}
 use Rattle.std.proofs.lemmas.Option.{slice_get_read}
 use Rattle.md_meaning.specs.Meaning.Footnotes.{distinct, count_of, place_among}
 use Rattle.md_footnotes.specs.Entries.{calls_in}
-use Rattle.md_footnotes.proofs.Placing.{entry-called}
+use Rattle.md_footnotes.proofs.PlacedCalls.{entry-called}
 use Rattle.md_footnotes.proofs.Numbers.{number-at-index}
 use Rattle.md_footnotes.proofs.calls.Calls.at.Goals as goal
 

@@ -7,8 +7,9 @@ use Rattle.std.specs.BTreeMap.{get_by_text}
 use Rattle.std.proofs.lemmas.List.{length-map}
 use Rattle.md_footnotes.specs.Entries.{tally, calls_in, identifier_in, place_in}
 use Rattle.md_footnotes.proofs.Numbers.{count-below}
-use Rattle.md_footnotes.proofs.Placing.{Keeps, kept-again, kept-new, count-kept, place-below}
-use Rattle.md_footnotes.proofs.Placing.{places-again}
+use Rattle.md_footnotes.proofs.Placing.{place-below}
+use Rattle.md_footnotes.proofs.PlacedCalls.{Keeps, kept-again, kept-new, count-kept}
+use Rattle.md_footnotes.proofs.MappedPlaces.{places-again}
 use Rattle.md_footnotes.proofs.calls.Calls.count.Goals as goal
 
 pub count_again-requires-clause-within : goal.count_again-requires-clause-within

@@ -7,7 +7,8 @@ use Rattle.std.proofs.lemmas.List.{length-map}
 use Rattle.md_meaning.specs.Meaning.Footnotes.{count_of}
 use Rattle.md_footnotes.specs.Entries.{calls_in, count_in, identifier_in}
 use Rattle.md_footnotes.proofs.Numbers.{count_among, count-same, count-below}
-use Rattle.md_footnotes.proofs.Placing.{count-at, count-kept}
+use Rattle.md_footnotes.proofs.Placing.{count-at}
+use Rattle.md_footnotes.proofs.PlacedCalls.{count-kept}
 use Rattle.md_footnotes.proofs.calls.Calls.count_of.Goals as goal
 
 counted : (c : goal.After-count_at) → c.count_at.result
