@@ -1,5 +1,5 @@
 -- What is printed after some of a document's events, and how long the whole text is then.
-use Rattle.std.proofs.Common.{◌≡◌, ◌≤◌, ◌<◌, ℕ, true, List, [], length, refl, sym, ap, ◌∙◌, subst}
+use Rattle.std.proofs.Common.{◌≡◌, ◌≤◌, ◌<◌, ℕ, true, [], length, sym, ap, ◌∙◌, subst}
 use Rattle.std.proofs.Common.{arith}
 use Rattle.md_base.specs.Tree.{Forest, flatten}
 use Rattle.md_meaning.specs.Meaning.At.{Given}
@@ -16,7 +16,8 @@ use Rattle.md_html.specs.Fits.{fits}
 use Rattle.md_html.specs.Printed.{text_of}
 use Rattle.md_html.proofs.Owns.{window-all}
 use Rattle.md_html.proofs.Windows.{window-end}
-use Rattle.md_html.proofs.Fits.{outermost, laid-grows, run-grows, fits-all}
+use Rattle.md_html.proofs.FirstText.{outermost, laid-grows, run-grows}
+use Rattle.md_html.proofs.Fits.{fits-all}
 
 -- what goes on after what has gone on
 pub goes-on : (code : Supplied) (from index next to end : ℕ) (first before after : State) →

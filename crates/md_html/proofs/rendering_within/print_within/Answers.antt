@@ -1,5 +1,5 @@
 -- The text of all events with the section of footnotes, or that it is longer than the limit.
-use Rattle.std.proofs.Common.{rules, ◌≡◌, ◌<◌, true, length, refl, sym, ap, ◌∙◌, subst}
+use Rattle.std.proofs.Common.{rules, ◌≡◌, ◌<◌, true, length, refl, ap, ◌∙◌, subst}
 use Rattle.std.specs.Prelude.{string_bytes}
 use Rattle.md_meaning.specs.Meaning.Footnotes.{section}
 use Rattle.md_meaning.specs.Meaning.Layout.{laid_after}

@@ -1,6 +1,6 @@
 -- Each turn goes on from where the one before it stands; what is too long where nothing is
 -- captured stays so.
-use Rattle.std.proofs.Common.{rules, ◌≡◌, ◌≤◌, length, ap, arith}
+use Rattle.std.proofs.Common.{rules, ◌≤◌, length, ap}
 use Rattle.md_html.specs.Stepping.{Goes}
 use Rattle.md_html.proofs.Long.{goes-on, whole-run, longer-run}
 use Rattle.md_html.proofs.rendering_within.run_events_within.Goals as goal

@@ -1,16 +1,15 @@
 -- Each turn goes on from where the one before it stands.
-use Rattle.std.proofs.Common.{◌≡◌, ◌≤◌, ◌<◌, ◌+◌, ℕ, suc, true, Some, List, length, sym, ap, ◌∙◌}
+use Rattle.std.proofs.Common.{◌≡◌, ◌≤◌, ◌<◌, ◌+◌, ℕ, suc, Some, List, length, sym, ap, ◌∙◌}
 use Rattle.std.proofs.Common.{subst, arith}
 use Rattle.std.specs.Prelude.{slice_get}
 use Rattle.std.proofs.lemmas.Option.{slice_get-get_or}
 use Rattle.md_base.specs.declared.event.Event.{Event}
-use Rattle.md_base.specs.Tree.{flatten}
-use Rattle.md_emit.specs.declared.given.Given.{Given as Supplied}
-use Rattle.md_shape.specs.Run.{noticed, run}
 use Rattle.md_shape.specs.State.{State}
 use Rattle.md_html.specs.Stepping.{Goes}
-use Rattle.md_html.proofs.Turns.{turn-within, turn-cells, turn-fences, leaf-cells, leaf-fences}
-use Rattle.md_html.proofs.Turns.{goes-turn, goes-leaf}
+use Rattle.md_html.proofs.Turns.{turn-within, turn-cells, turn-fences}
+use Rattle.md_html.proofs.LeafTurns.{leaf-cells, leaf-fences}
+use Rattle.md_html.proofs.Turns.{goes-turn}
+use Rattle.md_html.proofs.LeafTurns.{goes-leaf}
 use Rattle.md_html.proofs.running.run_events.Goals as goal
 
 inner : (index to n : ℕ) → index < to → to ≤ n → index < n
