@@ -16,6 +16,8 @@ pub mod Rules
 pub mod LinkRule
 pub mod Numbers
 pub mod HeadingRule
+pub mod HeadingTexts
 pub mod Listing
+pub mod HeadingTurns
 pub mod Distinct
 pub mod Paging

@@ -1,7 +1,7 @@
 -- A turn writes a text, and passes a tag.
 use Rattle.std.proofs.Common.{◌++◌, string_bytes, sym, ap, ◌∙◌}
 use Rattle.md_page.specs.Scan.{closes_heading}
-use Rattle.md_page.proofs.Listing.{text-ends, text-turn, text-all}
+use Rattle.md_page.proofs.HeadingTurns.{text-ends, text-turn, text-all}
 use Rattle.md_page.proofs.headings.heading_text.Goals as goal
 
 pub returns-then-closes_heading : goal.returns-then-closes_heading

@@ -5,7 +5,7 @@ use Rattle.std.proofs.lemmas.List.{map-append, length-drop}
 use Rattle.std.proofs.lemmas.Str.{IsCharBoundary-after_ascii}
 use Rattle.md_page.specs.Headings.{listed}
 use Rattle.md_page.specs.Scan.{picks_heading, scanned_heading, scanned_headings, IsTagAt}
-use Rattle.md_page.proofs.Listing.{heading-turn, headings-all}
+use Rattle.md_page.proofs.HeadingTurns.{heading-turn, headings-all}
 use Rattle.md_page.proofs.headings.headings.Goals as goal
 
 pub range_from-tag-requires : goal.range_from-tag-requires

@@ -1,6 +1,6 @@
 use Rattle.std.proofs.Common.{sym, ap, ◌∙◌}
 use Rattle.md_page.specs.Scan.{past_angle}
-use Rattle.md_page.proofs.Listing.{past-run, past-none}
+use Rattle.md_page.proofs.HeadingTexts.{past-run, past-none}
 use Rattle.md_page.proofs.headings.past_angle.Goals as goal
 
 pub returns-in-Some-clause-value : goal.returns-in-Some-clause-value

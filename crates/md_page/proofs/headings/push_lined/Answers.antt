@@ -1,7 +1,7 @@
 -- A turn writes a line and its line feed.
 use Rattle.std.proofs.Common.{◌≡◌, ◌++◌, OnOk, string_bytes, sym, ap, ◌∙◌, subst, arith}
 use Rattle.std.proofs.lemmas.Grind.{common_steps}
-use Rattle.md_page.proofs.Listing.{lined-turn, lined-all}
+use Rattle.md_page.proofs.HeadingTurns.{lined-turn, lined-all}
 use Rattle.md_page.proofs.headings.push_lined.Goals as goal
 
 pub loop-line-preserved : goal.loop-line-preserved

@@ -1,0 +1,226 @@
+-- The text of a heading by its bytes is that by its tokens.
+use Rattle.std.specs.Str.{bytes_eq}
+use Rattle.std.proofs.Common.{◌≡◌, ℕ, ◌==◌, Bool, true, false, not, ◌&&◌, cond, List, [], ◌∷◌, ◌++◌}
+use Rattle.std.proofs.Common.{map, length, drop, refl, sym, ap, ap₂, ◌∙◌, subst, append_assoc}
+use Rattle.std.proofs.Common.{codes, ne_eqb, eqb, eq-eqb}
+use Rattle.std.specs.List.{list_all}
+use Rattle.std.specs.Cmp.Lexicographic.{bytes_decides}
+use Rattle.std.proofs.lemmas.Bool.{and_parts, and_from, not-true, eqb-true}
+use Rattle.md_base.proofs.Lies.{lie}
+use Rattle.md_text.specs.Bytes.{is_one_of, is_between}
+use Rattle.md_text.specs.Encode.{encoded}
+use Rattle.md_text.specs.References.{is_escaped, read_back, begins_with}
+use Rattle.md_text.specs.Html.{written_attributes}
+use Rattle.md_text.proofs.EncodeLaws.{read_back-other}
+use Rattle.md_text.proofs.EncodeLemmas.{encoded-append, encoded_byte-plain}
+use Rattle.md_text.proofs.HtmlSplit.{split}
+use Rattle.md_safe.specs.Input.{with_line_feeds, begins_with_line_feed}
+use Rattle.md_safe.specs.Token.{Token, Character}
+use Rattle.md_safe.specs.Tokens.{seen}
+use Rattle.md_safe.proofs.EscapedCases.{by_escaped}
+use Rattle.md_safe.proofs.LineFeeds.{line_feeds-escaped}
+use Rattle.md_safe.proofs.Steps.{past}
+use Rattle.md_page.specs.Added.{characters_before}
+use Rattle.md_page.specs.Pieces.{Piece, Words, Opening, Single, Closing, all_written, all_tokens}
+use Rattle.md_page.specs.Pieces.{are_sound, are_plain, is_name_byte, is_tag_name, void_names}
+use Rattle.md_page.specs.Pieces.{begins_with_letter, begins_with_words}
+use Rattle.md_page.specs.Scan.{differs, past_angle, lined_byte, closes_heading, text_before}
+use Rattle.md_page.proofs.Plain.{void-name}
+use Rattle.md_page.proofs.PieceRuns.{after_text}
+use Rattle.md_page.proofs.Scanning.{escaped-differs, name-differs, all-join, tag-differs, opens}
+use Rattle.md_page.proofs.Scanning.{closes, name_bytes, between}
+use Rattle.md_page.proofs.LinkRule.{both}
+
+-- ---- texts
+
+-- what is escaped is what is read back, escaped
+encoded-back : (x : List ℕ) → is_escaped x ≡ true → encoded true (read_back x) ≡ x
+encoded-back x h =
+    by_escaped (λ x. encoded true (read_back x) ≡ x) refl
+    (λ b rest p later.
+    ap (encoded true) (read_back-other b rest (λ e. lie (sym p.no_and ∙ ap (λ c. c == 38) e)))
+    ∙ ap (λ y. y ++ encoded true (read_back rest))
+    (encoded_byte-plain true b p.no_nul p.no_and p.no_quote p.no_less p.no_more)
+    ∙ ap (λ y. b ∷ y) later)
+    (λ rest later. ap (λ y. codes "&amp;" ++ y) later)
+    (λ rest later. ap (λ y. codes "&quot;" ++ y) later)
+    (λ rest later. ap (λ y. codes "&lt;" ++ y) later)
+    (λ rest later. ap (λ y. codes "&gt;" ++ y) later) x h
+
+encoded-seen : (x : List ℕ) → is_escaped x ≡ true → encoded true (seen x) ≡ with_line_feeds x
+encoded-seen x h = encoded-back (with_line_feeds x) (line_feeds-escaped x h)
+
+pub lined-step : (b : ℕ) (rest : List ℕ) →
+    with_line_feeds (b ∷ rest) ≡ lined_byte b rest ++ with_line_feeds rest
+lined-step b rest = by (b == 13) (begins_with_line_feed rest)
+  where
+    by : (return feed : Bool) →
+        cond return (cond feed (with_line_feeds rest) (10 ∷ with_line_feeds rest))
+        (b ∷ with_line_feeds rest)
+        ≡ cond return (cond feed [] (10 ∷ [])) (b ∷ []) ++ with_line_feeds rest
+    by true true = refl
+    by true false = refl
+    by false feed = refl
+
+lined-append : (b : ℕ) (x r : List ℕ) → begins_with_line_feed r ≡ false →
+    lined_byte b (x ++ r) ≡ lined_byte b x
+lined-append b [] r h = ap (λ t. cond (b == 13) (cond t [] (10 ∷ [])) (b ∷ [])) h
+lined-append b (c ∷ x) r h = refl
+
+-- a byte outside tags that isn't `<`
+text-byte : (digit b : ℕ) (rest : List ℕ) → differs 60 b ≡ true →
+    text_before digit false (b ∷ rest) ≡ lined_byte b rest ++ text_before digit false rest
+text-byte digit b rest h = past _ (not-true (b == 60) h) refl
+
+-- a text outside tags, before what doesn't begin with a line feed
+pub text-run : (digit : ℕ) (x r : List ℕ) → list_all (differs 60) x ≡ true →
+    begins_with_line_feed r ≡ false →
+    text_before digit false (x ++ r) ≡ with_line_feeds x ++ text_before digit false r
+text-run digit [] r h n = refl
+text-run digit (b ∷ x) r h n =
+    let p = and_parts (differs 60 b) (list_all (differs 60) x) h in
+    text-byte digit b (x ++ r) p.0
+    ∙ ap₂ (λ y z. y ++ z) (lined-append b x r n) (text-run digit x r p.1 n)
+    ∙ sym (append_assoc (lined_byte b x) (with_line_feeds x) (text_before digit false r))
+    ∙ ap (λ y. y ++ text_before digit false r) (sym (lined-step b x))
+
+-- to the end of a tag
+pub text-past : (digit : ℕ) (x r : List ℕ) → list_all (differs 62) x ≡ true →
+    text_before digit true (x ++ (62 ∷ r)) ≡ text_before digit false r
+text-past digit [] r h = refl
+text-past digit (b ∷ x) r h =
+    let p = and_parts (differs 62 b) (list_all (differs 62) x) h in
+    ap (λ t. text_before digit t (x ++ (62 ∷ r))) p.0 ∙ text-past digit x r p.1
+
+pub past-run : (x r : List ℕ) → list_all (differs 62) x ≡ true → past_angle (x ++ (62 ∷ r)) ≡ r
+past-run [] r h = refl
+past-run (b ∷ x) r h =
+    let p = and_parts (differs 62 b) (list_all (differs 62) x) h in
+    past _ (not-true (b == 62) p.0) (past-run x r p.1)
+
+pub past-none : (x : List ℕ) → list_all (differs 62) x ≡ true → past_angle x ≡ []
+past-none [] h = refl
+past-none (b ∷ x) h =
+    let p = and_parts (differs 62 b) (list_all (differs 62) x) h in
+    past _ (not-true (b == 62) p.0) (past-none x p.1)
+
+-- whatever is inside a tag goes
+pub text-inside : (digit : ℕ) (x : List ℕ) →
+    text_before digit true x ≡ text_before digit false (past_angle x)
+text-inside digit [] = refl
+text-inside digit (b ∷ x) = by (b == 62) (text-inside digit x)
+  where
+    by : (is : Bool) → text_before digit true x ≡ text_before digit false (past_angle x) →
+        text_before digit (not is) x ≡ text_before digit false (cond is x (past_angle x))
+    by true e = refl
+    by false e = e
+
+-- a `<` before an end tag of the heading, and before any other tag
+pub text-closes : (digit : ℕ) (tag : List ℕ) → closes_heading digit tag ≡ true →
+    text_before digit false (60 ∷ tag) ≡ []
+text-closes digit tag e = ap (λ t. cond t [] (text_before digit true tag)) e
+
+pub text-opens : (digit : ℕ) (tag : List ℕ) → closes_heading digit tag ≡ false →
+    text_before digit false (60 ∷ tag) ≡ text_before digit true tag
+text-opens digit tag e = ap (λ t. cond t [] (text_before digit true tag)) e
+
+-- ---- the text of a heading, over pieces
+characters-run : (name x : List ℕ) (more : List Token) →
+    characters_before name (map Character x ++ more) ≡ x ++ characters_before name more
+characters-run name [] more = refl
+characters-run name (b ∷ x) more = ap (λ y. b ∷ y) (characters-run name x more)
+
+no_slash : (name tail : List ℕ) (digit : ℕ) → begins_with_letter name ≡ true →
+    closes_heading digit (name ++ tail) ≡ false
+no_slash [] tail digit h = lie h
+no_slash (b ∷ name) tail digit h =
+    ap (λ t. t && begins_with (104 ∷ digit ∷ 62 ∷ []) (name ++ tail)) (slash_letter b h)
+  where
+    slash_letter : (b : ℕ) → is_between 97 122 b ≡ true → (47 == b) ≡ false
+    slash_letter b h = ne_eqb 47 b (λ e. lie (ap (is_between 97 122) e ∙ h))
+
+tail_of : (b c : ℕ) (x y : List ℕ) → b ∷ x ≡ c ∷ y → x ≡ y
+tail_of b c x y e = cc
+
+-- a text that begins so is that and what follows it
+begins-is : (start text : List ℕ) → begins_with start text ≡ true →
+    text ≡ start ++ drop (length start) text
+begins-is [] text h = refl
+begins-is (s ∷ start) [] h = cc
+begins-is (s ∷ start) (b ∷ text) h =
+    let p = and_parts (eqb s b) (begins_with start text) h in
+    ap₂ (λ c x. c ∷ x) (sym (eqb-true s b p.0)) (begins-is start text p.1)
+
+-- an end tag is the heading's exactly if it has its name
+closes-name : (digit : ℕ) (name r : List ℕ) → is_name_byte digit ≡ true →
+    list_all is_name_byte name ≡ true →
+    closes_heading digit (47 ∷ (name ++ (62 ∷ r))) ≡ bytes_eq name (104 ∷ digit ∷ [])
+closes-name digit name r d h =
+    both (closes_heading digit (47 ∷ (name ++ (62 ∷ r)))) (bytes_eq name (104 ∷ digit ∷ []))
+    (λ e. (let text = 47 ∷ (name ++ (62 ∷ r)) in
+    let rest = drop 4 text in
+    let is : name ++ (62 ∷ r) ≡ 104 ∷ digit ∷ 62 ∷ rest =
+    tail_of 47 47 _ _ (begins-is (47 ∷ 104 ∷ digit ∷ 62 ∷ []) text e) in
+    (bytes_decides name (104 ∷ digit ∷ [])).1
+    (split is_name_byte name (104 ∷ digit ∷ []) (62 ∷ r) (62 ∷ rest) h
+    (and_from (is_name_byte digit) true d refl) refl refl is).0))
+    (λ e. subst (λ n. closes_heading digit (47 ∷ (n ++ (62 ∷ r))) ≡ true)
+    (sym ((bytes_decides name (104 ∷ digit ∷ [])).0 e))
+    (ap (λ t. t && true) (eq-eqb digit digit refl)))
+
+pub text-pieces : (digit : ℕ) (x : List Piece) → is_name_byte digit ≡ true → are_sound x ≡ true →
+    text_before digit false (all_written x)
+    ≡ encoded true (characters_before (104 ∷ digit ∷ []) (all_tokens x))
+text-pieces digit [] d h = refl
+text-pieces digit (Words text ∷ more) d h =
+    let q = and_parts (is_escaped text) _ h in
+    let r = and_parts (not (begins_with_words more)) (are_sound more) q.1 in
+    let name = 104 ∷ digit ∷ [] in
+    let later = characters_before name (all_tokens more) in
+    text-run digit text (all_written more) (escaped-differs 60 text opens.escaped q.0)
+    (after_text more r.0)
+    ∙ ap₂ (λ y z. y ++ z) (sym (encoded-seen text q.0)) (text-pieces digit more d r.1)
+    ∙ sym (encoded-append true (seen text) later)
+    ∙ ap (encoded true) (sym (characters-run name (seen text) (all_tokens more)))
+text-pieces digit (Opening name x ∷ more) d h =
+    let q = and_parts (is_tag_name name) _ h in
+    let r = and_parts (are_plain x) (are_sound more) q.1 in
+    let tail = written_attributes x ++ (62 ∷ all_written more) in
+    text-opens digit (name ++ tail)
+    (no_slash name tail digit (and_parts (begins_with_letter name) _ q.0).0)
+    ∙ ap (text_before digit true) (between name x (62 ∷ all_written more))
+    ∙ text-past digit (name ++ written_attributes x) (all_written more)
+    (tag-differs 62 name x closes (name_bytes name q.0) r.0)
+    ∙ text-pieces digit more d r.1
+text-pieces digit (Single name x ∷ more) d h =
+    let q = and_parts (is_one_of void_names name) _ h in
+    let r = and_parts (are_plain x) (are_sound more) q.1 in
+    let inside = name ++ written_attributes x in
+    let bytes = void-name (list_all is_name_byte) name refl q.0 in
+    let tail = written_attributes x ++ (32 ∷ 47 ∷ 62 ∷ all_written more) in
+    text-opens digit (name ++ tail)
+    (no_slash name tail digit (void-name begins_with_letter name refl q.0))
+    ∙ ap (text_before digit true) (between name x (32 ∷ 47 ∷ 62 ∷ all_written more)
+    ∙ sym (append_assoc inside (32 ∷ 47 ∷ []) (62 ∷ all_written more)))
+    ∙ text-past digit (inside ++ (32 ∷ 47 ∷ [])) (all_written more)
+    (all-join (differs 62) inside (32 ∷ 47 ∷ []) (tag-differs 62 name x closes bytes r.0) refl)
+    ∙ text-pieces digit more d r.1
+text-pieces digit (Closing name ∷ more) d h =
+    let q = and_parts (is_tag_name name) (are_sound more) h in
+    let bytes = name_bytes name q.0 in
+    by (bytes_eq name (104 ∷ digit ∷ [])) (closes-name digit name (all_written more) d bytes)
+    (text-past digit (47 ∷ name) (all_written more)
+    (and_from (differs 62 47) (list_all (differs 62) name) refl (name-differs 62 name refl bytes)))
+    (text-pieces digit more d q.1)
+  where
+    tag : List ℕ
+    tag = 47 ∷ (name ++ (62 ∷ all_written more))
+
+    by : (b : Bool) → closes_heading digit tag ≡ b →
+        text_before digit true tag ≡ text_before digit false (all_written more) →
+        text_before digit false (all_written more)
+        ≡ encoded true (characters_before (104 ∷ digit ∷ []) (all_tokens more)) →
+        text_before digit false (60 ∷ tag)
+        ≡ encoded true (cond b [] (characters_before (104 ∷ digit ∷ []) (all_tokens more)))
+    by true e f g = text-closes digit tag e
+    by false e f g = text-opens digit tag e ∙ f ∙ g
