@@ -3,6 +3,7 @@ pub mod RunLemmas
 pub mod WithinLemmas
 pub mod ScriptLemmas
 -- The lemmas of a script's lines: bytes that are split, numbers, names, events and settings.
+pub mod SixteenBytes
 pub mod CommonLemmas
 pub mod LineLemmas
 pub mod NameLemmas

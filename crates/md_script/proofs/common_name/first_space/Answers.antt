@@ -1,6 +1,6 @@
 -- The lowest mark is set at the first space.
 -- By itself the search can't read a mask.
-use Rattle.md_script.proofs.CommonLemmas.{space_found}
+use Rattle.md_script.proofs.SixteenBytes.{space_found}
 use Rattle.md_script.proofs.common_name.first_space.Goals as goal
 
 pub returns : goal.returns
