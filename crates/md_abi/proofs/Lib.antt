@@ -5,4 +5,5 @@ pub mod AnswerLemmas
 pub mod OptionLemmas
 pub mod StandingLemmas
 pub mod AttributedLemmas
+pub mod ListAnswerLemmas
 pub mod WithinLemmas

@@ -2,8 +2,8 @@
 -- By itself the search doesn't go through the statuses of an answer: `AttributedLemmas` does.
 use Rattle.std.proofs.Common.{◌≤◌, length, subst, sym}
 use Rattle.md_abi.specs.Attributed.{IsAttributedText}
-use Rattle.md_abi.proofs.AttributedLemmas.{list_handed, list_fields, list_status, list_says}
-use Rattle.md_abi.proofs.AttributedLemmas.{refusal_hands_over, refusal_fields, refusal_says}
+use Rattle.md_abi.proofs.ListAnswerLemmas.{list_handed, list_fields, list_status, list_says}
+use Rattle.md_abi.proofs.ListAnswerLemmas.{refusal_hands_over, refusal_fields, refusal_says}
 use Rattle.md_ffi.proofs.export.bivdrazo_compile_attributed.Goals as goal
 
 pub returns-in-Ok-clause-text : goal.returns-in-Ok-clause-text
