@@ -28,7 +28,8 @@ HEAD = """-- Made by bench/standard/equations.py.
 use Rattle.std.proofs.Common.{◌≡◌, ℕ, true, false, List, [], ◌∷◌, refl, Some, None}
 use Rattle.md_safe.specs.Input.{with_line_feeds}
 use Rattle.md_safe.specs.Token.{TokenAttribute, Doctype, Character, StartTag, EndTag, EndOfFile}
-use Rattle.md_safe.specs.Tokenizer.{Data, run}
+use Rattle.md_safe.specs.TokenizerStates.{Data}
+use Rattle.md_safe.specs.Tokenizer.{run}
 use Rattle.md_safe.specs.Scheme.{scheme_of}
 use Rattle.md_safe.proofs.Steps.{attribute}
 """

@@ -13,7 +13,8 @@ use Rattle.std.proofs.Common.{◌≡◌, ℕ, true, false, List, [], ◌∷◌, 
 use Rattle.std.specs.Prelude.{Some, None, option_and_then, codes}
 use Rattle.md_safe.specs.Input.{with_line_feeds}
 use Rattle.md_safe.specs.Token.{TokenAttribute}
-use Rattle.md_safe.specs.Tokenizer.{Data, run}
+use Rattle.md_safe.specs.TokenizerStates.{Data}
+use Rattle.md_safe.specs.Tokenizer.{run}
 use Rattle.md_safe.proofs.Steps.{attribute}
 use Rattle.md_safe.specs.Node.{Empty, Text, Element, InBody}
 use Rattle.md_safe.specs.Built.{at, open_at}
