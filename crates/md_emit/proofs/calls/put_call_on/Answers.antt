@@ -1,10 +1,8 @@
 -- A text that is made first is put.
-use Rattle.std.proofs.Common.{◌≡◌, ◌∷◌, ◌++◌, [], ℕ, List, Bool, true, false, not, Option, Some}
-use Rattle.std.proofs.Common.{None, refl, ap, sym, ◌∙◌}
-use Rattle.std.specs.Prelude.{codes, if◌then◌else◌, unwrap_or, ◌||◌, ◌&&◌}
+use Rattle.std.proofs.Common.{◌++◌, [], ℕ, List}
+use Rattle.std.proofs.Common.{ap, ◌∙◌}
 use Rattle.md_shape.specs.Sides as sides
-use Rattle.md_shape.specs.State.{State, Told}
-use Rattle.md_meaning.specs.Meaning.Layout.{Needed, Text, laid_after, said, on_own_line, when}
+use Rattle.md_meaning.specs.Meaning.Layout.{laid_after}
 use Rattle.md_output.specs.Texts.{Texts}
 use Rattle.md_emit.proofs.LinkHeads.{call-laid}
 use Rattle.md_emit.proofs.Answering.{on_ok}

@@ -1,7 +1,7 @@
 -- The text of code is what is meant.
-use Rattle.std.proofs.Common.{◌≡◌, ◌∷◌, ◌++◌, [], ℕ, List, Bool, true, false, not, Option, Some}
-use Rattle.std.proofs.Common.{None, refl, ap, sym, ◌∙◌}
-use Rattle.std.specs.Prelude.{codes, if◌then◌else◌, unwrap_or, ◌||◌}
+use Rattle.std.proofs.Common.{◌++◌, ℕ, List}
+use Rattle.std.proofs.Common.{ap, sym, ◌∙◌}
+use Rattle.std.specs.Prelude.{if◌then◌else◌}
 use Rattle.md_output.specs.Texts.{Texts}
 use Rattle.md_meaning.specs.Meaning.Spans.{trimmed, without_escapes}
 use Rattle.md_emit.specs.Code.{without_padding, unescaped_pipes}

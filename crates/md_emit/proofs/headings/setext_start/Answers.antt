@@ -1,7 +1,6 @@
 -- The rank's digit.
-use Rattle.std.proofs.Common.{◌≡◌, ◌++◌, List, ℕ, ap, sym, ◌∙◌, arith}
+use Rattle.std.proofs.Common.{◌++◌, ap, sym, ◌∙◌, arith}
 use Rattle.std.specs.Prelude.{codes, if◌then◌else◌}
-use Rattle.std.specs.Fmt.{decimal}
 use Rattle.std.proofs.lemmas.Fmt.{decimal_digit}
 use Rattle.md_meaning.specs.Meaning.Blocks.{heading_tag}
 use Rattle.md_emit.proofs.headings.setext_start.Goals as goal

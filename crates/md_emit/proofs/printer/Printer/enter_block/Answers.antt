@@ -1,14 +1,14 @@
 -- What is told is what the check found.
-use Rattle.std.proofs.Common.{◌≡◌, ◌∷◌, ◌++◌, [], ℕ, List, Bool, true, false, not, Option, Some}
-use Rattle.std.proofs.Common.{None, refl, ap, sym, ◌∙◌}
-use Rattle.std.specs.Prelude.{codes, if◌then◌else◌, unwrap_or, ◌||◌}
+use Rattle.std.proofs.Common.{◌∷◌, ◌++◌, ℕ, List, Bool, true, not}
+use Rattle.std.proofs.Common.{None, ap, ◌∙◌}
+use Rattle.std.specs.Prelude.{codes}
 use Rattle.md_base.specs.declared.event.Name.TheVariants as names
 use Rattle.md_shape.specs.Sides as sides
-use Rattle.md_shape.specs.State.{State, Told}
-use Rattle.md_meaning.specs.Meaning.Layout.{Needed, Text, laid_after, said, on_own_line, when}
+use Rattle.md_shape.specs.State.{State}
+use Rattle.md_meaning.specs.Meaning.Layout.{laid_after, said, on_own_line}
 use Rattle.md_base.specs.declared.event.AlignKind.{AlignKind}
 use Rattle.md_meaning.specs.Meaning.Blocks.{heading_tag}
-use Rattle.md_emit.proofs.Answering.{on_ok, enters-by, leaves-by, ending_in}
+use Rattle.md_emit.proofs.Answering.{on_ok, enters-by}
 use Rattle.md_emit.proofs.printer.Printer.enter_block.Goals as goal
 
 pub returns-in_ok-enter_line-in-ListUnordered : goal.returns-in_ok-enter_line-in-ListUnordered

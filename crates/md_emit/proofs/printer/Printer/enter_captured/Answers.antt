@@ -1,11 +1,10 @@
 -- Mathematics in a text.
-use Rattle.std.proofs.Common.{◌≡◌, ◌∷◌, ◌++◌, [], ℕ, List, Bool, true, false, not, Option, Some}
-use Rattle.std.proofs.Common.{None, refl, ap, sym, ◌∙◌}
-use Rattle.std.specs.Prelude.{codes, if◌then◌else◌, unwrap_or, ◌||◌}
-use Rattle.md_base.specs.declared.event.Name.TheVariants as names
+use Rattle.std.proofs.Common.{◌∷◌, [], ℕ, List, true, not}
+use Rattle.std.proofs.Common.{ap, sym, ◌∙◌}
+use Rattle.std.specs.Prelude.{codes}
 use Rattle.md_shape.specs.Steps as steps
-use Rattle.md_shape.specs.State.{State, Told}
-use Rattle.md_meaning.specs.Meaning.Layout.{Needed, Text, laid_after, said, on_own_line, when}
+use Rattle.md_shape.specs.State.{State}
+use Rattle.md_meaning.specs.Meaning.Layout.{laid_after, said, when}
 use Rattle.md_emit.proofs.Answering.{on_ok}
 use Rattle.md_emit.proofs.printer.Printer.enter_captured.Goals as goal
 

@@ -1,14 +1,14 @@
 -- What is told is what the check found.
-use Rattle.std.proofs.Common.{◌≡◌, ◌∷◌, ◌++◌, [], ℕ, List, Bool, true, false, not, Option, Some}
-use Rattle.std.proofs.Common.{None, refl, ap, sym, ◌∙◌}
-use Rattle.std.specs.Prelude.{codes, if◌then◌else◌, unwrap_or, ◌||◌, ◌&&◌}
+use Rattle.std.proofs.Common.{ℕ, List, Some}
+use Rattle.std.proofs.Common.{ap, sym, ◌∙◌}
+use Rattle.std.specs.Prelude.{if◌then◌else◌, ◌&&◌}
 use Rattle.md_base.specs.declared.event.Name.TheVariants as names
 use Rattle.md_shape.specs.Steps as steps
-use Rattle.md_shape.specs.State.{State, Told}
-use Rattle.md_meaning.specs.Meaning.Layout.{Needed, Text, laid_after, said, on_own_line, when}
+use Rattle.md_shape.specs.State.{State}
+use Rattle.md_meaning.specs.Meaning.Layout.{laid_after}
 use Rattle.md_meaning.specs.Meaning.At.{text_in}
 use Rattle.md_emit.specs.Parts as parts
-use Rattle.md_emit.proofs.Answering.{on_ok, enters-by, leaves-by, ending_in}
+use Rattle.md_emit.proofs.Answering.{on_ok, leaves-by}
 use Rattle.md_emit.proofs.printer.Printer.exit.Goals as goal
 
 pub returns-in-LineEnding : goal.returns-in-LineEnding

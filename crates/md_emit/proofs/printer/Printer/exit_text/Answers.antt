@@ -1,10 +1,6 @@
 -- The clause of the call.
-use Rattle.std.proofs.Common.{◌≡◌, ◌∷◌, ◌++◌, [], ℕ, List, Bool, true, false, not, Option, Some}
-use Rattle.std.proofs.Common.{None, refl, ap, sym, ◌∙◌}
-use Rattle.std.specs.Prelude.{codes, if◌then◌else◌, unwrap_or, ◌||◌}
-use Rattle.md_base.specs.declared.event.Name.TheVariants as names
+use Rattle.std.proofs.Common.{ap, sym, ◌∙◌}
 use Rattle.md_shape.specs.Steps as steps
-use Rattle.md_shape.specs.State.{State, Told}
 use Rattle.md_emit.proofs.Answering.{on_ok}
 use Rattle.md_emit.proofs.printer.Printer.exit_text.Goals as goal
 

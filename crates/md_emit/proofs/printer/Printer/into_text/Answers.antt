@@ -1,9 +1,8 @@
 -- The section comes after the text.
-use Rattle.std.proofs.Common.{◌≡◌, ◌∷◌, ◌++◌, [], ℕ, List, Bool, true, false, not, Option, Some}
-use Rattle.std.proofs.Common.{None, refl, ap, sym, ◌∙◌}
-use Rattle.std.specs.Prelude.{codes, if◌then◌else◌, unwrap_or, ◌||◌, ◌&&◌}
-use Rattle.md_shape.specs.State.{State, Told}
-use Rattle.md_meaning.specs.Meaning.At.{Given, Footnote}
+use Rattle.std.proofs.Common.{ℕ, List}
+use Rattle.std.proofs.Common.{ap, sym, ◌∙◌}
+use Rattle.md_shape.specs.State.{State}
+use Rattle.md_meaning.specs.Meaning.At.{Footnote}
 use Rattle.md_meaning.specs.Meaning.Layout.{laid_after}
 use Rattle.md_meaning.specs.Meaning.Footnotes.{section}
 use Rattle.md_text.specs.declared.options.CompileOptions.{CompileOptions}

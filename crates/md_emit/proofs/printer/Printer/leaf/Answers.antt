@@ -1,5 +1,5 @@
 -- What is told of a blank line's end is whether it is the last.
-use Rattle.std.proofs.Common.{◌≡◌, ◌∷◌, [], ℕ, List, Bool, true, false, Some, ap, ◌∙◌}
+use Rattle.std.proofs.Common.{◌∷◌, [], Bool, false, Some, ap, ◌∙◌}
 use Rattle.std.specs.Prelude.{if◌then◌else◌}
 use Rattle.md_base.specs.declared.event.Name.TheVariants as names
 use Rattle.md_shape.specs.State.{State}

@@ -1,9 +1,9 @@
 -- The text that is told.
-use Rattle.std.proofs.Common.{◌≡◌, ◌∷◌, ◌++◌, [], ℕ, List, Bool, true, false, not, Option, Some}
-use Rattle.std.proofs.Common.{None, refl, ap, sym, ◌∙◌}
-use Rattle.std.specs.Prelude.{codes, if◌then◌else◌, unwrap_or, ◌||◌}
-use Rattle.md_shape.specs.State.{State, Told}
-use Rattle.md_meaning.specs.Meaning.Layout.{Needed, Text, laid_after, said, on_own_line, when}
+use Rattle.std.proofs.Common.{◌++◌, ℕ, List, true, Some}
+use Rattle.std.proofs.Common.{None, ap, sym, ◌∙◌}
+use Rattle.std.specs.Prelude.{if◌then◌else◌}
+use Rattle.md_shape.specs.State.{State}
+use Rattle.md_meaning.specs.Meaning.Layout.{laid_after, said}
 use Rattle.md_text.specs.declared.options.CompileOptions.{CompileOptions}
 use Rattle.md_text.specs.Encode.{encoded}
 use Rattle.md_meaning.specs.Meaning.Layout.{Piece}

@@ -1,12 +1,11 @@
 -- The code, and its tag outside images.
-use Rattle.std.proofs.Common.{◌≡◌, ◌∷◌, ◌++◌, [], ℕ, List, Bool, true, false, not, Option, Some}
-use Rattle.std.proofs.Common.{None, refl, ap, sym, ◌∙◌}
-use Rattle.std.specs.Prelude.{codes, if◌then◌else◌, unwrap_or, ◌||◌, ◌&&◌}
-use Rattle.md_base.specs.declared.event.Name.TheVariants as names
+use Rattle.std.proofs.Common.{◌≡◌, ◌++◌, [], not, Some}
+use Rattle.std.proofs.Common.{ap, ◌∙◌}
+use Rattle.std.specs.Prelude.{codes, if◌then◌else◌}
 use Rattle.md_shape.specs.State as states
 use Rattle.md_shape.specs.Steps as steps
 use Rattle.md_shape.specs.State.{State, Told}
-use Rattle.md_meaning.specs.Meaning.Layout.{Needed, Text, laid_after, said, on_own_line, when}
+use Rattle.md_meaning.specs.Meaning.Layout.{laid_after, said, when}
 use Rattle.md_meaning.specs.Meaning.Spans.{trimmed, without_escapes}
 use Rattle.md_emit.proofs.Answering.{on_ok}
 use Rattle.md_emit.proofs.printer.Printer.leave_code.Goals as goal

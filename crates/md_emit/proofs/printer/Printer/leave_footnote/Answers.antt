@@ -1,12 +1,12 @@
 -- It is kept under the identifier that is told.
-use Rattle.std.proofs.Common.{◌≡◌, ◌∷◌, ◌++◌, [], ℕ, List, Bool, true, false, not, Option, Some}
-use Rattle.std.proofs.Common.{None, refl, ap, sym, ◌∙◌}
-use Rattle.std.specs.Prelude.{codes, if◌then◌else◌, unwrap_or, ◌||◌, string_bytes}
+use Rattle.std.proofs.Common.{◌≡◌, [], ℕ, List, Some}
+use Rattle.std.proofs.Common.{refl, ap, ◌∙◌}
+use Rattle.std.specs.Prelude.{string_bytes}
 use Rattle.md_base.specs.declared.event.Name.TheVariants as names
 use Rattle.md_shape.specs.State as states
 use Rattle.md_shape.specs.Steps as steps
 use Rattle.md_shape.specs.State.{State, Told}
-use Rattle.md_emit.proofs.Answering.{on_ok, enters-by, leaves-by, ending_in}
+use Rattle.md_emit.proofs.Answering.{on_ok, leaves-by}
 use Rattle.md_emit.proofs.printer.Printer.leave_footnote.Goals as goal
 
 pub returns : goal.returns

@@ -1,19 +1,19 @@
 -- It leads where its resource says, or its definition.
-use Rattle.std.proofs.Common.{◌≡◌, ◌∷◌, ◌++◌, [], ℕ, List, Bool, true, false, not, Option, Some}
-use Rattle.std.proofs.Common.{None, refl, ap, sym, ◌∙◌}
-use Rattle.std.specs.Prelude.{codes, if◌then◌else◌, unwrap_or, ◌||◌}
+use Rattle.std.proofs.Common.{◌≡◌, ◌++◌, [], ℕ, List, false, Some}
+use Rattle.std.proofs.Common.{refl, ap, sym, ◌∙◌}
+use Rattle.std.specs.Prelude.{if◌then◌else◌}
 use Rattle.md_base.specs.declared.event.Name.TheVariants as names
 use Rattle.md_shape.specs.State as states
 use Rattle.md_shape.specs.Sides as sides
 use Rattle.md_shape.specs.Steps as steps
 use Rattle.md_shape.specs.State.{State, Told}
-use Rattle.md_meaning.specs.Meaning.Layout.{Needed, Text, laid_after, said, on_own_line, when}
+use Rattle.md_meaning.specs.Meaning.Layout.{laid_after, said}
 use Rattle.md_text.specs.declared.options.CompileOptions.{CompileOptions}
 use Rattle.md_meaning.specs.Meaning.At.{Target}
 use Rattle.md_meaning.specs.Meaning.Media.{picture}
 use Rattle.md_emit.specs.Heads.{picture_head, picture_tail}
 use Rattle.md_emit.proofs.LinkHeads.{picture-laid}
-use Rattle.md_emit.proofs.Answering.{on_ok, enters-by, leaves-by, ending_in}
+use Rattle.md_emit.proofs.Answering.{on_ok, leaves-by}
 use Rattle.md_emit.proofs.printer.Printer.leave_image.Goals as goal
 
 pub returns : goal.returns

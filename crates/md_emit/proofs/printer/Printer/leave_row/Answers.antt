@@ -1,10 +1,10 @@
 -- The tag comes after the empty cells.
-use Rattle.std.proofs.Common.{◌≡◌, ◌∷◌, ◌++◌, [], ℕ, List, Bool, true, false, not, Option, Some}
-use Rattle.std.proofs.Common.{None, refl, ap, sym, ◌∙◌}
-use Rattle.std.specs.Prelude.{codes, if◌then◌else◌, unwrap_or, ◌||◌, ◌&&◌}
+use Rattle.std.proofs.Common.{[], ℕ, List, Some}
+use Rattle.std.proofs.Common.{ap, sym, ◌∙◌}
+use Rattle.std.specs.Prelude.{codes}
 use Rattle.md_base.specs.declared.event.Name.TheVariants as names
-use Rattle.md_shape.specs.State.{State, Told}
-use Rattle.md_meaning.specs.Meaning.Layout.{Needed, Text, laid_after, said, on_own_line, when}
+use Rattle.md_shape.specs.State.{State}
+use Rattle.md_meaning.specs.Meaning.Layout.{laid_after, on_own_line}
 use Rattle.std.specs.Prelude.{drop}
 use Rattle.std.specs.List.{flat_map}
 use Rattle.md_meaning.specs.Meaning.Tables.{cell_of}

@@ -1,14 +1,14 @@
 -- The underline that is told.
-use Rattle.std.proofs.Common.{◌≡◌, ◌∷◌, ◌++◌, [], ℕ, List, Bool, true, false, not, Option, Some}
-use Rattle.std.proofs.Common.{None, refl, ap, sym, ◌∙◌}
-use Rattle.std.specs.Prelude.{codes, if◌then◌else◌, unwrap_or, ◌||◌}
+use Rattle.std.proofs.Common.{◌++◌, Bool, Some}
+use Rattle.std.proofs.Common.{refl, ap, sym, ◌∙◌}
+use Rattle.std.specs.Prelude.{codes, if◌then◌else◌}
 use Rattle.md_base.specs.declared.event.Name.TheVariants as names
-use Rattle.md_shape.specs.State.{State, Told}
-use Rattle.md_meaning.specs.Meaning.Layout.{Needed, Text, laid_after, said, on_own_line, when}
+use Rattle.md_shape.specs.State.{State}
+use Rattle.md_meaning.specs.Meaning.Layout.{laid_after, said, on_own_line}
 use Rattle.md_base.specs.declared.event.Position.{Position}
 use Rattle.md_meaning.specs.Meaning.Blocks.{heading_tag}
 use Rattle.md_meaning.specs.Meaning.Spans.{is_at}
-use Rattle.md_emit.proofs.Answering.{on_ok, enters-by, leaves-by, ending_in}
+use Rattle.md_emit.proofs.Answering.{on_ok, leaves-by}
 use Rattle.md_emit.proofs.printer.Printer.leave_underline.Goals as goal
 
 pub returns : goal.returns

@@ -1,8 +1,6 @@
 -- What is looked up is what is found by the identifier.
-use Rattle.std.proofs.Common.{◌≡◌, ◌∷◌, ◌++◌, [], ℕ, List, Bool, true, false, not, Option, Some}
-use Rattle.std.proofs.Common.{None, refl, ap, sym, ◌∙◌}
-use Rattle.std.specs.Prelude.{codes, if◌then◌else◌, unwrap_or, ◌||◌}
-use Rattle.md_shape.specs.State.{State, Told}
+use Rattle.std.proofs.Common.{ap, ◌∙◌}
+use Rattle.std.specs.Prelude.{unwrap_or}
 use Rattle.md_emit.proofs.printer.Printer.led.Goals as goal
 
 pub returns : goal.returns

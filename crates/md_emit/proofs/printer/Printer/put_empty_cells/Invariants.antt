@@ -1,7 +1,6 @@
 -- The columns that are left have their cells printed after those before.
 use Rattle.std.proofs.Common.{◌≡◌, [], length}
 use Rattle.std.specs.List.{flat_map}
-use Rattle.std.specs.Prelude.{drop}
 use Rattle.md_meaning.specs.Meaning.Layout.{laid_after}
 use Rattle.md_meaning.specs.Meaning.Tables.{cell_of}
 use Rattle.md_emit.proofs.printer.Printer.put_empty_cells.Given as goal
