@@ -7,7 +7,7 @@ ghost use Rattle.md_shape.specs.Run.{Noticed};
 ghost use Rattle.md_meaning.specs.Meaning.Layout.{laid_after};
 ghost use Rattle.md_shape.specs.Sides as sides;
 ghost use Rattle.md_emit.specs.Supplies.{Supplies};
-ghost use Rattle.md_told.specs.Told.{IsNoticedAt};
+ghost use Rattle.md_told.specs.Told.{IsNoticedAt, ExitsSome};
 ghost use Rattle.md_base.specs.NameTests.{is_transparent};
 ghost use Rattle.md_meaning.specs.Meaning.Spans.{marker};
 ghost use Rattle.md_text.specs.Encode.{encoded};
@@ -23,13 +23,12 @@ use md_told::text_left_at;
 use std::alloc::{AllocError, Global};
 
 impl<'a> Printer<'a> {
-    /// Leaves an autolink: its text, which leads to itself after a prefix unless it is plain.
+    /// Leaves an autolink, which is plain in an image.
     pub(crate) fn leave_autolink(
         &mut self,
         given: &Given,
         index: usize,
         prefix: &str,
-        plain: bool,
         name: Name,
     ) -> Result<(), AllocError>
         requires there { ExitsAt given.now.checked.now.events index name }
@@ -38,13 +37,33 @@ impl<'a> Printer<'a> {
         ensures { OnOk result ((all : At.Given) (one : Noticed) → Supplies given.now all
             → IsNoticedAt given.now.checked.now index one → self.new ≡ record self.old {
               text = laid_after all.ending self.old.text
-                  (sides.autolink_closing all one.told plain prefix.now);
+                  (sides.autolink_closing all one.told self.old.around.in_image prefix.now);
               ended = Some name;
               marker = 38;
             }) }
     {
-        let text = text_left_at(given.checked, index);
+        let plain = self.around.in_image;
         self.ends(name);
+        self.put_autolink(given, index, prefix, plain)
+    }
+
+    /// Prints the text of the autolink that is left, which leads to itself after a prefix unless it
+    /// is plain.
+    fn put_autolink(
+        &mut self,
+        given: &Given,
+        index: usize,
+        prefix: &str,
+        plain: bool,
+    ) -> Result<(), AllocError>
+        requires { ExitsSome given.now.checked.now.events index }
+        ensures { OnOk result ((all : At.Given) (one : Noticed) → Supplies given.now all
+            → IsNoticedAt given.now.checked.now index one → self.new ≡ record self.old {
+              text = laid_after all.ending self.old.text
+                  (steps.autolink_closing all one.told plain prefix.now);
+            }) }
+    {
+        let text = text_left_at(given.checked, index);
         if plain {
             return self.put_encoded(text, true);
         }
@@ -106,7 +125,8 @@ impl<'a> Printer<'a> {
             }) }
     {
         let plain = self.around.in_image || self.around.in_link;
-        self.leave_autolink(given, index, prefix, plain, name)
+        self.ends(name);
+        self.put_autolink(given, index, prefix, plain)
     }
 }
 

@@ -136,12 +136,10 @@ impl<'a> Printer<'a> {
                 self.leave_span("checked=\"\" ", Name::GfmTaskListItemValueChecked)
             }
             Name::AutolinkEmail => {
-                let plain = self.around.in_image;
-                self.leave_autolink(given, index, "mailto:", plain, Name::AutolinkEmail)
+                self.leave_autolink(given, index, "mailto:", Name::AutolinkEmail)
             }
             Name::AutolinkProtocol => {
-                let plain = self.around.in_image;
-                self.leave_autolink(given, index, "", plain, Name::AutolinkProtocol)
+                self.leave_autolink(given, index, "", Name::AutolinkProtocol)
             }
             Name::GfmAutolinkLiteralEmail => self.leave_mail(given, index),
             Name::GfmAutolinkLiteralWww => {

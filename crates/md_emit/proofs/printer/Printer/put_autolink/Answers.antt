@@ -10,7 +10,7 @@ use Rattle.md_meaning.specs.Meaning.Layout.{Piece}
 use Rattle.md_meaning.specs.Meaning.Media.{anchor}
 use Rattle.md_meaning.specs.Meaning.At.{text_in}
 use Rattle.md_emit.proofs.Answering.{on_ok}
-use Rattle.md_emit.proofs.printer.Printer.leave_autolink.Goals as goal
+use Rattle.md_emit.proofs.printer.Printer.put_autolink.Goals as goal
 
 pub returns : goal.returns
 returns c =
@@ -21,15 +21,9 @@ returns c =
     on_ok _ _ (λ e all one supplies there.
     let after : List Piece → State = λ pieces. record old {
       text = laid_after all.ending old.text pieces;
-      ended = Some c.args.name;
-      marker = 38;
     } in
     let text = text_in all.bytes one.told.place in
     e all.ending
-    ∙ ap (λ (s : State). record s {
-      text = laid_after all.ending s.text
-          (link c.args.given.now.options.now c.text_left_at-text.result.now);
-    }) c.ends.ensures
     ∙ ap (λ t. after (link c.args.given.now.options.now t)) (c.text_left_at-text.ensures one there
     ∙ ap (λ bytes. text_in bytes one.told.place) (sym supplies.bytes))
     ∙ ap (λ o. after (link o text)) (sym supplies.options)
