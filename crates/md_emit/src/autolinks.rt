@@ -60,7 +60,7 @@ impl<'a> Printer<'a> {
         ensures { OnOk result ((all : At.Given) (one : Noticed) → Supplies given.now all
             → IsNoticedAt given.now.checked.now index one → self.new ≡ record self.old {
               text = laid_after all.ending self.old.text
-                  (steps.autolink_closing all one.told plain prefix.now);
+                  (sides.autolink_closing all one.told plain prefix.now);
             }) }
     {
         let text = text_left_at(given.checked, index);

@@ -14,7 +14,6 @@ use crate::given::Given;
 use crate::printer::Printer;
 use md_base::{Name, Point, Position, Slice};
 use md_footnotes::Footnotes;
-use md_output::Output;
 use md_text::CompileOptions;
 use md_told::identifier_left_at;
 use std::alloc::{AllocError, Global};
@@ -58,19 +57,18 @@ impl<'a> Printer<'a> {
         identifier: &str,
     ) -> Result<(), AllocError>
         ensures { OnOk result (self.new ≡ record self.old {
-          text = laid_after [] self.old.text
+          text = self.old.text ++ laid_after [] []
               (sides.call_pieces options.now self.old.calls identifier.now);
         }) }
     {
-        let scratch = &mut self.scratch;
-        put_call_on(
+        write_call(
             alloc,
-            &mut self.output,
-            scratch,
+            &mut self.scratch,
             &self.footnotes,
             options,
             identifier,
-        )
+        )?;
+        self.output.put(self.scratch.as_str())
     }
 
     /// One call more of the footnote with an identifier.
@@ -106,23 +104,19 @@ impl<'a> Printer<'a> {
     }
 }
 
-/// Puts a call of the footnote with an identifier onto a text, by a text that is made first.
-fn put_call_on(
+/// Makes a text that of a call of the footnote with an identifier.
+fn write_call(
     alloc: Global,
-    output: &mut Output,
-    scratch: &mut String,
+    text: &mut String,
     footnotes: &Footnotes,
     options: &CompileOptions,
     identifier: &str,
 ) -> Result<(), AllocError>
-    ensures { OnOk result (output.new ≡ record output.old {
-      text = laid_after [] output.old.text
-          (sides.call_pieces options.now footnotes.now.calls identifier.now);
-    }) }
+    ensures { OnOk result (string_bytes text.new ≡ laid_after [] []
+        (sides.call_pieces options.now footnotes.now.calls identifier.now)) }
 {
-    scratch.clear();
-    footnotes.push_call(alloc, scratch, options, identifier)?;
-    output.put(scratch.as_str())
+    text.clear();
+    footnotes.push_call(alloc, text, options, identifier)
 }
 
 /// The text between two points with the spaces of the tabs that are cut there; empty
