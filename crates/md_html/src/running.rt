@@ -1,12 +1,14 @@
 //! Going over the events, one after another.
 
 ghost use Rattle.std.specs.Prelude.{◌≡◌, ◌≤◌, ◌<◌, ◌^◌, OnOk, IfOk, Some, true, false, length};
-ghost use Rattle.std.specs.Prelude.{slice_get};
+ghost use Rattle.std.specs.Prelude.{slice_get, suc};
 ghost use Rattle.md_base.specs.Tree.{Forest, flatten};
-ghost use Rattle.md_base.specs.declared.event.Event.{Event as AnyEvent};
+ghost use Rattle.md_base.specs.declared.event.Name.{Name as AnyName};
 ghost use Rattle.md_meaning.specs.Meaning.At as At;
-ghost use Rattle.md_tree.specs.Texts.{EntersAt};
+ghost use Rattle.md_tree.specs.Found.{EntersSome};
+ghost use Rattle.md_tree.specs.Texts.{EntersAt, ExitsAt};
 ghost use Rattle.md_shape.specs.Run as steps;
+ghost use Rattle.md_shape.specs.Run.{Noticed};
 ghost use Rattle.md_shape.specs.Steps.{is_passed};
 ghost use Rattle.md_told.specs.Told.{IsNoticedAt};
 ghost use Rattle.md_emit.specs.Supplies.{Supplies};
@@ -16,7 +18,9 @@ ghost use Rattle.md_html.specs.Stepping.{Steps, Opens, Leafs, Goes};
 use md_base::{Event, Kind, Name};
 use md_emit::{Given, Printer};
 use md_told::{inside_at, is_leaf_among};
+use md_tree::Checked;
 use std::alloc::AllocError;
+use std::ops::Range;
 
 /// Prints the events from one index up to another, and answers the index of the next one: a
 /// definition that begins before the end is passed over whole.
@@ -47,7 +51,7 @@ pub(crate) fn run_events<'a>(
     let mut index = from;
     while index < to {
         let event = events[index];
-        if leaf(printer, given, events, index, to, event)? {
+        if leaf(printer, given, events, index..to, event)? {
             index += 2;
         } else {
             let more = step(printer, given, index, event)?;
@@ -57,27 +61,27 @@ pub(crate) fn run_events<'a>(
     Ok(index)
 }
 
-/// Goes over a node without children, if it is entered here and has a frequent name;
-/// answers whether it did.
+/// Goes over a node without children, if the first of the events that are left enters it and it has
+/// a frequent name; answers whether it did.
 #[inline(always)]
 fn leaf<'a>(
     printer: &mut Printer<'a>,
     given: &Given<'a>,
     events: &[Event],
-    index: usize,
-    to: usize,
+    rest: Range<usize>,
     event: Event,
 ) -> Result<bool, AllocError>
     requires among { events.now ≡ given.now.checked.now.events }
-    requires there { slice_get given.now.checked.now.events index ≡ Some event }
-    requires before { index < to }
-    ensures left { IfOk result
-        (λ done. done ≡ true → Leafs given.now index to event printer.old printer.new) }
+    requires there { slice_get given.now.checked.now.events rest.start ≡ Some event }
+    requires before { rest.start < rest.end }
+    ensures left { IfOk result (λ done. done ≡ true
+        → Leafs given.now rest.start rest.end event printer.old printer.new) }
     ensures same { IfOk result (λ done. done ≡ false → printer.new ≡ printer.old) }
 {
     match event.kind {
         Kind::Enter => {
-            if index + 1 < to && is_leaf_among(given.checked, events, index) {
+            let index = rest.start;
+            if is_leaf_before(given.checked, events, index, rest.end) {
                 printer.leaf(given, index, index + 1, event.name)
             } else {
                 Ok(false)
@@ -85,6 +89,22 @@ fn leaf<'a>(
         }
         Kind::Exit => Ok(false),
     }
+}
+
+/// Whether the node that the event at an index enters has no children, and is left before another
+/// index.
+#[inline(always)]
+fn is_leaf_before(checked: &Checked, events: &[Event], index: usize, to: usize) -> bool
+    requires enters { EntersSome checked.now.events index }
+    requires among { events.now ≡ checked.now.events }
+    requires before { index < to }
+    ensures within { result ≡ true → suc index < to }
+    ensures exits { result ≡ true → (name : AnyName) → EntersAt checked.now.events index name
+        → ExitsAt checked.now.events (suc index) name }
+    ensures noticed { result ≡ true → (one : Noticed) → IsNoticedAt checked.now index one
+        → IsNoticedAt checked.now (suc index) one }
+{
+    index + 1 < to && is_leaf_among(checked, events, index)
 }
 
 /// Goes one event further; answers how many after it are passed over.
