@@ -30,7 +30,8 @@ use std::alloc::{AllocError, Global};
 /// ```
 /// // Of the safe text `<p><a href="https://example.com">a</a></p>`:
 /// let comment = with_link_rel(alloc, &html, "nofollow ugc")?;
-/// assert_eq!(comment.as_str(), "<p><a href=\"https://example.com\" rel=\"nofollow ugc\">a</a></p>");
+/// let led = "<p><a href=\"https://example.com\" rel=\"nofollow ugc\">a</a></p>";
+/// assert_eq!(comment.as_str(), led);
 /// ```
 pub fn with_link_rel<H: Html>(
     alloc: Global,
