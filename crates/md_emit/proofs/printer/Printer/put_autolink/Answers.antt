@@ -1,5 +1,5 @@
 -- The text that is told.
-use Rattle.std.proofs.Common.{◌++◌, ℕ, List, true, Some}
+use Rattle.std.proofs.Common.{rules, ◌++◌, ℕ, List, true}
 use Rattle.std.proofs.Common.{None, ap, sym, ◌∙◌}
 use Rattle.std.specs.Prelude.{if◌then◌else◌}
 use Rattle.md_shape.specs.State.{State}
@@ -11,6 +11,9 @@ use Rattle.md_meaning.specs.Meaning.Media.{anchor}
 use Rattle.md_meaning.specs.Meaning.At.{text_in}
 use Rattle.md_emit.proofs.Answering.{on_ok}
 use Rattle.md_emit.proofs.printer.Printer.put_autolink.Goals as goal
+
+pub returns-then-plain : goal.returns-then-plain
+returns-then-plain c = search rules
 
 pub returns : goal.returns
 returns c =
