@@ -1,5 +1,5 @@
 -- The text of code is what is meant.
-use Rattle.std.proofs.Common.{◌++◌, ℕ, List}
+use Rattle.std.proofs.Common.{rules, ◌++◌, ℕ, List}
 use Rattle.std.proofs.Common.{ap, sym, ◌∙◌}
 use Rattle.std.specs.Prelude.{if◌then◌else◌}
 use Rattle.md_output.specs.Texts.{Texts}
@@ -19,3 +19,6 @@ returns-in_ok-unescaped c =
     ∙ ap (λ b. trimmed (if b then without_escapes c.args.text.now else c.args.text.now))
     (sym c.if-in_table.true)))
     c.put.result c.put.ensures
+
+pub returns-else-in_table : goal.returns-else-in_table
+returns-else-in_table c = search rules

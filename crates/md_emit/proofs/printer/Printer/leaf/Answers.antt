@@ -1,5 +1,5 @@
 -- What is told of a blank line's end is whether it is the last.
-use Rattle.std.proofs.Common.{◌∷◌, [], Bool, false, Some, ap, ◌∙◌}
+use Rattle.std.proofs.Common.{rules, ◌∷◌, [], Bool, false, Some, ap, ◌∙◌}
 use Rattle.std.specs.Prelude.{if◌then◌else◌}
 use Rattle.md_base.specs.declared.event.Name.TheVariants as names
 use Rattle.md_shape.specs.State.{State}
@@ -22,3 +22,6 @@ returns-in_ok-leave_blank-in-BlankLineEnding-clause-left c = λ done.
     c.in-BlankLineEnding.is (λ given one supplies there.
     c.in_ok-leave_blank-in-BlankLineEnding.ensures
     ∙ ap after (c.is_last_at.ensures one (c.requires.one one there)))
+
+pub returns-in-ListItemMarker-clause-left : goal.returns-in-ListItemMarker-clause-left
+returns-in-ListItemMarker-clause-left c = search rules
