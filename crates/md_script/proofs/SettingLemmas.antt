@@ -3,7 +3,7 @@ use Rattle.std.proofs.Common.{◌≡◌, ℕ, Bool, true, false, not, cond, eqb,
 use Rattle.std.proofs.Common.{Option, Some, None, Result, Ok, Err, IsUtf8, refl, sym, ap, ◌∙◌, inl}
 use Rattle.std.proofs.Common.{inr}
 use Rattle.std.specs.Prelude.{option_copied, option_and_then, unwrap_or, find, filter, is_some}
-use Rattle.std.specs.Prelude.{is_ok, MatchResult, codes}
+use Rattle.std.specs.Prelude.{is_ok, MatchResult}
 use Rattle.std.specs.Borrow.{Bor}
 use Rattle.std.specs.List.{list_any, before_first}
 use Rattle.std.specs.Result.{result_ok}

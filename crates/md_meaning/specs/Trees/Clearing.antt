@@ -1,4 +1,4 @@
--- Worked trees of line endings after frontmatter, and what clears or keeps the mark that it sets.
+-- Worked trees of line endings that are kept: what stands before them clears the mark to slurp one.
 use Rattle.std.specs.Prelude.{ℕ, List, [], ◌∷◌, ◌++◌, codes}
 use Rattle.md_base.specs.declared.event.Name.TheVariants as name_variants
 use name_variants.{BlankLineEnding, BlockQuote, CodeFenced, CodeFencedFence, CodeIndented, Data}
@@ -7,11 +7,6 @@ use name_variants.{GfmTableRow, LineEnding, ListItem, ListItemMarker, ListItemPr
 use name_variants.{MathFlow, MathFlowFence, Paragraph, SpaceOrTab}
 use Rattle.md_base.specs.Tree.{Forest, Empty, Node}
 use Rattle.md_meaning.specs.Trees.{at}
-
-abbrev pub line_ending_in_a_definition_text : List ℕ
-line_ending_in_a_definition_text =
-    codes "<ul>" ++ (13 ∷ []) ++ (10 ∷ []) ++ codes "<li>a</li>" ++ (13 ∷ [])
-    ++ (10 ∷ []) ++ codes "</ul>"
 
 -- a line ending after frontmatter and a blank line, which clears: the tree, its bytes and its text
 abbrev pub ending_after_a_blank_line : Forest

@@ -114,6 +114,11 @@ line_ending_in_a_definition =
 abbrev pub line_ending_in_a_definition_bytes : List ℕ
 line_ending_in_a_definition_bytes = codes "- a[b]:" ++ (13 ∷ []) ++ (10 ∷ []) ++ codes "c"
 
+abbrev pub line_ending_in_a_definition_text : List ℕ
+line_ending_in_a_definition_text =
+    codes "<ul>" ++ (13 ∷ []) ++ (10 ∷ []) ++ codes "<li>a</li>" ++ (13 ∷ [])
+    ++ (10 ∷ []) ++ codes "</ul>"
+
 -- a line ending after frontmatter and code with a line ending, which is no mark: the tree, its
 -- bytes and its text
 abbrev pub ending_after_code_with_an_ending : Forest

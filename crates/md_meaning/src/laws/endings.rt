@@ -40,7 +40,7 @@ pub fn meaning_of_default_line_ending()
 /// one that is used.
 pub fn meaning_of_line_ending_in_a_definition()
     ensures { Means endings.line_ending_in_a_definition_bytes endings.line_ending_in_a_definition
-        clearing.line_ending_in_a_definition_text }
+        endings.line_ending_in_a_definition_text }
 {}
 
 /// The meaning of a line ending after frontmatter and a blank line, which clears.
