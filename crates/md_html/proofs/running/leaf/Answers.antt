@@ -1,5 +1,5 @@
 -- A node whose exit comes right after its entry has no children.
-use Rattle.std.proofs.Common.{◌≡◌, ◌<◌, ◌+◌, ℕ, suc, refl, sym, subst, arith}
+use Rattle.std.proofs.Common.{◌≡◌, ◌+◌, ℕ, suc, refl, sym, subst, arith}
 use Rattle.std.specs.Prelude.{Result, Ok, Err, IfOk}
 use Rattle.md_tree.specs.Texts.{EntersAt, ExitsAt}
 use Rattle.md_told.specs.Told.{IsNoticedAt}
