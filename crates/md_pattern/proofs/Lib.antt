@@ -3,8 +3,11 @@ pub mod PlaceLemmas
 -- That the pass from event to event finds what is defined of a tree: `Passing`, `Telling` and
 -- `FirstIndex`. `Opens` and `Leaves` are for the steps of the code.
 pub mod Loosened
+pub mod OneMoreChild
 pub mod Telling
 pub mod Opens
+pub mod ColumnsAdded
+pub mod CountedFacts
 pub mod Passing
 pub mod FactLists
 pub mod FirstIndex

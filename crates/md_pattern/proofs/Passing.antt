@@ -1,16 +1,13 @@
 -- The pass from the first event to the last finds what is defined of a forest's nodes.
 use Rattle.std.proofs.Common.{◌≡◌, ℕ, suc, ◌+◌, ◌<◌, add-one, get_or, Bool, true, false, cond, List}
-use Rattle.std.proofs.Common.{[], ◌∷◌, ◌++◌, length, take, drop, refl, ap, sym, ◌∙◌, append_assoc}
+use Rattle.std.proofs.Common.{[], ◌∷◌, ◌++◌, length, take, refl, ap, sym, ◌∙◌, append_assoc}
 use Rattle.std.proofs.Common.{append-nil}
 use Rattle.std.specs.Prelude.{set}
 use Rattle.std.proofs.Math.Seq.{take-suc}
-use Rattle.std.proofs.lemmas.List.{take_at, drop_at, set_at}
-use Rattle.md_base.specs.declared.event.AlignKind.{AlignKind}
+use Rattle.std.proofs.lemmas.List.{set_at}
 use Rattle.md_base.specs.declared.event.Name.{Name}
-use Rattle.md_base.specs.declared.event.Name.TheVariants.{GfmTable, GfmTableDelimiterCellValue}
+use Rattle.md_base.specs.declared.event.Name.TheVariants.{GfmTableDelimiterCellValue}
 use Rattle.md_base.specs.declared.event.Event.{Event}
-use Rattle.md_pattern.specs.declared.columns.Part.{Part}
-use Rattle.md_pattern.specs.declared.columns.Part.TheVariants as part
 use Rattle.md_pattern.specs.declared.told.Told.{Told}
 use Rattle.md_pattern.specs.declared.seeking.Sought.{Sought}
 use Rattle.md_pattern.specs.declared.facts.Fact.{Fact}
@@ -19,147 +16,22 @@ use Rattle.md_base.specs.Tree.{Forest, Empty, Node, flatten, exiting}
 use Rattle.md_base.specs.NameTests.{is_transparent, is_item, is_table, is_link_definition}
 use Rattle.md_base.specs.NameTests.{leads_to_values}
 use Rattle.md_base.specs.Is.{is}
-use Rattle.md_pattern.specs.Alignments.{alignment_of, alignments}
+use Rattle.md_pattern.specs.Alignments.{alignments}
 use Rattle.md_pattern.specs.Partners.{index_after, definition_entries}
-use Rattle.md_pattern.specs.Told.{nothing_told, told_over, alignment, looseness}
+use Rattle.md_pattern.specs.Told.{nothing_told, told_over, looseness}
 use Rattle.md_pattern.specs.Seeking.{search_of}
-use Rattle.md_pattern.specs.Columns.{Collected, part_of, collects_where, collects_in, entered_where}
-use Rattle.md_pattern.specs.Columns.{columns_entered, exited_where, columns_exited, tables_of}
-use Rattle.md_pattern.specs.Columns.{columns_after}
+use Rattle.md_pattern.specs.Columns.{Collected, part_of, collects_in, columns_entered}
+use Rattle.md_pattern.specs.Columns.{columns_exited, tables_of, columns_after}
 use Rattle.md_pattern.specs.Facts.{PassState, pass_beginning, sought_inside, opened, followed}
 use Rattle.md_pattern.specs.Facts.{fact_of, partner_alone, passed_exit, passed, passed_over}
 use Rattle.md_pattern.specs.Facts.{contributing_over, sought_over, followed_over, tables_with}
 use Rattle.md_pattern.specs.Facts.{tables_after, fact_at, facts_of}
-use Rattle.md_pattern.proofs.Telling.{alignment-told}
-
--- ---- columns
-
-abbrev is_table_part : Part → Bool
-is_table_part part.Table = true
-is_table_part _ = false
-
-abbrev is_value_part : Part → Bool
-is_value_part part.Value = true
-is_value_part _ = false
-
-abbrev is_leads_part : Part → Bool
-is_leads_part part.Leads = true
-is_leads_part _ = false
-
-record Parted (name : Name) : Type 0 where
-  table : is_table_part (part_of name) ≡ is_table name
-  value : is_value_part (part_of name) ≡ is GfmTableDelimiterCellValue name
-  leads : is_leads_part (part_of name) ≡ leads_to_values name
-
-parted : (name : Name) → Parted name
-parted GfmTable = record { table = refl; value = refl; leads = refl }
-parted GfmTableDelimiterCellValue = record { table = refl; value = refl; leads = refl }
-parted _ = record { table = refl; value = refl; leads = refl }
-
--- the columns that a node adds to those of the table around it
-abbrev added : Bool → Bool → Forest → List AlignKind
-added value leads children =
-    cond value (alignment_of children ∷ []) (cond leads (alignments children) [])
-
--- what is collected after a node
-abbrev columns_next : Bool → Bool → Bool → Forest → Bool → Collected → Collected
-columns_next table value leads children collects columns = record {
-  tables = columns.tables ++ (tables_of children ++ cond table (alignments children ∷ []) []);
-  pending = columns.pending ++ cond collects (added value leads children) [];
-  starts = columns.starts;
-}
-
-abbrev made : List ℕ → List (List AlignKind) → List AlignKind → Collected
-made starts tables pending = record { tables = tables; pending = pending; starts = starts }
-
-both_made :
-    (starts : List ℕ) (tables others : List (List AlignKind)) (pending more : List AlignKind) →
-    tables ≡ others → pending ≡ more → made starts tables pending ≡ made starts others more
-both_made starts tables others pending more a b =
-    ap (λ t. made starts t pending) a ∙ ap (λ p. made starts others p) b
-
-cond-nil : (collects : Bool) (none : List AlignKind) → cond collects none none ≡ none
-cond-nil true none = refl
-cond-nil false none = refl
-
-columns_part : (p : Part) (children : Forest) (collects : Bool) (columns : Collected) →
-    exited_where p (told_over children nothing_told) collects
-    (columns_after children (collects_where p collects) (entered_where p columns))
-    ≡ columns_next (is_table_part p) (is_value_part p) (is_leads_part p) children collects columns
-columns_part part.Table children collects columns =
-    let pending = columns.pending in
-    both_made columns.starts _ _ _ _
-    (append_assoc columns.tables (tables_of children)
-    (drop (length pending) (pending ++ alignments children) ∷ [])
-    ∙ ap (λ own. columns.tables ++ (tables_of children ++ own ∷ []))
-    (drop_at pending (alignments children) (length pending) refl))
-    (take_at pending (alignments children) (length pending) refl ∙ sym (append-nil pending)
-    ∙ ap (λ none. pending ++ none) (sym (cond-nil collects [])))
-columns_part part.Leads children collects columns =
-    both_made columns.starts _ _ _ _
-    (ap (λ tables. columns.tables ++ tables) (sym (append-nil (tables_of children)))) refl
-columns_part part.Value children collects columns =
-    both_made columns.starts _ _ _ _
-    (ap (λ tables. columns.tables ++ tables) (sym (append-nil (tables_of children)))) (by collects)
-  where
-    by : (c : Bool) → cond c ((columns.pending ++ []) ++ alignment (told_over children nothing_told)
-        ∷ []) (columns.pending ++ []) ≡ columns.pending ++ cond c (alignment_of children ∷ []) []
-    by true =
-        ap (λ before. before ++ alignment (told_over children nothing_told) ∷ [])
-        (append-nil columns.pending)
-        ∙ ap (λ column. columns.pending ++ column ∷ []) (alignment-told children)
-    by false = refl
-columns_part part.Apart children collects columns =
-    both_made columns.starts _ _ _ _
-    (ap (λ tables. columns.tables ++ tables) (sym (append-nil (tables_of children))))
-    (ap (λ none. columns.pending ++ none) (sym (cond-nil collects [])))
-
-columns_node : (name : Name) (children : Forest) (collects : Bool) (columns : Collected) →
-    columns_exited name (told_over children nothing_told) collects
-    (columns_after children (collects_in name collects) (columns_entered name columns))
-    ≡ columns_next (is_table name) (is GfmTableDelimiterCellValue name) (leads_to_values name)
-    children collects columns
-columns_node name children collects columns =
-    let parts = parted name in
-    columns_part (part_of name) children collects columns
-    ∙ ap (λ b. columns_next b (is_value_part (part_of name)) (is_leads_part (part_of name)) children
-    collects columns) parts.table
-    ∙ ap (λ b. columns_next (is_table name) b (is_leads_part (part_of name)) children collects
-    columns) parts.value
-    ∙ ap (λ b. columns_next (is_table name) (is GfmTableDelimiterCellValue name) b children collects
-    columns) parts.leads
-
-columns_rest : (name : Name) (children rest : Forest) (tables : List (List AlignKind))
-    (own : List AlignKind) (collects : Bool) (columns : Collected) → columns_after rest collects
-    (record {
-      tables = columns.tables ++ (tables_of children ++ tables);
-      pending = columns.pending ++ cond collects own [];
-      starts = columns.starts;
-    })
-    ≡ record {
-      tables = columns.tables ++ (tables_of children ++ (tables ++ tables_of rest));
-      pending = columns.pending ++ cond collects (own ++ alignments rest) [];
-      starts = columns.starts;
-    }
-columns_rest name children rest tables own collects columns =
-    both_made columns.starts _ _ _ _
-    (append_assoc columns.tables (tables_of children ++ tables) (tables_of rest)
-    ∙ ap (λ ts. columns.tables ++ ts) (append_assoc (tables_of children) tables (tables_of rest)))
-    (append_assoc columns.pending (cond collects own []) (cond collects (alignments rest) [])
-    ∙ ap (λ more. columns.pending ++ more) (by collects))
-  where
-    by : (c : Bool) →
-        cond c own [] ++ cond c (alignments rest) [] ≡ cond c (own ++ alignments rest) []
-    by true = refl
-    by false = refl
-
-entered_tables : (p : Part) (columns : Collected) →
-    Collected.tables (entered_where p columns) ≡ columns.tables
-entered_tables part.Table columns = refl
-entered_tables _ columns = refl
+use Rattle.md_pattern.proofs.ColumnsAdded.{columns_next, columns_node, entered_tables, added}
+use Rattle.md_pattern.proofs.ColumnsAdded.{both_made, cond-nil, columns_rest}
+use Rattle.md_pattern.proofs.CountedFacts.{length_one, length_facts, length_tables, regrouped}
+use Rattle.md_pattern.proofs.CountedFacts.{length_table}
 
 -- ---- a node's fact
-
 fact_same : (name : Name) (exit tables contributing index : ℕ) (children : Forest)
     (sought : Sought) (told : Told) →
     fact_of name exit tables contributing (sought_over index children (sought_inside name sought))
@@ -180,58 +52,7 @@ fact_same name exit tables contributing index children sought told = by (is_tran
     by true = refl
     by false = refl
 
--- ---- how many
-
-pub length_one : {A : Type 0} (xs : List A) (x : A) → length (xs ++ x ∷ []) ≡ suc (length xs)
-length_one [] x = refl
-length_one (y ∷ xs) x = ap suc (length_one xs x)
-
-pub regrouped : {A : Type 0} (a b c : List A) (x y : A) →
-    ((((a ++ x ∷ []) ++ b) ++ y ∷ []) ++ c) ≡ a ++ (x ∷ (b ++ (y ∷ c)))
-regrouped a b c x y =
-    append_assoc ((a ++ x ∷ []) ++ b) (y ∷ []) c ∙ append_assoc (a ++ x ∷ []) b (y ∷ c)
-    ∙ append_assoc a (x ∷ []) (b ++ (y ∷ c))
-
-pub length_facts : (forest : Forest) (index tables : ℕ) (facts : List Fact) → length facts ≡ index →
-    length (facts ++ facts_of index tables forest) ≡ index_after index forest
-length_facts Empty index tables facts e = ap length (append-nil facts) ∙ e
-length_facts (Node name start end children rest) index tables facts e =
-    let fact = fact_at index tables name children in
-    let inner = facts_of (suc index) tables children in
-    let more = tables_with name (tables_after tables children) in
-    let exit = index_after (suc index) children in
-    let inside = length_facts children (suc index) tables (facts ++ fact ∷ [])
-    (length_one facts fact ∙ ap suc e) in
-    ap length
-    (sym (regrouped facts inner (facts_of (suc exit) more rest) fact (partner_alone index)))
-    ∙ length_facts rest (suc exit) more (((facts ++ fact ∷ []) ++ inner) ++ partner_alone index
-    ∷ []) (length_one ((facts ++ fact ∷ []) ++ inner) (partner_alone index) ∙ ap suc inside)
-
-pub length_table : (name : Name) (xs : List (List AlignKind)) (x : List AlignKind) (n : ℕ) →
-    length xs ≡ n →
-    length (xs ++ cond (is_table name) (x ∷ []) []) ≡ tables_with name n
-length_table name xs x n e = by (is_table name)
-  where
-    by : (t : Bool) → length (xs ++ cond t (x ∷ []) []) ≡ cond t (suc n) n
-    by true = length_one xs x ∙ ap suc e
-    by false = ap length (append-nil xs) ∙ e
-
-pub length_tables : (forest : Forest) (tables : ℕ) (ended : List (List AlignKind)) →
-    length ended ≡ tables →
-    length (ended ++ tables_of forest) ≡ tables_after tables forest
-length_tables Empty tables ended e = ap length (append-nil ended) ∙ e
-length_tables (Node name start end children rest) tables ended e =
-    let own = cond (is_table name) (alignments children ∷ []) [] in
-    let inside = length_table name (ended ++ tables_of children) (alignments children)
-    (tables_after tables children) (length_tables children tables ended e) in
-    ap length (sym (append_assoc ended (tables_of children) (own ++ tables_of rest))
-    ∙ sym (append_assoc (ended ++ tables_of children) own (tables_of rest)))
-    ∙ length_tables rest (tables_with name (tables_after tables children))
-    ((ended ++ tables_of children)
-    ++ own) inside
-
 -- ---- the pass
-
 abbrev state : List OpenNode → OpenNode → List ℕ → List Fact → Collected → PassState
 state outer here definitions facts columns = record {
   facts = facts;

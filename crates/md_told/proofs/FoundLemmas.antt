@@ -18,7 +18,7 @@ use Rattle.md_base.specs.NameTests.{is_item_value}
 use Rattle.md_base.specs.Place.{fits}
 use Rattle.md_base.specs.Tree.{Forest, Empty, Node, flatten, entering, exiting}
 use Rattle.md_pattern.specs.Partners.{index_after, last_contributing_at}
-use Rattle.md_pattern.proofs.Passing.{length_one}
+use Rattle.md_pattern.proofs.CountedFacts.{length_one}
 use Rattle.md_meaning.specs.Meaning.Finds.{first_named, number_in_list}
 use Rattle.md_meaning.specs.Places.{length_of}
 use Rattle.md_pattern.specs.declared.kinds.Role.TheVariants as role

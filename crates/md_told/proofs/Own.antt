@@ -9,7 +9,7 @@ use Rattle.md_base.specs.Children.{is_empty}
 use Rattle.md_base.specs.NameTests.{is_link_definition}
 use Rattle.md_base.specs.Tree.{Forest, Empty, Node, flatten, entering, exiting}
 use Rattle.md_pattern.specs.Partners.{index_after, definition_entries}
-use Rattle.md_pattern.proofs.Passing.{length_one}
+use Rattle.md_pattern.proofs.CountedFacts.{length_one}
 use Rattle.md_meaning.specs.Meaning.At.{Defined, Given, Target, identifier_of}
 use Rattle.md_shape.specs.Built.{Blocks}
 use Rattle.md_shape.specs.Leads.{Everywhere}

@@ -9,7 +9,7 @@ use Rattle.md_base.specs.declared.event.Point.{Point}
 use Rattle.md_base.specs.Tree.{Forest, Empty, Node, flatten, exiting}
 use Rattle.md_base.specs.Children.{is_empty}
 use Rattle.md_pattern.specs.Partners.{index_after}
-use Rattle.md_pattern.proofs.Passing.{length_one}
+use Rattle.md_pattern.proofs.CountedFacts.{length_one}
 use Rattle.md_tree.proofs.Entering.{get_at}
 use Rattle.md_tree.proofs.Placing.{at_entry, in_node, after_node}
 use Rattle.md_shape.specs.Leads.{Everywhere}

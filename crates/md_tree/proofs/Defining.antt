@@ -12,7 +12,7 @@ use Rattle.md_base.specs.Tree.{Forest, Empty, Node, flatten, entering, exiting}
 use Rattle.md_base.specs.NameTests.{is_link_definition}
 use Rattle.md_pattern.specs.Partners.{index_after, definition_entries}
 use Rattle.md_tree.specs.Texts.{EntersAt}
-use Rattle.md_pattern.proofs.Passing.{length_one}
+use Rattle.md_pattern.proofs.CountedFacts.{length_one}
 use Rattle.md_tree.proofs.Entering.{get_at}
 use Rattle.md_tree.proofs.Placing.{at_entry, in_node, after_node, length_events}
 

@@ -27,7 +27,8 @@ use Rattle.md_pattern.specs.Partners.{index_after, partners_of}
 use Rattle.md_pattern.specs.Columns.{tables_of}
 use Rattle.md_pattern.specs.Facts.{partner_alone, tables_with, tables_after, fact_at, facts_of}
 use Rattle.md_pattern.specs.Facts.{facts_at, tables_at}
-use Rattle.md_pattern.proofs.Passing.{facts-flatten, tables-flatten, length_table, length_tables}
+use Rattle.md_pattern.proofs.CountedFacts.{length_table, length_tables}
+use Rattle.md_pattern.proofs.Passing.{facts-flatten, tables-flatten}
 
 -- an event, its index, what is found at it, at an entry the node's children, and at an exit
 -- where the node lies

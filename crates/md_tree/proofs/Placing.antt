@@ -18,7 +18,8 @@ use Rattle.md_pattern.specs.Partners.{index_after}
 use Rattle.md_pattern.specs.Facts.{partner_alone, tables_with, tables_after, fact_at, facts_of}
 use Rattle.md_pattern.specs.Facts.{facts_at}
 use Rattle.md_tree.specs.Found.{position_from, partner_event, position_there, position_at}
-use Rattle.md_pattern.proofs.Passing.{length_one, length_facts, regrouped, facts-flatten}
+use Rattle.md_pattern.proofs.CountedFacts.{length_one, length_facts, regrouped}
+use Rattle.md_pattern.proofs.Passing.{facts-flatten}
 use Rattle.md_tree.proofs.Entering.{Row, entry_row, exit_row, rows_of, get_at, numbered_rows}
 use Rattle.md_tree.proofs.Entering.{numbered_get, past_row, inside_rows, children_there}
 use Rattle.md_tree.proofs.Searching.{AllAt}

@@ -1,0 +1,142 @@
+-- The columns that a node adds to those of the tables around it, as the pass collects them.
+use Rattle.std.proofs.Common.{◌≡◌, ℕ, Bool, true, false, cond, List, [], ◌∷◌, ◌++◌, length, drop}
+use Rattle.std.proofs.Common.{refl, ap, sym, ◌∙◌, append_assoc, append-nil}
+use Rattle.std.proofs.lemmas.List.{take_at, drop_at}
+use Rattle.md_base.specs.declared.event.AlignKind.{AlignKind}
+use Rattle.md_base.specs.declared.event.Name.{Name}
+use Rattle.md_base.specs.declared.event.Name.TheVariants.{GfmTable, GfmTableDelimiterCellValue}
+use Rattle.md_pattern.specs.declared.columns.Part.{Part}
+use Rattle.md_pattern.specs.declared.columns.Part.TheVariants as part
+use Rattle.md_base.specs.Tree.{Forest}
+use Rattle.md_base.specs.NameTests.{is_table, leads_to_values}
+use Rattle.md_base.specs.Is.{is}
+use Rattle.md_pattern.specs.Alignments.{alignment_of, alignments}
+use Rattle.md_pattern.specs.Told.{nothing_told, told_over, alignment}
+use Rattle.md_pattern.specs.Columns.{Collected, part_of, collects_where, collects_in, entered_where}
+use Rattle.md_pattern.specs.Columns.{columns_entered, exited_where, columns_exited, tables_of}
+use Rattle.md_pattern.specs.Columns.{columns_after}
+use Rattle.md_pattern.proofs.Telling.{alignment-told}
+
+abbrev is_table_part : Part → Bool
+is_table_part part.Table = true
+is_table_part _ = false
+
+abbrev is_value_part : Part → Bool
+is_value_part part.Value = true
+is_value_part _ = false
+
+abbrev is_leads_part : Part → Bool
+is_leads_part part.Leads = true
+is_leads_part _ = false
+
+record Parted (name : Name) : Type 0 where
+  table : is_table_part (part_of name) ≡ is_table name
+  value : is_value_part (part_of name) ≡ is GfmTableDelimiterCellValue name
+  leads : is_leads_part (part_of name) ≡ leads_to_values name
+
+parted : (name : Name) → Parted name
+parted GfmTable = record { table = refl; value = refl; leads = refl }
+parted GfmTableDelimiterCellValue = record { table = refl; value = refl; leads = refl }
+parted _ = record { table = refl; value = refl; leads = refl }
+
+-- the columns that a node adds to those of the table around it
+abbrev pub added : Bool → Bool → Forest → List AlignKind
+added value leads children =
+    cond value (alignment_of children ∷ []) (cond leads (alignments children) [])
+
+-- what is collected after a node
+abbrev pub columns_next : Bool → Bool → Bool → Forest → Bool → Collected → Collected
+columns_next table value leads children collects columns = record {
+  tables = columns.tables ++ (tables_of children ++ cond table (alignments children ∷ []) []);
+  pending = columns.pending ++ cond collects (added value leads children) [];
+  starts = columns.starts;
+}
+
+abbrev pub made : List ℕ → List (List AlignKind) → List AlignKind → Collected
+made starts tables pending = record { tables = tables; pending = pending; starts = starts }
+
+pub both_made :
+    (starts : List ℕ) (tables others : List (List AlignKind)) (pending more : List AlignKind) →
+    tables ≡ others → pending ≡ more → made starts tables pending ≡ made starts others more
+both_made starts tables others pending more a b =
+    ap (λ t. made starts t pending) a ∙ ap (λ p. made starts others p) b
+
+pub cond-nil : (collects : Bool) (none : List AlignKind) → cond collects none none ≡ none
+cond-nil true none = refl
+cond-nil false none = refl
+
+columns_part : (p : Part) (children : Forest) (collects : Bool) (columns : Collected) →
+    exited_where p (told_over children nothing_told) collects
+    (columns_after children (collects_where p collects) (entered_where p columns))
+    ≡ columns_next (is_table_part p) (is_value_part p) (is_leads_part p) children collects columns
+columns_part part.Table children collects columns =
+    let pending = columns.pending in
+    both_made columns.starts _ _ _ _
+    (append_assoc columns.tables (tables_of children)
+    (drop (length pending) (pending ++ alignments children) ∷ [])
+    ∙ ap (λ own. columns.tables ++ (tables_of children ++ own ∷ []))
+    (drop_at pending (alignments children) (length pending) refl))
+    (take_at pending (alignments children) (length pending) refl ∙ sym (append-nil pending)
+    ∙ ap (λ none. pending ++ none) (sym (cond-nil collects [])))
+columns_part part.Leads children collects columns =
+    both_made columns.starts _ _ _ _
+    (ap (λ tables. columns.tables ++ tables) (sym (append-nil (tables_of children)))) refl
+columns_part part.Value children collects columns =
+    both_made columns.starts _ _ _ _
+    (ap (λ tables. columns.tables ++ tables) (sym (append-nil (tables_of children)))) (by collects)
+  where
+    by : (c : Bool) → cond c ((columns.pending ++ []) ++ alignment (told_over children nothing_told)
+        ∷ []) (columns.pending ++ []) ≡ columns.pending ++ cond c (alignment_of children ∷ []) []
+    by true =
+        ap (λ before. before ++ alignment (told_over children nothing_told) ∷ [])
+        (append-nil columns.pending)
+        ∙ ap (λ column. columns.pending ++ column ∷ []) (alignment-told children)
+    by false = refl
+columns_part part.Apart children collects columns =
+    both_made columns.starts _ _ _ _
+    (ap (λ tables. columns.tables ++ tables) (sym (append-nil (tables_of children))))
+    (ap (λ none. columns.pending ++ none) (sym (cond-nil collects [])))
+
+pub columns_node : (name : Name) (children : Forest) (collects : Bool) (columns : Collected) →
+    columns_exited name (told_over children nothing_told) collects
+    (columns_after children (collects_in name collects) (columns_entered name columns))
+    ≡ columns_next (is_table name) (is GfmTableDelimiterCellValue name) (leads_to_values name)
+    children collects columns
+columns_node name children collects columns =
+    let parts = parted name in
+    columns_part (part_of name) children collects columns
+    ∙ ap (λ b. columns_next b (is_value_part (part_of name)) (is_leads_part (part_of name)) children
+    collects columns) parts.table
+    ∙ ap (λ b. columns_next (is_table name) b (is_leads_part (part_of name)) children collects
+    columns) parts.value
+    ∙ ap (λ b. columns_next (is_table name) (is GfmTableDelimiterCellValue name) b children collects
+    columns) parts.leads
+
+pub columns_rest : (name : Name) (children rest : Forest) (tables : List (List AlignKind))
+    (own : List AlignKind) (collects : Bool) (columns : Collected) → columns_after rest collects
+    (record {
+      tables = columns.tables ++ (tables_of children ++ tables);
+      pending = columns.pending ++ cond collects own [];
+      starts = columns.starts;
+    })
+    ≡ record {
+      tables = columns.tables ++ (tables_of children ++ (tables ++ tables_of rest));
+      pending = columns.pending ++ cond collects (own ++ alignments rest) [];
+      starts = columns.starts;
+    }
+columns_rest name children rest tables own collects columns =
+    both_made columns.starts _ _ _ _
+    (append_assoc columns.tables (tables_of children ++ tables) (tables_of rest)
+    ∙ ap (λ ts. columns.tables ++ ts) (append_assoc (tables_of children) tables (tables_of rest)))
+    (append_assoc columns.pending (cond collects own []) (cond collects (alignments rest) [])
+    ∙ ap (λ more. columns.pending ++ more) (by collects))
+  where
+    by : (c : Bool) →
+        cond c own [] ++ cond c (alignments rest) [] ≡ cond c (own ++ alignments rest) []
+    by true = refl
+    by false = refl
+
+pub entered_tables : (p : Part) (columns : Collected) →
+    Collected.tables (entered_where p columns) ≡ columns.tables
+entered_tables part.Table columns = refl
+entered_tables _ columns = refl
