@@ -42,8 +42,9 @@ use Rattle.md_tree.specs.Machine.{ExitsWhere, after_entry, after_exit, after_thr
 use Rattle.md_tree.specs.Machine.{beginning}
 use Rattle.md_tree.specs.Walk.{Anything}
 use Rattle.md_tree.specs.Refusal.{BeginTree, opening}
-use Rattle.md_tree.proofs.Greedy.{and_left, and_right}
-use Rattle.md_tree.proofs.Groups.{Feeds, matches_feeds, whole_stage, advance_role, option_map-some}
+use Rattle.md_tree.proofs.SettledPatterns.{and_left, and_right}
+use Rattle.md_tree.proofs.Spots.{Feeds, advance_role, option_map-some}
+use Rattle.md_tree.proofs.Groups.{matches_feeds, whole_stage}
 use Rattle.md_tree.proofs.Trees.{IsFine, Runs-append, Runs-nodes, after_nodes}
 use Rattle.md_tree.proofs.Paths.{joined, spine-joined, EachNode-joined, not_childless, some_entry}
 use Rattle.md_tree.proofs.Paths.{path_none, Stands}

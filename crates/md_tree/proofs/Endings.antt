@@ -33,8 +33,9 @@ use Rattle.md_tree.specs.Machine.{beginning}
 use Rattle.md_tree.specs.Walk.{Unbroken, Broken, BreaksWhere, BreaksAtExit}
 use Rattle.md_tree.specs.Mentions.{mentions_of}
 use Rattle.md_tree.proofs.Listing.{listed, mentions_over-listed}
-use Rattle.md_tree.proofs.Greedy.{and_both}
-use Rattle.md_tree.proofs.Groups.{Feeds, EndsInGroup-feeds}
+use Rattle.md_tree.proofs.SettledPatterns.{and_both}
+use Rattle.md_tree.proofs.Spots.{Feeds}
+use Rattle.md_tree.proofs.HeldGroups.{EndsInGroup-feeds}
 use Rattle.md_tree.proofs.Trees.{after_nodes, Feeds-context}
 use Rattle.md_tree.proofs.Completing.{IsDone-runs, BeginTree-runs}
 use Rattle.md_tree.proofs.Paths.{path_none, Stands, Stands-context, Reached, Left, Reached-left}

@@ -9,6 +9,8 @@ pub mod Endings
 pub mod EnteredTables
 pub mod Entering
 pub mod Placing
+pub mod SettledPatterns
+pub mod TakenFits
 pub mod Greedy
 pub mod Numbering
 pub mod Numbers
@@ -17,7 +19,9 @@ pub mod Kept
 pub mod Labels
 pub mod Leaves
 pub mod LeafRuns
+pub mod Spots
 pub mod Groups
+pub mod HeldGroups
 pub mod Listing
 pub mod Paths
 pub mod TextRuns

@@ -27,7 +27,8 @@ use Rattle.md_tree.specs.Refusal.{Level, opening, role_in, before_in, symbol_aft
 use Rattle.md_pattern.specs.Steps.{may_hold, start_of, advance}
 use Rattle.md_tree.specs.Machine.{Reads, Course, Exits, ExitsWhere, after_entry, entered}
 use Rattle.md_tree.specs.Machine.{entered_on, beginning}
-use Rattle.md_tree.proofs.Groups.{Feeds, Feeds-append, matches_feeds, advance_role, option_map-some}
+use Rattle.md_tree.proofs.Spots.{Feeds, Feeds-append, advance_role, option_map-some}
+use Rattle.md_tree.proofs.Groups.{matches_feeds}
 use Rattle.md_tree.proofs.Trees.{IsReadWhere, IsFine, Feeds-context}
 
 -- nodes, and nodes after them

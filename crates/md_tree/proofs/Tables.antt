@@ -31,7 +31,7 @@ use Rattle.md_pattern.specs.Shape.{inner_before, last_symbol}
 use Rattle.md_pattern.specs.Steps.{begun_by, is_whole}
 use Rattle.md_pattern.specs.Alignments.{alignment_of, alignments}
 use Rattle.md_tree.specs.Tables.{in_each, values_of_row, values_of_head, values_of_table, IsTable}
-use Rattle.md_tree.proofs.Greedy.{and_left, and_right, and_both}
+use Rattle.md_tree.proofs.SettledPatterns.{and_left, and_right, and_both}
 
 -- ---- which symbols a spine may have
 

@@ -28,7 +28,8 @@ use Rattle.md_pattern.specs.Partners.{index_after}
 use Rattle.md_pattern.specs.Steps.{may_hold, start_of, advance, is_complete}
 use Rattle.md_tree.specs.Machine.{Reads, Course, Runs, Exits, after_entry, entered, entered_on}
 use Rattle.md_tree.specs.Machine.{beginning}
-use Rattle.md_tree.proofs.Groups.{Feeds, Feeds-split, Feeds-matches, advance_role}
+use Rattle.md_tree.proofs.Spots.{Feeds, Feeds-split, advance_role}
+use Rattle.md_tree.proofs.Groups.{Feeds-matches}
 
 -- a claim about nodes that stand on a spine, of a node that stands so
 abbrev pub IsReadWhere : Reads → Standing → Role → Option Symbol → Point → Point → Referral → Type 0

@@ -1,0 +1,92 @@
+-- Settled patterns: an item that takes a symbol of one that may be left out may be there any number
+-- of times.
+use denote.Enum.Bare.{sameb}
+use Rattle.std.proofs.Common.{◌≡◌, Bool, true, false, not, ◌&&◌, ◌||◌, List, [], ◌∷◌, refl, subst}
+use Rattle.std.specs.List.{list_all, list_any}
+use denote.Enum.Bare.{same_true}
+use Rattle.md_pattern.specs.contracts.kinds.Symbol.{the_type}
+use Rattle.md_pattern.specs.declared.kinds.Symbol.{Symbol}
+use Rattle.md_pattern.specs.declared.kinds.Role.{Role}
+use Rattle.md_pattern.specs.declared.kinds.Role.TheVariants.{Flow}
+use Rattle.md_pattern.specs.declared.kinds.Class.{Class}
+use Rattle.md_pattern.specs.declared.kinds.Item.{Item}
+use Rattle.md_pattern.specs.declared.kinds.Item.TheVariants.{Many}
+use Rattle.md_pattern.specs.Pattern.{members, class_of, takes, pattern_of}
+use Rattle.md_pattern.specs.Steps.{is_optional}
+
+pub and_left : (a b : Bool) → (a && b) ≡ true → a ≡ true
+and_left true b e = refl
+and_left false b e = e
+
+pub and_right : (a b : Bool) → (a && b) ≡ true → b ≡ true
+and_right true b e = e
+and_right false b e = cc
+
+pub and_both : (a b : Bool) → a ≡ true → b ≡ true → (a && b) ≡ true
+and_both true b e f = f
+and_both false b e f = e
+
+-- an item may be there any number of times
+abbrev pub is_many : Item → Bool
+is_many (Many class) = true
+is_many _ = false
+
+-- no symbol is in both classes
+abbrev pub apart : Class → Class → Bool
+apart class other = list_all (λ member. not (takes other member)) (members class)
+
+-- after an item that may be left out, each later item that takes one of its symbols may be there
+-- any number of times
+abbrev pub leaves_order : Item → Item → Bool
+leaves_order item later = is_many later || apart (class_of item) (class_of later)
+
+abbrev pub settled : List Item → Bool
+settled [] = true
+settled (item ∷ items) =
+    (not (is_optional item) || list_all (leaves_order item) items) && settled items
+
+pub pattern_settled : (role : Role) → settled (pattern_of role) ≡ true
+pattern_settled Flow = refl
+pattern_settled _ = refl
+
+-- each of the items that takes the symbol may be there any number of times
+abbrev pub only_many : Symbol → List Item → Bool
+only_many symbol items = list_all (λ item. is_many item || not (takes (class_of item) symbol)) items
+
+not_taken_step : (p : Symbol → Bool) (symbols : List Symbol) (member symbol : Symbol) →
+    (list_any (λ m. sameb the_type m symbol) symbols ≡ true → list_all (λ m. not (p m)) symbols
+    ≡ true → not (p symbol) ≡ true) → (same : Bool) → sameb the_type member symbol ≡ same →
+    (same || list_any (λ m. sameb the_type m symbol) symbols) ≡ true →
+    (not (p member) && list_all (λ m. not (p m)) symbols) ≡ true → not (p symbol) ≡ true
+not_taken_step p symbols member symbol again true e seen none =
+    subst (λ s. not (p s) ≡ true) (same_true the_type tt member symbol e)
+    (and_left (not (p member)) (list_all (λ m. not (p m)) symbols) none)
+not_taken_step p symbols member symbol again false e seen none =
+    again seen (and_right (not (p member)) (list_all (λ m. not (p m)) symbols) none)
+
+not_taken : (p : Symbol → Bool) (symbols : List Symbol) (symbol : Symbol) →
+    list_any (λ member. sameb the_type member symbol) symbols ≡ true →
+    list_all (λ member. not (p member)) symbols ≡ true → not (p symbol) ≡ true
+not_taken p [] symbol seen none = cc
+not_taken p (member ∷ symbols) symbol seen none =
+    not_taken_step p symbols member symbol (not_taken p symbols symbol)
+    (sameb the_type member symbol) refl seen none
+
+only_many_here : (class : Class) (item : Item) (symbol : Symbol) →
+    takes class symbol ≡ true → (many : Bool) →
+    (many || apart class (class_of item)) ≡ true →
+    (many || not (takes (class_of item) symbol)) ≡ true
+only_many_here class item symbol taken true e = refl
+only_many_here class item symbol taken false e =
+    not_taken (takes (class_of item)) (members class) symbol taken e
+
+pub only_many_after : (item : Item) (items : List Item) (symbol : Symbol) →
+    takes (class_of item) symbol ≡ true →
+    list_all (leaves_order item) items ≡ true → only_many symbol items ≡ true
+only_many_after item [] symbol taken e = refl
+only_many_after item (later ∷ items) symbol taken e =
+    and_both (is_many later || not (takes (class_of later) symbol)) (only_many symbol items)
+    (only_many_here (class_of item) later symbol taken (is_many later)
+    (and_left (leaves_order item later) (list_all (leaves_order item) items) e))
+    (only_many_after item items symbol taken (and_right (leaves_order item later)
+    (list_all (leaves_order item) items) e))

@@ -1,0 +1,246 @@
+-- A spot in a pattern: the items that are left, and the stage of a group. Reading goes from spot to
+-- spot.
+use Rattle.std.proofs.Common.{◌≡◌, inl, inr, ℕ, zero, suc, ◌+◌, Bool, true, false, cond, Option}
+use Rattle.std.proofs.Common.{Some, None, List, [], ◌∷◌, ◌++◌, drop, replicate, refl, sym, ap, ◌∙◌}
+use Rattle.std.proofs.Common.{subst, add-one}
+use Rattle.std.specs.List.{list_all}
+use Rattle.std.specs.Prelude.{option_map}
+use Rattle.md_pattern.specs.declared.kinds.Symbol.{Symbol}
+use Rattle.md_pattern.specs.declared.kinds.Symbol.TheVariants as symbol_variants
+use symbol_variants.{ReferenceMarker, SetextText, SetextUnderline, LineEnding}
+use Rattle.md_pattern.specs.declared.kinds.Item.{Item}
+use Rattle.md_pattern.specs.declared.kinds.Item.TheVariants.{Once, Maybe, Many}
+use Rattle.md_pattern.specs.declared.state.Stage.{Stage}
+use Rattle.md_pattern.specs.declared.state.Stage.TheVariants.{Whole, Marker, Numeric, Hexadecimal}
+use Rattle.md_pattern.specs.declared.state.Stage.TheVariants.{Setext}
+use Rattle.md_pattern.specs.declared.state.State.{State}
+use Rattle.md_pattern.specs.Pattern.{class_of, takes, pattern_of, Fits}
+use Rattle.md_pattern.specs.Spine.{IsTail, IsGrouped}
+use Rattle.md_pattern.specs.Steps.{begun_by, next_stage, is_optional, next_position, seek, moved}
+use Rattle.md_pattern.specs.Steps.{items_of, advance}
+use Rattle.md_tree.proofs.SettledPatterns.{settled}
+use Rattle.md_tree.proofs.TakenFits.{kept, left_after}
+use Rattle.md_tree.proofs.Greedy.{fits_on, nothing_fits}
+
+-- the items that are left and the stage of a group
+pub data Spot : Type 0 where
+  At : List Item → Stage → Spot
+
+abbrev pub spot_of : State → Spot
+spot_of state = At (items_of state) state.stage
+
+-- a symbol moves from spot to spot
+abbrev pub spot_after : List Item → Stage → Symbol → Option Spot
+spot_after items Whole symbol =
+    option_map (λ left. At left (begun_by symbol)) (left_after items symbol)
+spot_after items stage symbol = option_map (λ next. At items next) (next_stage stage symbol)
+
+-- symbols, one after another
+abbrev pub Goes : List Item → Stage → List Symbol → Spot → Type 0
+Goes items stage [] to = At items stage ≡ to
+Goes items stage (symbol ∷ symbols) to =
+    (left : List Item) × (next : Stage) × (spot_after items stage symbol ≡ Some (At left next))
+    × Goes left next symbols to
+
+-- the same with states
+abbrev pub Feeds : State → List Symbol → State → Type 0
+Feeds from [] to = from ≡ to
+Feeds from (symbol ∷ symbols) to =
+    (next : State) × (advance from symbol ≡ Some next) × Feeds next symbols to
+
+pub Feeds-append : (from middle to : State) (symbols others : List Symbol) →
+    Feeds from symbols middle →
+    Feeds middle others to → Feeds from (symbols ++ others) to
+Feeds-append from middle to [] others e f = subst (λ s. Feeds s others to) (sym e) f
+Feeds-append from middle to (symbol ∷ symbols) others e f =
+    (e.0, e.1, Feeds-append e.0 middle to symbols others e.2 f)
+
+pub Feeds-split : (from to : State) (symbols others : List Symbol) →
+    Feeds from (symbols ++ others) to →
+    (middle : State) × Feeds from symbols middle × Feeds middle others to
+Feeds-split from to [] others f = (from, refl, f)
+Feeds-split from to (symbol ∷ symbols) others f =
+    let rest = Feeds-split f.0 to symbols others f.2 in
+    (rest.0, (f.0, f.1, rest.1), rest.2)
+
+option_map-option_map : {A B C : Type 0} (f : A → B) (g : B → C) (o : Option A) →
+    option_map g (option_map f o) ≡ option_map (λ x. g (f x)) o
+option_map-option_map f g None = refl
+option_map-option_map f g (Some x) = refl
+
+-- what a mapped option comes from
+pub option_map-some : {A B : Type 0} (f : A → B) (o : Option A) (y : B) → option_map f o ≡ Some y →
+    (x : A) × (o ≡ Some x) × (f x ≡ y)
+option_map-some f None y e = cc
+option_map-some f (Some x) y e = let h : f x ≡ y = cc in (x, refl, h)
+
+tail_of : {A : Type 0} (xs : List A) (k : ℕ) (x : A) (ys : List A) → x ∷ ys ≡ drop k xs →
+    ys ≡ drop (suc k) xs
+tail_of [] zero x ys e = cc
+tail_of [] (suc k) x ys e = cc
+tail_of (z ∷ xs) zero x ys e = let h : ys ≡ xs = cc in h
+tail_of (z ∷ xs) (suc k) x ys e = tail_of xs k x ys e
+
+sought_here : (all : List Item) (item : Item) (items : List Item) (k : ℕ) →
+    item ∷ items ≡ drop k all →
+    drop (next_position item k) all ≡ kept item items
+sought_here all (Many class) items k e = sym e
+sought_here all (Maybe class) items k e = rw add-one (sym (tail_of all k (Maybe class) items e))
+sought_here all (Once class) items k e = rw add-one (sym (tail_of all k (Once class) items e))
+
+seek_step : (all : List Item) (item : Item) (items : List Item) (k : ℕ) (symbol : Symbol) →
+    drop (next_position item k) all ≡ kept item items →
+    option_map (λ n. drop n all) (seek (k + 1) items symbol) ≡ left_after items symbol →
+    (taken optional : Bool) →
+    option_map (λ n. drop n all) (cond taken (Some (next_position item k))
+    (cond optional (seek (k + 1) items symbol) None)) ≡ cond taken (Some (kept item items))
+    (cond optional (left_after items symbol) None)
+seek_step all item items k symbol here later true optional = ap Some here
+seek_step all item items k symbol here later false true = later
+seek_step all item items k symbol here later false false = refl
+
+seek_leaves : (all items : List Item) (k : ℕ) (symbol : Symbol) → items ≡ drop k all →
+    option_map (λ n. drop n all) (seek k items symbol) ≡ left_after items symbol
+seek_leaves all [] k symbol e = refl
+seek_leaves all (item ∷ items) k symbol e =
+    seek_step all item items k symbol (sought_here all item items k e)
+    (seek_leaves all items (k + 1) symbol (rw add-one (tail_of all k item items e)))
+    (takes (class_of item) symbol) (is_optional item)
+
+moved_spot : (all : List Item) (stage : Stage) (k : ℕ) (symbol : Symbol) →
+    option_map (λ (n : ℕ × Stage). At (drop n.0 all) n.1) (moved stage k (drop k all) symbol)
+    ≡ spot_after (drop k all) stage symbol
+moved_spot all Whole k symbol =
+    option_map-option_map (λ n. (n, begun_by symbol)) (λ (n : ℕ × Stage). At (drop n.0 all) n.1)
+    (seek k (drop k all) symbol)
+    ∙ sym (option_map-option_map (λ n. drop n all) (λ left. At left (begun_by symbol))
+    (seek k (drop k all) symbol)) ∙ ap (option_map (λ left. At left (begun_by symbol)))
+    (seek_leaves all (drop k all) k symbol refl)
+moved_spot all Marker k symbol =
+    option_map-option_map (λ n. (k, n)) (λ (n : ℕ × Stage). At (drop n.0 all) n.1)
+    (next_stage Marker symbol)
+moved_spot all Numeric k symbol =
+    option_map-option_map (λ n. (k, n)) (λ (n : ℕ × Stage). At (drop n.0 all) n.1)
+    (next_stage Numeric symbol)
+moved_spot all Hexadecimal k symbol =
+    option_map-option_map (λ n. (k, n)) (λ (n : ℕ × Stage). At (drop n.0 all) n.1)
+    (next_stage Hexadecimal symbol)
+moved_spot all Setext k symbol =
+    option_map-option_map (λ n. (k, n)) (λ (n : ℕ × Stage). At (drop n.0 all) n.1)
+    (next_stage Setext symbol)
+
+advance_spot : (state : State) (symbol : Symbol) → option_map spot_of (advance state symbol)
+    ≡ spot_after (items_of state) state.stage symbol
+advance_spot state symbol =
+    option_map-option_map (λ (n : ℕ × Stage). record {
+      role = state.role;
+      before = Some symbol;
+      position = n.0;
+      stage = n.1;
+    }) spot_of (moved state.stage state.position (items_of state) symbol)
+    ∙ moved_spot (pattern_of state.role) state.stage state.position symbol
+
+-- what a symbol leaves alone
+pub advance_role : (state next : State) (symbol : Symbol) → advance state symbol ≡ Some next →
+    (next.role ≡ state.role) × (next.before ≡ Some symbol)
+advance_role state next symbol e =
+    let m = option_map-some (λ (n : ℕ × Stage). record {
+      role = state.role;
+      before = Some symbol;
+      position = n.0;
+      stage = n.1;
+    }) (moved state.stage state.position (items_of state) symbol) next e in
+    (ap (λ (s : State). s.role) (sym m.2), ap (λ (s : State). s.before) (sym m.2))
+
+pub at_items : (items left : List Item) (stage next : Stage) → At items stage ≡ At left next →
+    (items ≡ left) × (stage ≡ next)
+at_items items left stage next e = let h : items ≡ left = cc in let k : stage ≡ next = cc in (h, k)
+
+-- what spots do, states do
+pub Feeds-from_goes : (from : State) (symbols : List Symbol) (to : Spot) →
+    Goes (items_of from) from.stage symbols to →
+    (end : State) × Feeds from symbols end × (spot_of end ≡ to)
+Feeds-from_goes from [] to g = (from, refl, g)
+Feeds-from_goes from (symbol ∷ symbols) to g =
+    let step =
+    option_map-some spot_of (advance from symbol) (At g.0 g.1) (advance_spot from symbol ∙ g.2) in
+    let next = step.0 in
+    let same = at_items (items_of next) g.0 next.stage g.1 step.2 in
+    let rest =
+    Feeds-from_goes next symbols to (subst (λ st. Goes (items_of next) st symbols to) (sym same.1)
+    (subst (λ is. Goes is g.1 symbols to) (sym same.0) g.3)) in
+    (rest.0, (next, step.1, rest.1), rest.2)
+
+pub Goes-from_feeds : (from : State) (symbols : List Symbol) (to : State) → Feeds from symbols to →
+    Goes (items_of from) from.stage symbols (spot_of to)
+Goes-from_feeds from [] to f = ap spot_of f
+Goes-from_feeds from (symbol ∷ symbols) to f = (
+  items_of f.0,
+  State.stage f.0,
+  sym (advance_spot from symbol) ∙ ap (option_map spot_of) f.1,
+  Goes-from_feeds f.0 symbols to f.2,
+)
+
+Goes-append :
+    (items left : List Item) (stage next : Stage) (symbols others : List Symbol) (to : Spot) →
+    Goes items stage symbols (At left next) → Goes left next others to →
+    Goes items stage (symbols ++ others) to
+Goes-append items left stage next [] others to g h =
+    let same = at_items items left stage next g in
+    subst (λ st. Goes items st others to) (sym same.1)
+    (subst (λ is. Goes is next others to) (sym same.0) h)
+Goes-append items left stage next (symbol ∷ symbols) others to g h =
+    (g.0, g.1, g.2, Goes-append g.0 left g.1 next symbols others to g.3 h)
+
+goes_endings : (left : List Item) (n : ℕ) →
+    Goes left Setext (replicate n LineEnding ++ SetextUnderline
+    ∷ []) (At left Whole)
+goes_endings left zero = (left, Whole, refl, refl)
+goes_endings left (suc n) = (left, Setext, refl, goes_endings left n)
+
+goes_tail : (left : List Item) (first : Symbol) (tail : List Symbol) → IsTail first tail →
+    Goes left (begun_by first) tail (At left Whole)
+goes_tail left ReferenceMarker tail (inl e) =
+    subst (λ t. Goes left Marker t (At left Whole)) (sym e) (
+      left,
+      Whole,
+      refl,
+      refl,
+    )
+goes_tail left ReferenceMarker tail (inr (inl e)) =
+    subst (λ t. Goes left Marker t (At left Whole)) (sym e)
+    (left, Numeric, refl, (left, Whole, refl, refl))
+goes_tail left ReferenceMarker tail (inr (inr e)) =
+    subst (λ t. Goes left Marker t (At left Whole)) (sym e) (
+      left,
+      Numeric,
+      refl,
+      (left, Hexadecimal, refl, (left, Whole, refl, refl)),
+    )
+goes_tail left SetextText tail t =
+    subst (λ t. Goes left Setext t (At left Whole)) (sym t.1) (goes_endings left t.0)
+goes_tail left _ tail e = subst (λ t. Goes left Whole t (At left Whole)) (sym e) refl
+
+-- the pattern's own spines are read to an end
+pub goes_whole : (items : List Item) (firsts spine : List Symbol) → settled items ≡ true →
+    IsGrouped firsts spine →
+    Fits items firsts →
+    (left : List Item) × Goes items Whole spine (At left Whole) × (list_all is_optional left ≡ true)
+goes_whole items [] spine ok grouped fit = (
+  items,
+  subst (λ s. Goes items Whole s (At items Whole)) (sym grouped) refl,
+  nothing_fits items fit,
+)
+goes_whole items (first ∷ firsts) spine ok grouped fit =
+    let on = fits_on items first firsts ok fit in
+    let rest = goes_whole on.left firsts grouped.1 on.ok grouped.4 on.fits in (
+      rest.0,
+      subst (λ s. Goes items Whole s (At rest.0 Whole)) (sym grouped.2) (
+        on.left,
+        begun_by first,
+        ap (option_map (λ left. At left (begun_by first))) on.is_left,
+        Goes-append on.left on.left (begun_by first) Whole grouped.0 grouped.1 (At rest.0 Whole)
+            (goes_tail on.left first grouped.0 grouped.3) rest.1,
+      ),
+      rest.2,
+    )
