@@ -45,9 +45,11 @@ use Rattle.md_tree.specs.Refusal.{BeginTree, opening}
 use Rattle.md_tree.proofs.SettledPatterns.{and_left, and_right}
 use Rattle.md_tree.proofs.Spots.{Feeds, advance_role, option_map-some}
 use Rattle.md_tree.proofs.Groups.{matches_feeds, whole_stage}
-use Rattle.md_tree.proofs.Trees.{IsFine, Runs-append, Runs-nodes, after_nodes}
-use Rattle.md_tree.proofs.Paths.{joined, spine-joined, EachNode-joined, not_childless, some_entry}
-use Rattle.md_tree.proofs.Paths.{path_none, Stands}
+use Rattle.md_tree.proofs.NodesRead.{IsFine, after_nodes}
+use Rattle.md_tree.proofs.Trees.{Runs-append, Runs-nodes}
+use Rattle.md_tree.proofs.OpenPaths.{joined, spine-joined, EachNode-joined, some_entry}
+use Rattle.md_tree.proofs.ClosedNodes.{not_childless}
+use Rattle.md_tree.proofs.OpenPaths.{path_none, Stands}
 use Rattle.md_tree.proofs.Verdicts.{Reached-runs, fine_shaped, shaped_anything, free_anything}
 use Rattle.md_tree.proofs.Verdicts.{anything_runs}
 

@@ -36,10 +36,13 @@ use Rattle.md_tree.proofs.Listing.{listed, mentions_over-listed}
 use Rattle.md_tree.proofs.SettledPatterns.{and_both}
 use Rattle.md_tree.proofs.Spots.{Feeds}
 use Rattle.md_tree.proofs.HeldGroups.{EndsInGroup-feeds}
-use Rattle.md_tree.proofs.Trees.{after_nodes, Feeds-context}
+use Rattle.md_tree.proofs.NodesRead.{after_nodes}
+use Rattle.md_tree.proofs.Trees.{Feeds-context}
 use Rattle.md_tree.proofs.Completing.{IsDone-runs, BeginTree-runs}
-use Rattle.md_tree.proofs.Paths.{path_none, Stands, Stands-context, Reached, Left, Reached-left}
-use Rattle.md_tree.proofs.Paths.{Left-closed, Left-inner, Closed, entry_is}
+use Rattle.md_tree.proofs.OpenPaths.{path_none, Stands, Stands-context, Reached}
+use Rattle.md_tree.proofs.Paths.{Left, Reached-left}
+use Rattle.md_tree.proofs.ClosedNodes.{Closed, entry_is}
+use Rattle.md_tree.proofs.Paths.{Left-closed, Left-inner}
 use Rattle.md_tree.proofs.Verdicts.{Runs-same, Runs-checked, Reached-runs, fine_shaped, fine_meets}
 use Rattle.md_tree.proofs.Verdicts.{fine_path_shaped}
 

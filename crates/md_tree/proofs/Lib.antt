@@ -23,10 +23,13 @@ pub mod Spots
 pub mod Groups
 pub mod HeldGroups
 pub mod Listing
+pub mod OpenPaths
+pub mod ClosedNodes
 pub mod Paths
 pub mod TextRuns
 pub mod Searching
 pub mod Spines
 pub mod Tables
+pub mod NodesRead
 pub mod Trees
 pub mod Verdicts

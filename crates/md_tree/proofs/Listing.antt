@@ -16,7 +16,7 @@ use Rattle.md_tree.specs.Rules.{reading_of, target_of}
 use Rattle.md_pattern.specs.Partners.{index_after}
 use Rattle.md_tree.specs.Mentions.{mention_of, mentions_of, mentions_with, mentions_among}
 use Rattle.md_tree.specs.Mentions.{identifier_at, defined, footnoted, IsResolved}
-use Rattle.md_tree.proofs.Trees.{mentions_over}
+use Rattle.md_tree.proofs.NodesRead.{mentions_over}
 
 -- those of these mentions that are of something, where the first is of the event at an index
 abbrev pub listed : ℕ → List Mention → List Mentioned

@@ -32,9 +32,12 @@ use Rattle.md_tree.specs.Machine.{Reads, Course, Runs, Steps, StepsBy, Enters, E
 use Rattle.md_tree.specs.Machine.{after_entry, entered, entered_on, beginning}
 use Rattle.md_tree.specs.Walk.{Anything, Unbroken, BreaksWhere, BreaksAtExit, StopsAtEntry}
 use Rattle.md_tree.specs.Walk.{StopsAtExit, StopsBy}
-use Rattle.md_tree.proofs.Trees.{IsReadWhere, IsFine, AllowsFree, Runs-split, Runs-document}
-use Rattle.md_tree.proofs.Trees.{after_nodes, EachNode-map}
-use Rattle.md_tree.proofs.Paths.{IsFinePath, Reached, Reached-beginning, Reached-enter}
+use Rattle.md_tree.proofs.NodesRead.{IsReadWhere, IsFine, AllowsFree}
+use Rattle.md_tree.proofs.Trees.{Runs-split, Runs-document}
+use Rattle.md_tree.proofs.NodesRead.{after_nodes}
+use Rattle.md_tree.proofs.Trees.{EachNode-map}
+use Rattle.md_tree.proofs.OpenPaths.{IsFinePath, Reached, Reached-beginning}
+use Rattle.md_tree.proofs.Paths.{Reached-enter}
 use Rattle.md_tree.proofs.Paths.{Reached-exit}
 
 -- ---- one course

@@ -1,0 +1,172 @@
+-- A node that ends is fine, and goes on the spine around it.
+use Rattle.std.proofs.Common.{◌≡◌, ◌≢◌, true, false, Option, Some, None, List, refl, sym, ap, ◌∙◌}
+use Rattle.std.proofs.Common.{subst}
+use Rattle.md_base.specs.declared.event.Point.{Point}
+use Rattle.md_base.specs.declared.event.Name.{Name}
+use Rattle.md_pattern.specs.declared.kinds.Symbol.{Symbol}
+use Rattle.md_pattern.specs.declared.kinds.Role.{Role}
+use Rattle.md_pattern.specs.declared.kinds.Role.TheVariants.{Childless}
+use Rattle.md_pattern.specs.declared.kinds.Reading.{Reading}
+use Rattle.md_pattern.specs.declared.kinds.Reading.TheVariants.{Free}
+use Rattle.md_pattern.specs.declared.kinds.Standing.{Standing}
+use Rattle.md_pattern.specs.declared.kinds.Standing.TheVariants.{Through, Space, Solid, Mdx}
+use Rattle.md_tree.specs.declared.mention.Referral.{Referral}
+use Rattle.md_tree.specs.declared.mention.Referral.TheVariants.{Missing}
+use Rattle.md_pattern.specs.declared.state.State.{State}
+use Rattle.md_tree.specs.Machine.{Entry, Open, Outer}
+use Rattle.md_base.specs.Tree.{Forest, Empty, Node}
+use Rattle.md_pattern.specs.Spine.{spine, shown}
+use Rattle.md_pattern.specs.Shape.{EachNode, IsStanding, role_for}
+use Rattle.md_tree.specs.Rules.{place, target_at, target_after, target_of}
+use Rattle.md_pattern.specs.Steps.{may_hold, start_of, advance}
+use Rattle.md_tree.specs.Machine.{Reads, Course, ExitsWhere, entered_on}
+use Rattle.md_tree.proofs.Spots.{Feeds, advance_role, option_map-some}
+use Rattle.md_tree.proofs.Groups.{matches_feeds}
+use Rattle.md_tree.proofs.NodesRead.{IsReadWhere, IsFine}
+use Rattle.md_tree.proofs.OpenPaths.{some_entry}
+
+-- a node that ends is fine, and goes on the spine around it
+pub record Closed (holds : Reads) (standing : Standing) (name : Name) (start end : Point)
+    (children : Forest) (here after : State) (found : Referral) (target : Referral) : Type 0 where
+  pub apart : here.role ≢ Childless
+  pub shaped : IsStanding standing here.role here.before children
+  pub read : IsReadWhere holds standing here.role here.before start end (target_of children Missing)
+  pub feeds : Feeds here (shown standing (spine children)) after
+  pub target_is : target ≡ target_after standing found (target_of children) (place start end)
+
+pub not_childless : (role : Role) → may_hold role ≡ true → role ≢ Childless
+not_childless role may e = let h : true ≡ false = sym may ∙ ap may_hold e in cc
+
+nothing_inside : (holds : Reads) (children : Forest) (before : Option Symbol) →
+    EachNode (IsFine holds) children Childless before → children ≡ Empty
+nothing_inside holds Empty before fine = refl
+nothing_inside holds (Node name start end children rest) before fine = absurd (fine.0.0.0 refl)
+
+-- an entry's parts
+pub entry_is : (a b : Entry) → Some a ≡ Some b →
+    (a.state ≡ b.state) × (a.target ≡ b.target) × (a.outer ≡ b.outer)
+entry_is a b e =
+    let same = some_entry a b e in (
+      ap (λ (n : Entry). n.state) same,
+      ap (λ (n : Entry). n.target) same,
+      ap (λ (n : Entry). n.outer) same,
+    )
+
+closed_through :
+    (holds ending : Reads) (name : Name) (start end : Point) (children : Forest) (here base : State)
+    (found inner : Referral) (outer : Option Outer) (others : List Open) (last to : Course) →
+    may_hold here.role ≡ true → entered_on Through here found
+    ≡ Some (record { state = base; target = inner; outer = outer }) →
+    Feeds base (spine children) last.state →
+    last.target ≡ target_of children inner → ExitsWhere ending outer start end others last to →
+    Closed ending Through name start end children here to.state found to.target
+closed_through holds ending name start end children here base found inner outer others last
+    to may e feeds target
+    exits =
+    let parts = entry_is (record { state = here; target = found; outer = None }) (record {
+      state = base;
+      target = inner;
+      outer = outer;
+    }) e in
+    let exit = subst (λ o. ExitsWhere ending o start end others last to) (sym parts.2) exits in
+    record {
+      apart = not_childless here.role may;
+      shaped = tt;
+      read = tt;
+      feeds = subst (λ s. Feeds here (spine children) s) (ap (λ (c : Course). c.state) (sym exit))
+          (subst (λ s. Feeds s (spine children) last.state) (sym parts.0) feeds);
+      target_is = ap (λ (c : Course). c.target) exit ∙ target
+          ∙ ap (λ t. target_of children t) (sym parts.1);
+    }
+
+closed_space :
+    (holds ending : Reads) (name : Name) (start end : Point) (children : Forest) (here base : State)
+    (found inner : Referral) (outer : Option Outer) (others : List Open) (last to : Course) →
+    may_hold here.role ≡ true → entered_on Space here found
+    ≡ Some (record { state = base; target = inner; outer = outer }) →
+    EachNode (IsFine holds) children base.role base.before →
+    ExitsWhere ending outer start end others last to →
+    Closed ending Space name start end children here to.state found to.target
+closed_space holds ending name start end children here base found inner outer others last
+    to may e fine exits =
+    let waiting : Outer =
+    record { state = here; before = here.before; target = found; reading = Free } in
+    let parts =
+    entry_is (record { state = start_of Childless; target = Missing; outer = Some waiting })
+    (record { state = base; target = inner; outer = outer }) e in
+    let exit = subst (λ o. ExitsWhere ending o start end others last to) (sym parts.2) exits in
+    record {
+      apart = not_childless here.role may;
+      shaped = nothing_inside holds children None (subst
+          (λ (s : State). EachNode (IsFine holds) children s.role s.before) (sym parts.0) fine);
+      read = tt;
+      feeds = ap (λ (c : Course). c.state) (sym exit.2);
+      target_is = ap (λ (c : Course). c.target) exit.2;
+    }
+
+closed_solid :
+    (holds ending : Reads) (name : Name) (start end : Point) (children : Forest) (here base : State)
+    (found inner : Referral) (outer : Option Outer) (others : List Open) (last to : Course)
+    (symbol : Symbol) (usual : Role) (reading : Reading) → may_hold here.role ≡ true →
+    entered_on (Solid symbol usual reading) here found
+    ≡ Some (record { state = base; target = inner; outer = outer })
+    → Feeds base (spine children) last.state → last.target ≡ target_of children inner →
+    ExitsWhere ending outer start end others last to → Closed ending
+    (Solid symbol usual reading) name start end children here to.state found to.target
+closed_solid holds ending name start end children here base found inner outer others last to
+    symbol usual reading may
+    e feeds target exits =
+    let role = role_for here.role here.before usual in
+    let m = option_map-some (λ (next : State). record {
+      state = start_of role;
+      target = Missing;
+      outer =
+          Some (record { state = next; before = here.before; target = found; reading = reading });
+    })
+    (advance here symbol) (record { state = base; target = inner; outer = outer }) e in
+    let next = m.0 in
+    let waiting : Outer =
+    record { state = next; before = here.before; target = found; reading = reading } in
+    let base_is : start_of role ≡ base = ap (λ (n : Entry). n.state) m.2 in
+    let inner_is : Missing ≡ inner = ap (λ (n : Entry). n.target) m.2 in
+    let exit = subst (λ o. ExitsWhere ending o start end others last to)
+    (ap (λ (n : Entry). n.outer) (sym m.2)) exits in
+    let target_here : last.target ≡ target_of children Missing = target
+    ∙ ap (λ t. target_of children t) (sym inner_is) in
+    record {
+      apart = not_childless here.role may;
+      shaped = matches_feeds role (spine children) last.state
+          (subst (λ s. Feeds s (spine children) last.state) (sym base_is) feeds) exit.0;
+      read = subst (λ r. ending reading r here.before start end (target_of children Missing))
+          (advance_role here next symbol m.1).0
+          (subst (λ t. ending reading next.role here.before start end t) target_here exit.1);
+      feeds = (next, m.1, ap (λ (c : Course). c.state) (sym exit.2));
+      target_is = ap (λ (c : Course). c.target) exit.2 ∙ ap
+          (λ t. target_at reading found t (place start end)) target_here;
+    }
+
+pub closed : (holds ending : Reads) (standing : Standing) (name : Name) (start end : Point)
+    (children : Forest) (here base : State) (found inner : Referral) (outer : Option Outer)
+    (others : List Open) (last to : Course) →
+    may_hold here.role ≡ true → entered_on standing here found
+    ≡ Some (record { state = base; target = inner; outer = outer }) →
+    EachNode (IsFine holds) children base.role base.before →
+    Feeds base (spine children) last.state →
+    last.target ≡ target_of children inner → ExitsWhere ending outer start end others last to →
+    Closed ending standing name start end children here to.state found to.target
+closed holds ending Through name start end children here base found inner outer others last to may e
+    fine feeds target exits =
+    closed_through holds ending name start end children here base found inner outer others last to
+    may e feeds target exits
+closed holds ending Space name start end children here base found inner outer others last to may e
+    fine feeds target exits =
+    closed_space holds ending name start end children here base found inner outer others
+    last to may e fine exits
+closed holds ending (Solid symbol usual reading) name start end children here base found inner
+    outer others last to
+    may e fine feeds target exits =
+    closed_solid holds ending name start end children here base found inner outer others last to
+    symbol usual reading may e feeds target exits
+closed holds ending Mdx name start end children here base found inner outer others last to
+    may e fine feeds target
+    exits = cc

@@ -1,0 +1,201 @@
+-- The open nodes of a course are those of a path: where a course stands after some events.
+use Rattle.std.proofs.Common.{◌≡◌, Bool, true, false, cond, Option, Some, None, List, [], ◌∷◌, ◌++◌}
+use Rattle.std.proofs.Common.{refl, sym, ap, ◌∙◌, subst, append_assoc}
+use Rattle.md_base.specs.declared.event.Event.{Event}
+use Rattle.md_pattern.specs.declared.kinds.Symbol.{Symbol}
+use Rattle.md_pattern.specs.declared.kinds.Role.{Role}
+use Rattle.md_pattern.specs.declared.kinds.Role.TheVariants.{Flow, Childless}
+use Rattle.md_pattern.specs.declared.kinds.Reading.TheVariants.{Free}
+use Rattle.md_pattern.specs.declared.kinds.Standing.{Standing}
+use Rattle.md_pattern.specs.declared.kinds.Standing.TheVariants.{Through, Space, Solid, Mdx}
+use Rattle.md_tree.specs.declared.mention.Referral.{Referral}
+use Rattle.md_tree.specs.declared.mention.Referral.TheVariants.{Missing}
+use Rattle.md_pattern.specs.declared.state.State.{State}
+use Rattle.md_tree.specs.Machine.{Entry, Open, Outer}
+use Rattle.md_base.specs.Tree.{Forest, Empty, Node, flatten, entering, exiting}
+use Rattle.md_pattern.specs.Standing.{standing_of}
+use Rattle.md_pattern.specs.Spine.{spine, shown}
+use Rattle.md_pattern.specs.Shape.{Claim, EachNode, inner_role, inner_before, last_symbol, role_for}
+use Rattle.md_tree.specs.Rules.{place, target_after, target_of}
+use Rattle.md_tree.specs.Refusal.{Level, opening, role_in, before_in, symbol_after}
+use Rattle.md_pattern.specs.Steps.{may_hold, start_of, advance}
+use Rattle.md_tree.specs.Machine.{Reads, Course, entered, entered_on, beginning}
+use Rattle.md_tree.proofs.Spots.{Feeds, option_map-some}
+use Rattle.md_tree.proofs.NodesRead.{IsFine}
+use Rattle.md_tree.proofs.Trees.{Feeds-context}
+
+-- nodes, and nodes after them
+abbrev pub joined : Forest → Forest → Forest
+joined Empty others = others
+joined (Node name start end children rest) others =
+    Node name start end children (joined rest others)
+
+pub flatten-joined : (forest others : Forest) →
+    flatten (joined forest others) ≡ flatten forest ++ flatten others
+flatten-joined Empty others = refl
+flatten-joined (Node name start end children rest) others =
+    ap (λ es. entering name start ∷ flatten children ++ exiting name end ∷ es)
+    (flatten-joined rest others)
+    ∙ ap (λ es. entering name start ∷ es) (sym (append_assoc (flatten children) (exiting name end
+    ∷ flatten rest) (flatten others)))
+
+pub spine-joined : (forest others : Forest) →
+    spine (joined forest others) ≡ spine forest ++ spine others
+spine-joined Empty others = refl
+spine-joined (Node name start end children rest) others =
+    ap (λ s. shown (standing_of name) (spine children) ++ s) (spine-joined rest others)
+    ∙ sym (append_assoc (shown (standing_of name) (spine children)) (spine rest) (spine others))
+
+pub target_of-joined : (forest others : Forest) (found : Referral) →
+    target_of (joined forest others) found ≡ target_of others (target_of forest found)
+target_of-joined Empty others found = refl
+target_of-joined (Node name start end children rest) others found =
+    target_of-joined rest others
+    (target_after (standing_of name) found (target_of children) (place start end))
+
+last_symbol-append : (before : Option Symbol) (symbols others : List Symbol) →
+    last_symbol before (symbols ++ others) ≡ last_symbol (last_symbol before symbols) others
+last_symbol-append before [] others = refl
+last_symbol-append before (symbol ∷ symbols) others =
+    last_symbol-append (Some symbol) symbols others
+
+pub EachNode-joined :
+    (P : Claim) (forest others : Forest) (around : Role) (before : Option Symbol) →
+    EachNode P forest around before → EachNode P others around (last_symbol before (spine forest)) →
+    EachNode P (joined forest others) around before
+EachNode-joined P Empty others around before each more = more
+EachNode-joined P (Node name start end children rest) others around before each more = (
+  each.0,
+  each.1,
+  EachNode-joined P rest others around
+      (last_symbol before (shown (standing_of name) (spine children))) each.2
+      (subst (λ b. EachNode P others around b)
+      (last_symbol-append before (shown (standing_of name) (spine children)) (spine rest)) more),
+)
+
+-- the open nodes of a course are those of a path, and the innermost one's children begin with this
+-- state and target
+abbrev pub Stands : List Level → List Open → State → Referral → Type 0
+Stands [] [] state target = (state ≡ start_of Flow) × (target ≡ Missing)
+Stands [] (open_node ∷ others) state target = ⊥
+Stands (level ∷ path) [] state target = ⊥
+Stands (level ∷ path) (open_node ∷ others) state target =
+    (around : State) × (found : Referral) × (here : State) × Stands path others around found
+    × Feeds around (spine level.before) here × (open_node.name ≡ level.name)
+    × (open_node.start ≡ level.start)
+    × (entered (standing_of level.name) here (target_of level.before found)
+    ≡ Some (record { state = state; target = target; outer = open_node.outer }))
+
+-- the whole nodes before each open one are fine
+abbrev pub IsFinePath : Reads → List Level → Type 0
+IsFinePath holds [] = Unit {0}
+IsFinePath holds (level ∷ path) =
+    EachNode (IsFine holds) level.before (role_in path) (before_in path) × IsFinePath holds path
+
+-- where a course stands after these events
+pub record Reached (holds : Reads) (events : List Event) (course : Course) : Type 0 where
+  pub path : List Level
+  pub nodes : Forest
+  pub base : State
+  pub found : Referral
+  pub stands : Stands path course.open_nodes base found
+  pub feeds : Feeds base (spine nodes) course.state
+  pub target_is : course.target ≡ target_of nodes found
+  pub events_are : events ≡ opening path ++ flatten nodes
+  pub path_fine : IsFinePath holds path
+  pub nodes_fine : EachNode (IsFine holds) nodes base.role base.before
+
+pub Reached-beginning : (holds : Reads) → Reached holds [] beginning
+Reached-beginning holds = record {
+  path = [];
+  nodes = Empty;
+  base = start_of Flow;
+  found = Missing;
+  stands = (refl, refl);
+  feeds = refl;
+  target_is = refl;
+  events_are = refl;
+  path_fine = tt;
+  nodes_fine = tt;
+}
+
+pub may_hold_true : (b : Bool) (o : Option Entry) (entry : Entry) → cond b o None ≡ Some entry →
+    (b ≡ true) × (o ≡ Some entry)
+may_hold_true true o entry e = (refl, e)
+may_hold_true false o entry e = cc
+
+pub some_entry : (a b : Entry) → Some a ≡ Some b → a ≡ b
+some_entry a b e = cc
+
+-- the context of a node's children
+pub entered_context : (standing : Standing) (state : State) (target : Referral) (entry : Entry) →
+    entered_on standing state target ≡ Some entry →
+    (entry.state.role ≡ inner_role standing state.role state.before)
+    × (entry.state.before ≡ inner_before standing state.before)
+entered_context Through state target entry e =
+    let same = some_entry (record { state = state; target = target; outer = None }) entry e in
+    (ap (λ (n : Entry). n.state.role) (sym same), ap (λ (n : Entry). n.state.before) (sym same))
+entered_context Space state target entry e =
+    let same = some_entry (record {
+      state = start_of Childless;
+      target = Missing;
+      outer =
+          Some (record { state = state; before = state.before; target = target; reading = Free });
+    }) entry e in
+    (ap (λ (n : Entry). n.state.role) (sym same), ap (λ (n : Entry). n.state.before) (sym same))
+entered_context (Solid symbol usual reading) state target entry e =
+    let m = option_map-some (λ (next : State). record {
+      state = start_of (role_for state.role state.before usual);
+      target = Missing;
+      outer = Some (record {
+        state = next;
+        before = state.before;
+        target = target;
+        reading = reading;
+      });
+    }) (advance state symbol) entry e in
+    (ap (λ (n : Entry). n.state.role) (sym m.2), ap (λ (n : Entry). n.state.before) (sym m.2))
+entered_context Mdx state target entry e = cc
+
+-- the context of the innermost open node's children
+level_context :
+    (path : List Level) (level : Level) (around here state : State) (found target : Referral)
+    (outer : Option Outer) → around.role ≡ role_in path → around.before ≡ before_in path →
+    Feeds around (spine level.before) here → entered (standing_of level.name) here found
+    ≡ Some (record { state = state; target = target; outer = outer }) →
+    (state.role ≡ role_in (level ∷ path)) × (state.before ≡ before_in (level ∷ path))
+level_context path level around here state found target outer r b feeds e =
+    let st = standing_of level.name in
+    let on = may_hold_true (may_hold here.role) (entered_on st here found) (record {
+      state = state;
+      target = target;
+      outer = outer;
+    }) e in
+    let inner =
+    entered_context st here found (record { state = state; target = target; outer = outer }) on.1 in
+    let context = Feeds-context around here (spine level.before) feeds in
+    let role_here : here.role ≡ role_in path = context.0 ∙ r in
+    let before_here : here.before ≡ symbol_after (before_in path) level.before = context.1
+    ∙ ap (λ b. last_symbol b (spine level.before)) b in (
+      inner.0 ∙ ap (λ r. inner_role st r here.before) role_here
+          ∙ ap (λ b. inner_role st (role_in path) b) before_here,
+      inner.1 ∙ ap (λ b. inner_before st b) before_here,
+    )
+
+pub Stands-context : (path : List Level) (opens : List Open) (state : State) (target : Referral) →
+    Stands path opens state target → (state.role ≡ role_in path) × (state.before ≡ before_in path)
+Stands-context [] [] state target stands =
+    (ap (λ (s : State). s.role) stands.0, ap (λ (s : State). s.before) stands.0)
+Stands-context [] (open_node ∷ others) state target stands = absurd stands
+Stands-context (level ∷ path) [] state target stands = absurd stands
+Stands-context (level ∷ path) (open_node ∷ others) state target stands =
+    let outer = Stands-context path others stands.0 stands.1 stands.3 in
+    level_context path level stands.0 stands.2 state (target_of level.before stands.1) target
+    open_node.outer outer.0
+    outer.1 stands.4 stands.7
+
+pub path_none : (path : List Level) (state : State) (target : Referral) →
+    Stands path [] state target →
+    (path ≡ []) × (state ≡ start_of Flow)
+path_none [] state target stands = (refl, stands.0)
+path_none (level ∷ path) state target stands = absurd stands
