@@ -40,11 +40,10 @@ use Rattle.md_tree.proofs.NodesRead.{after_nodes}
 use Rattle.md_tree.proofs.Trees.{Feeds-context}
 use Rattle.md_tree.proofs.Completing.{IsDone-runs, BeginTree-runs}
 use Rattle.md_tree.proofs.OpenPaths.{path_none, Stands, Stands-context, Reached}
-use Rattle.md_tree.proofs.Paths.{Left, Reached-left}
+use Rattle.md_tree.proofs.Paths.{Left, Reached-left, Left-closed, Left-inner}
 use Rattle.md_tree.proofs.ClosedNodes.{Closed, entry_is}
-use Rattle.md_tree.proofs.Paths.{Left-closed, Left-inner}
-use Rattle.md_tree.proofs.Verdicts.{Runs-same, Runs-checked, Reached-runs, fine_shaped, fine_meets}
-use Rattle.md_tree.proofs.Verdicts.{fine_path_shaped}
+use Rattle.md_tree.proofs.NodeClaims.{fine_shaped, fine_meets, fine_path_shaped}
+use Rattle.md_tree.proofs.Verdicts.{Runs-same, Runs-checked, Reached-runs}
 
 -- ---- a node that breaks a rule
 

@@ -19,7 +19,8 @@ use Rattle.md_tree.specs.Refusal.{IsRefusal}
 use Rattle.md_tree.specs.Machine.{Course, Runs, StepsBy, Enters, beginning}
 use Rattle.md_tree.specs.Walk.{point_of, point_at, Unbroken, Passes, IsStop, IsStopAtLeaf}
 use Rattle.md_tree.specs.Reader.{IsLeaf}
-use Rattle.md_tree.proofs.Checking.{Runs-more, IsRefusal-stopped}
+use Rattle.md_tree.proofs.Checking.{Runs-more}
+use Rattle.md_tree.proofs.Stopped.{IsRefusal-stopped}
 
 -- an event that enters is no line ending's exit
 ending-entry : (found : Option ℕ) (index : ℕ) (event : Event) → event.kind ≡ Enter →

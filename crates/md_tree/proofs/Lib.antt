@@ -2,6 +2,12 @@
 -- document is what its tree says: this way ends in `Kept`.
 pub mod Breaks
 pub mod Checking
+pub mod Stopped
+pub mod EndsAfter
+pub mod LeastNodes
+pub mod StillNeeded
+pub mod CompletedSpines
+pub mod SettledSpines
 pub mod Completing
 pub mod Contributing
 pub mod Defining
@@ -32,4 +38,5 @@ pub mod Spines
 pub mod Tables
 pub mod NodesRead
 pub mod Trees
+pub mod NodeClaims
 pub mod Verdicts

@@ -1,5 +1,5 @@
--- Settled patterns: an item that takes a symbol of one that may be left out may be there any number
--- of times.
+-- Settled patterns: after an item that may be left out, each later item that takes one of its
+-- symbols may be there any number of times.
 use denote.Enum.Bare.{sameb}
 use Rattle.std.proofs.Common.{◌≡◌, Bool, true, false, not, ◌&&◌, ◌||◌, List, [], ◌∷◌, refl, subst}
 use Rattle.std.specs.List.{list_all, list_any}

@@ -11,7 +11,8 @@ use Rattle.md_tree.specs.Machine.{Steps}
 use Rattle.md_tree.specs.Walk.{course_of, Unbroken, IsStop}
 use Rattle.md_pattern.specs.Ending.{first_index, ending_after}
 use Rattle.md_pattern.specs.Facts.{passed, passed_over, pass_beginning}
-use Rattle.md_tree.proofs.Checking.{Runs-more, IsRefusal-stopped}
+use Rattle.md_tree.proofs.Checking.{Runs-more}
+use Rattle.md_tree.proofs.Stopped.{IsRefusal-stopped}
 use Rattle.md_pattern.proofs.FirstIndex.{first_index-more}
 use Rattle.md_pattern.proofs.Passing.{passed_more}
 use Rattle.md_tree.proofs.reader.Reader.read.Goals as goal

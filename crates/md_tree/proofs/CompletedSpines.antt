@@ -1,0 +1,77 @@
+-- The least nodes that a spine still needs complete it.
+use Rattle.std.proofs.Common.{◌≡◌, ◌⊎◌, inl, inr, ℕ, zero, suc, true, [], drop, refl, sym, ap, ◌∙◌}
+use Rattle.std.proofs.Common.{subst}
+use Rattle.md_pattern.specs.declared.kinds.Role.{Role}
+use Rattle.md_pattern.specs.declared.kinds.Role.TheVariants as role
+use Rattle.md_pattern.specs.declared.state.Stage.TheVariants.{Whole}
+use Rattle.md_pattern.specs.declared.state.State.{State}
+use Rattle.md_base.specs.Tree.{Forest, flatten}
+use Rattle.md_pattern.specs.Spine.{spine}
+use Rattle.md_pattern.specs.Shape.{AreShaped}
+use Rattle.md_pattern.specs.Steps.{is_complete, may_hold}
+use Rattle.md_tree.specs.Machine.{Course, Runs}
+use Rattle.md_tree.specs.Walk.{Anything}
+use Rattle.md_tree.proofs.NodesRead.{after_nodes}
+use Rattle.md_tree.proofs.Trees.{Runs-nodes}
+use Rattle.md_tree.proofs.ClosedNodes.{not_childless}
+use Rattle.md_tree.proofs.NodeClaims.{shaped_anything, free_anything}
+use Rattle.md_tree.proofs.EndsAfter.{IsFed, fed}
+use Rattle.md_tree.proofs.LeastNodes.{nodes_of, nodes_shaped, nodes_spine}
+use Rattle.md_tree.proofs.StillNeeded.{needed, missing_at, missing, completes}
+
+-- no group has begun where no node may stand
+abbrev pub IsSettled : State → Type 0
+IsSettled state = state.role ≡ role.Childless → state.stage ≡ Whole
+
+childless_or : (around : Role) → (around ≡ role.Childless) ⊎ (may_hold around ≡ true)
+childless_or role.Childless = inl refl
+childless_or _ = inr refl
+
+nothing_left : (position : ℕ) → needed (drop position []) ≡ []
+nothing_left zero = refl
+nothing_left (suc position) = refl
+
+nothing_missing : (state : State) → state.role ≡ role.Childless →
+    state.stage ≡ Whole → missing state ≡ []
+nothing_missing state childless whole =
+    ap (λ r. missing_at r state.position state.stage) childless
+    ∙ ap (λ s. missing_at role.Childless state.position s) whole ∙ nothing_left state.position
+
+abbrev pub completion : State → Forest
+completion state = nodes_of (missing state)
+
+completion_shaped : (state : State) → IsSettled state →
+    AreShaped (completion state) state.role state.before
+completion_shaped state settled = by_role (childless_or state.role)
+  where
+    by_role : (state.role ≡ role.Childless) ⊎ (may_hold state.role ≡ true) →
+        AreShaped (completion state) state.role state.before
+    by_role (inl childless) =
+        subst (λ symbols. AreShaped (nodes_of symbols) state.role state.before)
+        (sym (nothing_missing state childless (settled childless))) tt
+    by_role (inr holds) =
+        nodes_shaped (missing state) state.role state.before
+        (not_childless state.role holds) (completes state).1
+
+completion_fed : (state : State) → IsFed state (spine (completion state))
+completion_fed state =
+    subst (λ symbols. IsFed state symbols) (sym (nodes_spine (missing state) (completes state).1))
+    (fed state (missing state) (completes state).0)
+
+-- the same as events
+pub record Completed (from : Course) : Type 0 where
+  pub end : State
+  pub runs : Runs Anything (flatten (completion from.state)) from
+      (after_nodes (completion from.state) end from)
+  pub complete : is_complete end ≡ true
+
+pub completed : (from : Course) → IsSettled from.state → Completed from
+completed from settled =
+    let whole = completion_fed from.state in
+    record {
+      end = whole.0;
+      runs = Runs-nodes Anything free_anything (completion from.state) from whole.0
+          (shaped_anything (completion from.state) from.state.role from.state.before
+          (completion_shaped from.state settled)) whole.1;
+      complete = whole.2;
+    }

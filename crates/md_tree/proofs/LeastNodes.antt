@@ -1,0 +1,242 @@
+-- The least node of each symbol that must be there, or that ends a group, has the shape of the
+-- grammar.
+use Rattle.std.proofs.Common.{◌≡◌, ◌≢◌, Bool, true, false, Option, Some, None, List, [], ◌∷◌, ◌++◌}
+use Rattle.std.proofs.Common.{refl, ap, ◌∙◌}
+use Rattle.std.specs.List.{list_all}
+use Rattle.md_base.specs.declared.event.Point.{Point}
+use Rattle.md_base.specs.declared.event.Name.{Name}
+use Rattle.md_base.specs.declared.event.Name.TheVariants as name
+use Rattle.md_pattern.specs.declared.kinds.Symbol.{Symbol}
+use Rattle.md_pattern.specs.declared.kinds.Symbol.TheVariants as symbol
+use Rattle.md_pattern.specs.declared.kinds.Role.{Role}
+use Rattle.md_pattern.specs.declared.kinds.Role.TheVariants as role
+use Rattle.md_base.specs.Tree.{Forest, Empty, Node}
+use Rattle.md_pattern.specs.Spine.{spine}
+use Rattle.md_pattern.specs.Shape.{IsShapedNode, AreShaped, item_in, prefix_in, label_in}
+use Rattle.md_pattern.specs.Shape.{code_fence_after, math_fence_after, last_symbol}
+use Rattle.md_pattern.specs.Steps.{start_of, may_hold}
+use Rattle.md_tree.proofs.SettledPatterns.{and_left, and_right}
+use Rattle.md_tree.proofs.OpenPaths.{joined, spine-joined, EachNode-joined}
+use Rattle.md_tree.proofs.ClosedNodes.{not_childless}
+use Rattle.md_tree.proofs.EndsAfter.{ends_after, matches_after}
+
+-- ---- the least nodes
+
+-- any point
+abbrev pub somewhere : Point
+somewhere = record { line = 1; column = 1; index = 0; vs = 0 }
+
+abbrev holding : Name → Forest → Forest
+holding named children = Node named somewhere somewhere children Empty
+
+abbrev leaf : Name → Forest
+leaf named = holding named Empty
+
+-- the least node of each symbol that must be there, or that ends a group
+abbrev least : Symbol → Forest
+least symbol.ReferenceValue = leaf name.CharacterReferenceValue
+least symbol.SetextUnderline = leaf name.HeadingSetextUnderlineSequence
+least symbol.FootnotePrefix =
+    holding name.GfmFootnoteDefinitionPrefix (leaf name.GfmFootnoteDefinitionLabelString)
+least symbol.FootnoteLabel = leaf name.GfmFootnoteDefinitionLabelString
+least symbol.ListItem =
+    holding name.ListItem (holding name.ListItemPrefix (leaf name.ListItemMarker))
+least symbol.ListItemPrefix = holding name.ListItemPrefix (leaf name.ListItemMarker)
+least symbol.ListItemMarker = leaf name.ListItemMarker
+least symbol.HeadingSequence = leaf name.HeadingAtxSequence
+least symbol.CodeFence = leaf name.CodeFencedFence
+least symbol.MathFence = leaf name.MathFlowFence
+least symbol.Label = holding name.Label (leaf name.LabelText)
+least symbol.LabelText = leaf name.LabelText
+least symbol.DefinitionLabel = leaf name.DefinitionLabelString
+least symbol.TableHead =
+    holding name.GfmTableHead (joined (leaf name.GfmTableRow) (leaf name.GfmTableDelimiterRow))
+least symbol.TableRow = leaf name.GfmTableRow
+least symbol.TableDelimiterRow = leaf name.GfmTableDelimiterRow
+least _ = Empty
+
+-- the symbol has one
+abbrev pub has_least : Symbol → Bool
+has_least symbol.ReferenceValue = true
+has_least symbol.SetextUnderline = true
+has_least symbol.FootnotePrefix = true
+has_least symbol.FootnoteLabel = true
+has_least symbol.ListItem = true
+has_least symbol.ListItemPrefix = true
+has_least symbol.ListItemMarker = true
+has_least symbol.HeadingSequence = true
+has_least symbol.CodeFence = true
+has_least symbol.MathFence = true
+has_least symbol.Label = true
+has_least symbol.LabelText = true
+has_least symbol.DefinitionLabel = true
+has_least symbol.TableHead = true
+has_least symbol.TableRow = true
+has_least symbol.TableDelimiterRow = true
+has_least _ = false
+
+-- ---- the least nodes have the shape of the grammar
+item_ends : (around : Role) (before : Option Symbol) →
+    ends_after (start_of (item_in around before)) (symbol.ListItemPrefix ∷ []) ≡ true
+item_ends role.OrderedList None = refl
+item_ends role.OrderedList (Some before) = refl
+item_ends _ before = refl
+
+item_holds : (around : Role) (before : Option Symbol) → may_hold (item_in around before) ≡ true
+item_holds role.OrderedList None = refl
+item_holds role.OrderedList (Some before) = refl
+item_holds _ before = refl
+
+prefix_ends : (around : Role) →
+    ends_after (start_of (prefix_in around)) (symbol.ListItemMarker ∷ []) ≡ true
+prefix_ends role.FirstOrderedItem = refl
+prefix_ends _ = refl
+
+prefix_holds : (around : Role) → may_hold (prefix_in around) ≡ true
+prefix_holds role.FirstOrderedItem = refl
+prefix_holds _ = refl
+
+label_ends : (around : Role) →
+    ends_after (start_of (label_in around)) (symbol.LabelText ∷ []) ≡ true
+label_ends role.FootnoteCall = refl
+label_ends _ = refl
+
+label_holds : (around : Role) → may_hold (label_in around) ≡ true
+label_holds role.FootnoteCall = refl
+label_holds _ = refl
+
+code_fence_ends : (before : Option Symbol) →
+    ends_after (start_of (code_fence_after before)) [] ≡ true
+code_fence_ends None = refl
+code_fence_ends (Some before) = refl
+
+math_fence_ends : (before : Option Symbol) →
+    ends_after (start_of (math_fence_after before)) [] ≡ true
+math_fence_ends None = refl
+math_fence_ends (Some before) = refl
+
+prefix_shaped : (around : Role) (before : Option Symbol) → around ≢ role.Childless →
+    AreShaped (least symbol.ListItemPrefix) around before
+prefix_shaped around before apart =
+    let inner = not_childless (prefix_in around) (prefix_holds around) in (
+      (apart, matches_after (prefix_in around) (symbol.ListItemMarker ∷ []) (prefix_ends around)),
+      ((inner, matches_after role.Empty [] refl), tt, tt),
+      tt,
+    )
+
+item_shaped : (around : Role) (before : Option Symbol) → around ≢ role.Childless →
+    AreShaped (least symbol.ListItem) around before
+item_shaped around before apart = (
+  (
+    apart,
+    matches_after (item_in around before) (symbol.ListItemPrefix ∷ []) (item_ends around before),
+  ),
+  prefix_shaped (item_in around before) None
+      (not_childless (item_in around before) (item_holds around before)),
+  tt,
+)
+
+label_shaped : (around : Role) (before : Option Symbol) → around ≢ role.Childless →
+    AreShaped (least symbol.Label) around before
+label_shaped around before apart =
+    let inner = not_childless (label_in around) (label_holds around) in (
+      (apart, matches_after (label_in around) (symbol.LabelText ∷ []) (label_ends around)),
+      ((inner, matches_after role.Phrasing [] refl), tt, tt),
+      tt,
+    )
+
+footnote_shaped : (around : Role) (before : Option Symbol) → around ≢ role.Childless →
+    AreShaped (least symbol.FootnotePrefix) around before
+footnote_shaped around before apart =
+    let inner = not_childless role.FootnotePrefix refl in (
+      (apart, matches_after role.FootnotePrefix (symbol.FootnoteLabel ∷ []) refl),
+      ((inner, matches_after role.String [] refl), tt, tt),
+      tt,
+    )
+
+head_shaped : (around : Role) (before : Option Symbol) → around ≢ role.Childless →
+    AreShaped (least symbol.TableHead) around before
+head_shaped around before apart =
+    let inner = not_childless role.TableHead refl in (
+      (apart, matches_after role.TableHead (symbol.TableRow ∷ symbol.TableDelimiterRow ∷ []) refl),
+      (
+        (inner, matches_after role.TableRow [] refl),
+        tt,
+        ((inner, matches_after role.TableDelimiterRow [] refl), tt, tt),
+      ),
+      tt,
+    )
+
+least_shaped : (one : Symbol) (around : Role) (before : Option Symbol) → around ≢ role.Childless →
+    has_least one ≡ true → AreShaped (least one) around before
+least_shaped symbol.ReferenceValue around before apart e =
+    ((apart, matches_after role.Empty [] refl), tt, tt)
+least_shaped symbol.SetextUnderline around before apart e =
+    ((apart, matches_after role.Empty [] refl), tt, tt)
+least_shaped symbol.FootnotePrefix around before apart e = footnote_shaped around before apart
+least_shaped symbol.FootnoteLabel around before apart e =
+    ((apart, matches_after role.String [] refl), tt, tt)
+least_shaped symbol.ListItem around before apart e = item_shaped around before apart
+least_shaped symbol.ListItemPrefix around before apart e = prefix_shaped around before apart
+least_shaped symbol.ListItemMarker around before apart e =
+    ((apart, matches_after role.Empty [] refl), tt, tt)
+least_shaped symbol.HeadingSequence around before apart e =
+    ((apart, matches_after role.Empty [] refl), tt, tt)
+least_shaped symbol.CodeFence around before apart e =
+    ((apart, matches_after (code_fence_after before) [] (code_fence_ends before)), tt, tt)
+least_shaped symbol.MathFence around before apart e =
+    ((apart, matches_after (math_fence_after before) [] (math_fence_ends before)), tt, tt)
+least_shaped symbol.Label around before apart e = label_shaped around before apart
+least_shaped symbol.LabelText around before apart e =
+    ((apart, matches_after role.Phrasing [] refl), tt, tt)
+least_shaped symbol.DefinitionLabel around before apart e =
+    ((apart, matches_after role.String [] refl), tt, tt)
+least_shaped symbol.TableHead around before apart e = head_shaped around before apart
+least_shaped symbol.TableRow around before apart e =
+    ((apart, matches_after role.TableRow [] refl), tt, tt)
+least_shaped symbol.TableDelimiterRow around before apart e =
+    ((apart, matches_after role.TableDelimiterRow [] refl), tt, tt)
+least_shaped _ around before apart e = cc
+
+least_spine : (one : Symbol) → has_least one ≡ true → spine (least one) ≡ one ∷ []
+least_spine symbol.ReferenceValue e = refl
+least_spine symbol.SetextUnderline e = refl
+least_spine symbol.FootnotePrefix e = refl
+least_spine symbol.FootnoteLabel e = refl
+least_spine symbol.ListItem e = refl
+least_spine symbol.ListItemPrefix e = refl
+least_spine symbol.ListItemMarker e = refl
+least_spine symbol.HeadingSequence e = refl
+least_spine symbol.CodeFence e = refl
+least_spine symbol.MathFence e = refl
+least_spine symbol.Label e = refl
+least_spine symbol.LabelText e = refl
+least_spine symbol.DefinitionLabel e = refl
+least_spine symbol.TableHead e = refl
+least_spine symbol.TableRow e = refl
+least_spine symbol.TableDelimiterRow e = refl
+least_spine _ e = cc
+
+-- the least nodes of symbols, one after another
+abbrev pub nodes_of : List Symbol → Forest
+nodes_of [] = Empty
+nodes_of (one ∷ symbols) = joined (least one) (nodes_of symbols)
+
+pub nodes_spine : (symbols : List Symbol) → list_all has_least symbols ≡ true →
+    spine (nodes_of symbols) ≡ symbols
+nodes_spine [] e = refl
+nodes_spine (one ∷ symbols) e =
+    spine-joined (least one) (nodes_of symbols)
+    ∙ ap (λ s. s ++ spine (nodes_of symbols)) (least_spine one (and_left (has_least one)
+    (list_all has_least symbols) e)) ∙ ap (λ s. one ∷ s)
+    (nodes_spine symbols (and_right (has_least one) (list_all has_least symbols) e))
+
+pub nodes_shaped : (symbols : List Symbol) (around : Role) (before : Option Symbol) →
+    around ≢ role.Childless →
+    list_all has_least symbols ≡ true → AreShaped (nodes_of symbols) around before
+nodes_shaped [] around before apart e = tt
+nodes_shaped (one ∷ symbols) around before apart e =
+    EachNode-joined IsShapedNode (least one) (nodes_of symbols) around before
+    (least_shaped one around before apart (and_left (has_least one) (list_all has_least symbols) e))
+    (nodes_shaped symbols around (last_symbol before (spine (least one))) apart
+    (and_right (has_least one) (list_all has_least symbols) e))
