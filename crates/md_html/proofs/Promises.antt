@@ -8,7 +8,7 @@ use Rattle.md_text.specs.Ids.{HasDistinctIds}
 use Rattle.md_text.specs.Safe.{is_safe_link, is_safe_image}
 use Rattle.md_text.specs.declared.options.CompileOptions.{CompileOptions}
 use Rattle.md_tree.specs.Grammar.{Handed, IsChecked, IsGrammatical}
-use Rattle.md_tree.proofs.Indexed.{flatten_one}
+use Rattle.md_tree.proofs.OneTree.{flatten_one}
 use Rattle.md_meaning.specs.Meaning.{meaning}
 use Rattle.md_shape.specs.Built.{IsBuilt, Blocks}
 use Rattle.md_shape.specs.Underlined.{IsUnderlined}

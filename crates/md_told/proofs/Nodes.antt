@@ -18,7 +18,7 @@ use Rattle.md_tree.specs.Grammar.{Handed}
 use Rattle.md_tree.specs.Mentions.{mention_of, mentions_of}
 use Rattle.md_tree.specs.Rules.{reading_of, target_of}
 use Rattle.md_tree.specs.Texts.{EntersAt, ExitsAt}
-use Rattle.md_tree.proofs.Indexed.{flatten_one}
+use Rattle.md_tree.proofs.OneTree.{flatten_one}
 use Rattle.md_shape.specs.State.{told_of}
 use Rattle.md_shape.specs.Run.{Noticed, noticed}
 use Rattle.md_told.proofs.Rows.{Row, rows_of, event_of, noticed_of, children_at, partner_at}

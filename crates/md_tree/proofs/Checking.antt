@@ -23,14 +23,14 @@ use Rattle.md_pattern.specs.Steps.{is_complete}
 use Rattle.md_tree.specs.Machine.{Reads, Course, Runs, Steps, beginning}
 use Rattle.md_tree.specs.Walk.{Unbroken}
 use Rattle.md_tree.specs.Resolve.{LeadsNowhere, IsUnresolvedBy, IsUnresolved}
-use Rattle.md_tree.proofs.Indexed.{flatten_one}
+use Rattle.md_tree.proofs.OneTree.{flatten_one}
 use Rattle.md_tree.proofs.Listing.{listed, resolved-listed, all-resolved, got-listed}
 use Rattle.md_tree.proofs.Breaks.{of_node}
 use Rattle.md_tree.proofs.Trees.{Runs-append}
 use Rattle.md_base.specs.Tree.{Forest, flatten}
 use Rattle.md_pattern.specs.Facts.{facts_at}
 use Rattle.md_tree.specs.Numbers.{all_numbered, number_for, facts_with}
-use Rattle.md_tree.proofs.Numbers.{all_numbered-listed}
+use Rattle.md_tree.proofs.NumbersPut.{all_numbered-listed}
 use Rattle.md_tree.proofs.Endings.{LeaveOpen-undone, outside-undone, IsWalked}
 
 -- ---- one event more

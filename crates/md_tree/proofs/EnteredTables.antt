@@ -18,7 +18,7 @@ use Rattle.md_tree.specs.Grammar.{Handed, IsChecked, IsReadAs, IsGrammatical}
 use Rattle.md_tree.specs.Texts.{EntersAt}
 use Rattle.md_tree.specs.Entered.{children_of, IsEnteredAt}
 use Rattle.md_tree.specs.Tables.{IsTable}
-use Rattle.md_tree.proofs.Indexed.{flatten_one}
+use Rattle.md_tree.proofs.OneTree.{flatten_one}
 use Rattle.md_pattern.specs.Partners.{index_after}
 use Rattle.md_pattern.specs.Facts.{tables_with, tables_after}
 use Rattle.md_tree.proofs.Entering.{Row, entry_row, exit_row, rows_of, past_row, inside_rows}

@@ -1,8 +1,7 @@
--- A list of events is the flattening of one tree at most, and each exit of a text or a label
--- has its text there. So what is looked up at an index is so in any tree of the events, and
--- no look-up fails.
+-- Each exit of a text or a label has its text there. So what is looked up at an index is so in any
+-- tree of the events, and no look-up fails.
 use Rattle.std.proofs.Common.{◌≡◌, ℕ, suc, ◌<◌, Bool, true, Option, Some, None, List, [], ◌∷◌, ◌++◌}
-use Rattle.std.proofs.Common.{length, get_or, refl, sym, ap, ◌∙◌, append_assoc, append-nil, arith}
+use Rattle.std.proofs.Common.{length, get_or, refl, sym, ap, ◌∙◌, append-nil, arith}
 use Rattle.std.specs.Prelude.{map, option_map, slice_get, option_copied, IsSome}
 use Rattle.std.specs.Borrow.{Bor}
 use Rattle.std.specs.List.{All}
@@ -39,64 +38,7 @@ use Rattle.md_pattern.proofs.Passing.{facts-flatten}
 use Rattle.md_tree.proofs.Entering.{Row, entry_row, exit_row, rows_of, event_rows, fact_rows}
 use Rattle.md_tree.proofs.Entering.{position_rows, get_at, got_inside, got_mapped, mapped_long}
 use Rattle.md_tree.proofs.Placing.{at_entry, in_node, after_node, length_events}
-
--- ---- a list of events is the flattening of at most one document
-
-event_parts : (one other : Event) → one ≡ other → (one.kind ≡ other.kind) × (one.name ≡ other.name)
-    × (one.point ≡ other.point)
-event_parts one other e =
-    (ap (λ (x : Event). x.kind) e, ap (λ (x : Event). x.name) e, ap (λ (x : Event). x.point) e)
-
-list_parts : (x y : Event) (xs ys : List Event) → x ∷ xs ≡ y ∷ ys → (x ≡ y) × (xs ≡ ys)
-list_parts x y xs ys e = let h : x ≡ y = cc in let t : xs ≡ ys = cc in (h, t)
-
-no_entry : (n m : Name) (p q : Point) (xs ys : List Event) →
-    exiting n p ∷ xs ≡ entering m q ∷ ys → ⊥
-no_entry n m p q xs ys e = let k = (event_parts (exiting n p) (entering m q)
-    (list_parts (exiting n p) (entering m q) xs ys e).0).0 in cc
-
-node_same : (name other : Name) (start begin end stop : Point) (children inner rest more : Forest) →
-    name ≡ other →
-    start ≡ begin → end ≡ stop → children ≡ inner → rest ≡ more →
-    Node name start end children rest ≡ Node other begin stop inner more
-node_same name other start begin end stop children inner rest more a b c d e =
-    ap (λ n. Node n start end children rest) a ∙ ap (λ p. Node other p end children rest) b
-    ∙ ap (λ p. Node other begin p children rest) c ∙ ap (λ f. Node other begin stop f rest) d
-    ∙ ap (λ f. Node other begin stop inner f) e
-
-one_forest : (one other : Forest) (n m : Name) (p q : Point) (xs ys : List Event) →
-    flatten one ++ exiting n p ∷ xs ≡ flatten other ++ exiting m q ∷ ys →
-    (one ≡ other) × (exiting n p ∷ xs ≡ exiting m q ∷ ys)
-one_forest Empty Empty n m p q xs ys e = (refl, e)
-one_forest Empty (Node name start end children rest) n m p q xs ys e =
-    absurd (no_entry n name p start xs
-    ((flatten children ++ exiting name end ∷ flatten rest) ++ exiting m q ∷ ys) e)
-one_forest (Node name start end children rest) Empty n m p q xs ys e =
-    absurd (no_entry m name q start ys
-    ((flatten children ++ exiting name end ∷ flatten rest) ++ exiting n p
-    ∷ xs) (sym e))
-one_forest (Node name start end children rest) (Node other begin stop inner more) n m p q xs ys e =
-    let first = list_parts (entering name start) (entering other begin)
-    ((flatten children ++ exiting name end ∷ flatten rest) ++ exiting n p
-    ∷ xs) ((flatten inner ++ exiting other stop ∷ flatten more) ++ exiting m q ∷ ys) e in
-    let entry = event_parts (entering name start) (entering other begin) first.0 in
-    let within = one_forest children inner name other end stop (flatten rest ++ exiting n p ∷ xs)
-    (flatten more ++ exiting m q ∷ ys)
-    (sym (append_assoc (flatten children) (exiting name end ∷ flatten rest) (exiting n p ∷ xs))
-    ∙ first.1
-    ∙ append_assoc (flatten inner) (exiting other stop ∷ flatten more) (exiting m q ∷ ys)) in
-    let second = list_parts (exiting name end) (exiting other stop)
-    (flatten rest ++ exiting n p ∷ xs) (flatten more ++ exiting m q ∷ ys) within.1 in
-    let index_after = one_forest rest more n m p q xs ys second.1 in (
-      node_same name other start begin end stop children inner rest more entry.1 entry.2
-          (event_parts (exiting name end) (exiting other stop) second.0).2 within.0 index_after.0,
-      index_after.1,
-    )
-
-pub flatten_one : (n : Name) (p : Point) (one other : Forest) →
-    flatten one ≡ flatten other → one ≡ other
-flatten_one n p one other e =
-    (one_forest one other n n p p [] [] (ap (λ es. es ++ exiting n p ∷ []) e)).0
+use Rattle.md_tree.proofs.OneTree.{flatten_one}
 
 -- ---- rows
 
@@ -166,7 +108,6 @@ rows_ended bytes names is text have events (Node name start end children rest) a
     ∙ ap suc inside) (after_node events seen inner (flatten rest) later first last same))))
 
 -- ---- names with a text
-
 text_where : (o : Option (List ℕ)) (judged : List ℕ → Option Rule) → broken_by o judged ≡ None →
     (found : List ℕ) × (o ≡ Some found)
 text_where None judged e = cc

@@ -18,8 +18,12 @@ pub mod Placing
 pub mod SettledPatterns
 pub mod TakenFits
 pub mod Greedy
+pub mod OneMoreIdentifier
 pub mod Numbering
+pub mod MentionsLed
+pub mod NumbersPut
 pub mod Numbers
+pub mod OneTree
 pub mod Indexed
 pub mod Kept
 pub mod Labels

@@ -1,6 +1,6 @@
 -- What has a number is there, and what has none leads nowhere. The search does no induction over
 -- the identifiers.
-use Rattle.md_tree.proofs.Numbering.{led-reference, led-call}
+use Rattle.md_tree.proofs.MentionsLed.{led-reference, led-call}
 use Rattle.md_tree.specs.Mentions.{defined, footnoted}
 use Rattle.md_tree.proofs.resolve.lead.Goals as goal
 

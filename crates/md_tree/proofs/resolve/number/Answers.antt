@@ -2,7 +2,7 @@
 -- each identifier up in the longer map.
 use Rattle.std.proofs.Common.{rules, ◌≡◌, None}
 use Rattle.md_tree.specs.Numbers.{found_in}
-use Rattle.md_tree.proofs.Numbering.{NumbersBefore-new}
+use Rattle.md_tree.proofs.OneMoreIdentifier.{NumbersBefore-new}
 use Rattle.md_tree.proofs.resolve.number.Goals as goal
 
 pub returns-clause-numbers : goal.returns-clause-numbers

@@ -3,7 +3,8 @@
 use Rattle.std.proofs.Common.{below_more, get_or, sym}
 use Rattle.md_tree.specs.Mentions.{mentions_among, IsResolved}
 use Rattle.md_tree.specs.Numbers.{leading_number}
-use Rattle.md_tree.proofs.Numbering.{IsResolved-at, IsUnresolvedBy-at, numbered-kept}
+use Rattle.md_tree.proofs.Numbering.{numbered-kept}
+use Rattle.md_tree.proofs.MentionsLed.{IsResolved-at, IsUnresolvedBy-at}
 use Rattle.md_tree.proofs.resolve.resolve.Goals as goal
 
 pub returns-in-Err-clause-refused : goal.returns-in-Err-clause-refused
