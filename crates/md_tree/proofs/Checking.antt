@@ -25,7 +25,6 @@ use Rattle.md_tree.specs.Walk.{Unbroken}
 use Rattle.md_tree.specs.Resolve.{LeadsNowhere, IsUnresolvedBy, IsUnresolved}
 use Rattle.md_tree.proofs.OneTree.{flatten_one}
 use Rattle.md_tree.proofs.Listing.{listed, resolved-listed, all-resolved, got-listed}
-use Rattle.md_tree.proofs.Breaks.{of_node}
 use Rattle.md_tree.proofs.Trees.{Runs-append}
 use Rattle.md_base.specs.Tree.{Forest, flatten}
 use Rattle.md_pattern.specs.Facts.{facts_at}

@@ -21,7 +21,8 @@ use Rattle.md_tree.specs.Tables.{IsTable}
 use Rattle.md_tree.proofs.OneTree.{flatten_one}
 use Rattle.md_pattern.specs.Partners.{index_after}
 use Rattle.md_pattern.specs.Facts.{tables_with, tables_after}
-use Rattle.md_tree.proofs.Entering.{Row, entry_row, exit_row, rows_of, past_row, inside_rows}
+use Rattle.md_tree.proofs.EventRows.{Row, entry_row, exit_row, rows_of}
+use Rattle.md_tree.proofs.Entering.{past_row, inside_rows}
 use Rattle.md_tree.proofs.Entering.{event_there, children_there}
 
 -- a table has its shape

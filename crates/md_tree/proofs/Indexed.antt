@@ -35,8 +35,9 @@ use Rattle.md_tree.specs.Found.{position_from, partner_event, position_ended}
 use Rattle.md_tree.specs.Texts.{ExitsAt, positions_of, has_reading, is_text, is_identifier}
 use Rattle.md_pattern.proofs.CountedFacts.{length_one}
 use Rattle.md_pattern.proofs.Passing.{facts-flatten}
-use Rattle.md_tree.proofs.Entering.{Row, entry_row, exit_row, rows_of, event_rows, fact_rows}
-use Rattle.md_tree.proofs.Entering.{position_rows, get_at, got_inside, got_mapped, mapped_long}
+use Rattle.md_tree.proofs.EventRows.{Row, entry_row, exit_row, rows_of, event_rows, fact_rows}
+use Rattle.md_tree.proofs.EventRows.{position_rows}
+use Rattle.md_tree.proofs.Entering.{get_at, got_inside, got_mapped, mapped_long}
 use Rattle.md_tree.proofs.Placing.{at_entry, in_node, after_node, length_events}
 use Rattle.md_tree.proofs.OneTree.{flatten_one}
 

@@ -13,6 +13,7 @@ pub mod Contributing
 pub mod Defining
 pub mod Endings
 pub mod EnteredTables
+pub mod EventRows
 pub mod Entering
 pub mod Placing
 pub mod SettledPatterns
@@ -37,8 +38,12 @@ pub mod OpenPaths
 pub mod ClosedNodes
 pub mod Paths
 pub mod TextRuns
+pub mod SearchSteps
+pub mod FoundPlaces
 pub mod Searching
 pub mod Spines
+pub mod SpineSymbols
+pub mod OneLevel
 pub mod Tables
 pub mod NodesRead
 pub mod Trees

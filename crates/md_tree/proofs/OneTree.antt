@@ -4,7 +4,6 @@ use Rattle.md_base.specs.declared.event.Point.{Point}
 use Rattle.md_base.specs.declared.event.Name.{Name}
 use Rattle.md_base.specs.declared.event.Event.{Event}
 use Rattle.md_base.specs.Tree.{Forest, Empty, Node, flatten, entering, exiting}
-use Rattle.md_pattern.specs.Partners.{index_after}
 
 event_parts : (one other : Event) → one ≡ other → (one.kind ≡ other.kind) × (one.name ≡ other.name)
     × (one.point ≡ other.point)

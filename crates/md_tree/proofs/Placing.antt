@@ -20,8 +20,8 @@ use Rattle.md_pattern.specs.Facts.{facts_at}
 use Rattle.md_tree.specs.Found.{position_from, partner_event, position_there, position_at}
 use Rattle.md_pattern.proofs.CountedFacts.{length_one, length_facts, regrouped}
 use Rattle.md_pattern.proofs.Passing.{facts-flatten}
-use Rattle.md_tree.proofs.Entering.{Row, entry_row, exit_row, rows_of, get_at, numbered_rows}
-use Rattle.md_tree.proofs.Entering.{numbered_get, past_row, inside_rows, children_there}
+use Rattle.md_tree.proofs.EventRows.{Row, entry_row, exit_row, rows_of, numbered_rows, numbered_get}
+use Rattle.md_tree.proofs.Entering.{get_at, past_row, inside_rows, children_there}
 use Rattle.md_tree.proofs.Searching.{AllAt}
 
 -- a list with a node's part in it, split at the entry, after it, at the exit and after that

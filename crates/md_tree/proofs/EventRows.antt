@@ -1,0 +1,136 @@
+-- The events of a document in rows, each with what is found at it, its node's children and place.
+use Rattle.std.proofs.Common.{◌≡◌, ℕ, zero, suc, ◌+◌, ◌<◌, Option, Some, None, List, [], ◌∷◌, ◌++◌}
+use Rattle.std.proofs.Common.{length, get_or, refl, sym, ap, ◌∙◌, subst, arith}
+use Rattle.std.specs.Prelude.{map}
+use Rattle.std.proofs.lemmas.List.{map-append}
+use Rattle.md_base.specs.declared.event.Point.{Point}
+use Rattle.md_base.specs.declared.event.Position.{Position}
+use Rattle.md_base.specs.declared.event.Name.{Name}
+use Rattle.md_base.specs.declared.event.Event.{Event}
+use Rattle.md_pattern.specs.declared.facts.Fact.{Fact}
+use Rattle.md_base.specs.Tree.{Forest, Empty, Node, flatten, entering, exiting}
+use Rattle.md_tree.specs.Rules.{place}
+use Rattle.md_tree.specs.Texts.{positions_of}
+use Rattle.md_tree.specs.Entered.{children_of}
+use Rattle.md_pattern.specs.Partners.{index_after}
+use Rattle.md_pattern.specs.Facts.{partner_alone, tables_with, tables_after, fact_at, facts_of}
+
+-- an event, its index, what is found at it, at an entry the node's children, and at an exit
+-- where the node lies
+pub record Row : Type 0 where
+  pub event : Event
+  pub children : Option Forest
+  pub index : ℕ
+  pub fact : Fact
+  pub position : Option Position
+
+abbrev pub entry_row : ℕ → ℕ → Name → Event → Forest → Row
+entry_row index tables name event children =
+    record {
+      event = event;
+      children = Some children;
+      index = index;
+      fact = fact_at index tables name children;
+      position = None;
+    }
+
+abbrev pub exit_row : ℕ → ℕ → Name → Point → Point → Row
+exit_row index entry name start end = record {
+  event = exiting name end;
+  children = None;
+  index = index;
+  fact = partner_alone entry;
+  position = Some (place start end);
+}
+
+abbrev pub rows_of : ℕ → ℕ → Forest → List Row
+rows_of index tables Empty = []
+rows_of index tables (Node name start end children rest) =
+    entry_row index tables name (entering name start) children
+    ∷ rows_of (suc index) tables children
+    ++ exit_row (index_after (suc index) children) index name start end
+    ∷ rows_of (suc (index_after (suc index) children))
+    (tables_with name (tables_after tables children)) rest
+
+-- a column of the rows, where it is so of each node
+module _ {A : Type 0} (of_row : Row → A) (column : ℕ → ℕ → Forest → List A)
+    (at_end : (index tables : ℕ) →
+    column index tables Empty ≡ []) (at_node : (index tables : ℕ) (name : Name) (start end : Point)
+    (children rest : Forest) → column index tables (Node name start end children rest)
+    ≡ of_row (entry_row index tables name (entering name start) children) ∷ (column (suc index)
+    tables children ++ of_row (exit_row (index_after (suc index) children) index name start end)
+    ∷ column (suc (index_after (suc index) children))
+    (tables_with name (tables_after tables children)) rest)) where
+  pub column_rows : (forest : Forest) (index tables : ℕ) →
+      map of_row (rows_of index tables forest) ≡ column index tables forest
+  column_rows Empty index tables = sym (at_end index tables)
+  column_rows (Node name start end children rest) index tables =
+      let entry = of_row (entry_row index tables name (entering name start) children) in
+      let exit = exit_row (index_after (suc index) children) index name start end in
+      let more = tables_with name (tables_after tables children) in
+      let later = suc (index_after (suc index) children) in
+      ap (λ xs. entry ∷ xs)
+      (map-append of_row (rows_of (suc index) tables children) (exit ∷ rows_of later more rest)
+      ∙ ap (λ xs. xs ++ of_row exit ∷ map of_row (rows_of later more rest)) (column_rows children
+      (suc index) tables) ∙ ap (λ xs. column (suc index) tables children ++ of_row exit ∷ xs)
+      (column_rows rest later more))
+      ∙ sym (at_node index tables name start end children rest)
+
+pub event_rows : (forest : Forest) (index tables : ℕ) →
+    map (λ (r : Row). r.event) (rows_of index tables forest) ≡ flatten forest
+event_rows = column_rows (λ (r : Row). r.event) (λ index tables forest. flatten forest)
+    (λ index tables. refl) (λ index tables name start end children rest. refl)
+
+pub children_rows : (forest : Forest) (index tables : ℕ) →
+    map (λ (r : Row). r.children) (rows_of index tables forest) ≡ children_of forest
+children_rows = column_rows (λ (r : Row). r.children) (λ index tables forest. children_of forest)
+    (λ index tables. refl) (λ index tables name start end children rest. refl)
+
+pub fact_rows : (forest : Forest) (index tables : ℕ) →
+    map (λ (r : Row). r.fact) (rows_of index tables forest) ≡ facts_of index tables forest
+fact_rows = column_rows (λ (r : Row). r.fact) facts_of (λ index tables. refl)
+    (λ index tables name start end children rest. refl)
+
+pub position_rows : (forest : Forest) (index tables : ℕ) →
+    map (λ (r : Row). r.position) (rows_of index tables forest) ≡ positions_of forest
+position_rows = column_rows (λ (r : Row). r.position) (λ index tables forest. positions_of forest)
+    (λ index tables. refl) (λ index tables name start end children rest. refl)
+
+-- rows have their indices, from the first one up to the next
+abbrev pub Numbered : ℕ → List Row → ℕ → Type 0
+Numbered index [] next = index ≡ next
+Numbered index (row ∷ rows) next = (row.index ≡ index) × Numbered (suc index) rows next
+
+numbered_append : (xs ys : List Row) (index middle next : ℕ) → Numbered index xs middle →
+    Numbered middle ys next →
+    Numbered index (xs ++ ys) next
+numbered_append [] ys index middle next p q = subst (λ n. Numbered n ys next) (sym p) q
+numbered_append (row ∷ xs) ys index middle next p q =
+    (p.0, numbered_append xs ys (suc index) middle next p.1 q)
+
+pub numbered_rows : (forest : Forest) (index tables : ℕ) →
+    Numbered index (rows_of index tables forest) (index_after index forest)
+numbered_rows Empty index tables = refl
+numbered_rows (Node name start end children rest) index tables =
+    let exit = index_after (suc index) children in (
+      refl,
+      numbered_append (rows_of (suc index) tables children) (exit_row exit index name start end
+          ∷ rows_of (suc exit) (tables_with name (tables_after tables children)) rest)
+          (suc index) exit
+          (index_after (suc exit) rest)
+          (numbered_rows children (suc index) tables) (
+            refl,
+            numbered_rows rest (suc exit) (tables_with name (tables_after tables children)),
+          ),
+    )
+
+pub numbered_get : (rows : List Row) (index next i : ℕ) (d : Row) →
+    Numbered index rows next → i < length rows →
+    Row.index (get_or rows i d) ≡ index + i
+numbered_get [] index next i d p inside = absurd (omega arith)
+numbered_get (row ∷ rows) index next zero d p inside =
+    let none : index + 0 ≡ index = omega arith in p.0 ∙ sym none
+numbered_get (row ∷ rows) index next (suc i) d p inside =
+    let one : suc index + i ≡ index + suc i = omega arith in
+    let within : i < length rows = omega arith in
+    numbered_get rows (suc index) next i d p.1 within ∙ one

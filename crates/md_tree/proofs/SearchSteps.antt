@@ -1,0 +1,221 @@
+-- A search leads from one state to another over what it finds at one node.
+use Rattle.std.proofs.Common.{◌≡◌, ℕ, Bool, true, false, cond, Option, Some, None, refl, ap, ◌∙◌}
+use Rattle.std.specs.Prelude.{unwrap_or}
+use Rattle.md_base.specs.declared.event.Name.{Name}
+use Rattle.md_base.specs.declared.event.Name.TheVariants as name_variants
+use name_variants.{Label, ReferenceString}
+use Rattle.md_base.specs.declared.event.Point.{Point}
+use Rattle.md_base.specs.declared.event.Position.{Position}
+use Rattle.md_pattern.specs.declared.seeking.Wanted.{Wanted}
+use Rattle.md_pattern.specs.declared.seeking.Wanted.TheVariants as want
+use Rattle.md_pattern.specs.declared.seeking.Found.{Found}
+use Rattle.md_pattern.specs.declared.seeking.Found.TheVariants as so_far
+use Rattle.md_pattern.specs.declared.seeking.Sight.TheVariants as looks
+use Rattle.md_pattern.specs.declared.seeking.Sought.{Sought}
+use Rattle.md_base.specs.Tree.{Forest}
+use Rattle.md_base.specs.NameTests.{is_heading_mark, is_item, is_item_prefix, is_item_value}
+use Rattle.md_base.specs.NameTests.{is_label, is_label_text, is_reference, is_definition_label}
+use Rattle.md_base.specs.NameTests.{is_footnote_prefix, is_footnote_label}
+use Rattle.md_base.specs.Children.{or_else, first_on_spine}
+use Rattle.md_tree.specs.Rules.{place}
+use Rattle.md_pattern.specs.Seeking.{sight, first_where, refer_where, seen_as}
+use Rattle.md_tree.specs.Reads.{first_place, number_in}
+
+-- which node a search stops at, and what it finds there
+abbrev pub seeks : Wanted → Name → Bool
+seeks want.Nothing name = false
+seeks want.Mark name = is_heading_mark name
+seeks want.Item name = is_item name
+seeks want.Prefix name = is_item_prefix name
+seeks want.Value name = is_item_value name
+seeks want.Media name = is_label name
+seeks want.Label name = is_label name
+seeks want.LabelText name = is_label_text name
+seeks want.DefinitionLabel name = is_definition_label name
+seeks want.FootnotePrefix name = is_footnote_prefix name
+seeks want.FootnoteLabel name = is_footnote_label name
+
+abbrev pub finds : Wanted → Point → Point → Forest → Option Position
+finds want.Nothing start end inner = None
+finds want.Mark start end inner = Some (place start end)
+finds want.Item start end inner = number_in inner
+finds want.Prefix start end inner = first_place is_item_value inner
+finds want.Value start end inner = Some (place start end)
+finds want.Media start end inner = first_place is_label_text inner
+finds want.Label start end inner = first_place is_label_text inner
+finds want.LabelText start end inner = Some (place start end)
+finds want.DefinitionLabel start end inner = Some (place start end)
+finds want.FootnotePrefix start end inner = first_place is_footnote_label inner
+finds want.FootnoteLabel start end inner = Some (place start end)
+
+-- a reference counts for links and images alone
+abbrev pub refers : Wanted → Name → Bool
+refers want.Media name = is_reference name
+refers _ name = false
+
+abbrev pub spot : Wanted → Forest → Option (Option Position)
+spot w forest = first_on_spine (seeks w) (finds w) forest
+
+abbrev pub reference : Wanted → Forest → Option (Option Position)
+reference w forest = first_on_spine (refers w) (λ start end inner. Some (place start end)) forest
+
+-- what has been found, after this and a reference
+abbrev pub found_after : Found → Option (Option Position) → Option (Option Position) → Found
+found_after so_far.Reference o r = so_far.Reference
+found_after so_far.First o (Some r) = so_far.Reference
+found_after so_far.First o None = so_far.First
+found_after so_far.Nothing o (Some r) = so_far.Reference
+found_after so_far.Nothing (Some o) None = so_far.First
+found_after so_far.Nothing None None = so_far.Nothing
+
+abbrev pub place_after : Found → Option Position → Option (Option Position) →
+    Option (Option Position) → Option Position
+place_after so_far.Reference p o r = p
+place_after so_far.First p o r = unwrap_or r p
+place_after so_far.Nothing p o r = unwrap_or r (unwrap_or o p)
+
+abbrev pub At : Type 0
+At = ℕ → Option Position
+
+-- a search leads from one state to another over what it finds
+pub record Searched (at : At) (from to : Sought) (o r : Option (Option Position)) : Type 0 where
+  pub wanted : to.wanted ≡ from.wanted
+  pub found : to.found ≡ found_after from.found o r
+  pub places : at to.read_at ≡ place_after from.found (at from.read_at) o r
+
+found_twice : (f : Found) (o r later more : Option (Option Position)) →
+    found_after (found_after f o r) later more ≡ found_after f (or_else o later) (or_else r more)
+found_twice so_far.Reference o r later more = refl
+found_twice so_far.First o (Some r) later more = refl
+found_twice so_far.First o None later (Some more) = refl
+found_twice so_far.First o None later None = refl
+found_twice so_far.Nothing o (Some r) later more = refl
+found_twice so_far.Nothing (Some o) None later (Some more) = refl
+found_twice so_far.Nothing (Some o) None later None = refl
+found_twice so_far.Nothing None None later (Some more) = refl
+found_twice so_far.Nothing None None (Some later) None = refl
+found_twice so_far.Nothing None None None None = refl
+
+place_twice : (f : Found) (p : Option Position) (o r later more : Option (Option Position)) →
+    place_after (found_after f o r) (place_after f p o r) later more
+    ≡ place_after f p (or_else o later) (or_else r more)
+place_twice so_far.Reference p o r later more = refl
+place_twice so_far.First p o (Some r) later more = refl
+place_twice so_far.First p o None later (Some more) = refl
+place_twice so_far.First p o None later None = refl
+place_twice so_far.Nothing p o (Some r) later more = refl
+place_twice so_far.Nothing p (Some o) None later (Some more) = refl
+place_twice so_far.Nothing p (Some o) None later None = refl
+place_twice so_far.Nothing p None None later (Some more) = refl
+place_twice so_far.Nothing p None None (Some later) None = refl
+place_twice so_far.Nothing p None None None None = refl
+
+pub joined : (at : At) (from middle to : Sought) (o r later more : Option (Option Position)) →
+    Searched at from middle o r → Searched at middle to later more →
+    Searched at from to (or_else o later) (or_else r more)
+joined at from middle to o r later more a b = record {
+  wanted = b.wanted ∙ a.wanted;
+  found =
+      b.found ∙ ap (λ f. found_after f later more) a.found ∙ found_twice from.found o r later more;
+  places = b.places ∙ ap (λ f. place_after f (at middle.read_at) later more) a.found
+      ∙ ap (λ p. place_after (found_after from.found o r) p later more) a.places
+      ∙ place_twice from.found (at from.read_at) o r later more;
+}
+
+nothing_where : (at : At) (w : Wanted) (f : Found) (n : ℕ) →
+    Searched at (record { wanted = w; found = f; read_at = n })
+    (record { wanted = w; found = f; read_at = n }) None None
+nothing_where at w so_far.Nothing n = record { wanted = refl; found = refl; places = refl }
+nothing_where at w so_far.First n = record { wanted = refl; found = refl; places = refl }
+nothing_where at w so_far.Reference n = record { wanted = refl; found = refl; places = refl }
+
+pub nothing : (at : At) (s : Sought) → Searched at s s None None
+nothing at s = nothing_where at s.wanted s.found s.read_at
+
+first_found : (at : At) (w : Wanted) (f : Found) (n m : ℕ) (o : Option Position) → at m ≡ o →
+    Searched at (record { wanted = w; found = f; read_at = n })
+    (first_where f (record { wanted = w; found = f; read_at = n }) m) (Some o) None
+first_found at w so_far.Nothing n m o e = record { wanted = refl; found = refl; places = e }
+first_found at w so_far.First n m o e = record { wanted = refl; found = refl; places = refl }
+first_found at w so_far.Reference n m o e = record { wanted = refl; found = refl; places = refl }
+
+reference_found : (at : At) (w : Wanted) (f : Found) (n m : ℕ) (o : Option Position) → at m ≡ o →
+    Searched at (record { wanted = w; found = f; read_at = n })
+    (refer_where f (record { wanted = w; found = f; read_at = n }) m) None (Some o)
+reference_found at w so_far.Nothing n m o e = record { wanted = refl; found = refl; places = e }
+reference_found at w so_far.First n m o e = record { wanted = refl; found = refl; places = e }
+reference_found at w so_far.Reference n m o e =
+    record { wanted = refl; found = refl; places = refl }
+
+-- ---- one node
+
+-- a node that is, or holds, what is sought, by a test
+itself_step : (at : At) (s : Sought) (passes : Bool) (m inner : ℕ) (o : Option Position) →
+    at m ≡ o → Searched at s (seen_as (cond passes looks.Itself looks.Other) s m inner)
+    (cond passes (Some o) None) None
+itself_step at s true m inner o e = first_found at s.wanted s.found s.read_at m o e
+itself_step at s false m inner o e = nothing at s
+
+holder_step : (at : At) (s : Sought) (passes : Bool) (m inner : ℕ) (o : Option Position) →
+    (passes ≡ true → at inner ≡ o) →
+    Searched at s (seen_as (cond passes looks.Holder looks.Other) s m inner)
+    (cond passes (Some o) None) None
+holder_step at s true m inner o e = first_found at s.wanted s.found s.read_at inner o (e refl)
+holder_step at s false m inner o e = nothing at s
+
+media_step :
+    (at : At) (s : Sought) (name : Name) (start end : Point) (children : Forest) (m inner : ℕ) →
+    at m ≡ Some (place start end) →
+    (is_label name ≡ true → at inner ≡ finds want.Media start end children) →
+    Searched at s (seen_as (sight want.Media name) s m inner)
+    (cond (is_label name) (Some (finds want.Media start end children)) None)
+    (cond (is_reference name) (Some (Some (place start end))) None)
+media_step at s Label start end children m inner here held =
+    first_found at s.wanted s.found s.read_at inner
+    (finds want.Media start end children) (held refl)
+media_step at s ReferenceString start end children m inner here held =
+    reference_found at s.wanted s.found s.read_at m (Some (place start end)) here
+media_step at s _ start end children m inner here held = nothing at s
+
+-- what a holder holds is found in it
+abbrev pub Held : At → Wanted → Name → Point → Point → Forest → ℕ → Type 0
+Held at want.Item name start end children inner =
+    is_item name ≡ true → at inner ≡ finds want.Item start end children
+Held at want.Prefix name start end children inner = is_item_prefix name ≡ true →
+    at inner ≡ finds want.Prefix start end children
+Held at want.Media name start end children inner =
+    is_label name ≡ true → at inner ≡ finds want.Media start end children
+Held at want.Label name start end children inner =
+    is_label name ≡ true → at inner ≡ finds want.Label start end children
+Held at want.FootnotePrefix name start end children inner = is_footnote_prefix name ≡ true →
+    at inner ≡ finds want.FootnotePrefix start end children
+Held at _ name start end children inner = Unit {0}
+
+pub solid_step : (at : At) (w : Wanted) (s : Sought) (name : Name) (start end : Point)
+    (children : Forest) (m inner : ℕ) →
+    at m ≡ Some (place start end) → Held at w name start end children inner →
+    Searched at s (seen_as (sight w name) s m inner)
+    (cond (seeks w name) (Some (finds w start end children)) None)
+    (cond (refers w name) (Some (Some (place start end))) None)
+solid_step at want.Nothing s name start end children m inner here held = nothing at s
+solid_step at want.Mark s name start end children m inner here held =
+    itself_step at s (is_heading_mark name) m inner (Some (place start end)) here
+solid_step at want.Item s name start end children m inner here held =
+    holder_step at s (is_item name) m inner (finds want.Item start end children) held
+solid_step at want.Prefix s name start end children m inner here held =
+    holder_step at s (is_item_prefix name) m inner (finds want.Prefix start end children) held
+solid_step at want.Value s name start end children m inner here held =
+    itself_step at s (is_item_value name) m inner (Some (place start end)) here
+solid_step at want.Media s name start end children m inner here held =
+    media_step at s name start end children m inner here held
+solid_step at want.Label s name start end children m inner here held =
+    holder_step at s (is_label name) m inner (finds want.Label start end children) held
+solid_step at want.LabelText s name start end children m inner here held =
+    itself_step at s (is_label_text name) m inner (Some (place start end)) here
+solid_step at want.DefinitionLabel s name start end children m inner here held =
+    itself_step at s (is_definition_label name) m inner (Some (place start end)) here
+solid_step at want.FootnotePrefix s name start end children m inner here held =
+    holder_step at s (is_footnote_prefix name) m inner
+    (finds want.FootnotePrefix start end children) held
+solid_step at want.FootnoteLabel s name start end children m inner here held =
+    itself_step at s (is_footnote_label name) m inner (Some (place start end)) here
