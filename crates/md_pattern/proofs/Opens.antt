@@ -1,9 +1,9 @@
 -- The open nodes, of which the vector has the innermost last: what they are where that one changes.
 use Rattle.std.proofs.Common.{◌≡◌, ℕ, false, ◌+◌, ◌-◌, ◌<◌, List, [], ◌∷◌, ◌++◌, length, get_or}
-use Rattle.std.proofs.Common.{take, drop, Result, Ok, Err, refl, sym, ap, subst, ◌∙◌, arith}
+use Rattle.std.proofs.Common.{Result, Ok, Err, refl, sym, ap, subst, ◌∙◌, arith}
 use Rattle.std.specs.Prelude.{set, reverse, OnOk}
-use Rattle.std.proofs.Math.Seq.{set-append_seam, take-append_seam, get_or-append_seam}
-use Rattle.std.proofs.lemmas.List.{length-set, length-append, reverse-append, reverse-reverse}
+use Rattle.std.proofs.Math.Seq.{set-append_seam, get_or-append_seam}
+use Rattle.std.proofs.lemmas.List.{length-append, reverse-append, reverse-reverse}
 use Rattle.md_base.specs.declared.event.Name.{Name}
 use Rattle.md_pattern.specs.declared.facts.Fact.{Fact}
 use Rattle.md_pattern.specs.declared.facts.OpenNode.{OpenNode}

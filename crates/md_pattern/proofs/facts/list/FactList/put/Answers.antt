@@ -1,7 +1,6 @@
 -- What is said with the word that is put is what was said, with the fact put: `FactLists` shows it
 -- by induction.
 use Rattle.std.proofs.Common.{sym, ap, ◌∙◌, subst}
-use Rattle.std.specs.Prelude.{set}
 use Rattle.md_pattern.specs.FactWords.{facts_of_words, AreWords}
 use Rattle.md_pattern.proofs.FactLists.{AreWords-put, facts-put}
 use Rattle.md_pattern.proofs.facts.list.FactList.put.Goals as goal
