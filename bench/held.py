@@ -81,6 +81,12 @@ def data(count):
     return ["+Paragraph 0", *leaf("Data", 0, 1) * count, "-Paragraph 1"]
 
 
+def spans(count):
+    """A paragraph of so many emphases of a text of a byte each."""
+    return ["+Paragraph 0", *(["+Emphasis 0", *leaf("Data", 0, 1), "-Emphasis 1"] * count),
+            "-Paragraph 1"]
+
+
 BAD = 2_000_000
 
 # Each script: its name, its events, made when it is run, its document, the most memory that it may
@@ -94,6 +100,8 @@ SCRIPTS = [
      57_000_000, None),
     ("events in 26,000 kB", lambda: data(66_000), b"ab", 64_000_000, 26_000 * 1024),
     ("events in 28,000 kB", lambda: data(66_000), b"ab", 64_000_000, 28_000 * 1024),
+    # Of most events the check keeps a word; with a record for each this takes 16,600 kB.
+    ("spans in 13,600 kB", lambda: spans(40_000), b"ab", 64_000_000, 13_600 * 1024),
     # The longest comes last, since a program's peak begins with this script's own memory.
     ("definitions of 20 bytes", lambda: kept_targets(100_000, 20), b"a" * 20, 142_000_000, None),
 ]
