@@ -1,5 +1,5 @@
--- The words by which what is found at each event is kept. Only contracts of private functions speak
--- of them.
+-- The words by which what is found at each event is kept. Contracts of private functions speak of
+-- them, and the model of `FactList`, which says by them which list of facts it is.
 use Rattle.std.specs.Prelude.{ℕ, ◌+◌, ◌-◌, ◌^◌, ◌<◌, if◌then◌else◌, nat_le, List, length, get_or}
 use Rattle.std.specs.Prelude.{map}
 use Rattle.std.specs.List.{All}
