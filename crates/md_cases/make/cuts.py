@@ -9,10 +9,11 @@ add it to `sections`; to take another name into the table, give it a pattern in 
 """
 import re
 
+from footnotes import call, footnote, footnote_after_a_blank_line
 from meaning import meaning
-from trees import (Case, Document, call, data, ending, events, footnote,
-                   footnote_after_a_blank_line, node, paragraph,
-                   placed, script, table)
+from prose import blank_line, data, ending, paragraph, thematic_break
+from tables import table
+from trees import Case, Document, events, placed, script
 
 LINE = re.compile(rb"[+-][A-Za-z]+ [0-9]{1,9}")
 READ = ("Data", "LineEnding", "BlankLineEnding", "LabelText", "GfmFootnoteDefinitionLabelString")
@@ -127,9 +128,9 @@ def changed(document):
 
 def sections():
     """The runs of cases that this makes, each by what its titles begin with."""
-    rule = placed(node("ThematicBreak", "***"))
+    rule = placed(thematic_break())
     note = placed(*footnote_after_a_blank_line())
-    dropped = placed(table(data("b"), call(data("c"))), ending(), ending("BlankLineEnding"),
+    dropped = placed(table(data("b"), call(data("c"))), ending(), blank_line(),
                      footnote(data("c"), paragraph(data("d"))))
     whole = script(note, {})
     # That a script may end with `--` is shown by the break, and its document is the same

@@ -7,8 +7,11 @@ cases, with a value at its place in VALUES here, and say there what it does. To 
 write a row in `documents`. `bench/cases.py` makes the cases.
 """
 from flags import cases_of, choices
+from footnotes import call, footnote
 from meaning import FLAG_OPTIONS, TEXT_OPTIONS
-from trees import call, data, footnote, image, paragraph, placed
+from media import image
+from prose import data, paragraph
+from trees import placed
 
 VALUES = ['<&"', "<b", 'x="&<>"', '<i>&"', '"<&']
 TEXTS = dict(zip(TEXT_OPTIONS, VALUES, strict=True))

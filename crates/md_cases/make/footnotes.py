@@ -1,12 +1,41 @@
-"""Footnotes in the model of `meaning`."""
+"""Footnotes: how they are written, what they mean, and their rows of `attacks`."""
 import re
 
 import texts
-from nodes import FORCED, NEEDED, Around, first
+from media import label
+from nodes import FORCED, NEEDED, Around, first, meaning_of
+from prose import blank_line, data, ending, paragraph
+from trees import node
+
+
+def call(labelled=""):
+    """The call of the footnote with a label, which is a text or a node in the label."""
+    return node("GfmFootnoteCall", label("[^", labelled))
+
+
+def footnote(labelled, *parts, after="]: "):
+    """A footnote definition: its label as in a call, and what it has."""
+    prefix = node("GfmFootnoteDefinitionPrefix", "[^",
+                  node("GfmFootnoteDefinitionLabelString", labelled), after)
+    return node("GfmFootnoteDefinition", prefix, *parts)
+
+
+def footnote_after_a_blank_line():
+    """The parts of `a[^b]`, a blank line and `[^b]: c`."""
+    return [paragraph(data("a"), call(data("b"))), ending(), blank_line(),
+            footnote(data("b"), paragraph(data("c")))]
 
 
 class Footnotes:
     """What calls and footnotes mean, and the section at the end, for `Meaning`."""
+
+    def count_calls(self, every):
+        """Counts the calls of each footnote, and says which of them each call is."""
+        for one in every:
+            if one.name == "GfmFootnoteCall":
+                called = self.identifier(one)
+                self.counts[called] = self.counts.get(called, 0) + 1
+                self.occurrences[id(one)] = self.counts[called]
 
     def names(self, identifier):
         """A footnote's number, and what its ids end in."""
@@ -21,7 +50,8 @@ class Footnotes:
         return (f"-{occurrence}" if occurrence > 1 or "gfm_footnote_number_ids" in self.options
                 else "")
 
-    def of_GfmFootnoteCall(self, node, around):
+    @meaning_of("GfmFootnoteCall")
+    def call(self, node, around):
         number, named = self.names(self.identifier(node))
         prefix = self.option("gfm_footnote_clobber_prefix", "user-content-")
         again = self.numbered(self.occurrences[id(node)])
@@ -30,7 +60,8 @@ class Footnotes:
                 '</a></sup>')
         return [] if around.image else [text]
 
-    def of_GfmFootnoteDefinition(self, node, around):
+    @meaning_of("GfmFootnoteDefinition")
+    def footnote(self, node, around):
         named = self.label(first(first(node, "GfmFootnoteDefinitionPrefix"),
                                  "GfmFootnoteDefinitionLabelString"))
         body = self.captured(node.children[1:], Around(footnote=True))
@@ -66,3 +97,13 @@ class Footnotes:
         return [NEEDED, f'<section data-footnotes="" class="footnotes">{heading}', FORCED, "<ol>",
                 *items,
                 FORCED, "</ol>", FORCED, "</section>", FORCED]
+
+
+def called_footnote(*parts):
+    """A footnote that has these parts, and a call of it."""
+    return [paragraph(call()), footnote("", *parts)]
+
+
+def ways_read(nodes):
+    """Ways of `attacks`, of nodes that are data and references."""
+    return [("footnote", [], called_footnote(paragraph(*nodes)))]

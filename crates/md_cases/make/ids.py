@@ -3,10 +3,12 @@
 To add a case, write a row in `rows`: its title, options besides `gfm_footnote_number_ids`, and the
 parts of the document. `bench/cases.py` makes the cases.
 """
+from footnotes import call, footnote, footnote_after_a_blank_line
 from meaning import meaning
-from trees import (Case, call, data, ending, footnote, footnote_after_a_blank_line, image, node,
-                   paragraph, placed,
-                   script, table)
+from media import image
+from prose import data, ending, paragraph, thematic_break
+from tables import table
+from trees import Case, placed, script
 
 
 def note(label, text):
@@ -63,7 +65,7 @@ def rows():
         ("footnote without a call", {}, [paragraph(call("b")), note("a", "x"), note("b", "y")]),
         ("footnote without a paragraph", {},
          [paragraph(call("a"), call("a")),
-          footnote("a", node("ThematicBreak", "***"), after="]:")]),
+          footnote("a", thematic_break(), after="]:")]),
     ]
 
 

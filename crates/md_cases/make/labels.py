@@ -6,7 +6,9 @@ is written; before a longer one it waits. To add a case, write a row in `rows`. 
 makes the cases.
 """
 from meaning import meaning
-from trees import Case, data, image, link, paragraph, placed, script
+from media import image, link
+from prose import data, paragraph
+from trees import Case, placed, script
 
 LENGTHS = range(509, 515)
 

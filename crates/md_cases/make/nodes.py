@@ -1,5 +1,5 @@
-"""The trees of documents that `meaning` goes over, what it knows of a node by those around it, and
-pieces that are line endings.
+"""The trees of documents that `meaning` goes over, what it knows of a node by those around it, the
+rules by name, and pieces that are line endings.
 """
 from typing import NamedTuple
 
@@ -8,6 +8,8 @@ from typing import NamedTuple
 NEEDED = object()
 FORCED = object()
 TRANSPARENT = ("SpaceOrTab", "Other1")
+# The method that says what a node means, by its name.
+RULES = {}
 
 
 class Around(NamedTuple):
@@ -18,6 +20,14 @@ class Around(NamedTuple):
     head: bool = False
     escaped: bool = True
     footnote: bool = False
+
+
+def meaning_of(*names):
+    """Makes a method, of a node and what is around it, the rule of these names."""
+    def rule(method):
+        RULES.update(dict.fromkeys(names, method))
+        return method
+    return rule
 
 
 def spine(node):

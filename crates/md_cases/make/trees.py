@@ -1,9 +1,11 @@
 """Trees of events, and the scripts that are written of them.
 
-A tree is written by `node(NAME, PARTS..)` with its parts in order, texts and other nodes: the texts
-make the document, and each node stands where its first part begins and its last one ends. `placed`
-gives such trees their places. Nodes that stand elsewhere, over one another, are made as `Node` with
-both places. Nothing here is run by itself.
+A tree is written by `node(NAME, PARTS..)` with its parts in order, texts and other nodes. `placed`
+gives such trees their places: the texts make the document, and each node stands where its first
+part begins and its last one ends. `spread` lets nodes stand over one another: each over the whole
+of a text. A node that stands elsewhere is made as `Node`, with both places. The modules of what
+nodes are about (`prose`, `raw`, `media`, `tables`, `footnotes`) write the trees. Nothing here is
+run by itself.
 """
 from typing import NamedTuple
 
@@ -14,6 +16,11 @@ class Node(NamedTuple):
     start: int
     end: int
     children: list
+
+
+class AtEnd(NamedTuple):
+    """A tree of nodes that `spread` lets stand at the end of its text."""
+    tree: tuple
 
 
 class Document(NamedTuple):
@@ -53,6 +60,27 @@ def placed(*parts):
     return Document(places(parts), bytes(source))
 
 
+def spread(text, parts):
+    """The document of this text alone, over all of which each of these nodes stands that has no
+    place; texts among the parts are passed over.
+    """
+    source = text.encode()
+
+    def place(part, start):
+        if isinstance(part, str):
+            return []
+        if isinstance(part, Node):
+            return [part]
+        if isinstance(part, AtEnd):
+            return place(part.tree, len(source))
+        return [Node(part[0], start, len(source), places(part[1], start))]
+
+    def places(some, start):
+        return [made for part in some for made in place(part, start)]
+
+    return Document(places(parts, 0), source)
+
+
 def events(nodes):
     """The lines of these nodes' events, in order."""
     lines = []
@@ -67,59 +95,3 @@ def script(document, options):
     settings = [f"!{name}" if value is True else f"!{name}={value}"
                 for name, value in options.items()]
     return "\n".join(settings + events(document.nodes) + ["--", ""]).encode() + document.source
-
-
-def call(label):
-    """A call of the footnote with a label, which is a text or a node in the label."""
-    return node("GfmFootnoteCall", node("Label", "[^", node("LabelText", label), "]"))
-
-
-def footnote(label, *parts, after="]: "):
-    """A footnote definition: its label as in a call, and what it has."""
-    prefix = node("GfmFootnoteDefinitionPrefix", "[^",
-                  node("GfmFootnoteDefinitionLabelString", label), after)
-    return node("GfmFootnoteDefinition", prefix, *parts)
-
-
-def link(label, destination, *title, name="Link"):
-    """A link with a label, a node, and a resource with a destination, a text; after it what is
-    said of a title.
-    """
-    resource = node("Resource", "(", node("ResourceDestinationString", node("Data", destination)),
-                    *title, ")")
-    return node(name, node("Label", "![" if name == "Image" else "[", node("LabelText", *label),
-                           "]"), resource)
-
-
-def image(label, destination, *title):
-    return link(label, destination, *title, name="Image")
-
-
-def data(text):
-    return node("Data", text)
-
-
-def paragraph(*parts):
-    return node("Paragraph", *parts)
-
-
-def ending(name="LineEnding"):
-    return node(name, "\n")
-
-
-def table(kept, dropped):
-    """A table of one column with `a` in its head, and a row of two cells, of which the
-    second is dropped.
-    """
-    head = node("GfmTableHead", node("GfmTableRow", node("GfmTableCell", "|", data("a"), "|")),
-                ending(),
-                node("GfmTableDelimiterRow", "|", node("GfmTableDelimiterCellValue", "-"), "|"))
-    row = node("GfmTableRow", node("GfmTableCell", "|", kept),
-               node("GfmTableCell", "|", dropped, "|"))
-    return node("GfmTable", head, ending(), node("GfmTableBody", row))
-
-
-def footnote_after_a_blank_line():
-    """The parts of `a[^b]`, a blank line and `[^b]: c`."""
-    return [paragraph(data("a"), call(data("b"))), ending(), ending("BlankLineEnding"),
-            footnote(data("b"), paragraph(data("c")))]
