@@ -23,8 +23,7 @@ use Rattle.md_shape.specs.State.{outside}
 use Rattle.md_shape.specs.Steps.{first_or, others_of}
 use Rattle.md_shape.specs.Claim.{is_laid, node_of, next_before, before_past}
 use Rattle.md_shape.proofs.Past.{unwrap-else}
-use Rattle.md_shape.proofs.EachSide.{is_set_aside}
-use Rattle.md_shape.proofs.Standing.{Facts}
+use Rattle.md_shape.proofs.Standing.{is_set_aside, Facts}
 
 -- ---- what a heading's text is after some nodes
 pub past-heading : (given : Given) (around : Surroundings) (before : Before) (forest : Forest) →

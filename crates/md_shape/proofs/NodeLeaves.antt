@@ -1,19 +1,17 @@
 -- What is known of a node where it is left.
-use Rattle.std.proofs.Common.{◌≡◌, ℕ, Bool, true, false, List, [], ◌∷◌, ◌++◌, Option, None, refl}
-use Rattle.std.proofs.Common.{ap, sym, subst, ◌∙◌}
+use Rattle.std.proofs.Common.{◌≡◌, ℕ, Bool, true, false, not, List, [], ◌∷◌, ◌++◌, Option}
+use Rattle.std.proofs.Common.{None, refl, ap, sym, subst, ◌∙◌}
 use Rattle.std.specs.Prelude.{if◌then◌else◌, count_by}
 use Rattle.std.specs.List.{list_any}
+use Rattle.std.proofs.lemmas.Bool.{and_parts, not-true}
 use Rattle.md_base.specs.declared.event.Name.{Name}
-use Rattle.md_base.specs.declared.event.Name.TheVariants as name_variants
-use name_variants.{LineEnding, CharacterReferenceValue, CodeIndented, CodeFenced, CodeFencedFence}
-use name_variants.{MathFlow, MathFlowFence, Link, Image, GfmFootnoteCall, GfmTableRow, GfmTableCell}
-use name_variants.{HeadingSetextUnderlineSequence}
+use Rattle.md_base.specs.declared.event.Name.TheVariants.{Data, GfmTableCell, GfmFootnoteCall}
 use Rattle.md_base.specs.declared.event.Point.{Point}
 use Rattle.md_base.proofs.Lies.{lie}
 use Rattle.md_base.specs.Is.{is}
 use Rattle.md_base.specs.Tree.{Forest, Empty}
 use Rattle.md_base.specs.Children.{last_name, spine_names, or_else}
-use Rattle.md_base.specs.NameTests.{is_transparent, is_fence, is_chunk}
+use Rattle.md_base.specs.NameTests.{is_transparent, is_fence, is_chunk, is_cell, is_call}
 use Rattle.md_pattern.specs.Looseness.{is_loose}
 use Rattle.md_meaning.specs.declared.context.Surroundings.{Surroundings}
 use Rattle.md_meaning.specs.Meaning.Around.{inside}
@@ -21,16 +19,18 @@ use Rattle.md_meaning.specs.Meaning.Layout.{laid_after}
 use Rattle.md_meaning.specs.Meaning.At.{Given, Before, identifier_of}
 use Rattle.md_meaning.specs.Meaning.Before.{before_children}
 use Rattle.md_shape.specs.Underlined.{is_underline, waits_past, waits_after}
-use Rattle.md_shape.specs.Content.{Content, Lines, Cells, Nothing, Childless, Fits, is_allowed}
+use Rattle.md_shape.specs.Content.{Content, Lines, BeforeLabel, Cells, Nothing, Childless, Fits}
+use Rattle.md_shape.specs.Content.{is_allowed}
 use Rattle.md_shape.specs.Content.{content_inside, content_after, content_after_node}
 use Rattle.md_shape.specs.State.{State, told_of}
-use Rattle.md_shape.specs.Steps.{entered, restored, is_raw}
+use Rattle.md_shape.specs.Steps.{entered, restored, is_raw, is_row, is_ending, is_value}
+use Rattle.md_shape.specs.Steps.{is_labelled}
 use Rattle.md_shape.specs.Claim.{Knows, KnowsEnded, KnowsCells, KnowsLines, TargetAfter}
 use Rattle.md_shape.specs.Claim.{ResourceAfter, Done, noted_all, has_marks, keeps_cells}
 use Rattle.md_shape.specs.Claim.{keeps_lines, is_laid, at_node, node_of, inner_of, next_before}
 use Rattle.md_shape.specs.Claim.{before_past}
 use Rattle.md_shape.proofs.Past.{past-spine, past-previous, past-calls, or_else-none}
-use Rattle.md_shape.proofs.EachSide.{Leaves}
+use Rattle.md_shape.proofs.EachSide.{Leaves, is_reference}
 use Rattle.md_shape.proofs.Standing.{Facts, is_lines}
 use Rattle.md_shape.proofs.Staying.{stays, childless}
 
@@ -77,27 +77,73 @@ lines_at : (c : Content) (spine : List Name) (fences : ℕ) (chunk : Bool) → i
 lines_at Lines spine fences chunk h k = k.0
 lines_at _ spine fences chunk h k = lie h
 
-value_marks : (c : Content) → is_allowed c CharacterReferenceValue ≡ true → has_marks c ≡ true
-value_marks Nothing h = lie h
-value_marks Childless h = lie h
-value_marks _ h = refl
-
 cell_at : (c : Content) (spine : List Name) (cells : ℕ) → is_allowed c GfmTableCell ≡ true →
     KnowsCells c spine cells →
     cells ≡ count_by (is GfmTableCell) spine
 cell_at Cells spine cells h k = k
 cell_at _ spine cells h k = lie h
 
-fence_lines : (c : Content) (name : Name) → is_fence name ≡ true →
-    keeps_lines (content_inside c name) ≡ true
-fence_lines c CodeFencedFence h = refl
-fence_lines c MathFlowFence h = refl
-fence_lines c _ h = lie h
+cell-is : (name : Name) → is_cell name ≡ true → name ≡ GfmTableCell
+cell-is GfmTableCell h = refl
+cell-is _ h = lie h
 
-fence_raw : (name : Name) → is_fence name ≡ true → is_raw name ≡ false
-fence_raw CodeFencedFence h = refl
-fence_raw MathFlowFence h = refl
-fence_raw _ h = lie h
+marks_at : (c : Content) (name : Name) → Facts c name → is_transparent name ≡ false →
+    has_marks c ≡ true
+marks_at Nothing name facts solid = lie (sym solid ∙ facts.nothing refl)
+marks_at Childless name facts solid = lie (sym solid ∙ facts.nothing refl)
+marks_at _ name facts solid = refl
+
+-- ---- what stands in a node of which a test holds, computed for all names
+asked : {A : Type 0} (b : Bool) (x y : A) → (if b then x else y) ≡ y → b ≡ true → x ≡ y
+asked true x y h e = h
+asked false x y h e = lie e
+
+reference-marks : (c : Content) (name : Name) →
+    (if is_reference name then has_marks (content_inside c name) else false) ≡ false
+reference-marks c Data = refl
+reference-marks c _ = refl
+
+underline-marks : (c : Content) (name : Name) →
+    (if is_underline name then has_marks (content_inside c name) else false) ≡ false
+underline-marks c Data = refl
+underline-marks c _ = refl
+
+ending-content : (c : Content) (name : Name) →
+    (if is_ending name then content_inside c name else Childless) ≡ Childless
+ending-content c Data = refl
+ending-content c _ = refl
+
+raw-content : (c : Content) (name : Name) →
+    (if is_raw name then content_inside c name else Lines) ≡ Lines
+raw-content c Data = refl
+raw-content c _ = refl
+
+row-content : (c : Content) (name : Name) →
+    (if is_row name then content_inside c name else Cells) ≡ Cells
+row-content c Data = refl
+row-content c _ = refl
+
+labelled-content : (c : Content) (name : Name) →
+    (if is_labelled name then content_inside c name else BeforeLabel) ≡ BeforeLabel
+labelled-content c Data = refl
+labelled-content c _ = refl
+
+fence-lines : (c : Content) (name : Name) →
+    (if is_fence name then keeps_lines (content_inside c name) else true) ≡ true
+fence-lines c Data = refl
+fence-lines c _ = refl
+
+fence-raw : (name : Name) → (if is_fence name then is_raw name else false) ≡ false
+fence-raw Data = refl
+fence-raw _ = refl
+
+raw-solid : (name : Name) → (if is_raw name then is_transparent name else false) ≡ false
+raw-solid Data = refl
+raw-solid _ = refl
+
+row-solid : (name : Name) → (if is_row name then is_transparent name else false) ≡ false
+row-solid Data = refl
+row-solid _ = refl
 
 -- the fences before a fence are counted where it is left
 pub fence-counted : (given : Given) (c : Content) (waits : Bool) (around : Surroundings)
@@ -108,27 +154,31 @@ pub fence-counted : (given : Given) (c : Content) (waits : Bool) (around : Surro
     is_fence name ≡ true →
     s.fences ≡ count_by is_fence before.spine
 fence-counted given c waits around before last name start end children state s facts knows done h =
-    done.fences (fence_lines c name h) ∙ ap (λ b. if b then 0 else state.fences) (fence_raw name h)
+    done.fences (asked (is_fence name) _ true (fence-lines c name) h)
+    ∙ ap (λ b. if b then 0 else state.fences) (asked (is_fence name) _ false (fence-raw name) h)
     ∙ lines_at c before.spine state.fences state.has_chunk (facts.fence h) knows.lines
 
 -- what is known of raw flow at its end
-raw_known : (given : Given) (name : Name) (around : Surroundings) (first : Before)
-    (children : Forest) (s : State) →
+raw_known : (given : Given) (waits : Bool) (c : Content) (name : Name) (around : Surroundings)
+    (first : Before) (children : Forest) (s : State) → is_raw name ≡ true →
     first.spine ≡ [] → first.previous ≡ None →
-    Knows (content_after Lines children) (waits_after false children) around
+    Knows (content_after (content_inside c name) children) waits around
     (before_past given around first children)
     s →
     (s.fences ≡ count_by is_fence (spine_names children))
     × (s.has_chunk ≡ list_any is_chunk (spine_names children)) × (s.ended ≡ last_name children)
-raw_known given name around first children s none before k =
+raw_known given waits c name around first children s raw none before k =
+    let same : content_after (content_inside c name) children ≡ Lines =
+    ap (λ c. content_after c children) (asked (is_raw name) _ Lines (raw-content c name) raw)
+    ∙ stays Lines children refl in
     let spine = past-spine given around first children ∙ ap (λ l. l ++ spine_names children) none in
     let lines : KnowsLines Lines (before_past given around first children).spine
     s.fences s.has_chunk =
     subst (λ c. KnowsLines c (before_past given around first children).spine s.fences s.has_chunk)
-    (stays Lines children refl) k.lines in
+    same k.lines in
     let ended : KnowsEnded Lines (before_past given around first children).previous s.ended =
     subst (λ c. KnowsEnded c (before_past given around first children).previous s.ended)
-    (stays Lines children refl) k.ended in (
+    same k.ended in (
       lines.0 ∙ ap (λ l. count_by is_fence l) spine,
       lines.1 ∙ ap (λ l. list_any is_chunk l) spine,
       ended ∙ past-previous given around first children
@@ -139,6 +189,11 @@ raw_known given name around first children s none before k =
 -- the call that a node is
 abbrev pub own_call : Name → List ℕ → List (List ℕ)
 own_call name identifier = if is GfmFootnoteCall name then identifier ∷ [] else []
+
+call-own : (name : Name) (identifier : List ℕ) →
+    (if is_call name then own_call name identifier else identifier ∷ []) ≡ identifier ∷ []
+call-own Data identifier = refl
+call-own _ identifier = refl
 
 -- what is known of a node where it is left
 pub leaves : (given : Given) (c : Content) (waits : Bool) (around : Surroundings) (before : Before)
@@ -155,64 +210,62 @@ pub leaves : (given : Given) (c : Content) (waits : Bool) (around : Surroundings
     ++ own_call name (identifier_of given.bytes children)) ++ later →
     Leaves given name (at_node given around before last name start end children) state.cells
     (restored name s) s.ended
-leaves given c waits around before last CharacterReferenceValue start end children state s h
-    facts fits line knows
-    done same later whole =
-    done.marker refl ∙ knows.marker (value_marks c h)
-leaves given c waits around before last LineEnding start end children state s h facts fits line
-    knows done same later whole =
-    let e = same (childless children fits) in (
-      ap (λ (t : State). t.slurps) e ∙ knows.slurps,
-      ap (λ (t : State). t.ended) e
-          ∙ ended-known c LineEnding before.previous state.ended h knows.ended,
-    )
-leaves given c waits around before last CodeIndented start end children state s h facts fits
-    line knows done same
-    later whole =
-    (raw_known given CodeIndented (inside given.options (is_loose children) CodeIndented around)
-    (before_children CodeIndented children before) children s refl refl done.knows).1
-leaves given c waits around before last CodeFenced start end children state s h facts fits line
-    knows done same later whole =
-    raw_known given CodeFenced (inside given.options (is_loose children) CodeFenced around)
-    (before_children CodeFenced children before) children s refl refl done.knows
-leaves given c waits around before last MathFlow start end children state s h facts fits line knows
-    done same later whole =
-    raw_known given MathFlow (inside given.options (is_loose children) MathFlow around)
-    (before_children MathFlow children before) children s refl refl done.knows
-leaves given c waits around before last CodeFencedFence start end children state s h facts fits line
-    knows done same later whole =
-    fence-counted given c waits around before last CodeFencedFence start end children state s
-    facts knows done refl
-leaves given c waits around before last MathFlowFence start end children state s h facts fits
-    line knows done same
-    later whole =
-    fence-counted given c waits around before last MathFlowFence start end children state s
-    facts knows done refl
-leaves given c waits around before last HeadingSetextUnderlineSequence start end children state s h
-    facts fits line knows done same later whole =
-    done.heading refl ∙ knows.heading (line refl).0
-leaves given c waits around before last GfmTableCell start end children state s h facts fits
-    line knows done same
-    later whole =
-    let k = cell_at c before.spine state.cells h knows.cells in
-    (k, done.cells refl ∙ k)
-leaves given c waits around before last GfmTableRow start end children state s h facts fits line
-    knows done same later whole =
-    let within : Surroundings = inside given.options (is_loose children) GfmTableRow around in
-    let first : Before = before_children GfmTableRow children before in
-    subst (λ x. KnowsCells x (before_past given within first children).spine s.cells)
-    (stays Cells children refl) done.knows.cells
-    ∙ ap (λ names. count_by (is GfmTableCell) names) (past-spine given within first children)
-leaves given c waits around before last Link start end children state s h facts fits line knows
-    done same later whole =
-    sym (done.resource ∙ or_else-none (inner_of given around before Link children).found.resource)
-leaves given c waits around before last Image start end children state s h facts fits line knows
-    done same later whole =
-    sym (done.resource ∙ or_else-none (inner_of given around before Image children).found.resource)
-leaves given c waits around before last GfmFootnoteCall start end children state s h facts fits line
-    knows done same later whole =
-    let within : Surroundings = inside given.options (is_loose children) GfmFootnoteCall around in
-    let first : Before = before_children GfmFootnoteCall children before in
-    (sym (done.knows.calls ∙ past-calls given within first children), later, whole)
-leaves given c waits around before last _ start end children state s h facts fits line knows done
-    same later whole = tt
+leaves given c waits around before last name start end children state s h facts fits line knows done
+    same later whole =
+    let within : Surroundings = inside given.options (is_loose children) name around in
+    let first : Before = before_children name children before in
+    let none : is_transparent name ≡ false → first.spine ≡ [] =
+    λ e. ap (λ b. if b then before.spine else []) e in
+    let own : is_call name ≡ true → own_call name (identifier_of given.bytes children)
+    ≡ identifier_of given.bytes children ∷ [] =
+    λ e. asked (is_call name) _ _ (call-own name (identifier_of given.bytes children)) e in
+    record {
+      marker = λ e.
+          let parts = and_parts (is_value name) (not (is_transparent name)) e in
+          done.marker (asked (is_reference name) _ false (reference-marks c name) e)
+          ∙ ap (λ b. if b then state.marker else 38) parts.0
+          ∙ knows.marker (marks_at c name facts (not-true (is_transparent name) parts.1));
+      ending = λ e.
+          let is = same (childless children (subst (λ c. Fits c children)
+          (asked (is_ending name) _ Childless (ending-content c name) e) fits)) in (
+            ap (λ (t : State). t.slurps) is ∙ knows.slurps,
+            ap (λ (t : State). t.ended) is ∙ ap (λ b. if b then state.ended else None) e
+                ∙ ended-known c name before.previous state.ended h knows.ended,
+          );
+      raw = λ e. raw_known given _ c name within first children s e
+          (none (asked (is_raw name) _ false (raw-solid name) e)) refl done.knows;
+      fences = λ e. fence-counted given c waits around before last name start end children state s
+          facts knows done e;
+      heading = λ e. done.heading (asked (is_underline name) _ false (underline-marks c name) e)
+          ∙ knows.heading (line e).0;
+      cell = λ e.
+          let is = cell-is name e in
+          let k = cell_at c before.spine state.cells (ap (λ n. is_allowed c n) (sym is) ∙ h)
+          knows.cells in (
+            k,
+            done.cells (ap (λ n. keeps_cells (content_inside c n)) is)
+                ∙ ap (λ n. if is_row n then 0 else state.cells) is ∙ k,
+          );
+      row = λ e.
+          subst (λ x. KnowsCells x (before_past given within first children).spine s.cells)
+          (ap (λ c. content_after c children) (asked (is_row name) _ Cells (row-content c name) e)
+          ∙ stays Cells children refl) done.knows.cells
+          ∙ ap (λ names. count_by (is GfmTableCell) names)
+          (past-spine given within first children ∙ ap (λ l. l ++ spine_names children)
+          (none (asked (is_row name) _ false (row-solid name) e)));
+      resource = λ e.
+          let found = (inner_of given around before name children).found in
+          let kept : s.resource ≡ or_else found.resource (if is_labelled name then None
+          else state.resource) =
+          subst (λ x. ResourceAfter x found (if is_labelled name then None else state.resource)
+          s.resource) (asked (is_labelled name) _ BeforeLabel (labelled-content c name) e)
+          done.resource in
+          sym (kept ∙ ap (λ b. or_else found.resource (if b then None else state.resource)) e
+          ∙ or_else-none found.resource);
+      calls = λ e. (
+        sym (done.knows.calls ∙ past-calls given within first children),
+        later,
+        whole ∙ ap (λ l. ((before.calls ++ (inner_of given around before name children).calls)
+            ++ l) ++ later) (own e),
+      );
+    }

@@ -1,11 +1,11 @@
 -- Where nothing is printed, called or noted, and where no line ending is slurped anew.
-use Rattle.std.proofs.Common.{◌≡◌, Bool, true, false, not, ◌&&◌, ◌||◌, cond, List, [], ◌∷◌, ◌++◌}
+use Rattle.std.proofs.Common.{◌≡◌, Bool, true, false, not, ◌&&◌, cond, List, [], ◌∷◌, ◌++◌}
 use Rattle.std.proofs.Common.{refl, ap, sym, subst, ◌∙◌}
 use Rattle.std.specs.Prelude.{if◌then◌else◌}
 use Rattle.std.proofs.lemmas.Bool.{and_parts, not-true}
 use Rattle.md_base.specs.declared.event.Name.{Name}
 use Rattle.md_base.specs.declared.event.Name.TheVariants as name_variants
-use name_variants.{LineEnding, SpaceOrTab, BlockQuotePrefix, Other, Definition, GfmFootnoteCall}
+use name_variants.{SpaceOrTab, BlockQuotePrefix, Other, Definition, GfmFootnoteCall}
 use name_variants.{GfmFootnoteDefinition}
 use Rattle.md_base.specs.declared.event.Point.{Point}
 use Rattle.md_base.proofs.Lies.{lie}
@@ -24,8 +24,7 @@ use Rattle.md_meaning.specs.Meaning.Nodes.{outcome}
 use Rattle.md_shape.specs.Content.{Content, Nothing, Childless, Fits, content_of, content_inside}
 use Rattle.md_shape.specs.Content.{content_past, content_after_node}
 use Rattle.md_shape.specs.Claim.{at_node, inner_of, next_before}
-use Rattle.md_shape.proofs.EachSide.{is_quiet}
-use Rattle.md_shape.proofs.Standing.{allowed-facts, is_callless}
+use Rattle.md_shape.proofs.Standing.{allowed-facts, is_callless, is_nothing, is_quiet}
 use Rattle.md_shape.proofs.Staying.{node-same, stays, childless}
 
 abbrev pub here_before : Given → Surroundings → Before → Name → Point → Point →
@@ -62,21 +61,8 @@ Says given around before c name children =
     Fits (content_inside c name) children → is_quiet name ≡ true →
     (inner_of given around before name children).pieces ≡ []
 
--- nothing that prints stands there
-abbrev is_bare : Content → Bool
-is_bare content = elim content [ Nothing ↦ true | Childless ↦ true | _ ↦ false ]
-
--- a name that isn't quiet, or one in which nothing that prints stands
-abbrev is_bare_inside : Name → Bool
-is_bare_inside name =
-    not (is_quiet name) || (is_bare (content_of name) && not (is_transparent name))
-
-bare-inside : (name : Name) → is_bare_inside name ≡ true
-bare-inside LineEnding = refl
-bare-inside _ = refl
-
 bare-silent : (given : Given) (around : Surroundings) (before : Before) (content : Content)
-    (forest : Forest) → is_bare content ≡ true → Fits content forest →
+    (forest : Forest) → is_nothing content ≡ true → Fits content forest →
     (outcome given around before forest).pieces ≡ []
 bare-silent given around before Nothing forest bare fits = silent given around before forest fits
 bare-silent given around before Childless forest bare fits =
@@ -87,9 +73,7 @@ pub quiet : (given : Given) (around : Surroundings) (before : Before) (c : Conte
     (children : Forest) →
     Says given around before c name children
 quiet given around before c name children fits h =
-    let parts = and_parts (is_bare (content_of name)) (not (is_transparent name))
-    (subst (λ q. not q || (is_bare (content_of name) && not (is_transparent name)) ≡ true) h
-    (bare-inside name)) in
+    let parts = and_parts (is_nothing (content_of name)) (not (is_transparent name)) h in
     let own : content_inside c name ≡ content_of name =
     ap (λ t. cond t c (content_of name)) (not-true (is_transparent name) parts.1) in
     bare-silent given (inside given.options (is_loose children) name around)

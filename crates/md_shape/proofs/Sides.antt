@@ -1,51 +1,157 @@
--- Name by name: what is printed at a node's two ends is what the node means, and its surroundings
--- turn as the meaning's do.
-use Rattle.std.proofs.Common.{◌≡◌, ℕ, Bool, true, false, not, ◌&&◌, ◌||◌, List, [], ◌∷◌, ◌++◌}
-use Rattle.std.proofs.Common.{Option, refl, ap, sym, ◌∙◌, unwrap_or, codes, drop}
+-- What is printed at a node's two ends is what the node means, and its surroundings turn as the
+-- meaning's do. For most names both sides compute to the same, once what the state knows is put in.
+use Rattle.std.proofs.Common.{◌≡◌, ℕ, Bool, true, false, not, ◌||◌, List, [], ◌∷◌, ◌++◌, Option}
+use Rattle.std.proofs.Common.{refl, ap, sym, ◌∙◌, append-nil, codes}
 use Rattle.std.specs.Prelude.{if◌then◌else◌, count_by, slice_get}
-use Rattle.std.specs.Option.{option_map_or}
-use Rattle.std.specs.List.{flat_map}
+use Rattle.std.specs.List.{list_any}
 use Rattle.md_base.specs.declared.event.AlignKind.{AlignKind}
 use Rattle.md_base.specs.declared.event.Name.{Name}
 use Rattle.md_base.specs.declared.event.Name.TheVariants as name_variants
-use name_variants.{AutolinkEmail, AutolinkProtocol, GfmAutolinkLiteralEmail}
-use name_variants.{GfmAutolinkLiteralMailto, GfmAutolinkLiteralProtocol, GfmAutolinkLiteralWww}
-use name_variants.{GfmAutolinkLiteralXmpp, LineEnding, BlankLineEnding, BlockQuote, ListOrdered}
-use name_variants.{ListUnordered, ListItem, Data, CharacterEscapeValue, CharacterReferenceValue}
-use name_variants.{CodeIndented, CodeFenced, CodeFencedFence, CodeFencedFenceInfo}
-use name_variants.{CodeFencedFenceMeta, CodeFlowChunk, MathFlow, MathFlowFence, MathFlowFenceMeta}
-use name_variants.{MathFlowChunk, CodeText, CodeTextData, MathText, MathTextData, HtmlFlow}
-use name_variants.{HtmlFlowData, HtmlTextData, Definition, DefinitionDestinationString}
-use name_variants.{DefinitionTitleString, Link, Image, Resource, ResourceDestinationString}
-use name_variants.{ResourceTitleString, ReferenceString, GfmFootnoteCall, GfmFootnoteDefinition}
-use name_variants.{GfmFootnoteDefinitionPrefix, HeadingAtx, HeadingSetextText}
-use name_variants.{HeadingSetextUnderlineSequence, GfmTable, GfmTableHead, GfmTableBody}
-use name_variants.{GfmTableRow, GfmTableCell, GfmTableDelimiterRow, Emphasis, Strong}
-use name_variants.{GfmStrikethrough, GfmTaskListItemCheck, GfmTaskListItemValueChecked}
-use name_variants.{HardBreakEscape, HardBreakTrailing, Paragraph, ThematicBreak, Frontmatter}
-use Rattle.md_base.proofs.Lies.{lie}
+use name_variants.{ListOrdered, ListUnordered, Paragraph, CodeFencedFence, MathFlowFence, GfmTable}
+use name_variants.{GfmTableCell, GfmFootnoteCall}
 use Rattle.md_base.specs.Is.{is}
-use Rattle.md_base.specs.NameTests.{is_definition}
-use Rattle.md_base.specs.Reference.{decoded}
+use Rattle.md_base.specs.Children.{spine_names, last_name}
+use Rattle.md_base.specs.NameTests.{is_fence, is_chunk, is_cell}
 use Rattle.md_pattern.specs.Looseness.{is_loose}
 use Rattle.md_pattern.specs.Alignments.{alignments}
-use Rattle.md_tree.specs.Rules.{columns}
 use Rattle.md_meaning.specs.declared.context.Container.TheVariants as container
+use Rattle.md_meaning.specs.declared.context.Container.{Container}
 use Rattle.md_meaning.specs.declared.context.Surroundings.{Surroundings}
 use Rattle.md_meaning.specs.Meaning.Around.{inside, is_tight}
-use Rattle.md_meaning.specs.Meaning.Layout.{Piece, Needed, Forced, layout, said, on_own_line, when}
-use Rattle.md_meaning.specs.Meaning.At.{Given, At, text_in, identifier_of}
+use Rattle.md_meaning.specs.Meaning.Layout.{Piece, Forced, layout, said, on_own_line, when}
+use Rattle.md_meaning.specs.Meaning.At.{Given, At}
 use Rattle.md_meaning.specs.Meaning.Means.{prints}
-use Rattle.md_meaning.specs.Meaning.Blocks.{heading, underline_rank}
-use Rattle.md_meaning.specs.Meaning.Spans.{escaped}
-use Rattle.md_meaning.specs.Meaning.Tables.{cell_of}
-use Rattle.md_meaning.specs.Meaning.Media.{anchor, picture, target_defined}
+use Rattle.md_shape.specs.Underlined.{is_underline}
+use Rattle.md_shape.specs.Content.{Blocks, Lines, Fences, Cells, content_of}
 use Rattle.md_shape.specs.State.{State, turns, turned, captures}
-use Rattle.md_shape.specs.Sides.{opens, closes, cell_opening, cell_closing, list_opening}
-use Rattle.md_shape.specs.Claim.{seen}
-use Rattle.md_shape.proofs.EachSide.{told_at, is_quiet, is_set_aside, Leaves, span_sides}
-use Rattle.md_shape.proofs.EachSide.{code_sides, cell_sides, quiet_sides, through_sides, list_sides}
-use Rattle.md_shape.proofs.EachSide.{fenced-sides, fence-sides, call-sides, ends, contained_is}
+use Rattle.md_shape.specs.Steps.{is_ending, is_raw, is_row, is_labelled}
+use Rattle.md_shape.specs.Sides.{opens, closes, list_opening}
+use Rattle.md_shape.specs.Claim.{seen, mark_after}
+use Rattle.md_shape.proofs.Standing.{is_quiet, is_set_aside}
+use Rattle.md_shape.proofs.EachSide.{told_at, is_reference, Leaves, cell_sides}
+use Rattle.md_shape.proofs.EachSide.{list_sides, fence-sides, call-sides}
+
+-- ---- what is known of a node where it is left, put into its state
+abbrev informed : Name → At → State → State
+informed name at left = record left {
+  around = seen at.around at.before.columns;
+  slurps = if is_ending name then at.before.slurps else left.slurps;
+  ended = if is_ending name then at.before.previous else left.ended;
+  marker = if is_reference name then mark_after at.before.spine else left.marker;
+  fences = if is_raw name then count_by is_fence (spine_names at.children) else left.fences;
+  has_chunk =
+      if is_raw name then list_any is_chunk (spine_names at.children) else left.has_chunk;
+  heading = if is_underline name then at.before.heading else left.heading;
+  cells = if is_cell name then count_by (is GfmTableCell) at.before.spine
+      else (if is_row name then count_by (is GfmTableCell) (spine_names at.children)
+      else left.cells);
+  resource = if is_labelled name then at.found.resource else left.resource;
+}
+
+abbrev cells_at : Name → At → ℕ → ℕ
+cells_at name at cells = if is_cell name then count_by (is GfmTableCell) at.before.spine else cells
+
+abbrev ended_at : Name → At → Option Name → Option Name
+ended_at name at ended = if is_raw name then last_name at.children else ended
+
+chosen : {A : Type 0} (b : Bool) (x y : A) → (b ≡ true → y ≡ x) → (if b then x else y) ≡ y
+chosen true x y h = sym (h refl)
+chosen false x y h = refl
+
+informed-is : (given : Given) (name : Name) (at : At) (cells : ℕ) (left : State)
+    (ended : Option Name) → Leaves given name at cells left ended →
+    informed name at left ≡ record left { around = seen at.around at.before.columns }
+informed-is given name at cells left ended k =
+    let slurps = chosen (is_ending name) at.before.slurps left.slurps (λ e. (k.ending e).0) in
+    let previous = chosen (is_ending name) at.before.previous left.ended (λ e. (k.ending e).1) in
+    let marker = chosen (is_reference name) (mark_after at.before.spine) left.marker k.marker in
+    let fences = chosen (is_raw name) (count_by is_fence (spine_names at.children)) left.fences
+    (λ e. (k.raw e).0) in
+    let chunk = chosen (is_raw name) (list_any is_chunk (spine_names at.children)) left.has_chunk
+    (λ e. (k.raw e).1) in
+    let heading = chosen (is_underline name) at.before.heading left.heading k.heading in
+    let row = chosen (is_row name) (count_by (is GfmTableCell) (spine_names at.children))
+    left.cells k.row in
+    let cell = chosen (is_cell name) (count_by (is GfmTableCell) at.before.spine) left.cells
+    (λ e. (k.cell e).1) in
+    let resource = chosen (is_labelled name) at.found.resource left.resource
+    (λ e. sym (k.resource e)) in
+    cc
+
+-- ---- both sides, name by name
+
+-- what is printed at the end of these goes by what stands in them
+abbrev is_open : Name → Bool
+is_open name = elim (content_of name) [
+  | Blocks ↦ true
+  | Lines ↦ true
+  | Fences ↦ true
+  | Cells ↦ true
+  | _ ↦ false
+]
+
+-- what a node's children print with what is printed at its end, which may be nothing
+abbrev joined : List Piece → List Piece → List Piece
+joined inner [] = inner
+joined inner (piece ∷ pieces) = inner ++ (piece ∷ pieces)
+
+abbrev ended_by : Name → List Piece → List Piece → List Piece
+ended_by name inner stop = if captures name || is_quiet name then stop
+    else (if is_open name then inner ++ stop else joined inner stop)
+
+ended-is : (c q o : Bool) (inner stop : List Piece) → (q ≡ true → inner ≡ []) →
+    (if c || q then stop else (if o then inner ++ stop else joined inner stop))
+    ≡ (if c then [] else inner) ++ stop
+ended-is true q o inner stop h = refl
+ended-is false true o inner stop h = ap (λ i. i ++ stop) (sym (h refl))
+ended-is false false true inner stop h = refl
+ended-is false false false inner [] h = sym (append-nil inner)
+ended-is false false false inner (piece ∷ pieces) h = refl
+
+-- what a node prints, of what its children print, in a state that is told what it asks
+abbrev Ends : Given → At → ℕ → State → Option Name → List Piece → Name → List Piece
+Ends given at cells left ended inner name =
+    opens given (seen at.around at.before.columns) (cells_at name at cells) (told_at given at) name
+    ++ ended_by name inner (closes given (informed name at left) (ended_at name at ended)
+    (told_at given at) (if captures name then layout given.ending inner else []) name)
+
+-- that is what the node means, but for texts that are set aside; what is quiet has nothing inside
+abbrev BothSides : Given → At → ℕ → State → Option Name → List Piece → Name → Type 0
+BothSides given at cells left ended inner name =
+    (if is_set_aside name then Ends given at cells left ended inner name
+    else prints given at name (if is_quiet name then [] else inner))
+    ≡ Ends given at cells left ended inner name
+
+tight_sides : (b : Bool) (inner start : List Piece) (piece : Piece) (pieces : List Piece) →
+    (if b then inner else start ++ (inner ++ (piece ∷ pieces)))
+    ≡ when (not b) start ++ joined inner (when (not b) (piece ∷ pieces))
+tight_sides true inner start piece pieces = refl
+tight_sides false inner start piece pieces = refl
+
+both-sides : (given : Given) (at : At) (cells : ℕ) (left : State) (ended : Option Name)
+    (inner : List Piece) (name : Name) → Leaves given name at cells left ended →
+    BothSides given at cells left ended inner name
+both-sides given at cells left ended inner ListOrdered k =
+    list_sides (on_own_line (codes "<ol")) (list_opening given (told_at given at))
+    (said (codes ">")) inner (Forced ∷ said (codes "</ol>"))
+both-sides given at cells left ended inner Paragraph k =
+    tight_sides (is_tight at.around.container) inner _ _ _
+both-sides given at cells left ended inner CodeFencedFence k =
+    fence-sides at left inner (k.fences refl)
+both-sides given at cells left ended inner MathFlowFence k =
+    fence-sides at left inner (k.fences refl)
+both-sides given at cells left ended inner GfmTableCell k =
+    cell_sides at.around.in_head (slice_get at.before.columns
+    (count_by (is GfmTableCell) at.before.spine)) (layout given.ending inner)
+both-sides given at cells left ended inner GfmFootnoteCall k =
+    let calls = k.calls refl in
+    call-sides given at left calls.0 calls.1 calls.2
+both-sides given at cells left ended inner name k =
+    elim at.around.in_image as (λ b. BothSides given
+    (record at { around = record at.around { in_image = b } }) cells left ended inner name) [
+      | true ↦ refl
+      | false ↦ refl
+    ]
 
 -- the two ends of a node, in the surroundings that the meaning sees
 pub sides-seen :
@@ -57,140 +163,32 @@ pub sides-seen :
     ++ ((if captures name then [] else inner)
     ++ closes given (record left { around = seen at.around at.before.columns }) ended
     (told_at given at) (if captures name then layout given.ending inner else []) name)
-sides-seen given at cells left ended inner DefinitionDestinationString aside quiet knows =
-    lie (sym aside)
-sides-seen given at cells left ended inner DefinitionTitleString aside quiet knows = lie (sym aside)
-sides-seen given at cells left ended inner ResourceDestinationString aside quiet knows =
-    lie (sym aside)
-sides-seen given at cells left ended inner ResourceTitleString aside quiet knows = lie (sym aside)
-sides-seen given at cells left ended inner Data aside quiet knows =
-    quiet_sides (ends given at left ended Data) inner (quiet refl)
-sides-seen given at cells left ended inner CharacterEscapeValue aside quiet knows =
-    quiet_sides (ends given at left ended CharacterEscapeValue) inner (quiet refl)
-sides-seen given at cells left ended inner CodeTextData aside quiet knows =
-    quiet_sides (ends given at left ended CodeTextData) inner (quiet refl)
-sides-seen given at cells left ended inner MathTextData aside quiet knows =
-    quiet_sides (ends given at left ended MathTextData) inner (quiet refl)
-sides-seen given at cells left ended inner CharacterReferenceValue aside quiet knows =
-    ap (λ m. escaped at (unwrap_or (decoded given.names m (text_in given.bytes at.place)) []))
-    (sym knows) ∙ quiet_sides (ends given at left ended CharacterReferenceValue) inner (quiet refl)
-sides-seen given at cells left ended inner LineEnding aside quiet knows =
-    ap (λ b. if at.around.in_code then said (codes " ") else (if not at.around.in_definition && b
-    || option_map_or is_definition at.before.previous false
-    then [] else said (text_in given.bytes at.place))) (sym knows.0) ∙ ap (λ o. if at.around.in_code
-    then said (codes " ") else (if not at.around.in_definition && left.slurps
-    || option_map_or is_definition o false then [] else said (text_in given.bytes at.place)))
-    (sym knows.1) ∙ quiet_sides (ends given at left ended LineEnding) inner (quiet refl)
-sides-seen given at cells left ended inner BlankLineEnding aside quiet knows =
-    quiet_sides (ends given at left ended BlankLineEnding) inner (quiet refl)
-sides-seen given at cells left ended inner BlockQuote aside quiet knows = refl
-sides-seen given at cells left ended inner ListOrdered aside quiet knows =
-    list_sides (on_own_line (codes "<ol")) (list_opening given (told_at given at))
-    (said (codes ">")) inner (Forced ∷ said (codes "</ol>"))
-sides-seen given at cells left ended inner ListUnordered aside quiet knows = refl
-sides-seen given at cells left ended inner ListItem aside quiet knows = refl
-sides-seen given at cells left ended inner Paragraph aside quiet knows =
-    span_sides (is_tight at.around.container) inner _ _
-sides-seen given at cells left ended inner HeadingAtx aside quiet knows = refl
-sides-seen given at cells left ended inner HeadingSetextText aside quiet knows = refl
-sides-seen given at cells left ended inner HeadingSetextUnderlineSequence aside quiet knows =
-    ap (λ t. heading (underline_rank given at) (said t)) (sym knows)
-    ∙ quiet_sides (ends given at left ended HeadingSetextUnderlineSequence) inner (quiet refl)
-sides-seen given at cells left ended inner CodeIndented aside quiet knows =
-    ap (λ b. on_own_line (codes "<pre><code>")
-    ++ (inner ++ (when b (Needed ∷ []) ++ said (codes "</code></pre>")))) (sym knows)
-sides-seen given at cells left ended inner CodeFenced aside quiet knows =
-    fenced-sides given at left ended (codes "<pre><code") inner knows.0 knows.1 knows.2
-sides-seen given at cells left ended inner MathFlow aside quiet knows =
-    fenced-sides given at left ended (codes "<pre><code class=\"language-math math-display\"") inner
-    knows.0 knows.1 knows.2
-sides-seen given at cells left ended inner CodeFencedFence aside quiet knows =
-    fence-sides at left inner knows
-sides-seen given at cells left ended inner MathFlowFence aside quiet knows =
-    fence-sides at left inner knows
-sides-seen given at cells left ended inner CodeFencedFenceInfo aside quiet knows = refl
-sides-seen given at cells left ended inner CodeFencedFenceMeta aside quiet knows = refl
-sides-seen given at cells left ended inner MathFlowFenceMeta aside quiet knows = refl
-sides-seen given at cells left ended inner CodeFlowChunk aside quiet knows =
-    quiet_sides (ends given at left ended CodeFlowChunk) inner (quiet refl)
-sides-seen given at cells left ended inner MathFlowChunk aside quiet knows =
-    quiet_sides (ends given at left ended MathFlowChunk) inner (quiet refl)
-sides-seen given at cells left ended inner CodeText aside quiet knows =
-    code_sides at.around.in_image _ _ _
-sides-seen given at cells left ended inner MathText aside quiet knows =
-    code_sides at.around.in_image _ _ _
-sides-seen given at cells left ended inner HtmlFlow aside quiet knows =
-    ap (λ l. Needed ∷ l) (through_sides inner)
-sides-seen given at cells left ended inner HtmlFlowData aside quiet knows =
-    quiet_sides (ends given at left ended HtmlFlowData) inner (quiet refl)
-sides-seen given at cells left ended inner HtmlTextData aside quiet knows =
-    quiet_sides (ends given at left ended HtmlTextData) inner (quiet refl)
-sides-seen given at cells left ended inner Emphasis aside quiet knows =
-    span_sides at.around.in_image inner _ _
-sides-seen given at cells left ended inner Strong aside quiet knows =
-    span_sides at.around.in_image inner _ _
-sides-seen given at cells left ended inner GfmStrikethrough aside quiet knows =
-    span_sides at.around.in_image inner _ _
-sides-seen given at cells left ended inner HardBreakEscape aside quiet knows =
-    quiet_sides (ends given at left ended HardBreakEscape) inner (quiet refl)
-sides-seen given at cells left ended inner HardBreakTrailing aside quiet knows =
-    quiet_sides (ends given at left ended HardBreakTrailing) inner (quiet refl)
-sides-seen given at cells left ended inner ThematicBreak aside quiet knows =
-    quiet_sides (ends given at left ended ThematicBreak) inner (quiet refl)
-sides-seen given at cells left ended inner GfmTaskListItemCheck aside quiet knows =
-    span_sides at.around.in_image inner _ _
-sides-seen given at cells left ended inner GfmTaskListItemValueChecked aside quiet knows =
-    quiet_sides (ends given at left ended GfmTaskListItemValueChecked) inner (quiet refl)
-sides-seen given at cells left ended inner Link aside quiet knows =
-    ap (λ r. if at.around.in_image then said (layout given.ending inner) else anchor given.options
-    (unwrap_or r (target_defined given (identifier_of given.bytes at.children)))
-    (layout given.ending inner)) knows
-sides-seen given at cells left ended inner Image aside quiet knows =
-    ap (λ r. if at.around.in_image then said (layout given.ending inner) else picture given.options
-    (unwrap_or r (target_defined given (identifier_of given.bytes at.children)))
-    (layout given.ending inner)) knows
-sides-seen given at cells left ended inner Resource aside quiet knows = refl
-sides-seen given at cells left ended inner ReferenceString aside quiet knows = refl
-sides-seen given at cells left ended inner AutolinkEmail aside quiet knows =
-    quiet_sides (ends given at left ended AutolinkEmail) inner (quiet refl)
-sides-seen given at cells left ended inner AutolinkProtocol aside quiet knows =
-    quiet_sides (ends given at left ended AutolinkProtocol) inner (quiet refl)
-sides-seen given at cells left ended inner GfmAutolinkLiteralEmail aside quiet knows =
-    quiet_sides (ends given at left ended GfmAutolinkLiteralEmail) inner (quiet refl)
-sides-seen given at cells left ended inner GfmAutolinkLiteralWww aside quiet knows =
-    quiet_sides (ends given at left ended GfmAutolinkLiteralWww) inner (quiet refl)
-sides-seen given at cells left ended inner GfmAutolinkLiteralMailto aside quiet knows =
-    quiet_sides (ends given at left ended GfmAutolinkLiteralMailto) inner (quiet refl)
-sides-seen given at cells left ended inner GfmAutolinkLiteralProtocol aside quiet knows =
-    quiet_sides (ends given at left ended GfmAutolinkLiteralProtocol) inner (quiet refl)
-sides-seen given at cells left ended inner GfmAutolinkLiteralXmpp aside quiet knows =
-    quiet_sides (ends given at left ended GfmAutolinkLiteralXmpp) inner (quiet refl)
-sides-seen given at cells left ended inner GfmTable aside quiet knows = refl
-sides-seen given at cells left ended inner GfmTableHead aside quiet knows = refl
-sides-seen given at cells left ended inner GfmTableBody aside quiet knows = refl
-sides-seen given at cells left ended inner GfmTableRow aside quiet knows =
-    ap (λ n. on_own_line (codes "<tr>") ++ (inner ++ (flat_map (cell_of at.around.in_head [])
-    (drop n at.before.columns) ++ on_own_line (codes "</tr>")))) (sym knows)
-sides-seen given at cells left ended inner GfmTableCell aside quiet knows =
-    cell_sides at.around.in_head (slice_get at.before.columns
-    (count_by (is GfmTableCell) at.before.spine)) (layout given.ending inner) ∙ ap (λ n.
-    option_map_or (λ kind. cell_opening at.around.in_head kind) (slice_get at.before.columns n) []
-    ++ ([] ++ option_map_or (λ kind. cell_closing at.around.in_head (layout given.ending inner))
-    (slice_get at.before.columns (count_by (is GfmTableCell) at.before.spine)) [])) (sym knows.0)
-    ∙ ap (λ n. option_map_or (λ kind. cell_opening at.around.in_head kind)
-    (slice_get at.before.columns cells) []
-    ++ ([] ++ option_map_or (λ kind. cell_closing at.around.in_head (layout given.ending inner))
-    (slice_get at.before.columns n) [])) (sym knows.1)
-sides-seen given at cells left ended inner GfmTableDelimiterRow aside quiet knows = refl
-sides-seen given at cells left ended inner GfmFootnoteCall aside quiet knows =
-    call-sides given at left knows.0 knows.1 knows.2
-sides-seen given at cells left ended inner GfmFootnoteDefinition aside quiet knows = refl
-sides-seen given at cells left ended inner GfmFootnoteDefinitionPrefix aside quiet knows = refl
-sides-seen given at cells left ended inner Definition aside quiet knows = refl
-sides-seen given at cells left ended inner Frontmatter aside quiet knows = refl
-sides-seen given at cells left ended inner _ aside quiet knows = through_sides inner
+sides-seen given at cells left ended inner name aside quiet k =
+    let own : List ℕ = if captures name then layout given.ending inner else [] in
+    let starts : ℕ → List Piece =
+    λ n. opens given (seen at.around at.before.columns) n (told_at given at) name in
+    let stops : State → Option Name → List Piece =
+    λ s o. closes given s o (told_at given at) own name in
+    let stop : List Piece =
+    stops (record left { around = seen at.around at.before.columns }) ended in
+    ap (λ i. prints given at name i) (sym (chosen (is_quiet name) [] inner quiet))
+    ∙ ap (λ b. if b then Ends given at cells left ended inner name
+    else prints given at name (if is_quiet name then [] else inner)) (sym aside)
+    ∙ both-sides given at cells left ended inner name k
+    ∙ ap (λ n. starts n ++ ended_by name inner (stops (informed name at left)
+    (ended_at name at ended))) (chosen (is_cell name) _ cells (λ e. (k.cell e).0))
+    ∙ ap (λ s. starts cells ++ ended_by name inner (stops s (ended_at name at ended)))
+    (informed-is given name at cells left ended k)
+    ∙ ap (λ o. starts cells ++ ended_by name inner
+    (stops (record left { around = seen at.around at.before.columns }) o))
+    (chosen (is_raw name) _ ended (λ e. (k.raw e).2))
+    ∙ ap (λ l. starts cells ++ l)
+    (ended-is (captures name) (is_quiet name) (is_open name) inner stop quiet)
 
 -- ---- the surroundings in a node are those that its children see
+abbrev contained_is : Container → Bool
+contained_is kind = elim kind [ container.Nothing ↦ false | _ ↦ true ]
+
 tight_is : (loose : Bool) →
     not loose ≡ is_tight (if loose then container.Another else container.TightList)
 tight_is true = refl

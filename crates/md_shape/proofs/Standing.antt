@@ -10,11 +10,10 @@ use Rattle.md_base.specs.NameTests.{is_transparent, is_fence, is_chunk, is_call,
 use Rattle.md_base.specs.NameTests.{is_footnote_definition}
 use Rattle.md_shape.specs.Content.{Content, Blocks, Spans, Strings, Html, Lines, Fences}
 use Rattle.md_shape.specs.Content.{BeforeLabel, AfterLabel, Sources, Rows, Cells, Parts, Nothing}
-use Rattle.md_shape.specs.Content.{Childless, is_allowed, content_inside}
+use Rattle.md_shape.specs.Content.{Childless, is_source, is_allowed, content_of, content_inside}
 use Rattle.md_shape.specs.State.{captures}
 use Rattle.md_shape.specs.Steps.{is_row, is_raw, begins_target, is_labelled}
 use Rattle.md_shape.specs.Claim.{is_laid, keeps_cells, keeps_lines}
-use Rattle.md_shape.proofs.EachSide.{is_set_aside}
 
 -- where a resource or a definition leads is kept, and the resource after a label
 abbrev pub keeps_target : Content → Bool
@@ -37,6 +36,14 @@ is_sources content = elim content [ Sources ↦ true | _ ↦ false ]
 
 abbrev pub is_nothing : Content → Bool
 is_nothing content = elim content [ Nothing ↦ true | Childless ↦ true | _ ↦ false ]
+
+-- what these print is set aside where they end, and thrown away by what they stand in
+abbrev pub is_set_aside : Name → Bool
+is_set_aside name = is_source name && captures name
+
+-- nothing is printed in these
+abbrev pub is_quiet : Name → Bool
+is_quiet name = is_nothing (content_of name) && not (is_transparent name)
 
 abbrev pub is_label : Name → Bool
 is_label name = elim name [ Label ↦ true | _ ↦ false ]

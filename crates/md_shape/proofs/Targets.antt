@@ -20,8 +20,7 @@ use Rattle.md_shape.specs.Content.{content_after, content_after_node}
 use Rattle.md_shape.specs.Steps.{target_after, resource_after, nowhere, begins_target, is_labelled}
 use Rattle.md_shape.specs.Claim.{KnowsResource, TargetAfter, ResourceAfter}
 use Rattle.md_shape.proofs.Past.{or_else-none}
-use Rattle.md_shape.proofs.EachSide.{is_set_aside}
-use Rattle.md_shape.proofs.Standing.{Facts, keeps_target, is_label}
+use Rattle.md_shape.proofs.Standing.{is_set_aside, Facts, keeps_target, is_label}
 use Rattle.md_shape.proofs.Counting.{when_not}
 
 pub kept-target : (c : Content) (found : Found) (one other : Target) → keeps_target c ≡ true →
