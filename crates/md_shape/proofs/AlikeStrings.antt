@@ -1,59 +1,34 @@
 -- Where strings are read alike, nodes of which only strings are made mean the same.
-use Rattle.std.proofs.Common.{◌≡◌, ℕ, ◌-◌, Bool, true, false, not, ◌&&◌, ◌||◌, List, [], ◌∷◌, ◌++◌}
-use Rattle.std.proofs.Common.{length, Option, Some, refl, ap, sym, ◌∙◌, unwrap_or, codes}
-use Rattle.std.specs.Prelude.{if◌then◌else◌, slice_get}
-use Rattle.std.specs.Option.{option_map_or}
+use Rattle.std.proofs.Common.{◌≡◌, ℕ, Bool, true, ◌&&◌, ◌||◌, List, [], ◌∷◌, ◌++◌}
+use Rattle.std.proofs.Common.{Option, refl, ap, sym, ◌∙◌}
+use Rattle.std.specs.Prelude.{if◌then◌else◌}
 use Rattle.md_base.specs.declared.event.Name.{Name}
-use Rattle.md_base.specs.declared.event.Name.TheVariants as name_variants
-use name_variants.{LineEnding, SpaceOrTab, BlockQuotePrefix, Other, Data, CharacterEscapeValue}
-use name_variants.{CharacterReferenceMarker, CharacterReferenceMarkerNumeric}
-use name_variants.{CharacterReferenceMarkerHexadecimal, CharacterReferenceValue, CodeText}
-use name_variants.{CodeTextData, MathText, MathTextData, HtmlFlow, HtmlText, DefinitionLabelString}
-use name_variants.{DefinitionDestinationString, DefinitionTitleString}
-use name_variants.{GfmFootnoteDefinitionLabelString, ResourceDestinationString, ResourceTitleString}
+use Rattle.md_base.specs.declared.event.Name.TheVariants.{Data}
+use Rattle.md_base.specs.declared.event.Position.{Position}
 use Rattle.md_base.proofs.Lies.{lie}
 use Rattle.md_base.specs.Tree.{Forest, Empty, Node}
 use Rattle.md_base.specs.Children.{is_empty, or_else, spine_names}
-use Rattle.md_base.specs.NameTests.{is_transparent, is_definition}
-use Rattle.md_base.specs.Reference.{decoded}
+use Rattle.md_base.specs.NameTests.{is_transparent}
 use Rattle.md_pattern.specs.Looseness.{is_loose}
-use Rattle.md_text.specs.Encode.{encoded}
 use Rattle.md_text.specs.declared.options.CompileOptions.{CompileOptions}
 use Rattle.md_meaning.specs.declared.context.Surroundings.{Surroundings}
 use Rattle.md_meaning.specs.Meaning.Around.{inside}
-use Rattle.md_meaning.specs.Meaning.Layout.{Piece, layout, said}
-use Rattle.md_meaning.specs.Meaning.At.{Given, At, Before, Found, nothing_found, text_in}
+use Rattle.md_meaning.specs.Meaning.Layout.{Piece, layout}
+use Rattle.md_meaning.specs.Meaning.At.{Given, At, Before, Found}
 use Rattle.md_meaning.specs.Meaning.Before.{before_children}
-use Rattle.md_meaning.specs.Meaning.Spans.{marker}
 use Rattle.md_meaning.specs.Meaning.Means.{prints}
 use Rattle.md_meaning.specs.Meaning.Nodes.{outcome, found_at}
-use Rattle.md_shape.specs.Content.{Content, Strings, Sources, Nothing, Childless, Fits, is_allowed}
+use Rattle.md_shape.specs.Content.{Content, Strings, Sources, Nothing, Childless, Fits, is_string}
+use Rattle.md_shape.specs.Content.{is_code_data, is_source, is_allowed}
 use Rattle.md_shape.specs.Content.{content_inside, content_after_node}
 use Rattle.md_shape.specs.Claim.{at_node, inner_of, next_before, node_of}
-use Rattle.md_shape.proofs.Standing.{implies, follows, allowed-facts, is_callless}
+use Rattle.md_shape.proofs.Standing.{implies, follows, picked, allowed-facts, is_callless}
 use Rattle.md_shape.proofs.Staying.{node-same}
 use Rattle.md_shape.proofs.Quiet.{past-callless, defines-inside}
 
 -- names of which only strings are made
 abbrev pub is_plain : Name → Bool
-is_plain name = elim name [
-  | LineEnding ↦ true
-  | Data ↦ true
-  | CharacterEscapeValue ↦ true
-  | CharacterReferenceMarker ↦ true
-  | CharacterReferenceMarkerNumeric ↦ true
-  | CharacterReferenceMarkerHexadecimal ↦ true
-  | CharacterReferenceValue ↦ true
-  | CodeTextData ↦ true
-  | MathTextData ↦ true
-  | DefinitionLabelString ↦ true
-  | DefinitionDestinationString ↦ true
-  | DefinitionTitleString ↦ true
-  | GfmFootnoteDefinitionLabelString ↦ true
-  | ResourceDestinationString ↦ true
-  | ResourceTitleString ↦ true
-  | other ↦ is_transparent other
-]
+is_plain name = is_transparent name || (is_string name || (is_code_data name || is_source name))
 
 in_strings : (n : Name) → implies (is_allowed Strings n) (is_plain n) ≡ true
 in_strings Data = refl
@@ -84,21 +59,30 @@ pub record Alike (a b : Surroundings) (x y : Before) : Type 0 where
   pub spine : x.spine ≡ y.spine
   pub previous : x.previous ≡ y.previous
 
+-- of what is read of the surroundings only the same is read inside
+escaping-read : (options : CompileOptions) (loose : Bool) (name : Name) (a b : Surroundings) →
+    (inside options loose name a).is_escaping
+    ≡ (inside options loose name (record b { is_escaping = a.is_escaping })).is_escaping
+escaping-read options loose Data a b = refl
+escaping-read options loose _ a b = refl
+
 escaping-inside : (options : CompileOptions) (loose : Bool) (name : Name) (a b : Surroundings) →
     a.is_escaping ≡ b.is_escaping →
     (inside options loose name a).is_escaping ≡ (inside options loose name b).is_escaping
-escaping-inside options loose HtmlFlow a b h = refl
-escaping-inside options loose HtmlText a b h = refl
-escaping-inside options loose DefinitionDestinationString a b h = refl
-escaping-inside options loose ResourceDestinationString a b h = refl
-escaping-inside options loose _ a b h = h
+escaping-inside options loose name a b h = escaping-read options loose name a b
+    ∙ ap (λ e. (inside options loose name (record b { is_escaping = e })).is_escaping) h
+
+code-read : (options : CompileOptions) (loose : Bool) (name : Name) (a b : Surroundings) →
+    (inside options loose name a).in_code
+    ≡ (inside options loose name (record b { in_code = a.in_code })).in_code
+code-read options loose Data a b = refl
+code-read options loose _ a b = refl
 
 code-inside : (options : CompileOptions) (loose : Bool) (name : Name) (a b : Surroundings) →
     a.in_code ≡ b.in_code →
     (inside options loose name a).in_code ≡ (inside options loose name b).in_code
-code-inside options loose CodeText a b h = refl
-code-inside options loose MathText a b h = refl
-code-inside options loose _ a b h = h
+code-inside options loose name a b h = code-read options loose name a b
+    ∙ ap (λ e. (inside options loose name (record b { in_code = e })).in_code) h
 
 alike-inside : (options : CompileOptions) (name : Name) (children : Forest)
     (a b : Surroundings) (x y : Before) →
@@ -114,92 +98,64 @@ alike-inside options name children a b x y h = record {
   previous = refl;
 }
 
--- a line ending in a definition
-defined_line : (given : Given) (code : Bool) (slurps : Bool) (defines : Bool)
-    (text : List ℕ) (o : Option Name) →
-    defines ≡ true →
-    (if code then said (codes " ")
-    else (if not defines && slurps || option_map_or is_definition o false then [] else said text))
-    ≡ (if code then said (codes " ") else (if option_map_or is_definition o false then []
-    else said text))
-defined_line given code slurps defines text o h =
-    ap (λ d. if code then said (codes " ")
-    else (if not d && slurps || option_map_or is_definition o false then [] else said text)) h
+-- a place in a definition, with all that strings read of one
+abbrev read_at : Position → Surroundings → List Name → Option Name → Found → At → At
+read_at place around spine previous found at = record at {
+  place = place;
+  around = record at.around {
+    is_escaping = around.is_escaping;
+    in_code = around.in_code;
+    in_definition = true;
+  };
+  before = record at.before { spine = spine; previous = previous };
+  found = found;
+}
+
+prints-read : (given : Given) (name : Name) (place : Position) (around : Surroundings)
+    (spine : List Name) (previous : Option Name) (found : Found) (at other : At)
+    (p : List Piece) →
+    (if is_plain name then prints given (read_at place around spine previous found at) name p
+    else prints given (read_at place around spine previous found other) name p)
+    ≡ prints given (read_at place around spine previous found other) name p
+prints-read given Data place around spine previous found at other p = refl
+prints-read given _ place around spine previous found at other p = refl
+
+found-read : (name : Name) (at other : At) (text : List ℕ) →
+    found_at at name text ≡ found_at (record other { found = at.found }) name text
+found-read Data at other text = refl
+found-read _ at other text = refl
+
+defined : (at : At) → at.around.in_definition ≡ true →
+    read_at at.place at.around at.before.spine at.before.previous at.found at ≡ at
+defined at h = ap (λ d. record at { around = record at.around { in_definition = d } }) (sym h)
 
 module _ (given : Given) (at other : At) (place : at.place ≡ other.place)
     (alike : Alike at.around other.around at.before other.before) (p q : List Piece)
     (same : p ≡ q) where
-  shown-alike : said (encoded at.around.is_escaping (text_in given.bytes at.place))
-      ≡ said (encoded other.around.is_escaping (text_in given.bytes other.place))
-  shown-alike = ap (λ e. said (encoded e (text_in given.bytes at.place))) alike.escaping
-      ∙ ap (λ l. said (encoded other.around.is_escaping (text_in given.bytes l))) place
+  other-read : (found : at.found ≡ other.found) →
+      read_at at.place at.around at.before.spine at.before.previous at.found other
+      ≡ read_at other.place other.around other.before.spine other.before.previous other.found other
+  other-read found =
+      let escaping = alike.escaping in
+      let code = alike.code in
+      let spine = alike.spine in
+      let previous = alike.previous in
+      cc
 
-  prints-alike : (name : Name) → is_plain name ≡ true →
+  prints-alike : (name : Name) → is_plain name ≡ true → at.found ≡ other.found →
       prints given at name p ≡ prints given other name q
-  prints-alike Data h = shown-alike
-  prints-alike CharacterEscapeValue h = shown-alike
-  prints-alike CodeTextData h = shown-alike
-  prints-alike MathTextData h = shown-alike
-  prints-alike CharacterReferenceValue h =
-      ap (λ e. said (encoded e
-      (unwrap_or (decoded given.names (option_map_or marker (slice_get at.before.spine
-      (length at.before.spine - 1)) 38) (text_in given.bytes at.place)) []))) alike.escaping
-      ∙ ap (λ l.
-      said (encoded other.around.is_escaping (unwrap_or (decoded given.names (option_map_or marker
-      (slice_get l (length l - 1)) 38) (text_in given.bytes at.place)) []))) alike.spine ∙ ap (λ l.
-      said (encoded other.around.is_escaping (unwrap_or (decoded given.names (option_map_or marker
-      (slice_get other.before.spine (length other.before.spine - 1)) 38) (text_in given.bytes l))
-      []))) place
-  prints-alike LineEnding h =
-      defined_line given at.around.in_code at.before.slurps at.around.in_definition
-      (text_in given.bytes at.place) at.before.previous alike.one ∙ ap (λ c. if c
-      then said (codes " ") else (if option_map_or is_definition at.before.previous false then []
-      else said (text_in given.bytes at.place))) alike.code ∙ ap (λ o. if other.around.in_code
-      then said (codes " ") else (if option_map_or is_definition o false then []
-      else said (text_in given.bytes at.place))) alike.previous
-      ∙ ap (λ l. if other.around.in_code then said (codes " ") else (if option_map_or is_definition
-      other.before.previous false then [] else said (text_in given.bytes l))) place
-      ∙ sym (defined_line given other.around.in_code other.before.slurps other.around.in_definition
-      (text_in given.bytes other.place) other.before.previous alike.other)
-  prints-alike CharacterReferenceMarker h = same
-  prints-alike CharacterReferenceMarkerNumeric h = same
-  prints-alike CharacterReferenceMarkerHexadecimal h = same
-  prints-alike DefinitionLabelString h = same
-  prints-alike DefinitionDestinationString h = same
-  prints-alike DefinitionTitleString h = same
-  prints-alike GfmFootnoteDefinitionLabelString h = same
-  prints-alike ResourceDestinationString h = same
-  prints-alike ResourceTitleString h = same
-  prints-alike SpaceOrTab h = same
-  prints-alike BlockQuotePrefix h = same
-  prints-alike (Other number) h = same
-  prints-alike _ h = lie h
+  prints-alike name h found =
+      ap (λ a. prints given a name p) (sym (defined at alike.one))
+      ∙ picked (is_plain name) _ _ (prints-read given name at.place at.around at.before.spine
+      at.before.previous at.found at other p) h
+      ∙ ap (λ a. prints given a name p) (other-read found ∙ defined other alike.other)
+      ∙ ap (λ l. prints given other name l) same
 
-  found-alike : (name : Name) → is_plain name ≡ true → at.found ≡ other.found →
+  found-alike : (name : Name) → at.found ≡ other.found →
       found_at at name (layout given.ending p) ≡ found_at other name (layout given.ending q)
-  found-alike DefinitionDestinationString h f =
-      ap (λ l. record nothing_found { destination = Some (layout given.ending l) }) same
-  found-alike ResourceDestinationString h f =
-      ap (λ l. record nothing_found { destination = Some (layout given.ending l) }) same
-  found-alike DefinitionTitleString h f =
-      ap (λ l. record nothing_found { title = Some (layout given.ending l) }) same
-  found-alike ResourceTitleString h f =
-      ap (λ l. record nothing_found { title = Some (layout given.ending l) }) same
-  found-alike SpaceOrTab h f = f
-  found-alike BlockQuotePrefix h f = f
-  found-alike (Other number) h f = f
-  found-alike Data h f = refl
-  found-alike CharacterEscapeValue h f = refl
-  found-alike CodeTextData h f = refl
-  found-alike MathTextData h f = refl
-  found-alike CharacterReferenceValue h f = refl
-  found-alike LineEnding h f = refl
-  found-alike CharacterReferenceMarker h f = refl
-  found-alike CharacterReferenceMarkerNumeric h f = refl
-  found-alike CharacterReferenceMarkerHexadecimal h f = refl
-  found-alike DefinitionLabelString h f = refl
-  found-alike GfmFootnoteDefinitionLabelString h f = refl
-  found-alike _ h f = lie h
+  found-alike name found = found-read name at other (layout given.ending p)
+      ∙ ap (λ f. found_at (record other { found = f }) name (layout given.ending p)) found
+      ∙ ap (λ l. found_at other name (layout given.ending l)) same
 
 -- of two findings, what each gives
 abbrev later_found : Found → Found → Found
@@ -241,10 +197,10 @@ outcomes-alike given a b x y c (Node name start end children rest) h fits alike 
     }) in
     let is : _ = plain c name h fits.0 in
     let found = found-alike given at other refl alike (inner_of given a x name children).pieces
-    (inner_of given b y name children).pieces inner.0 name is inner.1 in (
+    (inner_of given b y name children).pieces inner.0 name inner.1 in (
       ap (λ l. l ++ (outcome given a next rest).pieces)
           (prints-alike given at other refl alike (inner_of given a x name children).pieces
-          (inner_of given b y name children).pieces inner.0 name is)
+          (inner_of given b y name children).pieces inner.0 name is inner.1)
           ∙ ap (λ l. prints given other name (inner_of given b y name children).pieces ++ l)
           later.0,
       ap (λ f. later_found f (outcome given a next rest).found) found

@@ -1,17 +1,17 @@
 -- Blocks stand in nothing that a definition reads.
-use Rattle.std.proofs.Common.{◌≡◌, Bool, true, false, not, refl, ◌∙◌}
+use Rattle.std.proofs.Common.{◌≡◌, Bool, true, false, not, ◌||◌, refl, ◌∙◌}
+use Rattle.std.specs.Prelude.{if◌then◌else◌}
 use Rattle.md_base.specs.declared.event.Name.{Name}
-use Rattle.md_base.specs.declared.event.Name.TheVariants as name_variants
-use name_variants.{Data, CodeText, MathText, HtmlFlow, HtmlText, DefinitionDestinationString}
-use name_variants.{ResourceDestinationString}
+use Rattle.md_base.specs.declared.event.Name.TheVariants.{Data}
+use Rattle.md_base.specs.NameTests.{is_transparent}
 use Rattle.md_base.proofs.Lies.{lie}
 use Rattle.md_text.specs.declared.options.CompileOptions.{CompileOptions}
 use Rattle.md_meaning.specs.declared.context.Surroundings.{Surroundings}
 use Rattle.md_meaning.specs.Meaning.Around.{inside}
 use Rattle.md_shape.specs.Content.{Content, Blocks, Spans, Strings, Html, Lines, Fences}
 use Rattle.md_shape.specs.Content.{BeforeLabel, AfterLabel, Sources, Rows, Cells, Parts, Nothing}
-use Rattle.md_shape.specs.Content.{Childless, is_allowed, content_inside}
-use Rattle.md_shape.proofs.Standing.{implies}
+use Rattle.md_shape.specs.Content.{Childless, is_allowed, content_of, content_inside}
+use Rattle.md_shape.proofs.Standing.{implies, picked}
 
 abbrev pub is_blocks : Content → Bool
 is_blocks c = elim c [ Blocks ↦ true | _ ↦ false ]
@@ -94,26 +94,38 @@ blocks-in Parts n h k = lie (not_both (is_allowed Parts n) _ (in_parts n) h k)
 blocks-in Nothing n h k = lie (not_both (is_allowed Nothing n) _ (under_nothing n) h k)
 blocks-in Childless n h k = lie h
 
-escaping-kept :
-    (options : CompileOptions) (loose : Bool) (c : Content) (name : Name) (a : Surroundings) →
-    is_blocks (content_inside c name) ≡ true →
-    (inside options loose name a).is_escaping ≡ a.is_escaping
-escaping-kept options loose c HtmlFlow a h = lie h
-escaping-kept options loose c HtmlText a h = lie h
-escaping-kept options loose c DefinitionDestinationString a h = lie h
-escaping-kept options loose c ResourceDestinationString a h = lie h
-escaping-kept options loose c _ a h = refl
+-- where blocks may stand in a node, it keeps what the surroundings say of both
+abbrev holds_blocks : Name → Bool
+holds_blocks name = is_transparent name || is_blocks (content_of name)
 
-code-kept :
-    (options : CompileOptions) (loose : Bool) (c : Content) (name : Name) (a : Surroundings) →
-    is_blocks (content_inside c name) ≡ true → (inside options loose name a).in_code ≡ a.in_code
-code-kept options loose c CodeText a h = lie h
-code-kept options loose c MathText a h = lie h
-code-kept options loose c _ a h = refl
+holding : (c : Content) (name : Name) → is_blocks (content_inside c name) ≡ true →
+    holds_blocks name ≡ true
+holding c name h = by (is_transparent name) h
+  where
+    by : (t : Bool) → is_blocks (if t then c else content_of name) ≡ true →
+        t || is_blocks (content_of name) ≡ true
+    by true h = refl
+    by false h = h
+
+escaping-holds : (options : CompileOptions) (loose : Bool) (name : Name) (a : Surroundings) →
+    (if holds_blocks name then (inside options loose name a).is_escaping else a.is_escaping)
+    ≡ a.is_escaping
+escaping-holds options loose Data a = refl
+escaping-holds options loose _ a = refl
+
+code-holds : (options : CompileOptions) (loose : Bool) (name : Name) (a : Surroundings) →
+    (if holds_blocks name then (inside options loose name a).in_code else a.in_code) ≡ a.in_code
+code-holds options loose Data a = refl
+code-holds options loose _ a = refl
 
 pub open-inside :
     (options : CompileOptions) (loose : Bool) (c : Content) (name : Name) (a : Surroundings) →
     is_allowed c name ≡ true → Open c a → Open (content_inside c name) (inside options loose name a)
 open-inside options loose c name a h plain_there k =
     let o = plain_there (blocks-in c name h k) in
-    (escaping-kept options loose c name a k ∙ o.0, code-kept options loose c name a k ∙ o.1)
+    let holds = holding c name k in (
+      picked (holds_blocks name) (inside options loose name a).is_escaping a.is_escaping
+          (escaping-holds options loose name a) holds ∙ o.0,
+      picked (holds_blocks name) (inside options loose name a).in_code a.in_code
+          (code-holds options loose name a) holds ∙ o.1,
+    )

@@ -2,12 +2,11 @@
 use Rattle.std.proofs.Common.{◌≡◌, ℕ, Bool, true, false, not, ◌&&◌, List, [], ◌∷◌, Option, refl, ap}
 use Rattle.std.proofs.Common.{sym, ◌∙◌, unwrap_or}
 use Rattle.std.specs.Prelude.{if◌then◌else◌}
-use Rattle.std.proofs.lemmas.Bool.{and_from}
+use Rattle.std.proofs.lemmas.Bool.{and_from, and_parts}
 use Rattle.md_base.specs.declared.event.Name.{Name}
 use Rattle.md_base.specs.declared.event.Name.TheVariants as name_variants
-use name_variants.{SpaceOrTab, BlockQuotePrefix, Other, Definition, DefinitionDestinationString}
-use name_variants.{DefinitionTitleString, ResourceDestinationString, ResourceTitleString, Resource}
-use name_variants.{GfmFootnoteDefinition, GfmFootnoteDefinitionPrefix, HeadingSetextText}
+use name_variants.{SpaceOrTab, BlockQuotePrefix, Other, Definition, Resource, GfmFootnoteDefinition}
+use name_variants.{GfmFootnoteDefinitionPrefix, HeadingSetextText}
 use Rattle.md_base.proofs.Lies.{lie}
 use Rattle.md_base.specs.Is.{is}
 use Rattle.md_base.specs.Tree.{Forest, Empty, Node}
@@ -23,7 +22,7 @@ use Rattle.md_shape.specs.State.{outside}
 use Rattle.md_shape.specs.Steps.{first_or, others_of}
 use Rattle.md_shape.specs.Claim.{is_laid, node_of, next_before, before_past}
 use Rattle.md_shape.proofs.Past.{unwrap-else}
-use Rattle.md_shape.proofs.Standing.{is_set_aside, Facts}
+use Rattle.md_shape.proofs.Standing.{is_set_aside, implies, follows, Facts}
 
 -- ---- what a heading's text is after some nodes
 pub past-heading : (given : Given) (around : Surroundings) (before : Before) (forest : Forest) →
@@ -109,12 +108,14 @@ pub heading-kept : (c : Content) (name : Name) → is HeadingSetextText name ≡
 heading-kept c HeadingSetextText h = (refl, refl)
 heading-kept c _ h = lie h
 
+aside-captured : (c : Content) (name : Name) →
+    implies (is_set_aside name) (captures name && is_laid (content_inside c name)) ≡ true
+aside-captured c Resource = refl
+aside-captured c _ = refl
+
 pub aside-kept : (c : Content) (name : Name) → is_set_aside name ≡ true → Kept c name
-aside-kept c DefinitionDestinationString h = (refl, refl)
-aside-kept c DefinitionTitleString h = (refl, refl)
-aside-kept c ResourceDestinationString h = (refl, refl)
-aside-kept c ResourceTitleString h = (refl, refl)
-aside-kept c _ h = lie h
+aside-kept c name h = and_parts (captures name) (is_laid (content_inside c name))
+    (follows (is_set_aside name) _ (aside-captured c name) h)
 
 pub footnote-kept : (c : Content) (name : Name) → is GfmFootnoteDefinition name ≡ true → Kept c name
 footnote-kept c GfmFootnoteDefinition h = (refl, refl)

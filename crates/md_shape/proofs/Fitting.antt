@@ -10,7 +10,6 @@ use Rattle.md_base.proofs.Lies.{lie}
 use Rattle.md_base.specs.declared.event.Name.{Name}
 use Rattle.md_base.specs.declared.event.Name.TheVariants as name_variants
 use name_variants.{LineEnding, BlankLineEnding, HeadingAtx, ListOrdered, CodeFenced, MathFlow}
-use name_variants.{CodeFencedFence}
 use Rattle.md_base.specs.declared.event.Point.{Point}
 use Rattle.md_base.specs.Place.{text_between}
 use Rattle.md_text.specs.Laws.{is_line_ends}
@@ -106,7 +105,7 @@ any_split test (symbol ∷ symbols) others h =
     by false h later = later h
 
 fence_agree : Agree is_fence_symbol is_fence
-fence_agree CodeFencedFence = refl
+fence_agree LineEnding = refl
 fence_agree _ = refl
 
 any_here : (standing : Standing) (name : Name) (children : Forest) (around : Role)

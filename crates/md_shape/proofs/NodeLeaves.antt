@@ -31,7 +31,7 @@ use Rattle.md_shape.specs.Claim.{keeps_lines, is_laid, at_node, node_of, inner_o
 use Rattle.md_shape.specs.Claim.{before_past}
 use Rattle.md_shape.proofs.Past.{past-spine, past-previous, past-calls, or_else-none}
 use Rattle.md_shape.proofs.EachSide.{Leaves, is_reference}
-use Rattle.md_shape.proofs.Standing.{Facts, is_lines}
+use Rattle.md_shape.proofs.Standing.{Facts, is_lines, picked}
 use Rattle.md_shape.proofs.Staying.{stays, childless}
 
 abbrev pub ChildrenDone : Given → Content → Bool → Surroundings → Before → Bool → Name → Point →
@@ -94,10 +94,6 @@ marks_at Childless name facts solid = lie (sym solid ∙ facts.nothing refl)
 marks_at _ name facts solid = refl
 
 -- ---- what stands in a node of which a test holds, computed for all names
-asked : {A : Type 0} (b : Bool) (x y : A) → (if b then x else y) ≡ y → b ≡ true → x ≡ y
-asked true x y h e = h
-asked false x y h e = lie e
-
 reference-marks : (c : Content) (name : Name) →
     (if is_reference name then has_marks (content_inside c name) else false) ≡ false
 reference-marks c Data = refl
@@ -154,8 +150,8 @@ pub fence-counted : (given : Given) (c : Content) (waits : Bool) (around : Surro
     is_fence name ≡ true →
     s.fences ≡ count_by is_fence before.spine
 fence-counted given c waits around before last name start end children state s facts knows done h =
-    done.fences (asked (is_fence name) _ true (fence-lines c name) h)
-    ∙ ap (λ b. if b then 0 else state.fences) (asked (is_fence name) _ false (fence-raw name) h)
+    done.fences (picked (is_fence name) _ true (fence-lines c name) h)
+    ∙ ap (λ b. if b then 0 else state.fences) (picked (is_fence name) _ false (fence-raw name) h)
     ∙ lines_at c before.spine state.fences state.has_chunk (facts.fence h) knows.lines
 
 -- what is known of raw flow at its end
@@ -169,7 +165,7 @@ raw_known : (given : Given) (waits : Bool) (c : Content) (name : Name) (around :
     × (s.has_chunk ≡ list_any is_chunk (spine_names children)) × (s.ended ≡ last_name children)
 raw_known given waits c name around first children s raw none before k =
     let same : content_after (content_inside c name) children ≡ Lines =
-    ap (λ c. content_after c children) (asked (is_raw name) _ Lines (raw-content c name) raw)
+    ap (λ c. content_after c children) (picked (is_raw name) _ Lines (raw-content c name) raw)
     ∙ stays Lines children refl in
     let spine = past-spine given around first children ∙ ap (λ l. l ++ spine_names children) none in
     let lines : KnowsLines Lines (before_past given around first children).spine
@@ -218,25 +214,25 @@ leaves given c waits around before last name start end children state s h facts 
     λ e. ap (λ b. if b then before.spine else []) e in
     let own : is_call name ≡ true → own_call name (identifier_of given.bytes children)
     ≡ identifier_of given.bytes children ∷ [] =
-    λ e. asked (is_call name) _ _ (call-own name (identifier_of given.bytes children)) e in
+    λ e. picked (is_call name) _ _ (call-own name (identifier_of given.bytes children)) e in
     record {
       marker = λ e.
           let parts = and_parts (is_value name) (not (is_transparent name)) e in
-          done.marker (asked (is_reference name) _ false (reference-marks c name) e)
+          done.marker (picked (is_reference name) _ false (reference-marks c name) e)
           ∙ ap (λ b. if b then state.marker else 38) parts.0
           ∙ knows.marker (marks_at c name facts (not-true (is_transparent name) parts.1));
       ending = λ e.
           let is = same (childless children (subst (λ c. Fits c children)
-          (asked (is_ending name) _ Childless (ending-content c name) e) fits)) in (
+          (picked (is_ending name) _ Childless (ending-content c name) e) fits)) in (
             ap (λ (t : State). t.slurps) is ∙ knows.slurps,
             ap (λ (t : State). t.ended) is ∙ ap (λ b. if b then state.ended else None) e
                 ∙ ended-known c name before.previous state.ended h knows.ended,
           );
       raw = λ e. raw_known given _ c name within first children s e
-          (none (asked (is_raw name) _ false (raw-solid name) e)) refl done.knows;
+          (none (picked (is_raw name) _ false (raw-solid name) e)) refl done.knows;
       fences = λ e. fence-counted given c waits around before last name start end children state s
           facts knows done e;
-      heading = λ e. done.heading (asked (is_underline name) _ false (underline-marks c name) e)
+      heading = λ e. done.heading (picked (is_underline name) _ false (underline-marks c name) e)
           ∙ knows.heading (line e).0;
       cell = λ e.
           let is = cell-is name e in
@@ -248,17 +244,17 @@ leaves given c waits around before last name start end children state s h facts 
           );
       row = λ e.
           subst (λ x. KnowsCells x (before_past given within first children).spine s.cells)
-          (ap (λ c. content_after c children) (asked (is_row name) _ Cells (row-content c name) e)
+          (ap (λ c. content_after c children) (picked (is_row name) _ Cells (row-content c name) e)
           ∙ stays Cells children refl) done.knows.cells
           ∙ ap (λ names. count_by (is GfmTableCell) names)
           (past-spine given within first children ∙ ap (λ l. l ++ spine_names children)
-          (none (asked (is_row name) _ false (row-solid name) e)));
+          (none (picked (is_row name) _ false (row-solid name) e)));
       resource = λ e.
           let found = (inner_of given around before name children).found in
           let kept : s.resource ≡ or_else found.resource (if is_labelled name then None
           else state.resource) =
           subst (λ x. ResourceAfter x found (if is_labelled name then None else state.resource)
-          s.resource) (asked (is_labelled name) _ BeforeLabel (labelled-content c name) e)
+          s.resource) (picked (is_labelled name) _ BeforeLabel (labelled-content c name) e)
           done.resource in
           sym (kept ∙ ap (λ b. or_else found.resource (if b then None else state.resource)) e
           ∙ or_else-none found.resource);

@@ -1,12 +1,10 @@
 -- Where something leads, where a node is left: the target so far, and the resource after a label.
-use Rattle.std.proofs.Common.{◌≡◌, ℕ, true, false, not, List, [], Option, Some, None, refl, ap, sym}
-use Rattle.std.proofs.Common.{◌∙◌, unwrap_or}
+use Rattle.std.proofs.Common.{◌≡◌, ℕ, Bool, true, false, not, ◌||◌, List, [], Option, Some, None}
+use Rattle.std.proofs.Common.{refl, ap, sym, ◌∙◌, unwrap_or}
 use Rattle.std.specs.Prelude.{if◌then◌else◌}
 use Rattle.md_base.specs.declared.event.Name.{Name}
 use Rattle.md_base.specs.declared.event.Name.TheVariants as name_variants
-use name_variants.{LineEnding, SpaceOrTab, BlockQuotePrefix, Other, DefinitionDestinationString}
-use name_variants.{DefinitionTitleString, ResourceDestinationString, ResourceTitleString, Label}
-use name_variants.{Resource, ReferenceString}
+use name_variants.{SpaceOrTab, BlockQuotePrefix, Other, Label, Resource, ReferenceString}
 use Rattle.md_base.proofs.Lies.{lie}
 use Rattle.md_base.specs.Is.{is}
 use Rattle.md_base.specs.Children.{or_else}
@@ -15,12 +13,12 @@ use Rattle.md_base.specs.NameTests.{is_transparent}
 use Rattle.md_meaning.specs.Meaning.At.{Target, At, Found, target_in}
 use Rattle.md_meaning.specs.Meaning.Nodes.{found_at}
 use Rattle.md_shape.specs.Content.{Content, Strings, BeforeLabel, AfterLabel, Sources, Nothing}
-use Rattle.md_shape.specs.Content.{Childless, is_allowed, content_inside, content_past}
+use Rattle.md_shape.specs.Content.{Childless, is_source, is_allowed, content_inside, content_past}
 use Rattle.md_shape.specs.Content.{content_after, content_after_node}
 use Rattle.md_shape.specs.Steps.{target_after, resource_after, nowhere, begins_target, is_labelled}
 use Rattle.md_shape.specs.Claim.{KnowsResource, TargetAfter, ResourceAfter}
 use Rattle.md_shape.proofs.Past.{or_else-none}
-use Rattle.md_shape.proofs.Standing.{is_set_aside, Facts, keeps_target, is_label}
+use Rattle.md_shape.proofs.Standing.{is_set_aside, Facts, keeps_target, is_label, picked}
 use Rattle.md_shape.proofs.Counting.{when_not}
 
 pub kept-target : (c : Content) (found : Found) (one other : Target) → keeps_target c ≡ true →
@@ -38,15 +36,19 @@ kept-resource Nothing found one other h k = k
 kept-resource Childless found one other h k = k
 kept-resource _ found one other h k = lie h
 
+target-kept : (name : Name) (inner : List ℕ) (target : Target) →
+    (if is_set_aside name || is Resource name then target else target_after name inner target)
+    ≡ target
+target-kept Label inner target = refl
+target-kept _ inner target = refl
+
 no-target : (name : Name) (inner : List ℕ) (target : Target) → is_set_aside name ≡ false →
     is Resource name ≡ false →
     target_after name inner target ≡ target
-no-target DefinitionDestinationString inner target h k = lie (sym h)
-no-target DefinitionTitleString inner target h k = lie (sym h)
-no-target ResourceDestinationString inner target h k = lie (sym h)
-no-target ResourceTitleString inner target h k = lie (sym h)
-no-target Resource inner target h k = lie (sym k)
-no-target _ inner target h k = refl
+no-target name inner target h k =
+    sym (ap (λ b. if b || is Resource name then target else target_after name inner target) h
+    ∙ ap (λ b. if b then target else target_after name inner target) k)
+    ∙ target-kept name inner target
 
 no-resource : (name : Name) (target : Target) (resource : Option Target) → is_label name ≡ false →
     is Resource name ≡ false → resource_after name target resource ≡ resource
@@ -85,31 +87,34 @@ resource-stays c name target found state inner facts k h =
 abbrev Reads : Name → List ℕ → List ℕ → Type 0
 Reads name inner text = is_set_aside name ≡ true → inner ≡ text
 
+-- the target after a source, by the text that was read of it
+abbrev target_found : At → Name → List ℕ → Target → Target
+target_found at name text state = record {
+  destination = unwrap_or (found_at at name text).destination state.destination;
+  title = or_else (found_at at name text).title state.title;
+}
+
+source-found : (name : Name) (at : At) (inner text : List ℕ) (state : Target) →
+    (if is_source name
+    then target_after name (if is_set_aside name then text else inner) state
+    else target_found at name text state) ≡ target_found at name text state
+source-found Label at inner text state = refl
+source-found _ at inner text state = refl
+
 in-sources : (name : Name) (at : At) (inner text : List ℕ) (state target : Target) →
     is_allowed Sources name ≡ true →
     is_transparent name ≡ false → Reads name inner text → target ≡ state →
-    target_after name inner target ≡ record {
-      destination = unwrap_or (found_at at name text).destination state.destination;
-      title = or_else (found_at at name text).title state.title;
-    }
-in-sources DefinitionDestinationString at inner text state target h solid reads k =
-    ap (λ t. record target { destination = t }) (reads refl)
-    ∙ ap (λ (t : Target). record t { destination = text }) k
-in-sources ResourceDestinationString at inner text state target h solid reads k =
-    ap (λ t. record target { destination = t }) (reads refl)
-    ∙ ap (λ (t : Target). record t { destination = text }) k
-in-sources DefinitionTitleString at inner text state target h solid reads k =
-    ap (λ t. record target { title = Some t }) (reads refl)
-    ∙ ap (λ (t : Target). record t { title = Some text }) k
-in-sources ResourceTitleString at inner text state target h solid reads k =
-    ap (λ t. record target { title = Some t }) (reads refl)
-    ∙ ap (λ (t : Target). record t { title = Some text }) k
-in-sources SpaceOrTab at inner text state target h solid reads k = lie (sym solid)
-in-sources BlockQuotePrefix at inner text state target h solid reads k = lie (sym solid)
-in-sources (Other number) at inner text state target h solid reads k = lie (sym solid)
-in-sources LineEnding at inner text state target h solid reads k = k
-in-sources Resource at inner text state target h solid reads k = lie h
-in-sources _ at inner text state target h solid reads k = k
+    target_after name inner target ≡ target_found at name text state
+in-sources name at inner text state target h solid reads k =
+    let source : is_source name ≡ true = ap (λ b. b || is_source name) (sym solid) ∙ h in
+    ap (λ l. target_after name l target) (sym (read (is_set_aside name) reads))
+    ∙ ap (λ t. target_after name (if is_set_aside name then text else inner) t) k
+    ∙ picked (is_source name) _ (target_found at name text state)
+    (source-found name at inner text state) source
+  where
+    read : (b : Bool) → (b ≡ true → inner ≡ text) → (if b then text else inner) ≡ inner
+    read true h = sym (h refl)
+    read false h = refl
 
 target-solid : (c : Content) (name : Name) (at : At) (inner text : List ℕ) (found : Found)
     (state target : Target) →
