@@ -1,6 +1,6 @@
 -- What may stand where, said by the symbols of the grammar in place of names, and that both say the
 -- same. `told` says of each name what proofs ask of how it stands.
-use Rattle.std.proofs.Common.{◌≡◌, Bool, true, false, ◌&&◌, ◌||◌, List, [], ◌∷◌, refl}
+use Rattle.std.proofs.Common.{◌≡◌, Bool, true, false, not, ◌&&◌, ◌||◌, List, [], ◌∷◌, refl}
 use Rattle.md_base.specs.declared.event.Name.{Name}
 use Rattle.md_base.specs.declared.event.Name.TheVariants as name_variants
 use name_variants.{BlockQuotePrefix, SpaceOrTab, Other, MdxEsm, MdxFlowExpression}
@@ -19,6 +19,7 @@ use Rattle.md_shape.specs.Content.{Childless, is_string, is_span, is_block, is_l
 use Rattle.md_shape.specs.Content.{is_code_data, is_html, is_line, is_said_by_fence, is_label}
 use Rattle.md_shape.specs.Content.{is_after_label, is_source, is_in_table, may_be_cell, is_part}
 use Rattle.md_shape.specs.Content.{may_stand, content_of, content_past}
+use Rattle.md_shape.proofs.SymbolTests as built
 
 -- what is asked of a name, or of a symbol
 pub record Tests : Type 0 where
@@ -85,8 +86,7 @@ abbrev pub is_label_text_symbol : Symbol → Bool
 is_label_text_symbol seen = elim seen [ symbol.LabelText ↦ true | _ ↦ false ]
 
 abbrev pub is_code_data_symbol : Symbol → Bool
-is_code_data_symbol seen =
-    elim seen [ symbol.CodeTextData ↦ true | symbol.MathTextData ↦ true | _ ↦ false ]
+is_code_data_symbol seen = built.is_string_symbol seen && not (is_string_symbol seen)
 
 abbrev pub is_html_symbol : Symbol → Bool
 is_html_symbol seen = elim seen [
@@ -98,23 +98,10 @@ is_html_symbol seen = elim seen [
 ]
 
 abbrev pub is_line_symbol : Symbol → Bool
-is_line_symbol seen = elim seen [
-  | symbol.LineEnding ↦ true
-  | symbol.BlankLineEnding ↦ true
-  | symbol.CodeFlowChunk ↦ true
-  | symbol.MathFlowChunk ↦ true
-  | symbol.CodeFence ↦ true
-  | symbol.MathFence ↦ true
-  | _ ↦ false
-]
+is_line_symbol seen = built.is_line_symbol seen || built.is_fence_symbol seen
 
 abbrev pub is_said_by_fence_symbol : Symbol → Bool
-is_said_by_fence_symbol seen = elim seen [
-  | symbol.CodeInfo ↦ true
-  | symbol.CodeMeta ↦ true
-  | symbol.MathMeta ↦ true
-  | _ ↦ false
-]
+is_said_by_fence_symbol seen = built.is_info_symbol seen || built.is_meta_symbol seen
 
 abbrev pub is_label_symbol : Symbol → Bool
 is_label_symbol seen = elim seen [ symbol.Label ↦ true | _ ↦ false ]
@@ -124,16 +111,7 @@ is_after_label_symbol seen =
     elim seen [ symbol.Resource ↦ true | symbol.ReferenceString ↦ true | _ ↦ false ]
 
 abbrev pub is_source_symbol : Symbol → Bool
-is_source_symbol seen = elim seen [
-  | symbol.LineEnding ↦ true
-  | symbol.DefinitionLabel ↦ true
-  | symbol.DefinitionDestination ↦ true
-  | symbol.DefinitionTitle ↦ true
-  | symbol.FootnoteLabel ↦ true
-  | symbol.ResourceDestination ↦ true
-  | symbol.ResourceTitle ↦ true
-  | _ ↦ false
-]
+is_source_symbol seen = built.is_ending_symbol seen || built.is_source_symbol seen
 
 abbrev pub is_in_table_symbol : Symbol → Bool
 is_in_table_symbol seen = elim seen [
@@ -234,10 +212,6 @@ group_of usual = elim usual [
   | role.Phrasing ↦ Spans
   | role.Label ↦ Spans
   | role.CallLabel ↦ Spans
-  | role.String ↦ Strings
-  | role.CodeText ↦ Strings
-  | role.MathText ↦ Strings
-  | role.Frontmatter ↦ Strings
   | role.HtmlFlow ↦ Html
   | role.HtmlText ↦ Html
   | role.CodeIndented ↦ Lines
@@ -265,6 +239,7 @@ group_of usual = elim usual [
   | role.TaskCheck ↦ Parts
   | role.Empty ↦ Nothing
   | role.Childless ↦ Childless
+  | _ ↦ Strings
 ]
 
 -- what names say, by how they stand

@@ -1,10 +1,11 @@
 -- What a state knows where a node's children begin.
-use Rattle.std.proofs.Common.{◌≡◌, ℕ, Bool, true, false, List, [], Option, None, refl, ap, ◌∙◌}
+use Rattle.std.proofs.Common.{◌≡◌, ℕ, Bool, true, false, not, ◌&&◌, List, [], Option, None}
+use Rattle.std.proofs.Common.{refl, ap, sym, ◌∙◌}
 use Rattle.std.specs.Prelude.{if◌then◌else◌}
 use Rattle.md_base.specs.declared.event.Name.{Name}
 use Rattle.md_base.specs.declared.event.Name.TheVariants as name_variants
-use name_variants.{LineEnding, SpaceOrTab, BlockQuotePrefix, Other, CodeIndented, CodeFenced}
-use name_variants.{MathFlow, Link, Image, GfmFootnoteCall, GfmTableRow, CharacterReferenceValue}
+use name_variants.{LineEnding, SpaceOrTab, BlockQuotePrefix, Other, Link, Image, GfmFootnoteCall}
+use name_variants.{GfmTableRow}
 use Rattle.md_base.specs.declared.event.Point.{Point}
 use Rattle.md_base.proofs.Lies.{lie}
 use Rattle.md_base.specs.Tree.{Forest}
@@ -14,13 +15,14 @@ use Rattle.md_meaning.specs.declared.context.Surroundings.{Surroundings}
 use Rattle.md_meaning.specs.Meaning.Around.{inside}
 use Rattle.md_meaning.specs.Meaning.At.{Target, Given, Before}
 use Rattle.md_meaning.specs.Meaning.Before.{before_children}
-use Rattle.md_shape.specs.Content.{Content, Childless, content_inside}
+use Rattle.md_shape.specs.Content.{Content, Lines, Childless, content_of, content_inside}
 use Rattle.md_shape.specs.State.{State, told_of, turns, turned}
 use Rattle.md_shape.specs.Steps.{entered, is_row, is_raw}
 use Rattle.md_shape.specs.Steps.{is_labelled, is_ending, is_value}
 use Rattle.md_shape.specs.Claim.{Knows, KnowsEnded, KnowsCells, KnowsLines, KnowsResource}
 use Rattle.md_shape.specs.Claim.{has_marks, mark_after, at_node}
 use Rattle.md_shape.proofs.Sides.{turned-seen}
+use Rattle.md_shape.proofs.Standing.{implies, is_lines}
 
 pub any_ended : (c : Content) (o : Option Name) → KnowsEnded c o o
 any_ended Childless o = tt
@@ -31,26 +33,58 @@ ended-inside : (c : Content) (name : Name) (ended : Option Name) →
 ended-inside c LineEnding ended = tt
 ended-inside c other ended = any_ended (content_inside c other) None
 
+through-value : (name : Name) → implies (is_transparent name) (is_value name) ≡ true
+through-value LineEnding = refl
+through-value _ = refl
+
+value-marks : (name : Name) →
+    implies (not (is_transparent name) && is_value name) (not (has_marks (content_of name))) ≡ true
+value-marks LineEnding = refl
+value-marks _ = refl
+
 marker-inside : (c : Content) (name : Name) (spine : List Name) (m : ℕ) →
     (has_marks c ≡ true → m ≡ mark_after spine) → has_marks (content_inside c name) ≡ true →
     (if is_value name then m else 38) ≡ mark_after (if is_transparent name then spine else [])
-marker-inside c SpaceOrTab spine m k h = k h
-marker-inside c BlockQuotePrefix spine m k h = k h
-marker-inside c (Other number) spine m k h = k h
-marker-inside c CharacterReferenceValue spine m k h = lie h
-marker-inside c _ spine m k h = refl
+marker-inside c name spine m k =
+    by (is_transparent name) (is_value name) (through-value name) (value-marks name)
+  where
+    by : (t v : Bool) → implies t v ≡ true →
+        implies (not t && v) (not (has_marks (content_of name))) ≡ true →
+        has_marks (if t then c else content_of name) ≡ true →
+        (if v then m else 38) ≡ mark_after (if t then spine else [])
+    by true true h l e = k e
+    by true false h l e = lie h
+    by false true h l e = lie (ap (λ b. not b) (sym e) ∙ l)
+    by false false h l e = refl
+
+raw-lines : (name : Name) → implies (is_lines (content_of name)) (is_raw name) ≡ true
+raw-lines LineEnding = refl
+raw-lines _ = refl
+
+through-raw : (name : Name) → implies (is_transparent name) (not (is_raw name)) ≡ true
+through-raw LineEnding = refl
+through-raw _ = refl
+
+begin-lines : (c : Content) (raw : Bool) (fences : ℕ) (chunk : Bool) →
+    implies (is_lines c) raw ≡ true →
+    KnowsLines c [] (if raw then 0 else fences) (if raw then false else chunk)
+begin-lines Lines raw fences chunk h =
+    (ap (λ b. if b then 0 else fences) h, ap (λ b. if b then false else chunk) h)
+begin-lines _ raw fences chunk h = tt
 
 lines-inside : (c : Content) (name : Name) (spine : List Name) (fences : ℕ) (chunk : Bool) →
     KnowsLines c spine fences chunk →
     KnowsLines (content_inside c name) (if is_transparent name then spine else [])
     (if is_raw name then 0 else fences) (if is_raw name then false else chunk)
-lines-inside c SpaceOrTab spine fences chunk k = k
-lines-inside c BlockQuotePrefix spine fences chunk k = k
-lines-inside c (Other number) spine fences chunk k = k
-lines-inside c CodeIndented spine fences chunk k = (refl, refl)
-lines-inside c CodeFenced spine fences chunk k = (refl, refl)
-lines-inside c MathFlow spine fences chunk k = (refl, refl)
-lines-inside c _ spine fences chunk k = tt
+lines-inside c name spine fences chunk k =
+    by (is_transparent name) (is_raw name) (through-raw name) (raw-lines name)
+  where
+    by : (t r : Bool) → implies t (not r) ≡ true → implies (is_lines (content_of name)) r ≡ true →
+        KnowsLines (if t then c else content_of name) (if t then spine else [])
+        (if r then 0 else fences) (if r then false else chunk)
+    by true true h l = lie h
+    by true false h l = k
+    by false r h l = begin-lines (content_of name) r fences chunk l
 
 heading-inside : (name : Name) (waits : Bool) (heading before : List ℕ) →
     (waits ≡ true → heading ≡ before) →

@@ -1,20 +1,17 @@
 -- The other parts of a state where a node is left: headings, calls, footnotes, endings to slurp.
-use Rattle.std.proofs.Common.{◌≡◌, ℕ, ◌==◌, Bool, true, false, not, ◌&&◌, ◌||◌, List, [], ◌∷◌, ◌++◌}
+use Rattle.std.proofs.Common.{◌≡◌, ℕ, ◌==◌, Bool, true, false, ◌&&◌, ◌||◌, List, [], ◌∷◌, ◌++◌}
 use Rattle.std.proofs.Common.{refl, ap, sym, ◌∙◌, append_assoc, append-nil, unwrap_or}
 use Rattle.std.specs.Prelude.{if◌then◌else◌, count_by}
-use Rattle.std.specs.List.{list_any}
 use Rattle.md_base.specs.declared.event.Name.{Name}
 use Rattle.md_base.specs.declared.event.Name.TheVariants as name_variants
-use name_variants.{LineEnding, BlankLineEnding, BlockQuote, CodeIndented, CodeFenced, MathFlow}
-use name_variants.{ListItem, Paragraph, Frontmatter, SpaceOrTab, BlockQuotePrefix, Other}
-use name_variants.{CodeFencedFence, MathFlowFence, HeadingSetextText, GfmFootnoteCall}
-use name_variants.{GfmFootnoteDefinition}
+use name_variants.{LineEnding, SpaceOrTab, BlockQuotePrefix, Other, HeadingSetextText}
+use name_variants.{GfmFootnoteCall, GfmFootnoteDefinition}
 use Rattle.md_base.proofs.Lies.{lie}
 use Rattle.md_base.specs.Is.{is}
 use Rattle.md_base.specs.NameTests.{is_transparent, is_fence}
 use Rattle.md_meaning.specs.Meaning.Layout.{when}
 use Rattle.md_meaning.specs.Meaning.At.{Footnote, At}
-use Rattle.md_meaning.specs.Meaning.Before.{lets_slurp}
+use Rattle.md_meaning.specs.Meaning.Before.{is_first_fence, lets_slurp}
 use Rattle.md_meaning.specs.Meaning.Nodes.{found_at}
 use Rattle.md_shape.specs.Underlined.{waits_past}
 use Rattle.md_shape.specs.State.{State}
@@ -22,6 +19,7 @@ use Rattle.md_shape.specs.Steps.{heading_after, calls_after, noted, footnotes_af
 use Rattle.md_shape.specs.Claim.{noted_all, seen}
 use Rattle.md_shape.proofs.Noted.{noted-append}
 use Rattle.md_shape.proofs.EachSide.{none-counted}
+use Rattle.md_shape.proofs.Standing.{picked}
 
 -- ---- the text of a heading
 pub heading-known : (name : Name) (at : At) (waits after : Bool) (inner text heading : List ℕ) →
@@ -62,95 +60,74 @@ footnotes-known _ identifier text captured before own inner same k =
 
 -- ---- whether the next line ending is slurped
 
--- the names that set the mark and those that clear it, apart
-abbrev sets_slurp : Name → State → Bool
-sets_slurp name left = elim name [
-  | CodeFencedFence ↦ left.fences == 0
-  | MathFlowFence ↦ left.fences == 0
-  | HeadingSetextText ↦ true
-  | Frontmatter ↦ true
-  | Paragraph ↦ left.around.is_tight
-  | _ ↦ false
-]
+-- a fence goes by the fences before it
+fence-slurps : (name : Name) (left : State) →
+    (if is_fence name then slurps_after name left
+    else (if left.around.in_definition then left.slurps else (left.fences == 0) || left.slurps))
+    ≡ (if left.around.in_definition then left.slurps else (left.fences == 0) || left.slurps)
+fence-slurps LineEnding left = refl
+fence-slurps _ left = refl
 
-abbrev clears_slurp : Name → State → Bool
-clears_slurp name left = elim name [
-  | BlankLineEnding ↦ true
-  | BlockQuote ↦ true
-  | CodeIndented ↦ true
-  | CodeFenced ↦ true
-  | MathFlow ↦ true
-  | ListItem ↦ true
-  | LineEnding ↦ not left.around.in_code
-  | _ ↦ false
-]
+fence-lets : (name : Name) (at : At) (slurps : Bool) →
+    (if is_fence name then lets_slurp at name slurps
+    else is_first_fence at || false || false || false || slurps && true)
+    ≡ is_first_fence at || false || false || false || slurps && true
+fence-lets LineEnding at slurps = refl
+fence-lets _ at slurps = refl
 
-abbrev marked : Name → State → Bool
-marked name left = if left.around.in_definition then left.slurps
-    else sets_slurp name left || left.slurps && not (clears_slurp name left)
+or_falses : (a s : Bool) → a || s ≡ a || false || false || false || s && true
+or_falses true s = refl
+or_falses false true = refl
+or_falses false false = refl
 
-setting : (d f s : Bool) → (if d then s else f || s) ≡ (if d then s else f || s && true)
-setting d f true = refl
-setting d f false = refl
+-- any other name by the surroundings alone
+abbrev slurping : At → Bool → Bool → Name → Bool → Bool
+slurping at defines code name slurps = if defines then slurps
+    else lets_slurp (record at { around = record at.around { in_code = code } }) name slurps
 
-clearing : (d s : Bool) → (if d then s else false) ≡ (if d then s else false || s && false)
-clearing d true = refl
-clearing d false = refl
+abbrev SlurpsSo : Bool → Bool → Bool → Name → At → State → Type 0
+SlurpsSo defines code slurps name at left =
+    (if is_fence name then slurping at defines code name slurps
+    else slurps_after name (record left {
+      around = seen (record at.around { in_definition = defines; in_code = code })
+          at.before.columns;
+      slurps = slurps;
+    })) ≡ slurping at defines code name slurps
 
-ending : (d c s : Bool) → (if d then s else c && s) ≡ (if d then s else false || s && not (not c))
-ending d true true = refl
-ending d true false = refl
-ending d false true = refl
-ending d false false = refl
-
-staying : (d s : Bool) → s ≡ (if d then s else false || s && true)
-staying true s = refl
-staying false true = refl
-staying false false = refl
-
-slurps-marked : (name : Name) (left : State) → slurps_after name left ≡ marked name left
-slurps-marked CodeFencedFence left =
-    setting left.around.in_definition (left.fences == 0) left.slurps
-slurps-marked MathFlowFence left = setting left.around.in_definition (left.fences == 0) left.slurps
-slurps-marked HeadingSetextText left = refl
-slurps-marked Frontmatter left = refl
-slurps-marked Paragraph left = setting left.around.in_definition left.around.is_tight left.slurps
-slurps-marked BlankLineEnding left = clearing left.around.in_definition left.slurps
-slurps-marked BlockQuote left = clearing left.around.in_definition left.slurps
-slurps-marked CodeIndented left = clearing left.around.in_definition left.slurps
-slurps-marked CodeFenced left = clearing left.around.in_definition left.slurps
-slurps-marked MathFlow left = clearing left.around.in_definition left.slurps
-slurps-marked ListItem left = clearing left.around.in_definition left.slurps
-slurps-marked LineEnding left = ending left.around.in_definition left.around.in_code left.slurps
-slurps-marked _ left = staying left.around.in_definition left.slurps
-
-fence_slurps : (a s : Bool) → not a || s && true ≡ not a || false || false || false || s && true
-fence_slurps true s = refl
-fence_slurps false s = refl
-
-marked-known : (name : Name) (at : At) (left : State) (inner : Bool) → left.slurps ≡ inner →
-    (is_fence name ≡ true → left.fences ≡ count_by is_fence at.before.spine) →
-    marked name (record left { around = seen at.around at.before.columns })
-    ≡ (if at.around.in_definition then inner else lets_slurp at name inner)
-marked-known CodeFencedFence at left inner k fence =
-    ap (λ b. if at.around.in_definition then left.slurps else b || left.slurps && true)
-    (ap (λ n. n == 0) (fence refl) ∙ none-counted is_fence at.before.spine)
-    ∙ ap (λ b. if at.around.in_definition then left.slurps else b)
-    (fence_slurps (list_any is_fence at.before.spine) left.slurps)
-    ∙ ap (λ s. if at.around.in_definition then s else lets_slurp at CodeFencedFence s) k
-marked-known MathFlowFence at left inner k fence =
-    ap (λ b. if at.around.in_definition then left.slurps else b || left.slurps && true)
-    (ap (λ n. n == 0) (fence refl) ∙ none-counted is_fence at.before.spine)
-    ∙ ap (λ b. if at.around.in_definition then left.slurps else b)
-    (fence_slurps (list_any is_fence at.before.spine) left.slurps)
-    ∙ ap (λ s. if at.around.in_definition then s else lets_slurp at MathFlowFence s) k
-marked-known name at left inner k fence =
-    ap (λ s. if at.around.in_definition then s else lets_slurp at name s) k
+slurps-so : (defines code slurps : Bool) (name : Name) (at : At) (left : State) →
+    SlurpsSo defines code slurps name at left
+slurps-so true code slurps LineEnding at left = refl
+slurps-so true code slurps _ at left = refl
+slurps-so false true true LineEnding at left = refl
+slurps-so false true true _ at left = refl
+slurps-so false true false LineEnding at left = refl
+slurps-so false true false _ at left = refl
+slurps-so false false true LineEnding at left = refl
+slurps-so false false true _ at left = refl
+slurps-so false false false LineEnding at left = refl
+slurps-so false false false _ at left = refl
 
 pub slurps-known : (name : Name) (at : At) (left : State) (inner : Bool) → left.slurps ≡ inner →
     (is_fence name ≡ true → left.fences ≡ count_by is_fence at.before.spine) →
     slurps_after name (record left { around = seen at.around at.before.columns })
     ≡ (if at.around.in_definition then inner else lets_slurp at name inner)
 slurps-known name at left inner k fence =
-    slurps-marked name (record left { around = seen at.around at.before.columns })
-    ∙ marked-known name at left inner k fence
+    by (is_fence name) refl
+    ∙ ap (λ s. if at.around.in_definition then s else lets_slurp at name s) k
+  where
+    by : (b : Bool) → is_fence name ≡ b →
+        slurps_after name (record left { around = seen at.around at.before.columns })
+        ≡ (if at.around.in_definition then left.slurps else lets_slurp at name left.slurps)
+    by true e =
+        picked (is_fence name) _ _
+        (fence-slurps name (record left { around = seen at.around at.before.columns })) e
+        ∙ ap (λ b. if at.around.in_definition then left.slurps else b || left.slurps)
+        (ap (λ n. n == 0) (fence e) ∙ none-counted is_fence at.before.spine)
+        ∙ ap (λ b. if at.around.in_definition then left.slurps else b)
+        (or_falses (is_first_fence at) left.slurps
+        ∙ sym (picked (is_fence name) _ _ (fence-lets name at left.slurps) e))
+    by false e =
+        ap (λ b. if b
+        then slurping at at.around.in_definition at.around.in_code name left.slurps
+        else slurps_after name (record left { around = seen at.around at.before.columns })) (sym e)
+        ∙ slurps-so at.around.in_definition at.around.in_code left.slurps name at left

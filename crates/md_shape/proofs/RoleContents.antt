@@ -15,9 +15,9 @@ use Rattle.md_pattern.specs.declared.kinds.Class.TheVariants as class
 use Rattle.md_pattern.specs.Pattern.{pattern_of}
 use Rattle.md_pattern.specs.Spine.{IsTail, IsGrouped, Matches}
 use Rattle.md_shape.proofs.Letters.{letters, fits-all, grouped-all, own-all}
-use Rattle.md_shape.specs.Content.{Content, Blocks, Spans, Strings, Html, Lines, Fences}
-use Rattle.md_shape.specs.Content.{BeforeLabel, AfterLabel, Sources, Rows, Cells, Parts, Nothing}
-use Rattle.md_shape.specs.Content.{Childless, content_past}
+use Rattle.md_shape.specs.Content.{Content, Blocks, Spans, Strings}
+use Rattle.md_shape.specs.Content.{BeforeLabel, AfterLabel}
+use Rattle.md_shape.specs.Content.{content_past}
 use Rattle.md_shape.proofs.ContentSymbols.{may_show, admits, group_of}
 
 -- ---- what may stand after a symbol of a group may stand there
@@ -122,81 +122,5 @@ matches-admitted role.FootnoteCall symbols match =
     let fit = match.2 in
     media-admitted match.0 symbols fit.0 fit.1 match.1 fit.2 fit.4
     (own-all (may_show BeforeLabel) (class.Only Label) fit.0 fit.3 refl) (none-after fit.1 fit.5)
-matches-admitted role.Flow symbols match =
-    admits-all Blocks symbols refl (all-show Blocks role.Flow symbols match refl)
-matches-admitted role.FootnoteDefinition symbols match =
-    admits-all Blocks symbols refl (all-show Blocks role.FootnoteDefinition symbols match refl)
-matches-admitted role.OrderedList symbols match =
-    admits-all Blocks symbols refl (all-show Blocks role.OrderedList symbols match refl)
-matches-admitted role.UnorderedList symbols match =
-    admits-all Blocks symbols refl (all-show Blocks role.UnorderedList symbols match refl)
-matches-admitted role.FirstOrderedItem symbols match =
-    admits-all Blocks symbols refl (all-show Blocks role.FirstOrderedItem symbols match refl)
-matches-admitted role.OrderedItem symbols match =
-    admits-all Blocks symbols refl (all-show Blocks role.OrderedItem symbols match refl)
-matches-admitted role.Item symbols match =
-    admits-all Blocks symbols refl (all-show Blocks role.Item symbols match refl)
-matches-admitted role.Phrasing symbols match =
-    admits-all Spans symbols refl (all-show Spans role.Phrasing symbols match refl)
-matches-admitted role.Label symbols match =
-    admits-all Spans symbols refl (all-show Spans role.Label symbols match refl)
-matches-admitted role.CallLabel symbols match =
-    admits-all Spans symbols refl (all-show Spans role.CallLabel symbols match refl)
-matches-admitted role.String symbols match =
-    admits-all Strings symbols refl (all-show Strings role.String symbols match refl)
-matches-admitted role.CodeText symbols match =
-    admits-all Strings symbols refl (all-show Strings role.CodeText symbols match refl)
-matches-admitted role.MathText symbols match =
-    admits-all Strings symbols refl (all-show Strings role.MathText symbols match refl)
-matches-admitted role.Frontmatter symbols match =
-    admits-all Strings symbols refl (all-show Strings role.Frontmatter symbols match refl)
-matches-admitted role.HtmlFlow symbols match =
-    admits-all Html symbols refl (all-show Html role.HtmlFlow symbols match refl)
-matches-admitted role.HtmlText symbols match =
-    admits-all Html symbols refl (all-show Html role.HtmlText symbols match refl)
-matches-admitted role.CodeIndented symbols match =
-    admits-all Lines symbols refl (all-show Lines role.CodeIndented symbols match refl)
-matches-admitted role.CodeFenced symbols match =
-    admits-all Lines symbols refl (all-show Lines role.CodeFenced symbols match refl)
-matches-admitted role.Math symbols match =
-    admits-all Lines symbols refl (all-show Lines role.Math symbols match refl)
-matches-admitted role.FirstCodeFence symbols match =
-    admits-all Fences symbols refl (all-show Fences role.FirstCodeFence symbols match refl)
-matches-admitted role.CodeFence symbols match =
-    admits-all Fences symbols refl (all-show Fences role.CodeFence symbols match refl)
-matches-admitted role.FirstMathFence symbols match =
-    admits-all Fences symbols refl (all-show Fences role.FirstMathFence symbols match refl)
-matches-admitted role.MathFence symbols match =
-    admits-all Fences symbols refl (all-show Fences role.MathFence symbols match refl)
-matches-admitted role.Resource symbols match =
-    admits-all Sources symbols refl (all-show Sources role.Resource symbols match refl)
-matches-admitted role.Definition symbols match =
-    admits-all Sources symbols refl (all-show Sources role.Definition symbols match refl)
-matches-admitted role.FootnotePrefix symbols match =
-    admits-all Sources symbols refl (all-show Sources role.FootnotePrefix symbols match refl)
-matches-admitted role.Table symbols match =
-    admits-all Rows symbols refl (all-show Rows role.Table symbols match refl)
-matches-admitted role.TableHead symbols match =
-    admits-all Rows symbols refl (all-show Rows role.TableHead symbols match refl)
-matches-admitted role.TableBody symbols match =
-    admits-all Rows symbols refl (all-show Rows role.TableBody symbols match refl)
-matches-admitted role.TableRow symbols match =
-    admits-all Cells symbols refl (all-show Cells role.TableRow symbols match refl)
-matches-admitted role.FirstOrderedPrefix symbols match =
-    admits-all Parts symbols refl (all-show Parts role.FirstOrderedPrefix symbols match refl)
-matches-admitted role.OrderedPrefix symbols match =
-    admits-all Parts symbols refl (all-show Parts role.OrderedPrefix symbols match refl)
-matches-admitted role.Prefix symbols match =
-    admits-all Parts symbols refl (all-show Parts role.Prefix symbols match refl)
-matches-admitted role.Heading symbols match =
-    admits-all Parts symbols refl (all-show Parts role.Heading symbols match refl)
-matches-admitted role.TableDelimiterRow symbols match =
-    admits-all Parts symbols refl (all-show Parts role.TableDelimiterRow symbols match refl)
-matches-admitted role.TableDelimiterValue symbols match =
-    admits-all Parts symbols refl (all-show Parts role.TableDelimiterValue symbols match refl)
-matches-admitted role.TaskCheck symbols match =
-    admits-all Parts symbols refl (all-show Parts role.TaskCheck symbols match refl)
-matches-admitted role.Empty symbols match =
-    admits-all Nothing symbols refl (all-show Nothing role.Empty symbols match refl)
-matches-admitted role.Childless symbols match =
-    admits-all Childless symbols refl (all-show Childless role.Childless symbols match refl)
+matches-admitted usual symbols match = admits-all (group_of usual) symbols refl
+    (all-show (group_of usual) usual symbols match refl)

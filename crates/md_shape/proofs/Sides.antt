@@ -1,14 +1,13 @@
 -- What is printed at a node's two ends is what the node means, and its surroundings turn as the
 -- meaning's do. For most names both sides compute to the same, once what the state knows is put in.
-use Rattle.std.proofs.Common.{◌≡◌, ℕ, Bool, true, false, not, ◌||◌, List, [], ◌∷◌, ◌++◌, Option}
-use Rattle.std.proofs.Common.{refl, ap, sym, ◌∙◌, append-nil, codes}
+use Rattle.std.proofs.Common.{◌≡◌, ℕ, ◌==◌, Bool, true, false, not, ◌||◌, List, [], ◌∷◌, ◌++◌}
+use Rattle.std.proofs.Common.{Option, refl, ap, sym, ◌∙◌, append-nil, codes}
 use Rattle.std.specs.Prelude.{if◌then◌else◌, count_by, slice_get}
 use Rattle.std.specs.List.{list_any}
 use Rattle.md_base.specs.declared.event.AlignKind.{AlignKind}
 use Rattle.md_base.specs.declared.event.Name.{Name}
 use Rattle.md_base.specs.declared.event.Name.TheVariants as name_variants
-use name_variants.{ListOrdered, ListUnordered, Paragraph, CodeFencedFence, MathFlowFence, GfmTable}
-use name_variants.{GfmTableCell, GfmFootnoteCall}
+use name_variants.{ListOrdered, ListUnordered, Paragraph, GfmTable, GfmTableCell, GfmFootnoteCall}
 use Rattle.md_base.specs.Is.{is}
 use Rattle.md_base.specs.Children.{spine_names, last_name}
 use Rattle.md_base.specs.NameTests.{is_fence, is_chunk, is_cell}
@@ -20,6 +19,7 @@ use Rattle.md_meaning.specs.declared.context.Surroundings.{Surroundings}
 use Rattle.md_meaning.specs.Meaning.Around.{inside, is_tight}
 use Rattle.md_meaning.specs.Meaning.Layout.{Piece, Forced, layout, said, on_own_line, when}
 use Rattle.md_meaning.specs.Meaning.At.{Given, At}
+use Rattle.md_meaning.specs.Meaning.Before.{is_first_fence}
 use Rattle.md_meaning.specs.Meaning.Means.{prints}
 use Rattle.md_shape.specs.Underlined.{is_underline}
 use Rattle.md_shape.specs.Content.{Blocks, Lines, Fences, Cells, content_of}
@@ -27,7 +27,7 @@ use Rattle.md_shape.specs.State.{State, turns, turned, captures}
 use Rattle.md_shape.specs.Steps.{is_ending, is_raw, is_row, is_labelled}
 use Rattle.md_shape.specs.Sides.{opens, closes, list_opening}
 use Rattle.md_shape.specs.Claim.{seen, mark_after}
-use Rattle.md_shape.proofs.Standing.{is_quiet, is_set_aside}
+use Rattle.md_shape.proofs.Standing.{is_quiet, is_set_aside, picked}
 use Rattle.md_shape.proofs.EachSide.{told_at, is_reference, Leaves, cell_sides}
 use Rattle.md_shape.proofs.EachSide.{list_sides, fence-sides, call-sides}
 
@@ -115,12 +115,15 @@ Ends given at cells left ended inner name =
     ++ ended_by name inner (closes given (informed name at left) (ended_at name at ended)
     (told_at given at) (if captures name then layout given.ending inner else []) name)
 
--- that is what the node means, but for texts that are set aside; what is quiet has nothing inside
+abbrev Meant : Given → At → List Piece → Name → List Piece
+Meant given at inner name = prints given at name (if is_quiet name then [] else inner)
+
+-- that is what the node means, but for texts that are set aside and for fences, which count those
+-- before them; what is quiet has nothing inside
 abbrev BothSides : Given → At → ℕ → State → Option Name → List Piece → Name → Type 0
 BothSides given at cells left ended inner name =
-    (if is_set_aside name then Ends given at cells left ended inner name
-    else prints given at name (if is_quiet name then [] else inner))
-    ≡ Ends given at cells left ended inner name
+    (if is_set_aside name || is_fence name then Ends given at cells left ended inner name
+    else Meant given at inner name) ≡ Ends given at cells left ended inner name
 
 tight_sides : (b : Bool) (inner start : List Piece) (piece : Piece) (pieces : List Piece) →
     (if b then inner else start ++ (inner ++ (piece ∷ pieces)))
@@ -136,10 +139,6 @@ both-sides given at cells left ended inner ListOrdered k =
     (said (codes ">")) inner (Forced ∷ said (codes "</ol>"))
 both-sides given at cells left ended inner Paragraph k =
     tight_sides (is_tight at.around.container) inner _ _ _
-both-sides given at cells left ended inner CodeFencedFence k =
-    fence-sides at left inner (k.fences refl)
-both-sides given at cells left ended inner MathFlowFence k =
-    fence-sides at left inner (k.fences refl)
 both-sides given at cells left ended inner GfmTableCell k =
     cell_sides at.around.in_head (slice_get at.before.columns
     (count_by (is GfmTableCell) at.before.spine)) (layout given.ending inner)
@@ -152,6 +151,39 @@ both-sides given at cells left ended inner name k =
       | true ↦ refl
       | false ↦ refl
     ]
+
+-- a fence's end goes by the fences before it
+fence-meant : (given : Given) (at : At) (inner : List Piece) (name : Name) →
+    (if is_fence name then Meant given at inner name
+    else inner ++ when (is_first_fence at) (said (codes ">")))
+    ≡ inner ++ when (is_first_fence at) (said (codes ">"))
+fence-meant given at inner Paragraph = refl
+fence-meant given at inner _ = refl
+
+fence-ends : (given : Given) (at : At) (cells : ℕ) (left : State) (ended : Option Name)
+    (inner : List Piece) (name : Name) →
+    (if is_fence name then Ends given at cells left ended inner name
+    else inner ++ when (left.fences == 0) (said (codes ">")))
+    ≡ inner ++ when (left.fences == 0) (said (codes ">"))
+fence-ends given at cells left ended inner Paragraph = refl
+fence-ends given at cells left ended inner _ = refl
+
+ends-meant : (given : Given) (at : At) (cells : ℕ) (left : State) (ended : Option Name)
+    (inner : List Piece) (name : Name) → is_set_aside name ≡ false →
+    Leaves given name at cells left ended →
+    Meant given at inner name ≡ Ends given at cells left ended inner name
+ends-meant given at cells left ended inner name aside k =
+    by (is_fence name) refl (both-sides given at cells left ended inner name k)
+  where
+    by : (b : Bool) → is_fence name ≡ b →
+        (if is_set_aside name || b then Ends given at cells left ended inner name
+        else Meant given at inner name) ≡ Ends given at cells left ended inner name →
+        Meant given at inner name ≡ Ends given at cells left ended inner name
+    by true e h = picked (is_fence name) _ _ (fence-meant given at inner name) e
+        ∙ fence-sides at left inner (k.fences e)
+        ∙ sym (picked (is_fence name) _ _ (fence-ends given at cells left ended inner name) e)
+    by false e h = ap (λ a. if a || false then Ends given at cells left ended inner name
+        else Meant given at inner name) (sym aside) ∙ h
 
 -- the two ends of a node, in the surroundings that the meaning sees
 pub sides-seen :
@@ -172,9 +204,7 @@ sides-seen given at cells left ended inner name aside quiet k =
     let stop : List Piece =
     stops (record left { around = seen at.around at.before.columns }) ended in
     ap (λ i. prints given at name i) (sym (chosen (is_quiet name) [] inner quiet))
-    ∙ ap (λ b. if b then Ends given at cells left ended inner name
-    else prints given at name (if is_quiet name then [] else inner)) (sym aside)
-    ∙ both-sides given at cells left ended inner name k
+    ∙ ends-meant given at cells left ended inner name aside k
     ∙ ap (λ n. starts n ++ ended_by name inner (stops (informed name at left)
     (ended_at name at ended))) (chosen (is_cell name) _ cells (λ e. (k.cell e).0))
     ∙ ap (λ s. starts cells ++ ended_by name inner (stops s (ended_at name at ended)))
