@@ -11,8 +11,6 @@ use Rattle.md_emit.specs.Supplies.{Supplies}
 use Rattle.md_html.specs.Printed.{text_of}
 use Rattle.md_html.proofs.Long.{longer-text}
 use Rattle.md_html.proofs.rendering_within.print_within.Goals as goal
-use Rattle.md_html.proofs.rendering_within.print_within.Goals.{else-is_whole-via-then-is_whole+else-len-limit}
-use Rattle.md_html.proofs.rendering_within.print_within.Goals.{else-is_whole-via-else-is_whole}
 
 pub returns-then-len-limit-clause-text : goal.returns-then-len-limit-clause-text
 returns-then-len-limit-clause-text c = λ at document supplies flat.
@@ -27,7 +25,7 @@ returns-then-len-limit-clause-text c = λ at document supplies flat.
 pub returns-else-is_whole-clause-too_long : goal.returns-else-is_whole-clause-too_long
 returns-else-is_whole-clause-too_long c = λ none at document supplies flat.
     elim c.else-is_whole.branch [
-      | else-is_whole-via-then-is_whole+else-len-limit w ↦
+      | goal.else-is_whole-via-then-is_whole+else-len-limit w ↦
           let after : State = c.run_events_within-ran.new.printer in
           let ran : after ≡ run at 0 (flatten document) (noticed at.bytes true document) beginning =
           c.in_ok-is_whole.ensures.whole w.if-is_whole.true at document supplies flat in
@@ -39,7 +37,7 @@ returns-else-is_whole-clause-too_long c = λ none at document supplies flat.
           let long : w.len.result ≡ length (string_bytes c.in_ok-text.text) = search rules in
           subst (λ t. c.args.limit < length t) same
           (subst (λ n. c.args.limit < n) long w.if-len-limit.false)
-      | else-is_whole-via-else-is_whole w ↦
+      | goal.else-is_whole-via-else-is_whole w ↦
           longer-text at document c.args.limit
           (c.in_ok-is_whole.ensures.too_long w.if-is_whole.false at document supplies flat)
     ]

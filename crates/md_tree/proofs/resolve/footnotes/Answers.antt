@@ -7,8 +7,6 @@ use Rattle.md_tree.specs.Numbers.{which, number_of, footnote_number}
 use Rattle.md_tree.proofs.Numbering.{NumbersBefore-first, NumbersBefore-passed, numbered-kept}
 use Rattle.md_tree.proofs.Numbering.{numbered-passed, footnoted_by-other, footnote_number-other}
 use Rattle.md_tree.proofs.resolve.footnotes.Goals as goal
-use Rattle.md_tree.proofs.resolve.footnotes.Goals.{in-FootnoteDefinition+in_ok-identifier+in_ok-number+in_ok-keep_number}
-use Rattle.md_tree.proofs.resolve.footnotes.Goals.{in_default}
 
 -- what footnotes are defined
 abbrev read : List ℕ → List Mentioned → List (Option (List ℕ))
@@ -31,7 +29,7 @@ loop-mentioned-preserved c =
     let later : List (Option (List ℕ)) = read bytes (drop (index + 1) mentions) in
     let all = mentions_among mentions in
     elim c.match-mentioned.branch [
-      | in-FootnoteDefinition+in_ok-identifier+in_ok-number+in_ok-keep_number w ↦
+      | goal.in-FootnoteDefinition+in_ok-identifier+in_ok-number+in_ok-keep_number w ↦
           let before = NumbersBefore-first (read bytes) mentions index c.loop-mentioned.numbers
           c.loop-mentioned.next
           c.loop-mentioned-test.true c.loop-mentioned.invariant.1 _ w.in_ok-identifier.identifier _
@@ -50,7 +48,7 @@ loop-mentioned-preserved c =
                 ∙ sym (w.in_ok-number.ensures.number later (read bytes mentions) before))
                 w.in_ok-keep_number.ensures),
           )
-      | in_default w ↦ (
+      | goal.in_default w ↦ (
         no_later c.match-mentioned.next c.loop-mentioned.next index w.next-is
             c.loop-mentioned.invariant.0,
         rw (w.numbers-is, w.next-is)

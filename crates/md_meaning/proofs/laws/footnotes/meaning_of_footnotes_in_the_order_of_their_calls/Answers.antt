@@ -4,7 +4,8 @@ use Rattle.std.specs.Str.{is_utf8, chars}
 use lib.Utf8.{encode}
 use Rattle.caseless.proofs.Computing.{caseless}
 use Rattle.std.specs.Fmt.{digits}
-use Rattle.md_meaning.proofs.laws.footnotes.meaning_of_footnotes_in_the_order_of_their_calls.Goals as goal
+use Rattle.md_meaning.proofs.laws.footnotes as footnotes
+use footnotes.meaning_of_footnotes_in_the_order_of_their_calls.Goals as goal
 
 pub returns : goal.returns
 unfolding is_utf8 chars encode caseless digits

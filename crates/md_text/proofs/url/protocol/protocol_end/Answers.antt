@@ -3,8 +3,6 @@ use Rattle.std.proofs.Common.{◌≡◌, ◌==◌, ◌<◌, ℕ, List, Some, fal
 use Rattle.std.proofs.Common.{sym, subst, arith, ne_eqb}
 use Rattle.md_text.specs.Url.{protocol_of}
 use Rattle.md_text.proofs.ProtocolLemmas.{protocol_of-colon_at, protocol_of-none_at}
-use Rattle.md_text.proofs.url.protocol.protocol_end.Goals.{else-end-url-via-then-end-url+else-url-end-eq58}
-use Rattle.md_text.proofs.url.protocol.protocol_end.Goals.{else-end-url-via-else-end-url}
 use Rattle.md_text.proofs.url.protocol.protocol_end.Goals as goal
 
 pub returns-then-url-end-eq58 : goal.returns-then-url-end-eq58
@@ -23,8 +21,9 @@ returns-else-end-url c =
     let other : c.run_length-end.result < length url →
     (get_or url c.run_length-end.result 0 == 58) ≡ false =
     elim c.else-end-url.branch [
-      | else-end-url-via-then-end-url+else-url-end-eq58 w ↦ λ _. ne_eqb _ 58 w.if-url-end-eq58.false
-      | else-end-url-via-else-end-url w ↦
+      | goal.else-end-url-via-then-end-url+else-url-end-eq58 w ↦
+          λ _. ne_eqb _ 58 w.if-url-end-eq58.false
+      | goal.else-end-url-via-else-end-url w ↦
           λ inside. absurd (omega (arith, inside, w.if-end-url.false))
     ] in
     protocol_of-none_at url
