@@ -170,8 +170,8 @@ abbrev pub literal_autolinks_text : List ℕ
 literal_autolinks_text =
     codes
     "<p><a href=\"mailto:a@b\">a@b</a><a href=\"http://www.c\">www.c</a><a href=\"e\">http://d</a>"
-    ++ codes "<a href=\"mailto:f@g\">f@g</a>" ++ codes
-    "<a href=\"xmpp:h\">xmpp:h</a><a href=\"mailto:i\">mailto:i</a><a href=\"\">javascript:j</a></p>"
+    ++ codes "<a href=\"mailto:f@g\">f@g</a><a href=\"xmpp:h\">xmpp:h</a>"
+    ++ codes "<a href=\"mailto:i\">mailto:i</a><a href=\"\">javascript:j</a></p>"
 
 -- links and images of any protocol, where the options let them: the options, the tree, its
 -- bytes and its text
