@@ -30,7 +30,7 @@ use Rattle.md_shape.specs.Underlined.{is_underline}
 use Rattle.md_shape.specs.Built.{Content, Blocks, content_of, is_part, is_source, is_string}
 use Rattle.md_shape.specs.Built.{is_span, is_in_media, is_autolink}
 use Rattle.md_safe.proofs.Contents.{Holds}
-use Rattle.md_safe.proofs.BlocksAsked.{is_blocks}
+use Rattle.md_safe.proofs.Insides.{is_blocks}
 use Rattle.md_safe.proofs.Laid.{adds-nothing}
 use Rattle.md_safe.proofs.Tags.{adds-pair, adds-after, framed-text, framed-needed}
 use Rattle.md_safe.proofs.Cells.{adds-cell_in, adds-empty_cells}

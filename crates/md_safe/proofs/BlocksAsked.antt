@@ -1,16 +1,8 @@
 -- Blocks stand only in blocks, and what is asked of blocks alone is asked of no more after nodes.
-use Rattle.std.proofs.Common.{◌≡◌, Bool, true, false, refl}
+use Rattle.std.proofs.Common.{◌≡◌, true, false, refl}
 use Rattle.std.proofs.lemmas.Bool.{cond_both}
 use Rattle.md_base.proofs.Lies.{lie}
 use Rattle.md_base.specs.declared.event.Name.{Name}
-use Rattle.md_base.specs.declared.event.Name.TheVariants as name_variants
-use name_variants.{LineEnding, BlankLineEnding, Image, Resource, Definition}
-use name_variants.{GfmFootnoteDefinitionPrefix, CodeText, MathText, DefinitionLabelString}
-use name_variants.{DefinitionDestinationString, DefinitionTitleString}
-use name_variants.{GfmFootnoteDefinitionLabelString, ResourceDestinationString, ResourceTitleString}
-use name_variants.{ReferenceString, CodeFenced, CodeFencedFence, CodeFencedFenceInfo}
-use name_variants.{CodeFencedFenceMeta, CodeFlowChunk, MathFlow, MathFlowFence, MathFlowFenceMeta}
-use name_variants.{MathFlowChunk, GfmTaskListItemCheck, GfmTaskListItemValueChecked}
 use Rattle.md_base.specs.Tree.{Forest}
 use Rattle.md_base.specs.NameTests.{is_transparent}
 use Rattle.md_shape.specs.Built.{Content, Blocks, Spans, Strings, FirstFence, FirstMathFence}
@@ -18,58 +10,14 @@ use Rattle.md_shape.specs.Built.{Chunks, InfoAndMeta, MetaAlone, Done, Nothing, 
 use Rattle.md_shape.specs.Built.{content_of, content_past, content_after, content_inside}
 use Rattle.md_shape.specs.Built.{content_after_node}
 use Rattle.md_safe.proofs.Contents.{stays-after}
-
--- blocks
-abbrev pub is_blocks : Content → Bool
-is_blocks content = elim content [ Blocks ↦ true | _ ↦ false ]
-
-fence-blocks : (content : Content) → is_blocks (content_of CodeFencedFence content) ≡ true →
-    is_blocks content ≡ true
-fence-blocks FirstFence h = lie h
-fence-blocks _ h = lie h
-
-math_fence-blocks : (content : Content) → is_blocks (content_of MathFlowFence content) ≡ true →
-    is_blocks content ≡ true
-math_fence-blocks FirstMathFence h = lie h
-math_fence-blocks _ h = lie h
-
--- blocks stand only in blocks
-of-blocks : (name : Name) (content : Content) → is_blocks (content_of name content) ≡ true →
-    is_blocks content ≡ true
-of-blocks Resource content h = lie h
-of-blocks Definition content h = lie h
-of-blocks GfmFootnoteDefinitionPrefix content h = lie h
-of-blocks CodeText content h = lie h
-of-blocks MathText content h = lie h
-of-blocks DefinitionLabelString content h = lie h
-of-blocks DefinitionDestinationString content h = lie h
-of-blocks DefinitionTitleString content h = lie h
-of-blocks GfmFootnoteDefinitionLabelString content h = lie h
-of-blocks ResourceDestinationString content h = lie h
-of-blocks ResourceTitleString content h = lie h
-of-blocks ReferenceString content h = lie h
-of-blocks CodeFencedFenceInfo content h = lie h
-of-blocks CodeFencedFenceMeta content h = lie h
-of-blocks MathFlowFenceMeta content h = lie h
-of-blocks LineEnding content h = lie h
-of-blocks BlankLineEnding content h = lie h
-of-blocks CodeFlowChunk content h = lie h
-of-blocks MathFlowChunk content h = lie h
-of-blocks GfmTaskListItemValueChecked content h = lie h
-of-blocks Image content h = lie h
-of-blocks GfmTaskListItemCheck content h = lie h
-of-blocks CodeFenced content h = lie h
-of-blocks MathFlow content h = lie h
-of-blocks CodeFencedFence content h = fence-blocks content h
-of-blocks MathFlowFence content h = math_fence-blocks content h
-of-blocks _ content h = h
+use Rattle.md_safe.proofs.Insides.{is_blocks, of-blocks}
 
 pub inside-blocks : (content : Content) (name : Name) →
     is_blocks (content_inside content name) ≡ true →
     is_blocks content ≡ true
 inside-blocks content name =
     cond_both (is_transparent name) content (content_of name content) (λ c. is_blocks c ≡ true →
-    is_blocks content ≡ true) (λ _ h. h) (λ _ h. of-blocks name content h)
+    is_blocks content ≡ true) (λ _ h. h) (λ _ h. of-blocks content name h)
 
 past-blocks : (content : Content) (name : Name) → is_blocks (content_past content name) ≡ true →
     is_blocks content ≡ true

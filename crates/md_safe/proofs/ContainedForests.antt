@@ -22,7 +22,7 @@ use Rattle.md_meaning.specs.Meaning.Nodes.{Outcome, node, before_next, outcome}
 use Rattle.md_shape.specs.Built.{Blocks, is_part, is_source, may_stand, content_of, content_inside}
 use Rattle.md_shape.specs.Built.{IsBuilt}
 use Rattle.md_safe.proofs.Following.{second}
-use Rattle.md_safe.proofs.BlocksAsked.{is_blocks}
+use Rattle.md_safe.proofs.Insides.{is_blocks}
 use Rattle.md_safe.proofs.Nodes.{not_part}
 use Rattle.md_safe.proofs.Findings.{AreFound}
 use Rattle.md_safe.proofs.Forests.{Ready, ready-inside, ready-after, inside-means}

@@ -21,7 +21,7 @@ use Rattle.md_shape.specs.Built.{Blocks, is_part, is_source, may_stand, content_
 use Rattle.md_shape.specs.Built.{content_after_node, content_past, content_after, IsBuilt}
 use Rattle.md_safe.proofs.Laid.{adds-append, adds-nothing}
 use Rattle.md_safe.proofs.Contents.{stays-after}
-use Rattle.md_safe.proofs.BlocksAsked.{is_blocks}
+use Rattle.md_safe.proofs.Insides.{is_blocks}
 use Rattle.md_safe.proofs.Following.{second}
 use Rattle.md_safe.proofs.Nodes.{not_part}
 use Rattle.md_safe.proofs.Findings.{AreFound}

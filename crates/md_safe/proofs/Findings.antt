@@ -18,7 +18,7 @@ use Rattle.md_shape.specs.Built.{Content, Blocks, Sources, may_stand, content_in
 use Rattle.md_safe.proofs.Texts.{Escaped}
 use Rattle.md_safe.proofs.Media.{IsEscapedTitle}
 use Rattle.md_safe.proofs.Contents.{Holds}
-use Rattle.md_safe.proofs.BlocksAsked.{is_blocks}
+use Rattle.md_safe.proofs.Insides.{is_blocks}
 use Rattle.md_safe.proofs.Contents.{Suits}
 use Rattle.md_safe.proofs.Spot.{Setting, AreTitles, IsGoodTarget, IsFitAt}
 use Rattle.md_safe.proofs.SpanNodes.{text-holds}

@@ -22,7 +22,7 @@ use Rattle.md_shape.specs.Built.{Content as Grammatical, Blocks, content_inside,
 use Rattle.md_shape.specs.Built.{content_past, content_after}
 use Rattle.md_safe.proofs.Laid.{adds-alone}
 use Rattle.md_safe.proofs.Contents.{stays-after}
-use Rattle.md_safe.proofs.BlocksAsked.{is_blocks}
+use Rattle.md_safe.proofs.Insides.{is_blocks}
 use Rattle.md_safe.proofs.Costs.{Document}
 use Rattle.md_safe.specs.Contents.{Content, Flow, Phrasing}
 use Rattle.md_safe.specs.Placed.{Block, sort_of, may_stand as may_place}

@@ -5,27 +5,21 @@ use Rattle.std.specs.List.{list_any}
 use Rattle.std.proofs.lemmas.Bool.{cond_both, or_left, or_right}
 use Rattle.md_base.proofs.Lies.{lie}
 use Rattle.md_base.specs.declared.event.Name.{Name}
-use Rattle.md_base.specs.declared.event.Name.TheVariants as name_variants
-use name_variants.{LineEnding, BlankLineEnding, Image, Resource, Definition}
-use name_variants.{GfmFootnoteDefinitionPrefix, CodeText, MathText, DefinitionLabelString}
-use name_variants.{DefinitionDestinationString, DefinitionTitleString}
-use name_variants.{GfmFootnoteDefinitionLabelString, ResourceDestinationString, ResourceTitleString}
-use name_variants.{ReferenceString, CodeFenced, CodeFencedFence, CodeFencedFenceInfo}
-use name_variants.{CodeFencedFenceMeta, CodeFlowChunk, MathFlow, MathFlowFence, MathFlowFenceMeta}
-use name_variants.{MathFlowChunk, GfmTaskListItemCheck, GfmTaskListItemValueChecked}
+use Rattle.md_base.specs.declared.event.Name.TheVariants.{LineEnding}
 use Rattle.md_base.specs.Tree.{Forest, Empty, Node}
 use Rattle.md_base.specs.NameTests.{is_transparent, is_fence as fence_name}
 use Rattle.md_base.specs.Children.{spine_names}
 use Rattle.md_shape.specs.Built.{Content, Blocks, Spans, Strings, FirstFence, FirstMathFence}
 use Rattle.md_shape.specs.Built.{Chunks, InfoAndMeta, MetaAlone, Done, Nothing, Sources, is_fence}
-use Rattle.md_shape.specs.Built.{is_line, is_info, is_code_fence, is_math_fence, may_stand}
+use Rattle.md_shape.specs.Built.{is_info, may_stand}
 use Rattle.md_shape.specs.Built.{content_of, content_past, content_after, content_inside}
 use Rattle.md_shape.specs.Built.{content_after_node, IsBuilt}
 use Rattle.md_safe.proofs.Contents.{Follows, spine_after_node}
+use Rattle.md_safe.proofs.Insides.{is_chunks, told}
 
 -- the two tests of fences are one
 same_fence : (name : Name) → is_fence name ≡ fence_name name
-same_fence CodeFencedFence = refl
+same_fence LineEnding = refl
 same_fence _ = refl
 
 pub same_fences : (names : List Name) → list_any is_fence names ≡ list_any fence_name names
@@ -41,14 +35,6 @@ any-append (x ∷ xs) ys = ap (λ b. fence_name x || b) (any-append xs ys)
     by : (a b c : Bool) → (a || (b || c)) ≡ ((a || b) || c)
     by true b c = refl
     by false b c = refl
-
-code_fence : (name : Name) → is_code_fence name ≡ true → fence_name name ≡ true
-code_fence CodeFencedFence h = refl
-code_fence _ h = lie h
-
-math_fence : (name : Name) → is_math_fence name ≡ true → fence_name name ≡ true
-math_fence MathFlowFence h = refl
-math_fence _ h = lie h
 
 last_fence : (names : List Name) (name : Name) → fence_name name ≡ true →
     list_any fence_name (names ++ (name ∷ [])) ≡ true
@@ -67,8 +53,10 @@ follows-past : (content : Content) (name : Name) (names : List Name) →
 follows-past Blocks name names h f = tt
 follows-past Spans name names h f = tt
 follows-past Strings name names h f = tt
-follows-past FirstFence name names h f = last_fence names name (code_fence name h)
-follows-past FirstMathFence name names h f = last_fence names name (math_fence name h)
+follows-past FirstFence name names h f =
+    last_fence names name ((told FirstFence name h).fence refl)
+follows-past FirstMathFence name names h f =
+    last_fence names name ((told FirstMathFence name h).fence refl)
 follows-past Chunks name names h f = first_fence names (name ∷ []) f
 follows-past InfoAndMeta name names h f = cond_both (is_info name) MetaAlone Nothing
     (λ content. Follows content (names ++ (name ∷ []))) (λ _. tt) (λ _. tt)
@@ -126,56 +114,13 @@ follows-after-node bytes content name names children stands built f =
     (λ e. follows-after bytes content names children
     (through bytes content name children e built) f)
 
--- where neither a line of code nor a fence may stand
-plain-follows : (content : Content) (name : Name) → (is_line name || is_fence name) ≡ false →
-    may_stand content name ≡ true → Follows content []
-plain-follows Blocks name plain s = tt
-plain-follows Spans name plain s = tt
-plain-follows Strings name plain s = tt
-plain-follows FirstFence name plain s = refl
-plain-follows FirstMathFence name plain s = refl
-plain-follows Chunks name plain s = lie (sym plain ∙ s)
-plain-follows InfoAndMeta name plain s = tt
-plain-follows MetaAlone name plain s = tt
-plain-follows Done name plain s = tt
-plain-follows Nothing name plain s = tt
-plain-follows Sources name plain s = tt
-
-follows-code_fence : (content : Content) → Follows (content_of CodeFencedFence content) []
-follows-code_fence FirstFence = tt
-follows-code_fence _ = tt
-
-follows-math_fence : (content : Content) → Follows (content_of MathFlowFence content) []
-follows-math_fence FirstMathFence = tt
-follows-math_fence _ = tt
-
 -- nothing stands before a node's first child
 pub follows-inside : (content : Content) (name : Name) → may_stand content name ≡ true →
     Follows (content_of name content) []
-follows-inside content Resource s = tt
-follows-inside content Definition s = tt
-follows-inside content GfmFootnoteDefinitionPrefix s = tt
-follows-inside content CodeText s = tt
-follows-inside content MathText s = tt
-follows-inside content DefinitionLabelString s = tt
-follows-inside content DefinitionDestinationString s = tt
-follows-inside content DefinitionTitleString s = tt
-follows-inside content GfmFootnoteDefinitionLabelString s = tt
-follows-inside content ResourceDestinationString s = tt
-follows-inside content ResourceTitleString s = tt
-follows-inside content ReferenceString s = tt
-follows-inside content CodeFencedFenceInfo s = tt
-follows-inside content CodeFencedFenceMeta s = tt
-follows-inside content MathFlowFenceMeta s = tt
-follows-inside content LineEnding s = tt
-follows-inside content BlankLineEnding s = tt
-follows-inside content CodeFlowChunk s = tt
-follows-inside content MathFlowChunk s = tt
-follows-inside content GfmTaskListItemValueChecked s = tt
-follows-inside content Image s = tt
-follows-inside content GfmTaskListItemCheck s = tt
-follows-inside content CodeFenced s = refl
-follows-inside content MathFlow s = refl
-follows-inside content CodeFencedFence s = follows-code_fence content
-follows-inside content MathFlowFence s = follows-math_fence content
-follows-inside content name s = plain-follows content name refl s
+follows-inside content name s = by (content_of name content) (told content name s).chunks
+  where
+    by : (content : Content) → is_chunks content ≡ false → Follows content []
+    by FirstFence h = refl
+    by FirstMathFence h = refl
+    by Chunks h = lie (sym h)
+    by _ h = tt

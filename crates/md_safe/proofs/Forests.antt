@@ -23,7 +23,8 @@ use Rattle.md_meaning.specs.Meaning.Nodes.{Outcome, found_at, node, before_next,
 use Rattle.md_shape.specs.Built.{Content, Blocks, may_stand, content_of, content_inside}
 use Rattle.md_shape.specs.Built.{content_after_node, content_after, content_past, IsBuilt}
 use Rattle.md_safe.proofs.Contents.{stays-after, Holds}
-use Rattle.md_safe.proofs.BlocksAsked.{is_blocks, inside-blocks, asked-after-node}
+use Rattle.md_safe.proofs.Insides.{is_blocks}
+use Rattle.md_safe.proofs.BlocksAsked.{inside-blocks, asked-after-node}
 use Rattle.md_safe.proofs.Contents.{Suits, Follows}
 use Rattle.md_safe.proofs.Suiting.{suits-inside, suits-after-node}
 use Rattle.md_safe.proofs.Following.{second, follows-inside, follows-after-node}

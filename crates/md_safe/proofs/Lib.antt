@@ -9,6 +9,7 @@ pub mod Cells
 pub mod Elements
 pub mod RawElements
 pub mod Contents
+pub mod Insides
 pub mod Suiting
 pub mod Following
 pub mod LaterFences

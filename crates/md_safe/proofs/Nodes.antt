@@ -30,7 +30,7 @@ use Rattle.md_safe.proofs.RawElements.{IsRaw, IsInCode, bare-in_code, info-in_co
 use Rattle.md_safe.proofs.RawElements.{raw-math, code_tag, math_tag}
 use Rattle.md_safe.proofs.Contents.{Holds, Suits, Follows, holds-nothing}
 use Rattle.md_safe.proofs.Following.{second}
-use Rattle.md_safe.proofs.BlocksAsked.{is_blocks}
+use Rattle.md_safe.proofs.Insides.{is_blocks}
 use Rattle.md_safe.proofs.LaterFences.{later-inside}
 use Rattle.md_safe.proofs.Spot.{IsWhole, Setting, IsFitAt, IsGoodTarget, Here, Prints, Inside}
 use Rattle.md_safe.proofs.Spot.{narrow-wide, wide-escaped}

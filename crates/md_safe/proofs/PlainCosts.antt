@@ -18,7 +18,8 @@ use Rattle.md_shape.specs.Underlined.{is_underline, waits_past}
 use Rattle.md_shape.specs.Built.{Content, Blocks, is_part, is_source, may_stand, content_of}
 use Rattle.md_shape.specs.Built.{content_inside, content_after_node, IsBuilt, IsFit}
 use Rattle.md_safe.proofs.Contents.{Holds}
-use Rattle.md_safe.proofs.BlocksAsked.{is_blocks, inside-blocks, asked-after-node}
+use Rattle.md_safe.proofs.Insides.{is_blocks}
+use Rattle.md_safe.proofs.BlocksAsked.{inside-blocks, asked-after-node}
 use Rattle.md_safe.proofs.Spot.{Setting, Prints, Inside}
 use Rattle.md_safe.proofs.BlockNodes.{block-node}
 use Rattle.md_safe.proofs.Forests.{Ready, Means, means, inside-means}

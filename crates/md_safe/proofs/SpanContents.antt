@@ -13,7 +13,7 @@ use Rattle.md_shape.specs.Built.{Blocks, content_of}
 use Rattle.md_safe.proofs.Texts.{Escaped}
 use Rattle.md_safe.proofs.Laid.{adds-text}
 use Rattle.md_safe.proofs.Tags.{adds-flat, are_texts, flat as flattened}
-use Rattle.md_safe.proofs.BlocksAsked.{is_blocks}
+use Rattle.md_safe.proofs.Insides.{is_blocks}
 use Rattle.md_safe.proofs.Spot.{Inside, IsFitAt, IsGoodTarget}
 use Rattle.md_safe.proofs.Costs.{Document, read_in}
 use Rattle.md_safe.specs.Contents.{Content, Phrasing, Linked, Characters, voids_in}

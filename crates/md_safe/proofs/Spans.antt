@@ -18,7 +18,7 @@ use Rattle.md_meaning.specs.Meaning.Spans.{escaped, html}
 use Rattle.md_shape.specs.Built.{Blocks, content_of, is_string, is_span, is_in_media, is_autolink}
 use Rattle.md_safe.proofs.Texts.{Escaped}
 use Rattle.md_safe.proofs.Laid.{adds-weaker}
-use Rattle.md_safe.proofs.BlocksAsked.{is_blocks}
+use Rattle.md_safe.proofs.Insides.{is_blocks}
 use Rattle.md_safe.proofs.SpanNodes.{html-escaped}
 use Rattle.md_safe.proofs.BlockSorts.{is_hidden, is_silent}
 use Rattle.md_safe.proofs.BlockNodes.{hidden-prints, silent-prints}

@@ -24,7 +24,7 @@ use Rattle.md_safe.proofs.Laid.{Adds, adds-nothing, adds-text, adds-alone}
 use Rattle.md_safe.proofs.Tags.{adds-flat}
 use Rattle.md_safe.proofs.Calls.{id-escaped, call_id-escaped, call_tags}
 use Rattle.md_safe.proofs.Elements.{adds-heading}
-use Rattle.md_safe.proofs.BlocksAsked.{is_blocks}
+use Rattle.md_safe.proofs.Insides.{is_blocks}
 use Rattle.md_safe.proofs.Spot.{Setting}
 use Rattle.md_safe.proofs.FlowNodes.{setext-fits}
 use Rattle.md_safe.proofs.Counted.{counts-call, Waiting, texts-append}

@@ -1,0 +1,119 @@
+-- What a name that may stand in some content tells of what may stand in it: computed once for each
+-- content, for all names.
+use Rattle.std.proofs.Common.{◌≡◌, Bool, true, false, not, ◌&&◌, ◌||◌, cond, refl}
+use Rattle.std.proofs.lemmas.Bool.{and_parts, not-true}
+use Rattle.md_base.proofs.Lies.{lie}
+use Rattle.md_base.specs.declared.event.Name.{Name}
+use Rattle.md_base.specs.declared.event.Name.TheVariants.{LineEnding, Image}
+use Rattle.md_base.specs.Is.{is as named}
+use Rattle.md_base.specs.NameTests.{is_fence}
+use Rattle.md_shape.specs.Built.{Content, Blocks, Spans, Strings, FirstFence, FirstMathFence}
+use Rattle.md_shape.specs.Built.{Chunks, InfoAndMeta, MetaAlone, Done, Nothing, Sources, is_source}
+use Rattle.md_shape.specs.Built.{may_stand, content_of}
+use Rattle.md_safe.proofs.Contents.{is_first}
+
+-- blocks
+abbrev pub is_blocks : Content → Bool
+is_blocks content = elim content [ Blocks ↦ true | _ ↦ false ]
+
+-- what follows a first fence
+abbrev pub is_chunks : Content → Bool
+is_chunks content = elim content [ Chunks ↦ true | _ ↦ false ]
+
+-- what stands only in images
+abbrev pub asks_image : Content → Bool
+asks_image content = elim content [ Spans ↦ true | _ ↦ false ]
+
+-- what stands only where special characters are escaped
+abbrev pub asks_escaping : Content → Bool
+asks_escaping content = elim content [
+  | Blocks ↦ true
+  | Spans ↦ true
+  | FirstFence ↦ true
+  | InfoAndMeta ↦ true
+  | Sources ↦ true
+  | _ ↦ false
+]
+
+-- a node whose children begin with a first fence, wherever it stands
+abbrev pub is_raw : Name → Bool
+is_raw name = is_first (content_of name Blocks)
+
+abbrev implies : Bool → Bool → Bool
+implies test holds = cond test holds true
+
+follows : (test holds : Bool) → implies test holds ≡ true → test ≡ true → holds ≡ true
+follows true holds h t = h
+follows false holds h t = lie t
+
+-- of a name that may stand in the content `c`, and what may stand in it, `i`
+abbrev tells : Content → Name → Content → Bool
+tells c n i =
+    implies (asks_escaping i) (asks_escaping c && not (is_source n))
+    && (implies (asks_image i) (asks_image c || named Image n)
+    && (implies (is_first i) (is_raw n)
+    && (implies (is_first c) (is_fence n) && not (is_chunks i))))
+
+abbrev facts : Content → Name → Bool
+facts c n =
+    implies (is_blocks (content_of n c)) (is_blocks c)
+    && implies (may_stand c n) (tells c n (content_of n c))
+
+all-facts : (c : Content) (n : Name) → facts c n ≡ true
+all-facts Blocks LineEnding = refl
+all-facts Blocks _ = refl
+all-facts Spans LineEnding = refl
+all-facts Spans _ = refl
+all-facts Strings LineEnding = refl
+all-facts Strings _ = refl
+all-facts FirstFence LineEnding = refl
+all-facts FirstFence _ = refl
+all-facts FirstMathFence LineEnding = refl
+all-facts FirstMathFence _ = refl
+all-facts Chunks LineEnding = refl
+all-facts Chunks _ = refl
+all-facts InfoAndMeta LineEnding = refl
+all-facts InfoAndMeta _ = refl
+all-facts MetaAlone LineEnding = refl
+all-facts MetaAlone _ = refl
+all-facts Done LineEnding = refl
+all-facts Done _ = refl
+all-facts Nothing LineEnding = refl
+all-facts Nothing _ = refl
+all-facts Sources LineEnding = refl
+all-facts Sources _ = refl
+
+-- blocks stand only in blocks
+pub of-blocks : (c : Content) (n : Name) → is_blocks (content_of n c) ≡ true → is_blocks c ≡ true
+of-blocks c n =
+    follows (is_blocks (content_of n c)) (is_blocks c)
+    (and_parts (implies (is_blocks (content_of n c)) (is_blocks c)) _ (all-facts c n)).0
+
+-- what is known of a name that may stand in the content
+pub record Told (c : Content) (n : Name) : Type 0 where
+  pub escaping : asks_escaping (content_of n c) ≡ true →
+      (asks_escaping c ≡ true) × (is_source n ≡ false)
+  pub image : asks_image (content_of n c) ≡ true → (asks_image c || named Image n) ≡ true
+  pub first : is_first (content_of n c) ≡ true → is_raw n ≡ true
+  pub fence : is_first c ≡ true → is_fence n ≡ true
+  pub chunks : is_chunks (content_of n c) ≡ false
+
+pub told : (c : Content) (n : Name) → may_stand c n ≡ true → Told c n
+told c n stands =
+    let i : Content = content_of n c in
+    let p0 = and_parts (implies (asks_escaping i) (asks_escaping c && not (is_source n))) _
+    (follows (may_stand c n) (tells c n i)
+    (and_parts (implies (is_blocks i) (is_blocks c)) _ (all-facts c n)).1 stands) in
+    let p1 = and_parts (implies (asks_image i) (asks_image c || named Image n)) _ p0.1 in
+    let p2 = and_parts (implies (is_first i) (is_raw n)) _ p1.1 in
+    let p3 = and_parts (implies (is_first c) (is_fence n)) (not (is_chunks i)) p2.1 in
+    record {
+      escaping = λ t.
+          let a = and_parts (asks_escaping c) (not (is_source n))
+          (follows (asks_escaping i) _ p0.0 t) in
+          (a.0, not-true (is_source n) a.1);
+      image = λ t. follows (asks_image i) (asks_image c || named Image n) p1.0 t;
+      first = λ t. follows (is_first i) (is_raw n) p2.0 t;
+      fence = λ t. follows (is_first c) (is_fence n) p3.0 t;
+      chunks = not-true (is_chunks i) p3.1;
+    }
