@@ -1,19 +1,17 @@
 -- The nodes of blocks print texts with readings, whatever is claimed of texts besides: a
 -- case for each name.
 use Rattle.std.proofs.Common.{◌≡◌, Bool, true, false, not, ◌&&◌, ◌||◌, List, [], ◌++◌, refl, sym}
-use Rattle.std.proofs.Common.{◌∙◌, subst, inl, inr, drop, append_assoc, codes}
+use Rattle.std.proofs.Common.{cond, ap, ◌∙◌, subst, inl, inr, drop, append_assoc, codes}
 use Rattle.std.specs.Prelude.{slice_get, count_by}
 use Rattle.std.specs.List.{flat_map}
-use Rattle.std.proofs.lemmas.Bool.{and_parts, not-true, or_cases}
+use Rattle.std.proofs.lemmas.Bool.{and_parts, not-true, or_cases, cond-true}
 use Rattle.md_base.proofs.Lies.{lie}
 use Rattle.md_base.specs.declared.event.Name.{Name}
 use Rattle.md_base.specs.declared.event.Name.TheVariants as name_variants
-use name_variants.{LineEnding, ListItemPrefix, ListItemValue, ListItemMarker, GfmFootnoteDefinition}
-use name_variants.{GfmFootnoteDefinitionPrefix, Definition, CodeFencedFenceMeta, MathFlowFenceMeta}
-use name_variants.{HeadingAtxSequence, HeadingAtxText, HeadingSetextText, GfmTable, GfmTableHead}
-use name_variants.{GfmTableBody, GfmTableRow, GfmTableCell, GfmTableDelimiterRow}
-use name_variants.{GfmTableDelimiterCellValue, GfmTableDelimiterMarker, Frontmatter, MdxEsm}
-use name_variants.{MdxFlowExpression, MdxTextExpression, MdxJsxFlowTag, MdxJsxTextTag, Link}
+use name_variants.{LineEnding, GfmFootnoteDefinition, GfmFootnoteDefinitionPrefix, Definition}
+use name_variants.{CodeFencedFenceMeta, MathFlowFenceMeta, HeadingSetextText, GfmTable}
+use name_variants.{GfmTableHead, GfmTableBody, GfmTableRow, GfmTableCell, GfmTableDelimiterRow}
+use name_variants.{Frontmatter, Link}
 use Rattle.md_base.specs.declared.event.AlignKind.{AlignKind}
 use Rattle.md_text.proofs.HtmlJoin.{nothing}
 use Rattle.md_base.specs.Is.{is as named}
@@ -39,8 +37,43 @@ use Rattle.md_safe.proofs.Spot.{Setting, IsFitAt, IsGoodTarget, Prints, Inside, 
 use Rattle.md_safe.proofs.Spot.{wide-reading, PassesIds}
 use Rattle.md_safe.proofs.StringNodes.{string-node}
 use Rattle.md_safe.proofs.SpanNodes.{text-holds, span-node, media-node, autolink-node}
-use Rattle.md_safe.proofs.BlockSorts.{is_hidden, is_tabular, is_silent, is_flow}
-use Rattle.md_safe.proofs.FlowNodes.{Reads, block-pair, flow-node}
+use Rattle.md_safe.proofs.FlowNodes.{Reads, block-pair, is_flow, flow-node, is_leaf, leaf-node}
+
+-- what prints nothing of its children
+abbrev pub is_hidden : Name → Bool
+is_hidden name = elim name [
+  | HeadingSetextText ↦ true
+  | CodeFencedFenceMeta ↦ true
+  | MathFlowFenceMeta ↦ true
+  | Frontmatter ↦ true
+  | Definition ↦ true
+  | GfmFootnoteDefinition ↦ true
+  | GfmFootnoteDefinitionPrefix ↦ true
+  | GfmTableDelimiterRow ↦ true
+  | _ ↦ false
+]
+
+-- tables and their parts
+abbrev is_tabular : Name → Bool
+is_tabular name = elim name [
+  | GfmTable ↦ true
+  | GfmTableHead ↦ true
+  | GfmTableBody ↦ true
+  | GfmTableRow ↦ true
+  | GfmTableCell ↦ true
+  | _ ↦ false
+]
+
+-- what is looked through, stands in other nodes alone, or prints more or less than its children
+abbrev is_marked : Name → Bool
+is_marked name =
+    is_transparent name || ((is_part name || is_source name) || (is_string name || (is_span name
+    || (is_in_media name || (is_autolink name || (is_flow name || (is_leaf name || (is_hidden name
+    || is_tabular name))))))))
+
+-- any other name prints only its children
+abbrev pub is_silent : Name → Bool
+is_silent name = not (is_marked name)
 
 -- nothing is claimed of no text
 pub holds-none : (s : Setting) → Reads s []
@@ -50,17 +83,16 @@ prints-none : (s : Setting) → Prints s (Reads s) []
 prints-none s = adds-nothing s.given.ending (Reads s) (holds-none s)
 
 -- these print nothing
+no-pieces : (given : Given) (t : At) (name : Name) (inner : List Piece) →
+    cond (is_hidden name) (prints given t name inner) [] ≡ []
+no-pieces given t LineEnding inner = refl
+no-pieces given t _ inner = refl
+
 pub hidden-prints : (given : Given) (t : At) (name : Name) → is_hidden name ≡ true →
     (inner : List Piece) → prints given t name inner ≡ []
-hidden-prints given t HeadingSetextText is inner = refl
-hidden-prints given t CodeFencedFenceMeta is inner = refl
-hidden-prints given t MathFlowFenceMeta is inner = refl
-hidden-prints given t Frontmatter is inner = refl
-hidden-prints given t Definition is inner = refl
-hidden-prints given t GfmFootnoteDefinition is inner = refl
-hidden-prints given t GfmFootnoteDefinitionPrefix is inner = refl
-hidden-prints given t GfmTableDelimiterRow is inner = refl
-hidden-prints given t _ is inner = lie is
+hidden-prints given t name is inner =
+    sym (cond-true (is_hidden name) (prints given t name inner) [] is)
+    ∙ no-pieces given t name inner
 
 hidden-node : (s : Setting) (t : At) (name : Name) → is_hidden name ≡ true → (inner : List Piece) →
     Prints s (Reads s) (prints s.given t name inner)
@@ -101,21 +133,16 @@ table-node s t GfmTableCell is inner a =
 table-node s t _ is inner a = lie is
 
 -- these print their children
+own-pieces : (given : Given) (t : At) (name : Name) (inner : List Piece) →
+    cond (is_silent name) (prints given t name inner) inner ≡ inner
+own-pieces given t LineEnding inner = refl
+own-pieces given t _ inner = refl
+
 pub silent-prints : (given : Given) (t : At) (name : Name) → is_silent name ≡ true →
     (inner : List Piece) → prints given t name inner ≡ inner
-silent-prints given t ListItemPrefix is inner = refl
-silent-prints given t ListItemValue is inner = refl
-silent-prints given t ListItemMarker is inner = refl
-silent-prints given t HeadingAtxSequence is inner = refl
-silent-prints given t HeadingAtxText is inner = refl
-silent-prints given t GfmTableDelimiterCellValue is inner = refl
-silent-prints given t GfmTableDelimiterMarker is inner = refl
-silent-prints given t MdxEsm is inner = refl
-silent-prints given t MdxFlowExpression is inner = refl
-silent-prints given t MdxTextExpression is inner = refl
-silent-prints given t MdxJsxFlowTag is inner = refl
-silent-prints given t MdxJsxTextTag is inner = refl
-silent-prints given t _ is inner = lie is
+silent-prints given t name is inner =
+    sym (cond-true (is_silent name) (prints given t name inner) inner is)
+    ∙ own-pieces given t name inner
 
 -- a name that isn't silent, or in which blocks stand, and that is no link
 abbrev is_silent_block : Name → Bool
@@ -148,13 +175,6 @@ silent-node s t name is inner a =
     by Blocks is a = a
     by _ is a = lie is
 
--- each name is of one of the tables
-covered : (name : Name) → (is_transparent name || ((is_part name || is_source name)
-    || (is_string name || (is_span name || (is_in_media name || (is_autolink name
-    || (is_flow name || (is_hidden name || (is_tabular name || is_silent name))))))))) ≡ true
-covered LineEnding = refl
-covered _ = refl
-
 -- blocks
 pub block-node : (s : Setting) (t : At) (name : Name) → t.around.is_escaping ≡ true →
     is_transparent name ≡ false →
@@ -163,8 +183,12 @@ pub block-node : (s : Setting) (t : At) (name : Name) → t.around.is_escaping �
     (is_underline name ≡ true → Reads s t.before.heading) → IsGoodTarget t.found.resource →
     (inner : List Piece) → Inside s t Blocks name inner →
     Prints s (Reads s) (prints s.given t name inner)
-block-node s t name e solid whole fit ids head good inner a =
-    elim (or_cases (is_transparent name) _ (covered name)) [
+block-node s t name e solid whole fit ids head good inner a = by (is_marked name) refl
+  where
+    by : (marked : Bool) → is_marked name ≡ marked →
+        Prints s (Reads s) (prints s.given t name inner)
+    by false h = silent-node s t name (ap not h) inner a
+    by true h = elim (or_cases (is_transparent name) _ h) [
       | inl is ↦ lie (sym solid ∙ is)
       | inr c ↦ elim (or_cases (is_part name || is_source name) _ c) [
         | inl is ↦ lie (sym whole ∙ is)
@@ -181,11 +205,11 @@ block-node s t name e solid whole fit ids head good inner a =
                     autolink-node s t Blocks name (wide-reading s.p t.around.in_image) is inner
                 | inr c ↦ elim (or_cases (is_flow name) _ c) [
                   | inl is ↦ flow-node s t name e is fit head inner a
-                  | inr c ↦ elim (or_cases (is_hidden name) _ c) [
-                    | inl is ↦ hidden-node s t name is inner
-                    | inr c ↦ elim (or_cases (is_tabular name) _ c) [
-                      | inl is ↦ table-node s t name is inner a
-                      | inr is ↦ silent-node s t name is inner a
+                  | inr c ↦ elim (or_cases (is_leaf name) _ c) [
+                    | inl is ↦ leaf-node s t name e is fit inner
+                    | inr c ↦ elim (or_cases (is_hidden name) (is_tabular name) c) [
+                      | inl is ↦ hidden-node s t name is inner
+                      | inr is ↦ table-node s t name is inner a
                     ]
                   ]
                 ]

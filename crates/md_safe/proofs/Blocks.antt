@@ -14,11 +14,10 @@ use Rattle.md_meaning.specs.Meaning.At.{At}
 use Rattle.md_meaning.specs.Meaning.Layout.{Piece, Needed, layout, said, on_own_line, when}
 use Rattle.md_meaning.specs.Meaning.Means.{prints}
 use Rattle.md_meaning.specs.Meaning.Spans.{line_ending}
-use Rattle.md_meaning.specs.Meaning.Blocks.{chunk}
 use Rattle.md_shape.specs.Built.{is_part, is_source}
 use Rattle.md_safe.proofs.Texts.{Escaped}
 use Rattle.md_safe.proofs.Laid.{adds-weaker, adds-alone}
-use Rattle.md_safe.proofs.FlowNodes.{chunk-escaped}
+use Rattle.md_safe.proofs.FlowNodes.{line-escaped}
 use Rattle.md_safe.proofs.Costs.{Document, read_in}
 use Rattle.md_safe.specs.Contents.{Content, Flow, Phrasing, Linked, Items, Parts, Rows, Cells}
 use Rattle.md_safe.specs.Contents.{Preformatted, Characters}
@@ -103,9 +102,10 @@ characters-node : (nested : Bool) (d : Document) (t : At) (name : Name) →
     (inner : List Piece) → Known nested d t name inner →
     Prints nested d Characters (prints d.given t name inner)
 characters-node nested d t CodeFlowChunk stands inner k =
-    adds-weaker d.given.ending Escaped (Stands nested Characters) (chunk d.given t)
+    adds-weaker d.given.ending Escaped (Stands nested Characters)
+    (prints d.given t CodeFlowChunk inner)
     (λ x h. stands-text nested Characters x h refl)
-    (chunk-escaped (read_in d) t)
+    (line-escaped (read_in d) t CodeFlowChunk refl k.fit inner)
 characters-node nested d t LineEnding stands inner k =
     lays-white nested d.given.ending Characters (line_ending d.given t) refl
     (ending-white d t k.fit)

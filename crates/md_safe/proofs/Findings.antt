@@ -5,9 +5,8 @@ use Rattle.std.proofs.lemmas.Bool.{or_left, or_right}
 use Rattle.md_base.proofs.Lies.{lie}
 use Rattle.md_base.specs.declared.event.Name.{Name}
 use Rattle.md_base.specs.declared.event.Name.TheVariants as name_variants
-use name_variants.{Other, BlockQuotePrefix, SpaceOrTab, HeadingSetextText}
-use name_variants.{DefinitionDestinationString, DefinitionTitleString, GfmFootnoteDefinition}
-use name_variants.{Resource, ResourceDestinationString, ResourceTitleString}
+use name_variants.{Other, BlockQuotePrefix, SpaceOrTab, HeadingSetextText, DefinitionTitleString}
+use name_variants.{GfmFootnoteDefinition, Resource, ResourceTitleString}
 use Rattle.md_base.specs.Is.{is as named}
 use Rattle.md_base.specs.NameTests.{is_transparent}
 use Rattle.md_base.specs.Children.{or_else}
@@ -95,10 +94,6 @@ found-node s t content HeadingSetextText inner i = record {
   title = tt;
   resource = tt;
 }
-found-node s t content DefinitionDestinationString inner i =
-    record { heading = λ _. tt; title = tt; resource = tt }
-found-node s t content ResourceDestinationString inner i =
-    record { heading = λ _. tt; title = tt; resource = tt }
 found-node s t content DefinitionTitleString inner i = record {
   heading = λ _. tt;
   title = text-holds s (λ x. t.around.is_escaping ≡ true → Escaped x) inner
@@ -120,7 +115,7 @@ found-node s t content Resource inner i =
 found-node s t content (Other number) inner i = i.found
 found-node s t content BlockQuotePrefix inner i = i.found
 found-node s t content SpaceOrTab inner i = i.found
-found-node s t content _ inner i = nothing-found s content
+found-node s t content _ inner i = record { heading = λ _. tt; title = tt; resource = tt }
 
 -- the text of a footnote that is the node
 pub note-node : (s : Setting) (t : At) (content : Content) (name : Name) (inner : List Piece) →

@@ -1,15 +1,17 @@
 -- The nodes of blocks with tags or raw text print texts with readings.
 use Rattle.std.proofs.Common.{◌≡◌, ℕ, ◌≤◌, Bool, true, false, cond, List, [], ◌∷◌, ◌++◌, refl, sym}
-use Rattle.std.proofs.Common.{subst, arith, append_assoc, codes}
+use Rattle.std.proofs.Common.{◌||◌, subst, inl, inr, arith, append_assoc, codes}
 use Rattle.std.specs.Prelude.{unwrap_or}
-use Rattle.md_base.specs.Place.{serialized_between}
 use Rattle.std.specs.List.{list_any}
+use Rattle.std.proofs.lemmas.Bool.{or_cases}
+use Rattle.md_base.specs.Place.{serialized_between}
 use Rattle.md_base.proofs.Lies.{lie}
 use Rattle.md_base.specs.declared.event.Name.{Name}
 use Rattle.md_base.specs.declared.event.Name.TheVariants as name_variants
-use name_variants.{BlankLineEnding, BlockQuote, ListOrdered, ListUnordered, ListItem, CodeIndented}
-use name_variants.{CodeFenced, CodeFlowChunk, MathFlow, MathFlowChunk, HtmlFlow, HtmlFlowData}
-use name_variants.{HeadingAtx, HeadingSetextUnderlineSequence, Paragraph, ThematicBreak}
+use name_variants.{LineEnding, BlankLineEnding, BlockQuote, ListOrdered, ListUnordered, ListItem}
+use name_variants.{CodeIndented, CodeFenced, CodeFlowChunk, MathFlow, MathFlowChunk, HtmlFlow}
+use name_variants.{HtmlFlowData, HeadingAtx, HeadingSetextUnderlineSequence, Paragraph}
+use name_variants.{ThematicBreak}
 use Rattle.md_text.specs.Encode.{encoded}
 use Rattle.md_text.proofs.EncodeLaws.{is_escaped-encoded}
 use Rattle.md_text.proofs.EscapedLemmas.{escaped-append}
@@ -20,11 +22,11 @@ use Rattle.md_meaning.specs.Meaning.At.{At}
 use Rattle.md_meaning.specs.Meaning.Around.{is_tight}
 use Rattle.md_meaning.specs.Meaning.Layout.{Piece, Text, Needed, Forced, said, on_own_line, when}
 use Rattle.md_meaning.specs.Meaning.Means.{prints}
-use Rattle.md_meaning.specs.Meaning.Spans.{escaped, html, is_at}
+use Rattle.md_meaning.specs.Meaning.Spans.{is_at}
 use Rattle.md_meaning.specs.Meaning.Blocks.{list_start, ends_in_line, atx_rank, underline_rank}
 use Rattle.md_meaning.specs.Meaning.Blocks.{chunk, code_end, is_unclosed, runs_out}
 use Rattle.md_shape.specs.Underlined.{is_underline}
-use Rattle.md_shape.specs.Built.{Blocks}
+use Rattle.md_shape.specs.Built.{Blocks, is_line}
 use Rattle.md_safe.proofs.Texts.{Escaped}
 use Rattle.md_safe.proofs.Laid.{adds-append, adds-weaker, adds-text, adds-needed, adds-forced}
 use Rattle.md_safe.proofs.Tags.{Bracket, IsFramed, void-read, adds-flat, adds-pair, adds-framed}
@@ -34,15 +36,40 @@ use Rattle.md_safe.proofs.Elements.{bracket-plain, bracket-code, adds-heading, o
 use Rattle.md_safe.proofs.Elements.{code_closing}
 use Rattle.md_safe.proofs.RawElements.{adds-raw, code_tag, math_tag}
 use Rattle.md_safe.proofs.Spot.{Setting, IsFitAt, Prints, Inside}
+use Rattle.md_safe.proofs.StringNodes.{line_ending-escaped}
 use Rattle.md_safe.proofs.SpanNodes.{html-escaped}
-use Rattle.md_safe.proofs.BlockSorts.{is_flow}
+
+-- blocks with tags or raw text
+abbrev pub is_flow : Name → Bool
+is_flow name = elim name [
+  | BlockQuote ↦ true
+  | ListOrdered ↦ true
+  | ListUnordered ↦ true
+  | ListItem ↦ true
+  | Paragraph ↦ true
+  | ThematicBreak ↦ true
+  | HeadingAtx ↦ true
+  | HeadingSetextUnderlineSequence ↦ true
+  | CodeIndented ↦ true
+  | CodeFenced ↦ true
+  | MathFlow ↦ true
+  | HtmlFlow ↦ true
+  | _ ↦ false
+]
+
+-- a line of code or its end, or HTML
+abbrev is_html : Name → Bool
+is_html name = elim name [ HtmlFlowData ↦ true | _ ↦ false ]
+
+abbrev pub is_leaf : Name → Bool
+is_leaf name = is_line name || is_html name
 
 -- what is claimed of a text
 abbrev pub Reads : Setting → List ℕ → Type 0
 Reads s x = s.p.holds x
 
 -- a needed line ending, where a test holds
-pub when-needed : (s : Setting) (holds : Bool) → Prints s Escaped (when holds (Needed ∷ []))
+when-needed : (s : Setting) (holds : Bool) → Prints s Escaped (when holds (Needed ∷ []))
 when-needed s true = adds-needed s.given.ending s.ending
 when-needed s false = adds-nil s.given.ending
 
@@ -108,10 +135,37 @@ prints-plain s pieces a =
     adds-weaker s.given.ending Escaped (Reads s) pieces (λ x h. s.p.plain x (text s.p.test x h)) a
 
 -- a line of code
-pub chunk-escaped : (s : Setting) (t : At) → Prints s Escaped (chunk s.given t)
+chunk-escaped : (s : Setting) (t : At) → Prints s Escaped (chunk s.given t)
 chunk-escaped s t =
     let x : List ℕ = unwrap_or (serialized_between s.given.bytes t.place.start t.place.end) [] in
     adds-text s.given.ending Escaped (encoded true x) (is_escaped-encoded x)
+
+-- lines are escaped, wherever they stand
+pub line-escaped : (s : Setting) (t : At) (name : Name) → is_line name ≡ true → IsFitAt s t name →
+    (inner : List Piece) → Prints s Escaped (prints s.given t name inner)
+line-escaped s t LineEnding is fit inner = line_ending-escaped s t fit
+line-escaped s t BlankLineEnding is fit inner = when-needed s t.is_last
+line-escaped s t CodeFlowChunk is fit inner = chunk-escaped s t
+line-escaped s t MathFlowChunk is fit inner = chunk-escaped s t
+line-escaped s t _ is fit inner = lie is
+
+pub leaf-escaped : (s : Setting) (t : At) (name : Name) → t.around.is_escaping ≡ true →
+    is_leaf name ≡ true → IsFitAt s t name → (inner : List Piece) →
+    Prints s Escaped (prints s.given t name inner)
+leaf-escaped s t name e is fit inner = elim (or_cases (is_line name) (is_html name) is) [
+  | inl is ↦ line-escaped s t name is fit inner
+  | inr is ↦ by name is
+]
+  where
+    by : (name : Name) → is_html name ≡ true → Prints s Escaped (prints s.given t name inner)
+    by HtmlFlowData is = html-escaped s t e
+    by _ is = lie is
+
+pub leaf-node : (s : Setting) (t : At) (name : Name) → t.around.is_escaping ≡ true →
+    is_leaf name ≡ true → IsFitAt s t name → (inner : List Piece) →
+    Prints s (Reads s) (prints s.given t name inner)
+leaf-node s t name e is fit inner =
+    prints-plain s (prints s.given t name inner) (leaf-escaped s t name e is fit inner)
 
 pub flow-node : (s : Setting) (t : At) (name : Name) → t.around.is_escaping ≡ true →
     is_flow name ≡ true →
@@ -119,8 +173,6 @@ pub flow-node : (s : Setting) (t : At) (name : Name) → t.around.is_escaping �
     (inner : List Piece) →
     Inside s t Blocks name inner →
     Prints s (Reads s) (prints s.given t name inner)
-flow-node s t BlankLineEnding e is fit head inner a =
-    prints-plain s (when t.is_last (Needed ∷ [])) (when-needed s t.is_last)
 flow-node s t BlockQuote e is fit head inner a =
     block-pair s (codes "<blockquote>") (codes "</blockquote>")
     (bracket-plain s.p (codes "blockquote") refl) inner a
@@ -165,13 +217,7 @@ flow-node s t CodeFenced e is fit head inner a =
     adds-raw s.p s.given.ending s.ending code_tag inner _ a (fenced-end s t)
 flow-node s t MathFlow e is fit head inner a =
     adds-raw s.p s.given.ending s.ending math_tag inner _ a (fenced-end s t)
-flow-node s t CodeFlowChunk e is fit head inner a =
-    prints-plain s (chunk s.given t) (chunk-escaped s t)
-flow-node s t MathFlowChunk e is fit head inner a =
-    prints-plain s (chunk s.given t) (chunk-escaped s t)
 flow-node s t HtmlFlow e is fit head inner a =
     adds-before s.p s.given.ending (Needed ∷ []) inner
     (adds-escaped s.p s.given.ending (Needed ∷ []) (adds-needed s.given.ending s.ending)) a
-flow-node s t HtmlFlowData e is fit head inner a =
-    prints-plain s (escaped t (html s.given t)) (html-escaped s t e)
 flow-node s t _ e is fit head inner a = lie is

@@ -18,7 +18,7 @@ use Rattle.md_safe.proofs.Contents.{Follows, spine_after_node}
 use Rattle.md_safe.proofs.Insides.{is_chunks, told}
 
 -- the two tests of fences are one
-same_fence : (name : Name) → is_fence name ≡ fence_name name
+pub same_fence : (name : Name) → is_fence name ≡ fence_name name
 same_fence LineEnding = refl
 same_fence _ = refl
 

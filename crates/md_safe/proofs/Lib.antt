@@ -17,9 +17,9 @@ pub mod BlocksAsked
 pub mod Spot
 pub mod StringNodes
 pub mod SpanNodes
-pub mod BlockSorts
 pub mod FlowNodes
 pub mod BlockNodes
+pub mod FenceNodes
 pub mod Nodes
 pub mod Findings
 pub mod Forests

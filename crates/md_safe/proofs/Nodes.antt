@@ -1,46 +1,39 @@
 -- A node of any content, before what is printed after it: the step of the induction
 -- in `Forests.antt`.
-use Rattle.std.proofs.Common.{◌≡◌, ℕ, Bool, true, false, not, ◌||◌, cond, List, [], ◌∷◌, ◌++◌, refl}
-use Rattle.std.proofs.Common.{sym, ap, ◌∙◌, subst, inl, inr, append_assoc, append-nil, codes}
-use Rattle.std.specs.List.{list_any}
+use Rattle.std.proofs.Common.{◌≡◌, ℕ, Bool, true, false, not, ◌||◌, cond, List, [], ◌++◌, refl}
+use Rattle.std.proofs.Common.{sym, ap, ◌∙◌, subst, inl, inr, append-nil, codes}
 use Rattle.std.proofs.lemmas.Bool.{or_cases}
 use Rattle.md_base.proofs.Lies.{lie}
 use Rattle.md_base.specs.declared.event.Name.{Name}
 use Rattle.md_base.specs.declared.event.Name.TheVariants as name_variants
-use name_variants.{Other, BlockQuotePrefix, SpaceOrTab, LineEnding, BlankLineEnding}
-use name_variants.{CodeFencedFence, CodeFencedFenceInfo, CodeFencedFenceMeta, CodeFlowChunk}
-use name_variants.{MathFlowFence, MathFlowFenceMeta, MathFlowChunk, GfmTaskListItemValueChecked}
+use name_variants.{Other, BlockQuotePrefix, SpaceOrTab, CodeFencedFenceInfo, CodeFencedFenceMeta}
+use name_variants.{MathFlowFenceMeta, GfmTaskListItemValueChecked}
 use Rattle.md_text.proofs.EscapedLemmas.{escaped-append}
 use Rattle.md_base.specs.NameTests.{is_transparent}
-use Rattle.md_base.specs.NameTests.{is_fence as fence_name}
 use Rattle.md_pattern.specs.Looseness.{is_loose}
 use Rattle.md_meaning.specs.Meaning.Around.{inside}
 use Rattle.md_meaning.specs.Meaning.At.{At}
-use Rattle.md_meaning.specs.Meaning.Layout.{Piece, Text, said, when}
+use Rattle.md_meaning.specs.Meaning.Layout.{Piece, said, when}
 use Rattle.md_meaning.specs.Meaning.Means.{prints}
 use Rattle.md_shape.specs.Built.{Content, Blocks, Spans, Strings, FirstFence, FirstMathFence}
 use Rattle.md_shape.specs.Built.{Chunks, InfoAndMeta, MetaAlone, Done, Nothing, Sources, is_part}
 use Rattle.md_shape.specs.Built.{is_source, is_string, is_span, is_in_media, is_autolink}
-use Rattle.md_shape.specs.Built.{is_code_fence, is_math_fence, may_stand, content_of, content_past}
-use Rattle.md_shape.specs.Built.{content_after, IsBuilt}
+use Rattle.md_shape.specs.Built.{may_stand, content_of, content_past, content_after, IsBuilt}
 use Rattle.md_safe.proofs.Texts.{Escaped}
 use Rattle.md_safe.proofs.Laid.{adds-append, adds-text, adds-nothing, adds-weaker, adds-any}
 use Rattle.md_safe.proofs.Elements.{IsDone}
-use Rattle.md_safe.proofs.RawElements.{IsRaw, IsInCode, bare-in_code, info-in_code, raw-code}
-use Rattle.md_safe.proofs.RawElements.{raw-math, code_tag, math_tag}
+use Rattle.md_safe.proofs.RawElements.{IsInCode, bare-in_code, info-in_code}
 use Rattle.md_safe.proofs.Contents.{Holds, Suits, Follows, holds-nothing}
-use Rattle.md_safe.proofs.Following.{second}
 use Rattle.md_safe.proofs.Insides.{is_blocks}
+use Rattle.md_safe.proofs.Following.{second}
 use Rattle.md_safe.proofs.LaterFences.{later-inside}
 use Rattle.md_safe.proofs.Spot.{IsWhole, Setting, IsFitAt, IsGoodTarget, Here, Prints, Inside}
 use Rattle.md_safe.proofs.Spot.{narrow-wide, wide-escaped}
-use Rattle.md_safe.proofs.StringNodes.{string-node, line_ending-escaped}
+use Rattle.md_safe.proofs.StringNodes.{string-node}
 use Rattle.md_safe.proofs.SpanNodes.{span-node, media-node, autolink-node}
-use Rattle.md_safe.proofs.FlowNodes.{Reads, when-needed, chunk-escaped}
+use Rattle.md_safe.proofs.FlowNodes.{Reads}
+use Rattle.md_safe.proofs.FenceNodes.{IsNil, code_fence-node, math_fence-node, line-node}
 use Rattle.md_safe.proofs.BlockNodes.{block-node}
-
-abbrev IsNil : List ℕ → Type 0
-IsNil x = x ≡ []
 
 -- spans
 span-any : (s : Setting) (t : At) (name : Name) →
@@ -63,65 +56,6 @@ span-any s t name suits stands fit good inner a =
         ]
       ]
     ]
-
--- the end of a first fence
-begun : (s : Setting) (has_fence : Bool) (holds within later : List ℕ → Type 0) →
-    ((x y : List ℕ) → within x → later y → holds (x ++ (62 ∷ y))) → has_fence ≡ false →
-    (inner rest : List Piece) →
-    Prints s within inner → Prints s later rest
-    → Prints s holds ((inner ++ when (not has_fence) (said (codes ">"))) ++ rest)
-begun s true holds within later both e inner rest a b = lie (sym e)
-begun s false holds within later both e inner rest a b =
-    subst (Prints s holds) (sym (append_assoc inner (said (codes ">")) rest))
-    (adds-append s.given.ending within (λ w. (y : List ℕ) × (w ≡ 62 ∷ y) × later y) holds inner
-    (Text (codes ">") ∷ rest)
-    (λ x w f g. subst (λ w. holds (x ++ w)) (sym g.1) (both x g.0 f g.2)) a
-    (adds-append s.given.ending (λ x. x ≡ codes ">") later (λ w. (y : List ℕ) × (w ≡ 62 ∷ y)
-    × later y) (said (codes ">")) rest (λ x y f g. (y, ap (λ x. x ++ y) f, g))
-    (adds-text s.given.ending (λ x. x ≡ codes ">") (codes ">") refl) b))
-
-code_fence-node : (s : Setting) (t : At) (name : Name) →
-    list_any fence_name t.before.spine ≡ false →
-    is_code_fence name ≡ true → (inner rest : List Piece) → Inside s t FirstFence name inner →
-    Prints s Escaped rest →
-    Prints s (IsRaw s.p code_tag) (prints s.given t name inner ++ rest)
-code_fence-node s t CodeFencedFence e is inner rest a b =
-    begun s (list_any fence_name t.before.spine) (IsRaw s.p code_tag) (IsInCode s.p) Escaped
-    (raw-code s.p) e inner rest a b
-code_fence-node s t _ e is inner rest a b = lie is
-
-math_fence-node : (s : Setting) (t : At) (name : Name) →
-    list_any fence_name t.before.spine ≡ false →
-    is_math_fence name ≡ true → (inner rest : List Piece) → Inside s t FirstMathFence name inner →
-    Prints s Escaped rest → Prints s (IsRaw s.p math_tag) (prints s.given t name inner ++ rest)
-math_fence-node s t MathFlowFence e is inner rest a b =
-    begun s (list_any fence_name t.before.spine) (IsRaw s.p math_tag) IsNil Escaped
-    (λ x y f h. subst (λ x. IsRaw s.p math_tag (x ++ (62 ∷ y))) (sym f)
-    (raw-math s.p s.given.options s.test y h)) e inner rest a b
-math_fence-node s t _ e is inner rest a b = lie is
-
--- a later fence prints nothing
-closed : (s : Setting) (has_fence : Bool) → has_fence ≡ true → (inner : List Piece) →
-    Prints s IsNil inner →
-    Prints s Escaped (inner ++ when (not has_fence) (said (codes ">")))
-closed s true e inner a =
-    subst (Prints s Escaped) (sym (append-nil inner))
-    (adds-weaker s.given.ending IsNil Escaped inner (λ x e. subst Escaped (sym e) refl) a)
-closed s false e inner a = lie e
-
-line-node : (s : Setting) (t : At) (name : Name) → list_any fence_name t.before.spine ≡ true →
-    may_stand Chunks name ≡ true → IsFitAt s t name → (inner : List Piece) →
-    Inside s t Chunks name inner →
-    Prints s Escaped (prints s.given t name inner)
-line-node s t LineEnding e is fit inner a = line_ending-escaped s t fit
-line-node s t BlankLineEnding e is fit inner a = when-needed s t.is_last
-line-node s t CodeFlowChunk e is fit inner a = chunk-escaped s t
-line-node s t MathFlowChunk e is fit inner a = chunk-escaped s t
-line-node s t CodeFencedFence e is fit inner a =
-    closed s (list_any fence_name t.before.spine) e inner a
-line-node s t MathFlowFence e is fit inner a =
-    closed s (list_any fence_name t.before.spine) e inner a
-line-node s t _ e is fit inner a = lie is
 
 -- the info string
 info-node : (s : Setting) (escaping : Bool) → escaping ≡ true → (inner rest : List Piece) →

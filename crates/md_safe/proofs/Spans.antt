@@ -1,6 +1,6 @@
 -- What stands in a line of text: each node that prints strings, spans or nothing prints
 -- phrasing content.
-use Rattle.std.proofs.Common.{◌≡◌, Bool, true, false, ◌||◌, cond, List, [], ◌∷◌, refl, sym, ap, ◌∙◌}
+use Rattle.std.proofs.Common.{◌≡◌, Bool, true, false, ◌||◌, cond, List, refl, sym, ap, ◌∙◌}
 use Rattle.std.proofs.Common.{subst, inl, inr}
 use Rattle.std.proofs.lemmas.Bool.{or_cases}
 use Rattle.md_base.proofs.Lies.{lie}
@@ -8,21 +8,16 @@ use Rattle.md_base.specs.Is.{is as named}
 use Rattle.md_base.specs.declared.event.Name.{Name}
 use Rattle.md_base.specs.declared.event.Name.TheVariants as name_variants
 use name_variants.{BlockQuote, ListOrdered, ListUnordered, ListItem, CodeIndented, GfmTable}
-use name_variants.{GfmTableHead, GfmTableBody, GfmTableRow, BlankLineEnding, HtmlFlowData, Link}
-use name_variants.{CodeFlowChunk, MathFlowChunk, GfmFootnoteDefinition}
+use name_variants.{GfmTableHead, GfmTableBody, GfmTableRow, Link, GfmFootnoteDefinition}
 use Rattle.md_meaning.specs.Meaning.At.{At}
-use Rattle.md_meaning.specs.Meaning.Layout.{Piece, Needed, when}
-use Rattle.md_meaning.specs.Meaning.Blocks.{chunk}
+use Rattle.md_meaning.specs.Meaning.Layout.{Piece}
 use Rattle.md_meaning.specs.Meaning.Means.{prints}
-use Rattle.md_meaning.specs.Meaning.Spans.{escaped, html}
 use Rattle.md_shape.specs.Built.{Blocks, content_of, is_string, is_span, is_in_media, is_autolink}
 use Rattle.md_safe.proofs.Texts.{Escaped}
 use Rattle.md_safe.proofs.Laid.{adds-weaker}
 use Rattle.md_safe.proofs.Insides.{is_blocks}
-use Rattle.md_safe.proofs.SpanNodes.{html-escaped}
-use Rattle.md_safe.proofs.BlockSorts.{is_hidden, is_silent}
-use Rattle.md_safe.proofs.BlockNodes.{hidden-prints, silent-prints}
-use Rattle.md_safe.proofs.FlowNodes.{chunk-escaped, when-needed}
+use Rattle.md_safe.proofs.FlowNodes.{is_leaf, leaf-escaped}
+use Rattle.md_safe.proofs.BlockNodes.{is_hidden, hidden-prints, is_silent, silent-prints}
 use Rattle.md_safe.proofs.BlockNodes.{silent-block}
 use Rattle.md_safe.proofs.Costs.{Document, read_in}
 use Rattle.md_safe.specs.Contents.{Content, Phrasing, Linked}
@@ -35,36 +30,15 @@ use Rattle.md_safe.proofs.ContainedLaid.{lays-nothing}
 use Rattle.md_safe.proofs.SpanContents.{Prints, Known, Here, Own, are-spans}
 use Rattle.md_safe.proofs.SpanCases.{string-node, span-node, media-node, autolink-node}
 
--- a line of code, or of HTML
-abbrev pub is_leaf : Name → Bool
-is_leaf name = elim name [
-  | BlankLineEnding ↦ true
-  | CodeFlowChunk ↦ true
-  | MathFlowChunk ↦ true
-  | HtmlFlowData ↦ true
-  | _ ↦ false
-]
-
+-- a line of code or its end, or HTML
 leaf-node : (nested : Bool) (d : Document) (content : Content) (t : At) (name : Name) →
     is_leaf name ≡ true →
     (inner : List Piece) →
     Known nested d t name inner → Here nested d t content name inner → Prints nested d content
     (prints d.given t name inner)
-leaf-node nested d content t BlankLineEnding is inner k a =
-    adds-weaker d.given.ending Escaped (Stands nested content) (when t.is_last (Needed ∷ []))
-    a.spans.text (when-needed (read_in d) t.is_last)
-leaf-node nested d content t CodeFlowChunk is inner k a =
-    adds-weaker d.given.ending Escaped (Stands nested content) (chunk d.given t)
-    a.spans.text (chunk-escaped
-    (read_in d) t)
-leaf-node nested d content t MathFlowChunk is inner k a =
-    adds-weaker d.given.ending Escaped (Stands nested content) (chunk d.given t)
-    a.spans.text (chunk-escaped
-    (read_in d) t)
-leaf-node nested d content t HtmlFlowData is inner k a =
-    adds-weaker d.given.ending Escaped (Stands nested content) (escaped t (html d.given t))
-    a.spans.text (html-escaped (read_in d) t k.escaping)
-leaf-node nested d content t _ is inner k a = lie is
+leaf-node nested d content t name is inner k a =
+    adds-weaker d.given.ending Escaped (Stands nested content) (prints d.given t name inner)
+    a.spans.text (leaf-escaped (read_in d) t name k.escaping is k.fit inner)
 
 hidden-node : (nested : Bool) (d : Document) (content : Content) (t : At) (name : Name) →
     is_hidden name ≡ true →
