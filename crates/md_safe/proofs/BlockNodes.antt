@@ -25,7 +25,7 @@ use Rattle.md_meaning.specs.Meaning.Layout.{Piece, layout, said, on_own_line}
 use Rattle.md_meaning.specs.Meaning.Means.{prints}
 use Rattle.md_meaning.specs.Meaning.Tables.{cell_of}
 use Rattle.md_shape.specs.Underlined.{is_underline}
-use Rattle.md_shape.specs.Built.{Content, Blocks, content_of, is_part, is_source, is_string}
+use Rattle.md_shape.specs.Built.{Content, Blocks, content_of, is_part, is_source}
 use Rattle.md_shape.specs.Built.{is_span, is_in_media, is_autolink}
 use Rattle.md_safe.proofs.Contents.{Holds}
 use Rattle.md_safe.proofs.Insides.{is_blocks}
@@ -35,7 +35,7 @@ use Rattle.md_safe.proofs.Cells.{adds-cell_in, adds-empty_cells}
 use Rattle.md_safe.proofs.Elements.{bracket-plain}
 use Rattle.md_safe.proofs.Spot.{Setting, IsFitAt, IsGoodTarget, Prints, Inside, narrow-wide}
 use Rattle.md_safe.proofs.Spot.{wide-reading, PassesIds}
-use Rattle.md_safe.proofs.StringNodes.{string-node}
+use Rattle.md_safe.proofs.StringNodes.{is_text, text-node}
 use Rattle.md_safe.proofs.SpanNodes.{text-holds, span-node, media-node, autolink-node}
 use Rattle.md_safe.proofs.FlowNodes.{Reads, block-pair, is_flow, flow-node, is_leaf, leaf-node}
 
@@ -67,7 +67,7 @@ is_tabular name = elim name [
 -- what is looked through, stands in other nodes alone, or prints more or less than its children
 abbrev is_marked : Name → Bool
 is_marked name =
-    is_transparent name || ((is_part name || is_source name) || (is_string name || (is_span name
+    is_transparent name || ((is_part name || is_source name) || (is_text name || (is_span name
     || (is_in_media name || (is_autolink name || (is_flow name || (is_leaf name || (is_hidden name
     || is_tabular name))))))))
 
@@ -192,9 +192,9 @@ block-node s t name e solid whole fit ids head good inner a = by (is_marked name
       | inl is ↦ lie (sym solid ∙ is)
       | inr c ↦ elim (or_cases (is_part name || is_source name) _ c) [
         | inl is ↦ lie (sym whole ∙ is)
-        | inr c ↦ elim (or_cases (is_string name) _ c) [
-          | inl is ↦ string-node s t Blocks name (narrow-wide s.p t.around.is_escaping
-              t.around.in_image (Reads s) e (wide-reading s.p t.around.in_image)) is fit inner a
+        | inr c ↦ elim (or_cases (is_text name) _ c) [
+          | inl is ↦ text-node s t (Reads s) name (narrow-wide s.p t.around.is_escaping
+              t.around.in_image (Reads s) e (wide-reading s.p t.around.in_image)) is fit inner
           | inr c ↦ elim (or_cases (is_span name) _ c) [
             | inl is ↦ span-node s t Blocks name e (wide-reading s.p t.around.in_image) is
                 (λ call _. ids call) good inner a

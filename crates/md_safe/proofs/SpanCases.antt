@@ -5,43 +5,32 @@ use Rattle.std.proofs.lemmas.Bool.{or_parts}
 use Rattle.md_base.proofs.Lies.{lie}
 use Rattle.md_base.specs.declared.event.Name.{Name}
 use Rattle.md_base.specs.declared.event.Name.TheVariants as name_variants
-use name_variants.{LineEnding, Data, CharacterEscapeValue, CharacterReferenceMarker}
-use name_variants.{CharacterReferenceMarkerNumeric, CharacterReferenceMarkerHexadecimal}
-use name_variants.{CharacterReferenceValue, CodeTextData, MathTextData, HtmlText, HtmlTextData}
-use name_variants.{Emphasis, Strong, GfmStrikethrough, CodeText, MathText, Link, Image}
-use name_variants.{HardBreakEscape, HardBreakTrailing, GfmTaskListItemCheck, GfmFootnoteCall, Label}
-use name_variants.{LabelText, Resource, ReferenceString, AutolinkEmail, AutolinkProtocol}
-use name_variants.{GfmAutolinkLiteralEmail, GfmAutolinkLiteralMailto, GfmAutolinkLiteralProtocol}
-use name_variants.{GfmAutolinkLiteralWww, GfmAutolinkLiteralXmpp}
-use Rattle.md_text.specs.Encode.{encoded}
-use Rattle.md_meaning.specs.Meaning.At.{At, text_in, identifier_of}
+use name_variants.{HtmlText, HtmlTextData, Emphasis, Strong, GfmStrikethrough, CodeText, MathText}
+use name_variants.{Link, Image, HardBreakEscape, HardBreakTrailing, GfmTaskListItemCheck}
+use name_variants.{GfmFootnoteCall, Label, LabelText, Resource, ReferenceString, AutolinkEmail}
+use name_variants.{AutolinkProtocol, GfmAutolinkLiteralEmail, GfmAutolinkLiteralMailto}
+use name_variants.{GfmAutolinkLiteralProtocol, GfmAutolinkLiteralWww, GfmAutolinkLiteralXmpp}
+use Rattle.md_meaning.specs.Meaning.At.{At, identifier_of}
 use Rattle.md_meaning.specs.Meaning.Layout.{Piece, Text, layout, said}
 use Rattle.md_meaning.specs.Meaning.Means.{prints}
-use Rattle.md_meaning.specs.Meaning.Spans.{escaped, html, reference, line_ending}
+use Rattle.md_meaning.specs.Meaning.Spans.{escaped, html}
 use Rattle.md_meaning.specs.Meaning.Media.{anchor, picture, leads_to, literal}
 use Rattle.md_meaning.specs.Meaning.Footnotes.{call, place_among, distinct, count_of}
-use Rattle.md_shape.specs.Built.{is_string, is_span, is_in_media, is_autolink}
+use Rattle.md_shape.specs.Built.{is_span, is_in_media, is_autolink}
 use Rattle.md_safe.proofs.Texts.{Escaped}
 use Rattle.md_safe.proofs.Laid.{adds-alone, adds-weaker}
 use Rattle.md_safe.proofs.Tags.{attribute}
-use Rattle.md_safe.proofs.Spot.{encoded-escaped, target-title}
-use Rattle.md_safe.proofs.StringNodes.{line_ending-escaped}
+use Rattle.md_safe.proofs.Spot.{target-title}
+use Rattle.md_safe.proofs.StringNodes.{is_text, text-node}
 use Rattle.md_safe.proofs.SpanNodes.{html-escaped}
 use Rattle.md_safe.proofs.Costs.{Document, read_in}
 use Rattle.md_safe.specs.Contents.{Content, Phrasing}
 use Rattle.md_safe.proofs.Linking.{in_link}
 use Rattle.md_safe.proofs.Stands.{Stands, turns-plain}
 use Rattle.md_safe.proofs.ContainedLaid.{lays-nothing}
-use Rattle.md_safe.proofs.SpanContents.{Prints, AreSpans, prints-escaped, Known, Here, pair, flat}
+use Rattle.md_safe.proofs.SpanContents.{Prints, AreSpans, Known, Here, pair, flat}
 use Rattle.md_safe.proofs.LinksAndImages.{autolinked, link, image}
 use Rattle.md_safe.proofs.TasksAndCalls.{coded, code-node, break, task-node, call-node}
-
-data-node :
-    (nested : Bool) (d : Document) (content : Content) (f : AreSpans nested content) (t : At) →
-    t.around.is_escaping ≡ true → (x : List ℕ) → Prints nested d content (escaped t x)
-data-node nested d content f t e x =
-    prints-escaped nested d content f (encoded t.around.is_escaping x)
-    (encoded-escaped t.around.is_escaping x e)
 
 -- a literal autolink, which is plain in links too
 literal-node : (nested : Bool) (d : Document) (content : Content) (f : AreSpans nested content)
@@ -53,27 +42,13 @@ literal-node nested d content f t prefix plain =
     (λ no. plain (or_parts t.around.in_image t.around.in_link no).1)
 
 pub string-node : (nested : Bool) (d : Document) (content : Content) (t : At) (name : Name) →
-    is_string name ≡ true →
+    is_text name ≡ true →
     (inner : List Piece) →
     Known nested d t name inner → Here nested d t content name inner → Prints nested d content
     (prints d.given t name inner)
-string-node nested d content t LineEnding is inner k a =
-    adds-weaker d.given.ending Escaped (Stands nested content) (line_ending d.given t) a.spans.text
-    (line_ending-escaped (read_in d) t k.fit)
-string-node nested d content t Data is inner k a = data-node nested d content a.spans t k.escaping
-    (text_in d.given.bytes t.place)
-string-node nested d content t CharacterEscapeValue is inner k a =
-    data-node nested d content a.spans t k.escaping (text_in d.given.bytes t.place)
-string-node nested d content t CodeTextData is inner k a =
-    data-node nested d content a.spans t k.escaping (text_in d.given.bytes t.place)
-string-node nested d content t MathTextData is inner k a =
-    data-node nested d content a.spans t k.escaping (text_in d.given.bytes t.place)
-string-node nested d content t CharacterReferenceValue is inner k a =
-    data-node nested d content a.spans t k.escaping (reference d.given t)
-string-node nested d content t CharacterReferenceMarker is inner k a = a.own refl refl
-string-node nested d content t CharacterReferenceMarkerNumeric is inner k a = a.own refl refl
-string-node nested d content t CharacterReferenceMarkerHexadecimal is inner k a = a.own refl refl
-string-node nested d content t _ is inner k a = lie is
+string-node nested d content t name is inner k a =
+    adds-weaker d.given.ending Escaped (Stands nested content) (prints d.given t name inner)
+    a.spans.text (text-node (read_in d) t Escaped name (λ x h. h k.escaping) is k.fit inner)
 
 pub span-node : (nested : Bool) (d : Document) (content : Content) (t : At) (name : Name) →
     is_span name ≡ true →

@@ -12,10 +12,11 @@ use name_variants.{GfmTableHead, GfmTableBody, GfmTableRow, Link, GfmFootnoteDef
 use Rattle.md_meaning.specs.Meaning.At.{At}
 use Rattle.md_meaning.specs.Meaning.Layout.{Piece}
 use Rattle.md_meaning.specs.Meaning.Means.{prints}
-use Rattle.md_shape.specs.Built.{Blocks, content_of, is_string, is_span, is_in_media, is_autolink}
+use Rattle.md_shape.specs.Built.{Blocks, content_of, is_span, is_in_media, is_autolink}
 use Rattle.md_safe.proofs.Texts.{Escaped}
 use Rattle.md_safe.proofs.Laid.{adds-weaker}
 use Rattle.md_safe.proofs.Insides.{is_blocks}
+use Rattle.md_safe.proofs.StringNodes.{is_text}
 use Rattle.md_safe.proofs.FlowNodes.{is_leaf, leaf-escaped}
 use Rattle.md_safe.proofs.BlockNodes.{is_hidden, hidden-prints, is_silent, silent-prints}
 use Rattle.md_safe.proofs.BlockNodes.{silent-block}
@@ -59,7 +60,7 @@ silent-node nested d content t name is inner a =
 -- what prints phrasing content
 abbrev pub is_inline : Name → Bool
 is_inline name =
-    is_string name || (is_span name || (is_in_media name || (is_autolink name || (is_leaf name
+    is_text name || (is_span name || (is_in_media name || (is_autolink name || (is_leaf name
     || (is_hidden name || is_silent name)))))
 
 spans-place : (name : Name) → is_hidden name ≡ false → is_inline name ≡ true →
@@ -136,7 +137,7 @@ inline-node nested d content t name is inner k own g = by (is_hidden name) refl
     by true h = hidden-node nested d content t name h inner
     by false h =
         let a = here h in
-        elim (or_cases (is_string name) _ is) [
+        elim (or_cases (is_text name) _ is) [
           | inl is ↦ string-node nested d content t name is inner k a
           | inr c ↦ elim (or_cases (is_span name) _ c) [
             | inl is ↦ span-node nested d content t name is inner k a

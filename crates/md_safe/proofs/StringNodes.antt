@@ -1,6 +1,6 @@
 -- The nodes of strings print escaped texts: a case for each name.
-use Rattle.std.proofs.Common.{◌≡◌, ℕ, true, cond, List, [], ◌∷◌, refl}
-use Rattle.std.proofs.lemmas.Bool.{cond_both}
+use Rattle.std.proofs.Common.{◌≡◌, ℕ, Bool, true, false, not, ◌&&◌, cond, List, [], ◌∷◌, refl, ap}
+use Rattle.std.proofs.lemmas.Bool.{cond_both, and_from}
 use Rattle.md_base.proofs.Lies.{lie}
 use Rattle.md_base.specs.declared.event.Name.{Name}
 use Rattle.md_base.specs.declared.event.Name.TheVariants as name_variants
@@ -18,12 +18,27 @@ use Rattle.md_safe.proofs.Texts.{Escaped, line_ends-escaped}
 use Rattle.md_safe.proofs.Laid.{adds-text, adds-nothing, adds-weaker}
 use Rattle.md_safe.proofs.Spot.{Setting, IsFitAt, Here, Prints, Inside, IsNarrow, encoded-escaped}
 
+-- a string with a text of its own
+abbrev pub is_text : Name → Bool
+is_text name = elim name [
+  | LineEnding ↦ true
+  | Data ↦ true
+  | CharacterEscapeValue ↦ true
+  | CodeTextData ↦ true
+  | MathTextData ↦ true
+  | CharacterReferenceValue ↦ true
+  | _ ↦ false
+]
+
+-- the other strings are marks, which print their children
+abbrev is_mark : Name → Bool
+is_mark name = is_string name && not (is_text name)
+
 -- a text, encoded where that is asked for
-data-node : (s : Setting) (t : At) (content : Content) →
-    IsNarrow t.around.is_escaping (Here s t content) →
-    (x : List ℕ) → Prints s (Here s t content) (escaped t x)
-data-node s t content n x =
-    adds-text s.given.ending (Here s t content) (encoded t.around.is_escaping x)
+data-node : (s : Setting) (t : At) (holds : List ℕ → Type 0) →
+    IsNarrow t.around.is_escaping holds → (x : List ℕ) → Prints s holds (escaped t x)
+data-node s t holds n x =
+    adds-text s.given.ending holds (encoded t.around.is_escaping x)
     (n (encoded t.around.is_escaping x) (encoded-escaped t.around.is_escaping x))
 
 -- a line ending
@@ -39,24 +54,40 @@ line_ending-escaped s t h =
     (λ _. adds-nothing s.given.ending Escaped refl)
     (λ _. adds-text s.given.ending Escaped x (line_ends-escaped x h)))
 
+pub text-node : (s : Setting) (t : At) (holds : List ℕ → Type 0) (name : Name) →
+    IsNarrow t.around.is_escaping holds → is_text name ≡ true → IsFitAt s t name →
+    (inner : List Piece) → Prints s holds (prints s.given t name inner)
+text-node s t holds LineEnding n is fit inner =
+    adds-weaker s.given.ending Escaped holds (line_ending s.given t) (λ x h. n x (λ _. h))
+    (line_ending-escaped s t fit)
+text-node s t holds Data n is fit inner =
+    data-node s t holds n (text_in s.given.bytes t.place)
+text-node s t holds CharacterEscapeValue n is fit inner =
+    data-node s t holds n (text_in s.given.bytes t.place)
+text-node s t holds CodeTextData n is fit inner =
+    data-node s t holds n (text_in s.given.bytes t.place)
+text-node s t holds MathTextData n is fit inner =
+    data-node s t holds n (text_in s.given.bytes t.place)
+text-node s t holds CharacterReferenceValue n is fit inner =
+    data-node s t holds n (reference s.given t)
+text-node s t holds _ n is fit inner = lie is
+
+mark-node : (s : Setting) (t : At) (content : Content) (name : Name) → is_mark name ≡ true →
+    (inner : List Piece) → Inside s t content name inner →
+    Prints s (Here s t content) (prints s.given t name inner)
+mark-node s t content CharacterReferenceMarker is inner a = a
+mark-node s t content CharacterReferenceMarkerNumeric is inner a = a
+mark-node s t content CharacterReferenceMarkerHexadecimal is inner a = a
+mark-node s t content _ is inner a = lie is
+
 pub string-node : (s : Setting) (t : At) (content : Content) (name : Name) →
     IsNarrow t.around.is_escaping (Here s t content) → is_string name ≡ true → IsFitAt s t name →
     (inner : List Piece) → Inside s t content name inner →
     Prints s (Here s t content) (prints s.given t name inner)
-string-node s t content LineEnding n is fit inner a =
-    adds-weaker s.given.ending Escaped (Here s t content) (line_ending s.given t)
-    (λ x h. n x (λ _. h)) (line_ending-escaped s t fit)
-string-node s t content Data n is fit inner a =
-    data-node s t content n (text_in s.given.bytes t.place)
-string-node s t content CharacterEscapeValue n is fit inner a =
-    data-node s t content n (text_in s.given.bytes t.place)
-string-node s t content CodeTextData n is fit inner a =
-    data-node s t content n (text_in s.given.bytes t.place)
-string-node s t content MathTextData n is fit inner a =
-    data-node s t content n (text_in s.given.bytes t.place)
-string-node s t content CharacterReferenceValue n is fit inner a =
-    data-node s t content n (reference s.given t)
-string-node s t content CharacterReferenceMarker n is fit inner a = a
-string-node s t content CharacterReferenceMarkerNumeric n is fit inner a = a
-string-node s t content CharacterReferenceMarkerHexadecimal n is fit inner a = a
-string-node s t content _ n is fit inner a = lie is
+string-node s t content name n is fit inner a = by (is_text name) refl
+  where
+    by : (own : Bool) → is_text name ≡ own →
+        Prints s (Here s t content) (prints s.given t name inner)
+    by true own = text-node s t (Here s t content) name n own fit inner
+    by false none = mark-node s t content name
+        (and_from (is_string name) (not (is_text name)) is (ap not none)) inner a
