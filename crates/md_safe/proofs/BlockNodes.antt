@@ -10,13 +10,13 @@ use Rattle.md_base.specs.declared.event.Name.{Name}
 use Rattle.md_base.specs.declared.event.Name.TheVariants as name_variants
 use name_variants.{LineEnding, GfmFootnoteDefinition, GfmFootnoteDefinitionPrefix, Definition}
 use name_variants.{CodeFencedFenceMeta, MathFlowFenceMeta, HeadingSetextText, GfmTable}
-use name_variants.{GfmTableHead, GfmTableBody, GfmTableRow, GfmTableCell, GfmTableDelimiterRow}
-use name_variants.{Frontmatter, Link}
+use name_variants.{GfmTableHead, GfmTableBody, GfmTableRow, GfmTableCell, Frontmatter, Link}
+use name_variants.{Resource, ReferenceString}
 use Rattle.md_base.specs.declared.event.AlignKind.{AlignKind}
 use Rattle.md_text.proofs.HtmlJoin.{nothing}
 use Rattle.md_base.specs.Is.{is as named}
 use Rattle.md_base.specs.Children.{spine_names}
-use Rattle.md_base.specs.NameTests.{is_transparent, is_call}
+use Rattle.md_base.specs.NameTests.{is_transparent, is_call, is_delimiter_row}
 use Rattle.md_pattern.specs.Looseness.{is_loose}
 use Rattle.md_meaning.specs.declared.context.Surroundings.{Surroundings}
 use Rattle.md_meaning.specs.Meaning.At.{At, Given}
@@ -26,7 +26,7 @@ use Rattle.md_meaning.specs.Meaning.Means.{prints}
 use Rattle.md_meaning.specs.Meaning.Tables.{cell_of}
 use Rattle.md_shape.specs.Underlined.{is_underline}
 use Rattle.md_shape.specs.Built.{Content, Blocks, content_of, is_part, is_source}
-use Rattle.md_shape.specs.Built.{is_span, is_in_media, is_autolink}
+use Rattle.md_shape.specs.Built.{is_autolink}
 use Rattle.md_safe.proofs.Contents.{Holds}
 use Rattle.md_safe.proofs.Insides.{is_blocks}
 use Rattle.md_safe.proofs.Laid.{adds-nothing}
@@ -36,12 +36,12 @@ use Rattle.md_safe.proofs.Elements.{bracket-plain}
 use Rattle.md_safe.proofs.Spot.{Setting, IsFitAt, IsGoodTarget, Prints, Inside, narrow-wide}
 use Rattle.md_safe.proofs.Spot.{wide-reading, PassesIds}
 use Rattle.md_safe.proofs.StringNodes.{is_text, text-node}
-use Rattle.md_safe.proofs.SpanNodes.{text-holds, span-node, media-node, autolink-node}
+use Rattle.md_safe.proofs.SpanNodes.{text-holds, is_shown, span-node, autolink-node}
 use Rattle.md_safe.proofs.FlowNodes.{Reads, block-pair, is_flow, flow-node, is_leaf, leaf-node}
 
 -- what prints nothing of its children
 abbrev pub is_hidden : Name → Bool
-is_hidden name = elim name [
+is_hidden name = is_delimiter_row name || elim name [
   | HeadingSetextText ↦ true
   | CodeFencedFenceMeta ↦ true
   | MathFlowFenceMeta ↦ true
@@ -49,7 +49,8 @@ is_hidden name = elim name [
   | Definition ↦ true
   | GfmFootnoteDefinition ↦ true
   | GfmFootnoteDefinitionPrefix ↦ true
-  | GfmTableDelimiterRow ↦ true
+  | Resource ↦ true
+  | ReferenceString ↦ true
   | _ ↦ false
 ]
 
@@ -67,9 +68,9 @@ is_tabular name = elim name [
 -- what is looked through, stands in other nodes alone, or prints more or less than its children
 abbrev is_marked : Name → Bool
 is_marked name =
-    is_transparent name || ((is_part name || is_source name) || (is_text name || (is_span name
-    || (is_in_media name || (is_autolink name || (is_flow name || (is_leaf name || (is_hidden name
-    || is_tabular name))))))))
+    is_transparent name || ((is_part name || is_source name) || (is_text name || (is_shown name
+    || (is_autolink name || (is_flow name || (is_leaf name || (is_hidden name
+    || is_tabular name)))))))
 
 -- any other name prints only its children
 abbrev pub is_silent : Name → Bool
@@ -195,22 +196,18 @@ block-node s t name e solid whole fit ids head good inner a = by (is_marked name
         | inr c ↦ elim (or_cases (is_text name) _ c) [
           | inl is ↦ text-node s t (Reads s) name (narrow-wide s.p t.around.is_escaping
               t.around.in_image (Reads s) e (wide-reading s.p t.around.in_image)) is fit inner
-          | inr c ↦ elim (or_cases (is_span name) _ c) [
+          | inr c ↦ elim (or_cases (is_shown name) _ c) [
             | inl is ↦ span-node s t Blocks name e (wide-reading s.p t.around.in_image) is
                 (λ call _. ids call) good inner a
-            | inr c ↦ elim (or_cases (is_in_media name) _ c) [
-              | inl is ↦ media-node s t Blocks name (wide-reading s.p t.around.in_image) is inner a
-              | inr c ↦ elim (or_cases (is_autolink name) _ c) [
-                | inl is ↦
-                    autolink-node s t Blocks name (wide-reading s.p t.around.in_image) is inner
-                | inr c ↦ elim (or_cases (is_flow name) _ c) [
-                  | inl is ↦ flow-node s t name e is fit head inner a
-                  | inr c ↦ elim (or_cases (is_leaf name) _ c) [
-                    | inl is ↦ leaf-node s t name e is fit inner
-                    | inr c ↦ elim (or_cases (is_hidden name) (is_tabular name) c) [
-                      | inl is ↦ hidden-node s t name is inner
-                      | inr is ↦ table-node s t name is inner a
-                    ]
+            | inr c ↦ elim (or_cases (is_autolink name) _ c) [
+              | inl is ↦ autolink-node s t Blocks name (wide-reading s.p t.around.in_image) is inner
+              | inr c ↦ elim (or_cases (is_flow name) _ c) [
+                | inl is ↦ flow-node s t name e is fit head inner a
+                | inr c ↦ elim (or_cases (is_leaf name) _ c) [
+                  | inl is ↦ leaf-node s t name e is fit inner
+                  | inr c ↦ elim (or_cases (is_hidden name) (is_tabular name) c) [
+                    | inl is ↦ hidden-node s t name is inner
+                    | inr is ↦ table-node s t name is inner a
                   ]
                 ]
               ]

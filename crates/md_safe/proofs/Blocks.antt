@@ -1,12 +1,14 @@
 -- What stands among blocks, in lists and in tables: each node prints the content that
 -- stands where it is.
-use Rattle.std.proofs.Common.{◌≡◌, Bool, true, false, ◌||◌, List, [], ◌∷◌, refl, drop, codes}
+use Rattle.std.proofs.Common.{◌≡◌, Bool, true, false, not, ◌&&◌, ◌||◌, List, [], ◌∷◌, refl, sym}
+use Rattle.std.proofs.Common.{ap, subst, drop, codes}
 use Rattle.std.specs.Prelude.{slice_get, count_by}
+use Rattle.std.proofs.lemmas.Bool.{and_from}
 use Rattle.md_base.proofs.Lies.{lie}
 use Rattle.md_base.specs.declared.event.Name.{Name}
 use Rattle.md_base.specs.declared.event.Name.TheVariants as name_variants
 use name_variants.{LineEnding, BlankLineEnding, ListItem, CodeFlowChunk, GfmTableHead, GfmTableBody}
-use name_variants.{GfmTableRow, GfmTableCell, GfmTableDelimiterRow}
+use name_variants.{GfmTableRow, GfmTableCell}
 use Rattle.md_base.specs.Is.{is as named}
 use Rattle.md_base.specs.Children.{spine_names}
 use Rattle.md_base.specs.NameTests.{is_transparent}
@@ -18,6 +20,7 @@ use Rattle.md_shape.specs.Built.{is_part, is_source}
 use Rattle.md_safe.proofs.Texts.{Escaped}
 use Rattle.md_safe.proofs.Laid.{adds-weaker, adds-alone}
 use Rattle.md_safe.proofs.FlowNodes.{line-escaped}
+use Rattle.md_safe.proofs.BlockNodes.{is_hidden, hidden-prints}
 use Rattle.md_safe.proofs.Costs.{Document, read_in}
 use Rattle.md_safe.specs.Contents.{Content, Flow, Phrasing, Linked, Items, Parts, Rows, Cells}
 use Rattle.md_safe.specs.Contents.{Preformatted, Characters}
@@ -68,22 +71,36 @@ parts-node nested d t BlankLineEnding stands inner k a =
     (blank-white d t.is_last k.white)
 parts-node nested d t _ stands inner k a = lie stands
 
+-- the row of delimiters prints nothing
+shown-row : (nested : Bool) (d : Document) (t : At) (name : Name) →
+    may_stand Rows (sort_of name) && not (is_hidden name) ≡ true →
+    (inner : List Piece) →
+    Known nested d t name inner → Own nested d Rows name inner →
+    Prints nested d Rows (prints d.given t name inner)
+shown-row nested d t GfmTableRow shown inner k a =
+    row-node nested d k.white t.around.in_head (drop (count_by (named GfmTableCell)
+    (spine_names t.children)) t.before.columns)
+    inner (a refl)
+shown-row nested d t LineEnding shown inner k a =
+    lays-white nested d.given.ending Rows (line_ending d.given t) refl (ending-white d t k.fit)
+shown-row nested d t BlankLineEnding shown inner k a =
+    lays-white nested d.given.ending Rows (when t.is_last (Needed ∷ [])) refl
+    (blank-white d t.is_last k.white)
+shown-row nested d t _ shown inner k a = lie shown
+
 rows-node : (nested : Bool) (d : Document) (t : At) (name : Name) →
     may_stand Rows (sort_of name) ≡ true →
     (inner : List Piece) →
     Known nested d t name inner → Own nested d Rows name inner →
     Prints nested d Rows (prints d.given t name inner)
-rows-node nested d t GfmTableRow stands inner k a =
-    row-node nested d k.white t.around.in_head (drop (count_by (named GfmTableCell)
-    (spine_names t.children)) t.before.columns)
-    inner (a refl)
-rows-node nested d t GfmTableDelimiterRow stands inner k a = lays-nothing nested d.given.ending Rows
-rows-node nested d t LineEnding stands inner k a =
-    lays-white nested d.given.ending Rows (line_ending d.given t) refl (ending-white d t k.fit)
-rows-node nested d t BlankLineEnding stands inner k a =
-    lays-white nested d.given.ending Rows (when t.is_last (Needed ∷ [])) refl
-    (blank-white d t.is_last k.white)
-rows-node nested d t _ stands inner k a = lie stands
+rows-node nested d t name stands inner k a = by (is_hidden name) refl
+  where
+    by : (hidden : Bool) → is_hidden name ≡ hidden →
+        Prints nested d Rows (prints d.given t name inner)
+    by true is = subst (Prints nested d Rows) (sym (hidden-prints d.given t name is inner))
+        (lays-nothing nested d.given.ending Rows)
+    by false shows = shown-row nested d t name (and_from (may_stand Rows (sort_of name))
+        (not (is_hidden name)) stands (ap not shows)) inner k a
 
 cells-node : (nested : Bool) (d : Document) (t : At) (name : Name) →
     may_stand Cells (sort_of name) ≡ true →

@@ -74,7 +74,7 @@ in-chunks LineEnding = refl
 in-chunks _ = refl
 
 -- what children print, where what may stand in the node is told
-inside-is : (s : Setting) (t : At) (content told : Content) (name : Name) (inner : List Piece) →
+pub inside-is : (s : Setting) (t : At) (content told : Content) (name : Name) (inner : List Piece) →
     content_of name content ≡ told → Inside s t content name inner →
     Prints s (Holds s.p (inside s.given.options (is_loose t.children) name t.around).is_escaping
     (inside s.given.options (is_loose t.children) name t.around).in_image told) inner

@@ -16,6 +16,8 @@ use Rattle.md_text.specs.Encode.{encoded}
 use Rattle.md_text.proofs.EncodeLaws.{is_escaped-encoded}
 use Rattle.md_text.proofs.EscapedLemmas.{escaped-append}
 use Rattle.md_text.proofs.HtmlJoin.{text}
+use Rattle.md_base.specs.declared.event.Point.{Point}
+use Rattle.md_base.specs.Tree.{Forest}
 use Rattle.md_base.specs.Children.{spine_names}
 use Rattle.md_base.specs.NameTests.{is_chunk}
 use Rattle.md_meaning.specs.Meaning.At.{At}
@@ -26,7 +28,7 @@ use Rattle.md_meaning.specs.Meaning.Spans.{is_at}
 use Rattle.md_meaning.specs.Meaning.Blocks.{list_start, ends_in_line, atx_rank, underline_rank}
 use Rattle.md_meaning.specs.Meaning.Blocks.{chunk, code_end, is_unclosed, runs_out}
 use Rattle.md_shape.specs.Underlined.{is_underline}
-use Rattle.md_shape.specs.Built.{Blocks, is_line}
+use Rattle.md_shape.specs.Built.{Blocks, IsFit, is_line, is_fence}
 use Rattle.md_safe.proofs.Texts.{Escaped}
 use Rattle.md_safe.proofs.Laid.{adds-append, adds-weaker, adds-text, adds-needed, adds-forced}
 use Rattle.md_safe.proofs.Tags.{Bracket, IsFramed, void-read, adds-flat, adds-pair, adds-framed}
@@ -35,6 +37,7 @@ use Rattle.md_safe.proofs.Tags.{framed-forced}
 use Rattle.md_safe.proofs.Elements.{bracket-plain, bracket-code, adds-heading, ordered-opening}
 use Rattle.md_safe.proofs.Elements.{code_closing}
 use Rattle.md_safe.proofs.RawElements.{adds-raw, code_tag, math_tag}
+use Rattle.md_safe.proofs.Insides.{is_raw}
 use Rattle.md_safe.proofs.Spot.{Setting, IsFitAt, Prints, Inside}
 use Rattle.md_safe.proofs.StringNodes.{line_ending-escaped}
 use Rattle.md_safe.proofs.SpanNodes.{html-escaped}
@@ -63,6 +66,14 @@ is_html name = elim name [ HtmlFlowData ↦ true | _ ↦ false ]
 
 abbrev pub is_leaf : Name → Bool
 is_leaf name = is_line name || is_html name
+
+-- code or math in lines has a fence
+pub has-fence : (bytes : List ℕ) (name : Name) (start end : Point) (children : Forest) →
+    is_raw name ≡ true → IsFit bytes name start end children →
+    list_any is_fence (spine_names children) ≡ true
+has-fence bytes CodeFenced start end children is fit = fit
+has-fence bytes MathFlow start end children is fit = fit
+has-fence bytes _ start end children is fit = lie is
 
 -- what is claimed of a text
 abbrev pub Reads : Setting → List ℕ → Type 0

@@ -4,7 +4,7 @@ use Rattle.std.proofs.Common.{◌≡◌, Bool, true, false, not, ◌&&◌, ◌||
 use Rattle.std.proofs.lemmas.Bool.{and_parts, not-true}
 use Rattle.md_base.proofs.Lies.{lie}
 use Rattle.md_base.specs.declared.event.Name.{Name}
-use Rattle.md_base.specs.declared.event.Name.TheVariants.{LineEnding, Image}
+use Rattle.md_base.specs.declared.event.Name.TheVariants.{Image}
 use Rattle.md_base.specs.Is.{is as named}
 use Rattle.md_base.specs.NameTests.{is_fence}
 use Rattle.md_shape.specs.Built.{Content, Blocks, Spans, Strings, FirstFence, FirstMathFence}
@@ -60,27 +60,27 @@ facts c n =
     && implies (may_stand c n) (tells c n (content_of n c))
 
 all-facts : (c : Content) (n : Name) → facts c n ≡ true
-all-facts Blocks LineEnding = refl
+all-facts Blocks Image = refl
 all-facts Blocks _ = refl
-all-facts Spans LineEnding = refl
+all-facts Spans Image = refl
 all-facts Spans _ = refl
-all-facts Strings LineEnding = refl
+all-facts Strings Image = refl
 all-facts Strings _ = refl
-all-facts FirstFence LineEnding = refl
+all-facts FirstFence Image = refl
 all-facts FirstFence _ = refl
-all-facts FirstMathFence LineEnding = refl
+all-facts FirstMathFence Image = refl
 all-facts FirstMathFence _ = refl
-all-facts Chunks LineEnding = refl
+all-facts Chunks Image = refl
 all-facts Chunks _ = refl
-all-facts InfoAndMeta LineEnding = refl
+all-facts InfoAndMeta Image = refl
 all-facts InfoAndMeta _ = refl
-all-facts MetaAlone LineEnding = refl
+all-facts MetaAlone Image = refl
 all-facts MetaAlone _ = refl
-all-facts Done LineEnding = refl
+all-facts Done Image = refl
 all-facts Done _ = refl
-all-facts Nothing LineEnding = refl
+all-facts Nothing Image = refl
 all-facts Nothing _ = refl
-all-facts Sources LineEnding = refl
+all-facts Sources Image = refl
 all-facts Sources _ = refl
 
 -- blocks stand only in blocks

@@ -4,7 +4,6 @@ use Rattle.std.specs.List.{list_any}
 use Rattle.std.proofs.lemmas.Bool.{cond_both}
 use Rattle.md_base.proofs.Lies.{lie}
 use Rattle.md_base.specs.declared.event.Name.{Name}
-use Rattle.md_base.specs.declared.event.Name.TheVariants.{CodeFenced, MathFlow}
 use Rattle.md_base.specs.declared.event.Point.{Point}
 use Rattle.md_base.specs.Tree.{Forest}
 use Rattle.md_base.specs.NameTests.{is_fence as fence_name}
@@ -15,7 +14,8 @@ use Rattle.md_shape.specs.Built.{is_info, may_stand, content_of, content_past, c
 use Rattle.md_shape.specs.Built.{IsBuilt, IsFit}
 use Rattle.md_safe.proofs.Contents.{is_first, stays-after, Follows}
 use Rattle.md_safe.proofs.Insides.{is_raw, told}
-use Rattle.md_safe.proofs.Following.{same_fences, follows-after}
+use Rattle.md_safe.proofs.Following.{same_fences, follows-after, follows-inside}
+use Rattle.md_safe.proofs.FlowNodes.{has-fence}
 
 abbrev IsLater : Content → Type 0
 IsLater content = is_first content ≡ false
@@ -79,9 +79,10 @@ pub later-inside :
     may_stand content name ≡ true → IsFit bytes name start end children →
     IsBuilt bytes (content_of name content) children
     → IsLater (content_after (content_of name content) children)
-later-inside bytes content CodeFenced start end children s fit built =
-    fenced-after bytes FirstFence children built refl fit
-later-inside bytes content MathFlow start end children s fit built =
-    fenced-after bytes FirstMathFence children built refl fit
-later-inside bytes content name start end children s fit built =
-    later-after (content_of name content) children (later-of content name refl s)
+later-inside bytes content name start end children s fit built = by (is_raw name) refl
+  where
+    by : (raw : Bool) → is_raw name ≡ raw →
+        IsLater (content_after (content_of name content) children)
+    by true is = fenced-after bytes (content_of name content) children built
+        (follows-inside content name s) (has-fence bytes name start end children is fit)
+    by false plain = later-after (content_of name content) children (later-of content name plain s)

@@ -1,8 +1,8 @@
 -- A node of any content, before what is printed after it: the step of the induction
 -- in `Forests.antt`.
-use Rattle.std.proofs.Common.{◌≡◌, ℕ, Bool, true, false, not, ◌||◌, cond, List, [], ◌++◌, refl}
-use Rattle.std.proofs.Common.{sym, ap, ◌∙◌, subst, inl, inr, append-nil, codes}
-use Rattle.std.proofs.lemmas.Bool.{or_cases}
+use Rattle.std.proofs.Common.{◌≡◌, ℕ, Bool, true, false, not, ◌&&◌, ◌||◌, cond, List, [], ◌++◌}
+use Rattle.std.proofs.Common.{refl, sym, ap, ◌∙◌, subst, inl, inr, append-nil, codes}
+use Rattle.std.proofs.lemmas.Bool.{or_cases, and_from, cond-true}
 use Rattle.md_base.proofs.Lies.{lie}
 use Rattle.md_base.specs.declared.event.Name.{Name}
 use Rattle.md_base.specs.declared.event.Name.TheVariants as name_variants
@@ -17,7 +17,7 @@ use Rattle.md_meaning.specs.Meaning.Layout.{Piece, said, when}
 use Rattle.md_meaning.specs.Meaning.Means.{prints}
 use Rattle.md_shape.specs.Built.{Content, Blocks, Spans, Strings, FirstFence, FirstMathFence}
 use Rattle.md_shape.specs.Built.{Chunks, InfoAndMeta, MetaAlone, Done, Nothing, Sources, is_part}
-use Rattle.md_shape.specs.Built.{is_source, is_string, is_span, is_in_media, is_autolink}
+use Rattle.md_shape.specs.Built.{is_source, is_autolink}
 use Rattle.md_shape.specs.Built.{may_stand, content_of, content_past, content_after, IsBuilt}
 use Rattle.md_safe.proofs.Texts.{Escaped}
 use Rattle.md_safe.proofs.Laid.{adds-append, adds-text, adds-nothing, adds-weaker, adds-any}
@@ -29,13 +29,26 @@ use Rattle.md_safe.proofs.Following.{second}
 use Rattle.md_safe.proofs.LaterFences.{later-inside}
 use Rattle.md_safe.proofs.Spot.{IsWhole, Setting, IsFitAt, IsGoodTarget, Here, Prints, Inside}
 use Rattle.md_safe.proofs.Spot.{narrow-wide, wide-escaped}
-use Rattle.md_safe.proofs.StringNodes.{string-node}
-use Rattle.md_safe.proofs.SpanNodes.{span-node, media-node, autolink-node}
+use Rattle.md_safe.proofs.StringNodes.{string-node, is_text, text-node}
+use Rattle.md_safe.proofs.SpanNodes.{is_shown, span-node, autolink-node}
 use Rattle.md_safe.proofs.FlowNodes.{Reads}
-use Rattle.md_safe.proofs.FenceNodes.{IsNil, code_fence-node, math_fence-node, line-node}
+use Rattle.md_safe.proofs.FenceNodes.{IsNil, inside-is, code_fence-node, math_fence-node}
+use Rattle.md_safe.proofs.FenceNodes.{line-node}
+use Rattle.md_safe.proofs.BlockNodes.{is_hidden, hidden-prints, is_silent, silent-prints}
 use Rattle.md_safe.proofs.BlockNodes.{block-node}
 
--- spans
+-- spans print nothing, or only their children, or one of these
+span-sorts : (name : Name) → not (may_stand Spans name) || (is_hidden name || (is_silent name
+    || (is_text name || (is_shown name || is_autolink name)))) ≡ true
+span-sorts SpaceOrTab = refl
+span-sorts _ = refl
+
+-- in the latter spans stand
+silent-spans : (name : Name) →
+    cond (is_silent name && may_stand Spans name) (content_of name Spans) Spans ≡ Spans
+silent-spans SpaceOrTab = refl
+silent-spans _ = refl
+
 span-any : (s : Setting) (t : At) (name : Name) →
     Suits t.around.is_escaping t.around.in_image Spans →
     may_stand Spans name ≡ true → IsFitAt s t name → IsGoodTarget t.found.resource →
@@ -43,16 +56,24 @@ span-any : (s : Setting) (t : At) (name : Name) →
     Inside s t Spans name inner → Prints s Escaped (prints s.given t name inner)
 span-any s t name suits stands fit good inner a =
     let w = wide-escaped s.p t.around.in_image suits.1 in
-    elim (or_cases (is_string name)
-    (is_span name || (is_in_media name || is_autolink name)) stands) [
-      | inl is ↦ string-node s t Spans name
-          (narrow-wide s.p t.around.is_escaping t.around.in_image Escaped suits.0 w) is fit inner a
-      | inr c ↦ elim (or_cases (is_span name) (is_in_media name || is_autolink name) c) [
-        | inl is ↦
-            span-node s t Spans name suits.0 w is (λ _ out. lie (sym out ∙ suits.1)) good inner a
-        | inr c ↦ elim (or_cases (is_in_media name) (is_autolink name) c) [
-          | inl is ↦ media-node s t Spans name w is inner a
-          | inr is ↦ autolink-node s t Spans name w is inner
+    let sorts = subst (λ b. not b || (is_hidden name || (is_silent name
+    || (is_text name || (is_shown name || is_autolink name)))) ≡ true) stands (span-sorts name) in
+    elim (or_cases (is_hidden name) _ sorts) [
+      | inl is ↦ subst (Prints s Escaped) (sym (hidden-prints s.given t name is inner))
+          (adds-nothing s.given.ending Escaped refl)
+      | inr c ↦ elim (or_cases (is_silent name) _ c) [
+        | inl is ↦ subst (Prints s Escaped) (sym (silent-prints s.given t name is inner))
+            (inside-is s t Spans Spans name inner
+            (sym (cond-true (is_silent name && may_stand Spans name) (content_of name Spans) Spans
+            (and_from (is_silent name) (may_stand Spans name) is stands)) ∙ silent-spans name) a)
+        | inr c ↦ elim (or_cases (is_text name) _ c) [
+          | inl is ↦ text-node s t Escaped name (narrow-wide s.p t.around.is_escaping
+              t.around.in_image Escaped suits.0 w) is fit inner
+          | inr c ↦ elim (or_cases (is_shown name) (is_autolink name) c) [
+            | inl is ↦ span-node s t Spans name suits.0 w is
+                (λ _ out. lie (sym out ∙ suits.1)) good inner a
+            | inr is ↦ autolink-node s t Spans name w is inner
+          ]
         ]
       ]
     ]

@@ -5,29 +5,28 @@ use Rattle.std.proofs.lemmas.Bool.{or_parts}
 use Rattle.md_base.proofs.Lies.{lie}
 use Rattle.md_base.specs.declared.event.Name.{Name}
 use Rattle.md_base.specs.declared.event.Name.TheVariants as name_variants
-use name_variants.{HtmlText, HtmlTextData, Emphasis, Strong, GfmStrikethrough, CodeText, MathText}
-use name_variants.{Link, Image, HardBreakEscape, HardBreakTrailing, GfmTaskListItemCheck}
-use name_variants.{GfmFootnoteCall, Label, LabelText, Resource, ReferenceString, AutolinkEmail}
-use name_variants.{AutolinkProtocol, GfmAutolinkLiteralEmail, GfmAutolinkLiteralMailto}
-use name_variants.{GfmAutolinkLiteralProtocol, GfmAutolinkLiteralWww, GfmAutolinkLiteralXmpp}
+use name_variants.{HtmlTextData, Emphasis, Strong, GfmStrikethrough, CodeText, MathText, Link}
+use name_variants.{Image, HardBreakEscape, HardBreakTrailing, GfmTaskListItemCheck}
+use name_variants.{GfmFootnoteCall, AutolinkEmail, AutolinkProtocol, GfmAutolinkLiteralEmail}
+use name_variants.{GfmAutolinkLiteralMailto, GfmAutolinkLiteralProtocol, GfmAutolinkLiteralWww}
+use name_variants.{GfmAutolinkLiteralXmpp}
 use Rattle.md_meaning.specs.Meaning.At.{At, identifier_of}
 use Rattle.md_meaning.specs.Meaning.Layout.{Piece, Text, layout, said}
 use Rattle.md_meaning.specs.Meaning.Means.{prints}
 use Rattle.md_meaning.specs.Meaning.Spans.{escaped, html}
 use Rattle.md_meaning.specs.Meaning.Media.{anchor, picture, leads_to, literal}
 use Rattle.md_meaning.specs.Meaning.Footnotes.{call, place_among, distinct, count_of}
-use Rattle.md_shape.specs.Built.{is_span, is_in_media, is_autolink}
+use Rattle.md_shape.specs.Built.{is_autolink}
 use Rattle.md_safe.proofs.Texts.{Escaped}
 use Rattle.md_safe.proofs.Laid.{adds-alone, adds-weaker}
 use Rattle.md_safe.proofs.Tags.{attribute}
 use Rattle.md_safe.proofs.Spot.{target-title}
 use Rattle.md_safe.proofs.StringNodes.{is_text, text-node}
-use Rattle.md_safe.proofs.SpanNodes.{html-escaped}
+use Rattle.md_safe.proofs.SpanNodes.{html-escaped, is_shown}
 use Rattle.md_safe.proofs.Costs.{Document, read_in}
 use Rattle.md_safe.specs.Contents.{Content, Phrasing}
 use Rattle.md_safe.proofs.Linking.{in_link}
 use Rattle.md_safe.proofs.Stands.{Stands, turns-plain}
-use Rattle.md_safe.proofs.ContainedLaid.{lays-nothing}
 use Rattle.md_safe.proofs.SpanContents.{Prints, AreSpans, Known, Here, pair, flat}
 use Rattle.md_safe.proofs.LinksAndImages.{autolinked, link, image}
 use Rattle.md_safe.proofs.TasksAndCalls.{coded, code-node, break, task-node, call-node}
@@ -51,11 +50,10 @@ string-node nested d content t name is inner k a =
     a.spans.text (text-node (read_in d) t Escaped name (λ x h. h k.escaping) is k.fit inner)
 
 pub span-node : (nested : Bool) (d : Document) (content : Content) (t : At) (name : Name) →
-    is_span name ≡ true →
+    is_shown name ≡ true →
     (inner : List Piece) →
     Known nested d t name inner → Here nested d t content name inner → Prints nested d content
     (prints d.given t name inner)
-span-node nested d content t HtmlText is inner k a = a.own refl refl
 span-node nested d content t HtmlTextData is inner k a =
     adds-weaker d.given.ending Escaped (Stands nested content) (escaped t (html d.given t))
     a.spans.text (html-escaped (read_in d) t k.escaping)
@@ -112,17 +110,6 @@ span-node nested d content t GfmFootnoteCall is inner k a =
     (call-node nested d t k.outside identifier (place_among (distinct d.given.calls) identifier)
     (suc (count_of t.calls identifier)))
 span-node nested d content t _ is inner k a = lie is
-
-pub media-node : (nested : Bool) (d : Document) (content : Content) (t : At) (name : Name) →
-    is_in_media name ≡ true →
-    (inner : List Piece) →
-    Here nested d t content name inner → Prints nested d content (prints d.given t name inner)
-media-node nested d content t Label is inner a = a.own refl refl
-media-node nested d content t LabelText is inner a = a.own refl refl
-media-node nested d content t Resource is inner a = lays-nothing nested d.given.ending content
-media-node nested d content t ReferenceString is inner a =
-    lays-nothing nested d.given.ending content
-media-node nested d content t _ is inner a = lie is
 
 pub autolink-node : (nested : Bool) (d : Document) (content : Content) (t : At) (name : Name) →
     is_autolink name ≡ true →

@@ -1,16 +1,16 @@
 -- The nodes of spans print texts with readings, and in images escaped ones: a case for each name.
 use Rattle.std.proofs.Common.{◌≡◌, ℕ, suc, Bool, true, false, not, ◌||◌, cond, List, [], ◌∷◌, ◌++◌}
-use Rattle.std.proofs.Common.{refl, sym, ap, ◌∙◌, subst, inl, inr, codes}
+use Rattle.std.proofs.Common.{refl, sym, subst, inl, inr, codes}
 use Rattle.std.specs.Prelude.{None}
 use Rattle.std.proofs.lemmas.Bool.{cond_both, or_parts}
 use Rattle.md_base.proofs.Lies.{lie}
 use Rattle.md_base.specs.declared.event.Name.{Name}
 use Rattle.md_base.specs.declared.event.Name.TheVariants as name_variants
-use name_variants.{HtmlText, HtmlTextData, Emphasis, Strong, GfmStrikethrough, CodeText, MathText}
-use name_variants.{Link, Image, HardBreakEscape, HardBreakTrailing, GfmTaskListItemCheck}
-use name_variants.{GfmFootnoteCall, Label, LabelText, Resource, ReferenceString, AutolinkEmail}
-use name_variants.{AutolinkProtocol, GfmAutolinkLiteralEmail, GfmAutolinkLiteralMailto}
-use name_variants.{GfmAutolinkLiteralProtocol, GfmAutolinkLiteralWww, GfmAutolinkLiteralXmpp}
+use name_variants.{HtmlTextData, Emphasis, Strong, GfmStrikethrough, CodeText, MathText, Link}
+use name_variants.{Image, HardBreakEscape, HardBreakTrailing, GfmTaskListItemCheck}
+use name_variants.{GfmFootnoteCall, AutolinkEmail, AutolinkProtocol, GfmAutolinkLiteralEmail}
+use name_variants.{GfmAutolinkLiteralMailto, GfmAutolinkLiteralProtocol, GfmAutolinkLiteralWww}
+use name_variants.{GfmAutolinkLiteralXmpp}
 use Rattle.md_text.specs.Encode.{encoded}
 use Rattle.md_text.proofs.EncodeLaws.{is_escaped-encoded}
 use Rattle.md_text.proofs.HtmlJoin.{text}
@@ -21,7 +21,7 @@ use Rattle.md_meaning.specs.Meaning.Spans.{escaped, html, span, task_start, code
 use Rattle.md_meaning.specs.Meaning.Spans.{without_escapes}
 use Rattle.md_meaning.specs.Meaning.Media.{anchor, picture, leads_to, autolink, literal}
 use Rattle.md_meaning.specs.Meaning.Footnotes.{place_among, distinct, count_of, call_id}
-use Rattle.md_shape.specs.Built.{Content, is_span, is_in_media, is_autolink}
+use Rattle.md_shape.specs.Built.{Content, is_autolink}
 use Rattle.md_safe.proofs.Texts.{Escaped, pipes-escaped, trimmed-escaped}
 use Rattle.md_base.specs.NameTests.{is_call}
 use Rattle.md_safe.proofs.Laid.{adds-text, adds-nothing, adds-weaker, adds-alone}
@@ -29,9 +29,26 @@ use Rattle.md_safe.proofs.Tags.{Bracket, void-read, adds-flat, adds-pair, framed
 use Rattle.md_safe.proofs.Media.{adds-link, adds-image}
 use Rattle.md_safe.proofs.Calls.{adds-call, call_tags}
 use Rattle.md_safe.proofs.Elements.{IsDone, bracket-plain, adds-code, adds-math, adds-task}
-use Rattle.md_safe.proofs.Contents.{Holds}
 use Rattle.md_safe.proofs.Spot.{Setting, Here, Prints, Inside, IsWide, IsGoodTarget, PassesIds}
 use Rattle.md_safe.proofs.Spot.{encoded-escaped, target-title}
+
+-- spans that print something else than their children
+abbrev pub is_shown : Name → Bool
+is_shown name = elim name [
+  | HtmlTextData ↦ true
+  | Emphasis ↦ true
+  | Strong ↦ true
+  | GfmStrikethrough ↦ true
+  | CodeText ↦ true
+  | MathText ↦ true
+  | Link ↦ true
+  | Image ↦ true
+  | HardBreakEscape ↦ true
+  | HardBreakTrailing ↦ true
+  | GfmTaskListItemCheck ↦ true
+  | GfmFootnoteCall ↦ true
+  | _ ↦ false
+]
 
 -- tags outside images around what stands in a node
 prints-pair : (s : Setting) (t : At) (holds : List ℕ → Type 0) →
@@ -101,12 +118,6 @@ html-escaped s t e =
     adds-text s.given.ending Escaped (encoded t.around.is_escaping (html s.given t))
     (encoded-escaped t.around.is_escaping (html s.given t) e)
 
--- nothing where nothing is printed
-prints-nothing : (s : Setting) (in_image : Bool) (holds : List ℕ → Type 0) →
-    IsWide s.p in_image holds →
-    Prints s holds []
-prints-nothing s in_image holds w = adds-nothing s.given.ending holds (w.own [] refl)
-
 -- a break outside images
 break-node : (s : Setting) (t : At) (holds : List ℕ → Type 0) → IsWide s.p t.around.in_image holds →
     Prints s holds (when (not t.around.in_image) (said (codes "<br />")))
@@ -141,14 +152,11 @@ task-node s t holds w inner a = by t.around.in_image w a
 
 pub span-node : (s : Setting) (t : At) (content : Content) (name : Name) →
     t.around.is_escaping ≡ true →
-    IsWide s.p t.around.in_image (Here s t content) → is_span name ≡ true →
+    IsWide s.p t.around.in_image (Here s t content) → is_shown name ≡ true →
     (is_call name ≡ true → t.around.in_image ≡ false → PassesIds s.p.test) →
     IsGoodTarget t.found.resource →
     (inner : List Piece) → Inside s t content name inner →
     Prints s (Here s t content) (prints s.given t name inner)
-span-node s t content HtmlText e w is ids good inner a =
-    subst (λ b. Prints s (Holds s.p b t.around.in_image content) inner)
-    (ap not s.test.html ∙ sym e) a
 span-node s t content HtmlTextData e w is ids good inner a =
     adds-weaker s.given.ending Escaped (Here s t content) (escaped t (html s.given t)) w.own
     (html-escaped s t e)
@@ -199,19 +207,6 @@ span-node s t content GfmFootnoteCall e w is ids good inner a =
     (λ out. adds-call s.p s.given.ending s.given.options s.test identifier number occurrence
     (ids refl out (call_id s.given.options identifier number occurrence)))
 span-node s t content _ e w is ids good inner a = lie is
-
--- what stands in links, images and calls
-pub media-node : (s : Setting) (t : At) (content : Content) (name : Name) →
-    IsWide s.p t.around.in_image (Here s t content) → is_in_media name ≡ true →
-    (inner : List Piece) →
-    Inside s t content name inner → Prints s (Here s t content) (prints s.given t name inner)
-media-node s t content Label w is inner a = a
-media-node s t content LabelText w is inner a = a
-media-node s t content Resource w is inner a =
-    prints-nothing s t.around.in_image (Here s t content) w
-media-node s t content ReferenceString w is inner a =
-    prints-nothing s t.around.in_image (Here s t content) w
-media-node s t content _ w is inner a = lie is
 
 -- an autolink, which is plain at least in images
 link-node : (s : Setting) (t : At) (holds : List ℕ → Type 0) → IsWide s.p t.around.in_image holds →

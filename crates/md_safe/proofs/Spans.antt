@@ -1,22 +1,21 @@
 -- What stands in a line of text: each node that prints strings, spans or nothing prints
 -- phrasing content.
-use Rattle.std.proofs.Common.{◌≡◌, Bool, true, false, ◌||◌, cond, List, refl, sym, ap, ◌∙◌}
-use Rattle.std.proofs.Common.{subst, inl, inr}
-use Rattle.std.proofs.lemmas.Bool.{or_cases}
+use Rattle.std.proofs.Common.{◌≡◌, Bool, true, false, not, ◌&&◌, ◌||◌, cond, List, refl}
+use Rattle.std.proofs.Common.{sym, ap, ◌∙◌, subst, inl, inr}
+use Rattle.std.proofs.lemmas.Bool.{or_cases, and_from, cond-true}
 use Rattle.md_base.proofs.Lies.{lie}
 use Rattle.md_base.specs.Is.{is as named}
 use Rattle.md_base.specs.declared.event.Name.{Name}
-use Rattle.md_base.specs.declared.event.Name.TheVariants as name_variants
-use name_variants.{BlockQuote, ListOrdered, ListUnordered, ListItem, CodeIndented, GfmTable}
-use name_variants.{GfmTableHead, GfmTableBody, GfmTableRow, Link, GfmFootnoteDefinition}
+use Rattle.md_base.specs.declared.event.Name.TheVariants.{Link}
 use Rattle.md_meaning.specs.Meaning.At.{At}
 use Rattle.md_meaning.specs.Meaning.Layout.{Piece}
 use Rattle.md_meaning.specs.Meaning.Means.{prints}
-use Rattle.md_shape.specs.Built.{Blocks, content_of, is_span, is_in_media, is_autolink}
+use Rattle.md_shape.specs.Built.{Blocks, content_of, is_autolink}
 use Rattle.md_safe.proofs.Texts.{Escaped}
 use Rattle.md_safe.proofs.Laid.{adds-weaker}
 use Rattle.md_safe.proofs.Insides.{is_blocks}
 use Rattle.md_safe.proofs.StringNodes.{is_text}
+use Rattle.md_safe.proofs.SpanNodes.{is_shown}
 use Rattle.md_safe.proofs.FlowNodes.{is_leaf, leaf-escaped}
 use Rattle.md_safe.proofs.BlockNodes.{is_hidden, hidden-prints, is_silent, silent-prints}
 use Rattle.md_safe.proofs.BlockNodes.{silent-block}
@@ -29,7 +28,7 @@ use Rattle.md_safe.proofs.Linking.{place-other}
 use Rattle.md_safe.proofs.Stands.{Stands}
 use Rattle.md_safe.proofs.ContainedLaid.{lays-nothing}
 use Rattle.md_safe.proofs.SpanContents.{Prints, Known, Here, Own, are-spans}
-use Rattle.md_safe.proofs.SpanCases.{string-node, span-node, media-node, autolink-node}
+use Rattle.md_safe.proofs.SpanCases.{string-node, span-node, autolink-node}
 
 -- a line of code or its end, or HTML
 leaf-node : (nested : Bool) (d : Document) (content : Content) (t : At) (name : Name) →
@@ -60,22 +59,19 @@ silent-node nested d content t name is inner a =
 -- what prints phrasing content
 abbrev pub is_inline : Name → Bool
 is_inline name =
-    is_text name || (is_span name || (is_in_media name || (is_autolink name || (is_leaf name
-    || (is_hidden name || is_silent name)))))
+    is_text name || (is_shown name || (is_autolink name || (is_leaf name || (is_hidden name
+    || is_silent name))))
+
+phrasing-place : (name : Name) →
+    cond (not (is_hidden name) && is_inline name) (place_of name) Phrasing ≡ Phrasing
+phrasing-place Link = refl
+phrasing-place _ = refl
 
 spans-place : (name : Name) → is_hidden name ≡ false → is_inline name ≡ true →
     place_of name ≡ Phrasing
-spans-place BlockQuote h is = lie is
-spans-place ListOrdered h is = lie is
-spans-place ListUnordered h is = lie is
-spans-place ListItem h is = lie is
-spans-place CodeIndented h is = lie is
-spans-place GfmTable h is = lie is
-spans-place GfmTableHead h is = lie is
-spans-place GfmTableBody h is = lie is
-spans-place GfmTableRow h is = lie is
-spans-place GfmFootnoteDefinition h is = lie (sym h)
-spans-place _ h is = refl
+spans-place name h is =
+    sym (cond-true (not (is_hidden name) && is_inline name) (place_of name) Phrasing
+    (and_from (not (is_hidden name)) (is_inline name) (ap not h) is)) ∙ phrasing-place name
 
 -- spans stand in spans, of the same content but in a link
 spans-in : (nested : Bool) (content : Content) (name : Name) → is_spans content ≡ true →
@@ -139,18 +135,15 @@ inline-node nested d content t name is inner k own g = by (is_hidden name) refl
         let a = here h in
         elim (or_cases (is_text name) _ is) [
           | inl is ↦ string-node nested d content t name is inner k a
-          | inr c ↦ elim (or_cases (is_span name) _ c) [
+          | inr c ↦ elim (or_cases (is_shown name) _ c) [
             | inl is ↦ span-node nested d content t name is inner k a
-            | inr c ↦ elim (or_cases (is_in_media name) _ c) [
-              | inl is ↦ media-node nested d content t name is inner a
-              | inr c ↦ elim (or_cases (is_autolink name) _ c) [
-                | inl is ↦ autolink-node nested d content t name is inner k a
-                | inr c ↦ elim (or_cases (is_leaf name) _ c) [
-                  | inl is ↦ leaf-node nested d content t name is inner k a
-                  | inr c ↦ elim (or_cases (is_hidden name) (is_silent name) c) [
-                    | inl is ↦ lie (sym h ∙ is)
-                    | inr is ↦ silent-node nested d content t name is inner a
-                  ]
+            | inr c ↦ elim (or_cases (is_autolink name) _ c) [
+              | inl is ↦ autolink-node nested d content t name is inner k a
+              | inr c ↦ elim (or_cases (is_leaf name) _ c) [
+                | inl is ↦ leaf-node nested d content t name is inner k a
+                | inr c ↦ elim (or_cases (is_hidden name) (is_silent name) c) [
+                  | inl is ↦ lie (sym h ∙ is)
+                  | inr is ↦ silent-node nested d content t name is inner a
                 ]
               ]
             ]

@@ -1,15 +1,15 @@
--- The nodes of strings print escaped texts: a case for each name.
-use Rattle.std.proofs.Common.{◌≡◌, ℕ, Bool, true, false, not, ◌&&◌, cond, List, [], ◌∷◌, refl, ap}
-use Rattle.std.proofs.lemmas.Bool.{cond_both, and_from}
+-- The nodes of strings print escaped texts.
+use Rattle.std.proofs.Common.{◌≡◌, ℕ, Bool, true, false, not, ◌&&◌, cond, List, [], ◌∷◌, refl, sym}
+use Rattle.std.proofs.Common.{ap, ◌∙◌, subst}
+use Rattle.std.proofs.lemmas.Bool.{cond_both, and_from, cond-true}
 use Rattle.md_base.proofs.Lies.{lie}
 use Rattle.md_base.specs.declared.event.Name.{Name}
 use Rattle.md_base.specs.declared.event.Name.TheVariants as name_variants
-use name_variants.{LineEnding, Data, CharacterEscapeValue, CharacterReferenceMarker}
-use name_variants.{CharacterReferenceMarkerNumeric, CharacterReferenceMarkerHexadecimal}
-use name_variants.{CharacterReferenceValue, CodeTextData, MathTextData}
+use name_variants.{LineEnding, CharacterReferenceMarker, CharacterReferenceMarkerNumeric}
+use name_variants.{CharacterReferenceMarkerHexadecimal, CharacterReferenceValue}
 use Rattle.md_text.specs.Encode.{encoded}
 use Rattle.md_text.specs.Laws.{is_line_ends}
-use Rattle.md_meaning.specs.Meaning.At.{At, text_in}
+use Rattle.md_meaning.specs.Meaning.At.{Given, At, text_in}
 use Rattle.md_meaning.specs.Meaning.Layout.{Piece, said}
 use Rattle.md_meaning.specs.Meaning.Means.{prints}
 use Rattle.md_meaning.specs.Meaning.Spans.{escaped, is_dropped, line_ending, reference}
@@ -18,21 +18,23 @@ use Rattle.md_safe.proofs.Texts.{Escaped, line_ends-escaped}
 use Rattle.md_safe.proofs.Laid.{adds-text, adds-nothing, adds-weaker}
 use Rattle.md_safe.proofs.Spot.{Setting, IsFitAt, Here, Prints, Inside, IsNarrow, encoded-escaped}
 
--- a string with a text of its own
-abbrev pub is_text : Name → Bool
-is_text name = elim name [
-  | LineEnding ↦ true
-  | Data ↦ true
-  | CharacterEscapeValue ↦ true
-  | CodeTextData ↦ true
-  | MathTextData ↦ true
-  | CharacterReferenceValue ↦ true
+-- marks print what stands in them
+abbrev is_mark : Name → Bool
+is_mark name = elim name [
+  | CharacterReferenceMarker ↦ true
+  | CharacterReferenceMarkerNumeric ↦ true
+  | CharacterReferenceMarkerHexadecimal ↦ true
   | _ ↦ false
 ]
 
--- the other strings are marks, which print their children
-abbrev is_mark : Name → Bool
-is_mark name = is_string name && not (is_text name)
+-- any other string has a text of its own
+abbrev pub is_text : Name → Bool
+is_text name = is_string name && not (is_mark name)
+
+-- mostly its bytes
+abbrev is_data : Name → Bool
+is_data name =
+    is_text name && elim name [ LineEnding ↦ false | CharacterReferenceValue ↦ false | _ ↦ true ]
 
 -- a text, encoded where that is asked for
 data-node : (s : Setting) (t : At) (holds : List ℕ → Type 0) →
@@ -54,23 +56,34 @@ line_ending-escaped s t h =
     (λ _. adds-nothing s.given.ending Escaped refl)
     (λ _. adds-text s.given.ending Escaped x (line_ends-escaped x h)))
 
+data-pieces : (given : Given) (t : At) (name : Name) (inner : List Piece) →
+    cond (is_data name) (prints given t name inner) (escaped t (text_in given.bytes t.place))
+    ≡ escaped t (text_in given.bytes t.place)
+data-pieces given t LineEnding inner = refl
+data-pieces given t _ inner = refl
+
+other-node : (s : Setting) (t : At) (holds : List ℕ → Type 0) (name : Name) →
+    IsNarrow t.around.is_escaping holds → is_text name && not (is_data name) ≡ true →
+    IsFitAt s t name → (inner : List Piece) → Prints s holds (prints s.given t name inner)
+other-node s t holds LineEnding n is fit inner =
+    adds-weaker s.given.ending Escaped holds (line_ending s.given t) (λ x h. n x (λ _. h))
+    (line_ending-escaped s t fit)
+other-node s t holds CharacterReferenceValue n is fit inner =
+    data-node s t holds n (reference s.given t)
+other-node s t holds _ n is fit inner = lie is
+
 pub text-node : (s : Setting) (t : At) (holds : List ℕ → Type 0) (name : Name) →
     IsNarrow t.around.is_escaping holds → is_text name ≡ true → IsFitAt s t name →
     (inner : List Piece) → Prints s holds (prints s.given t name inner)
-text-node s t holds LineEnding n is fit inner =
-    adds-weaker s.given.ending Escaped holds (line_ending s.given t) (λ x h. n x (λ _. h))
-    (line_ending-escaped s t fit)
-text-node s t holds Data n is fit inner =
-    data-node s t holds n (text_in s.given.bytes t.place)
-text-node s t holds CharacterEscapeValue n is fit inner =
-    data-node s t holds n (text_in s.given.bytes t.place)
-text-node s t holds CodeTextData n is fit inner =
-    data-node s t holds n (text_in s.given.bytes t.place)
-text-node s t holds MathTextData n is fit inner =
-    data-node s t holds n (text_in s.given.bytes t.place)
-text-node s t holds CharacterReferenceValue n is fit inner =
-    data-node s t holds n (reference s.given t)
-text-node s t holds _ n is fit inner = lie is
+text-node s t holds name n is fit inner = by (is_data name) refl
+  where
+    by : (plain : Bool) → is_data name ≡ plain → Prints s holds (prints s.given t name inner)
+    by true e = subst (Prints s holds) (sym (sym (cond-true (is_data name)
+        (prints s.given t name inner) (escaped t (text_in s.given.bytes t.place)) e)
+        ∙ data-pieces s.given t name inner))
+        (data-node s t holds n (text_in s.given.bytes t.place))
+    by false e = other-node s t holds name n
+        (and_from (is_text name) (not (is_data name)) is (ap not e)) fit inner
 
 mark-node : (s : Setting) (t : At) (content : Content) (name : Name) → is_mark name ≡ true →
     (inner : List Piece) → Inside s t content name inner →
@@ -84,10 +97,10 @@ pub string-node : (s : Setting) (t : At) (content : Content) (name : Name) →
     IsNarrow t.around.is_escaping (Here s t content) → is_string name ≡ true → IsFitAt s t name →
     (inner : List Piece) → Inside s t content name inner →
     Prints s (Here s t content) (prints s.given t name inner)
-string-node s t content name n is fit inner a = by (is_text name) refl
+string-node s t content name n is fit inner a = by (is_mark name) refl
   where
-    by : (own : Bool) → is_text name ≡ own →
+    by : (mark : Bool) → is_mark name ≡ mark →
         Prints s (Here s t content) (prints s.given t name inner)
-    by true own = text-node s t (Here s t content) name n own fit inner
-    by false none = mark-node s t content name
-        (and_from (is_string name) (not (is_text name)) is (ap not none)) inner a
+    by true e = mark-node s t content name e inner a
+    by false e = text-node s t (Here s t content) name n
+        (and_from (is_string name) (not (is_mark name)) is (ap not e)) fit inner

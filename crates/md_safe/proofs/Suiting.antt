@@ -3,7 +3,7 @@ use Rattle.std.proofs.Common.{◌≡◌, Bool, true, false, ◌||◌, inl, inr, 
 use Rattle.std.proofs.lemmas.Bool.{cond_both, or_cases}
 use Rattle.md_base.proofs.Lies.{lie}
 use Rattle.md_base.specs.declared.event.Name.{Name}
-use Rattle.md_base.specs.declared.event.Name.TheVariants.{LineEnding, Image}
+use Rattle.md_base.specs.declared.event.Name.TheVariants.{Image}
 use Rattle.md_base.specs.Is.{is as named}
 use Rattle.md_base.specs.Tree.{Forest}
 use Rattle.md_base.specs.NameTests.{is_transparent}
@@ -73,7 +73,7 @@ is-in_image escaping in_image _ asks h = lie asks
 keeps-escaping : (options : CompileOptions) (loose : Bool) (around : Surroundings) (name : Name) →
     (is_source name || (inside (record options { allow_dangerous_html = false }) loose name
     (record around { is_escaping = true })).is_escaping) ≡ true
-keeps-escaping options loose around LineEnding = refl
+keeps-escaping options loose around Image = refl
 keeps-escaping options loose around _ = refl
 
 keeps-image : (options : CompileOptions) (loose : Bool) (around : Surroundings) (name : Name) →
