@@ -1,5 +1,4 @@
--- The nodes of blocks print texts with readings, whatever is claimed of texts besides: a
--- case for each name.
+-- The nodes of blocks print texts with readings, whatever is claimed of texts besides.
 use Rattle.std.proofs.Common.{◌≡◌, Bool, true, false, not, ◌&&◌, ◌||◌, List, [], ◌++◌, refl, sym}
 use Rattle.std.proofs.Common.{cond, ap, ◌∙◌, subst, inl, inr, drop, append_assoc, codes}
 use Rattle.std.specs.Prelude.{slice_get, count_by}

@@ -1,27 +1,31 @@
--- What blocks and spans print where flow content stands: a case for each name.
+-- What blocks and spans print where flow content stands.
 use Rattle.std.proofs.Common.{◌≡◌, Bool, true, false, ◌||◌, cond, List, [], ◌∷◌, ◌++◌, refl, sym}
-use Rattle.std.proofs.Common.{ap, ◌∙◌, inl, inr, codes}
-use Rattle.std.proofs.lemmas.Bool.{or_cases}
+use Rattle.std.proofs.Common.{◌∙◌, subst, inl, inr, codes}
+use Rattle.std.proofs.lemmas.Bool.{or_cases, cond-true}
 use Rattle.md_base.proofs.Lies.{lie}
 use Rattle.md_base.specs.declared.event.Name.{Name}
 use Rattle.md_base.specs.declared.event.Name.TheVariants as name_variants
-use name_variants.{LineEnding, BlockQuote, ListOrdered, ListUnordered, CodeIndented, CodeFenced}
-use name_variants.{MathFlow, HtmlFlow, HeadingAtx, HeadingSetextUnderlineSequence, GfmTable}
-use name_variants.{Paragraph, ThematicBreak}
+use name_variants.{LineEnding, BlockQuote, ListOrdered, ListUnordered, CodeIndented, HtmlFlow}
+use name_variants.{HeadingAtx, HeadingSetextUnderlineSequence, GfmTable, Paragraph, ThematicBreak}
 use Rattle.md_base.specs.NameTests.{is_transparent}
 use Rattle.md_meaning.specs.Meaning.At.{At}
-use Rattle.md_meaning.specs.Meaning.Around.{is_tight}
+use Rattle.md_pattern.specs.Looseness.{is_loose}
+use Rattle.md_meaning.specs.declared.context.Surroundings.{Surroundings}
+use Rattle.md_meaning.specs.Meaning.Around.{inside, is_tight}
 use Rattle.md_meaning.specs.Meaning.Layout.{Piece, Needed, Forced, said, on_own_line}
 use Rattle.md_meaning.specs.Meaning.Means.{prints}
 use Rattle.md_meaning.specs.Meaning.Spans.{is_at}
-use Rattle.md_meaning.specs.Meaning.Blocks.{atx_rank, underline_rank}
-use Rattle.md_shape.specs.Built.{is_part, is_source}
-use Rattle.md_safe.proofs.Laid.{adds-text, adds-weaker}
+use Rattle.md_meaning.specs.Meaning.Blocks.{atx_rank, underline_rank, fenced}
+use Rattle.md_shape.specs.Built.{Blocks, FirstFence, FirstMathFence, is_part, is_source}
+use Rattle.md_safe.proofs.Laid.{Adds, adds-text, adds-weaker}
 use Rattle.md_safe.proofs.RawElements.{IsRaw, code_tag, math_tag}
-use Rattle.md_safe.proofs.FlowNodes.{setext-fits}
+use Rattle.md_safe.proofs.Contents.{Holds}
+use Rattle.md_safe.proofs.Insides.{is_raw}
+use Rattle.md_safe.proofs.FlowNodes.{is_math, raw_tag, raw-prints, in-raw, setext-fits}
+use Rattle.md_safe.proofs.FenceNodes.{inside-is}
 use Rattle.md_safe.proofs.Costs.{Document, read_in}
 use Rattle.md_safe.specs.Contents.{Content, Flow, Phrasing, Items, Parts}
-use Rattle.md_safe.specs.Placed.{Block, sort_of, is_inner, may_stand}
+use Rattle.md_safe.specs.Placed.{sort_of, is_inner, may_stand}
 use Rattle.md_safe.proofs.Stands.{Stands, stands-void, turns-plain, IsWhite}
 use Rattle.md_safe.proofs.ContainedLaid.{lays-white, lays-both, lays-wider, lays-turned}
 use Rattle.md_safe.proofs.ContainedLaid.{spaced-text, spaced-needed, spaced-forced, white-needed}
@@ -32,7 +36,7 @@ use Rattle.md_safe.proofs.HeadingsAndLists.{heading-node, ordered-node}
 use Rattle.md_safe.proofs.CodeBlocks.{indented-node, fenced-end, turns-info, turns-math, IsOpened}
 use Rattle.md_safe.proofs.CodeBlocks.{fenced-node}
 
--- blocks that print tags, or raw text
+-- blocks that print tags or HTML, but code and math between fences
 abbrev is_block : Name → Bool
 is_block name = elim name [
   | BlockQuote ↦ true
@@ -43,8 +47,6 @@ is_block name = elim name [
   | HeadingAtx ↦ true
   | HeadingSetextUnderlineSequence ↦ true
   | CodeIndented ↦ true
-  | CodeFenced ↦ true
-  | MathFlow ↦ true
   | HtmlFlow ↦ true
   | GfmTable ↦ true
   | _ ↦ false
@@ -91,16 +93,6 @@ block-node nested d t HeadingSetextUnderlineSequence is inner k a =
     (setext-fits (is_at 45 d.given.bytes t.place.start.index)) (said t.before.heading)
     (adds-text d.given.ending (Stands nested Phrasing) t.before.heading k.heading)
 block-node nested d t CodeIndented is inner k a = indented-node nested d t k.white inner (a refl)
-block-node nested d t CodeFenced is inner k a =
-    fenced-node nested d code_tag k.white inner _
-    (adds-weaker d.given.ending (IsRaw (read_in d).p code_tag) (IsOpened nested code_tag) inner
-    (λ x r. (r.attributes, r.body, r.whole, r.escaped, turns-info nested r.attributes r.info))
-    k.within) (fenced-end d t k.white)
-block-node nested d t MathFlow is inner k a =
-    fenced-node nested d math_tag k.white inner _
-    (adds-weaker d.given.ending (IsRaw (read_in d).p math_tag) (IsOpened nested math_tag) inner
-    (λ x r. (r.attributes, r.body, r.whole, r.escaped, turns-math nested r.attributes r.info))
-    k.within) (fenced-end d t k.white)
 block-node nested d t HtmlFlow is inner k a =
     lays-both nested d.given.ending Flow (Needed ∷ []) inner
     (lays-white nested d.given.ending Flow (Needed ∷ []) refl (white-needed d.given.ending k.white))
@@ -110,10 +102,34 @@ block-node nested d t GfmTable is inner k a = block-pair nested d Parts Flow (co
     (turns-plain nested Parts Flow (codes "table") refl refl) inner (a refl)
 block-node nested d t _ is inner k a = lie is
 
+-- code and math in lines
+raw-node : (nested : Bool) (d : Document) (t : At) (name : Name) → is_raw name ≡ true →
+    (inner : List Piece) →
+    Known nested d t name inner → Prints nested d Flow (prints d.given t name inner)
+raw-node nested d t name is inner k =
+    subst (Prints nested d Flow) (sym (raw-prints d.given t name is inner))
+    (by (is_math name) (inside-is (read_in d) t Blocks
+    (cond (is_math name) FirstMathFence FirstFence) name inner (in-raw name is) k.within))
+  where
+    around : Surroundings
+    around = inside d.given.options (is_loose t.children) name t.around
+
+    by : (math : Bool) → Adds d.given.ending (Holds (read_in d).p around.is_escaping around.in_image
+        (cond math FirstMathFence FirstFence)) inner →
+        Prints nested d Flow (fenced t (raw_tag math) inner)
+    by true a = fenced-node nested d math_tag k.white inner _
+        (adds-weaker d.given.ending (IsRaw (read_in d).p math_tag) (IsOpened nested math_tag) inner
+        (λ x r. (r.attributes, r.body, r.whole, r.escaped, turns-math nested r.attributes r.info))
+        a) (fenced-end d t k.white)
+    by false a = fenced-node nested d code_tag k.white inner _
+        (adds-weaker d.given.ending (IsRaw (read_in d).p code_tag) (IsOpened nested code_tag) inner
+        (λ x r. (r.attributes, r.body, r.whole, r.escaped, turns-info nested r.attributes r.info))
+        a) (fenced-end d t k.white)
+
 -- each name is of one of the tables
 covered : (name : Name) →
     (is_transparent name || ((is_part name || is_source name) || (is_inline name || (is_block name
-    || is_inner (sort_of name))))) ≡ true
+    || (is_raw name || is_inner (sort_of name)))))) ≡ true
 covered LineEnding = refl
 covered _ = refl
 
@@ -144,33 +160,27 @@ flow-node nested d t name solid whole stands inner k a =
                 free = λ _. refl;
                 plain = λ _. refl;
               }))
-          | inr c ↦ elim (or_cases (is_block name) (is_inner (sort_of name)) c) [
+          | inr c ↦ elim (or_cases (is_block name) _ c) [
             | inl is ↦ block-node nested d t name is inner k a
-            | inr is ↦ lie (sym (outer name stands) ∙ is)
+            | inr c ↦ elim (or_cases (is_raw name) (is_inner (sort_of name)) c) [
+              | inl is ↦ raw-node nested d t name is inner k
+              | inr is ↦ lie (sym (outer name stands) ∙ is)
+            ]
           ]
         ]
       ]
     ]
 
--- a block that prints tags is no span
-no_block : (name : Name) → is_block name ≡ true → may_stand Phrasing (sort_of name) ≡ false
-no_block BlockQuote is = refl
-no_block ListOrdered is = refl
-no_block ListUnordered is = refl
-no_block Paragraph is = refl
-no_block ThematicBreak is = refl
-no_block HeadingAtx is = refl
-no_block HeadingSetextUnderlineSequence is = refl
-no_block CodeIndented is = refl
-no_block CodeFenced is = refl
-no_block MathFlow is = refl
-no_block HtmlFlow is = refl
-no_block GfmTable is = refl
-no_block _ is = lie is
+-- neither a block nor a part of another is a span
+other-sorts : (name : Name) → cond (is_block name || (is_raw name || is_inner (sort_of name)))
+    (may_stand Phrasing (sort_of name)) false ≡ false
+other-sorts LineEnding = refl
+other-sorts _ = refl
 
-no_inner : (name : Name) → is_inner (sort_of name) ≡ true →
+no_block : (name : Name) → (is_block name || (is_raw name || is_inner (sort_of name))) ≡ true →
     may_stand Phrasing (sort_of name) ≡ false
-no_inner name is = ap (λ b. cond b false (elim (sort_of name) [ Block ↦ false | _ ↦ true ])) is
+no_block name is = sym (cond-true (is_block name || (is_raw name || is_inner (sort_of name)))
+    (may_stand Phrasing (sort_of name)) false is) ∙ other-sorts name
 
 pub spans-node : (nested : Bool) (d : Document) (content : Content) (t : At) (name : Name) →
     is_transparent name ≡ false →
@@ -185,10 +195,7 @@ spans-node nested d content t name solid whole stands inner k a g =
         | inl is ↦ lie (sym whole ∙ is)
         | inr c ↦ elim (or_cases (is_inline name) _ c) [
           | inl is ↦ inline-node nested d content t name is inner k a g
-          | inr c ↦ elim (or_cases (is_block name) (is_inner (sort_of name)) c) [
-            | inl is ↦ lie (sym (no_block name is) ∙ stands)
-            | inr is ↦ lie (sym (no_inner name is) ∙ stands)
-          ]
+          | inr c ↦ lie (sym (no_block name c) ∙ stands)
         ]
       ]
     ]

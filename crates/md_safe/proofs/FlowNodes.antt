@@ -1,17 +1,17 @@
 -- The nodes of blocks with tags or raw text print texts with readings.
 use Rattle.std.proofs.Common.{◌≡◌, ℕ, ◌≤◌, Bool, true, false, cond, List, [], ◌∷◌, ◌++◌, refl, sym}
-use Rattle.std.proofs.Common.{◌||◌, subst, inl, inr, arith, append_assoc, codes}
+use Rattle.std.proofs.Common.{◌||◌, ◌∙◌, subst, inl, inr, arith, append_assoc, codes}
 use Rattle.std.specs.Prelude.{unwrap_or}
 use Rattle.std.specs.List.{list_any}
-use Rattle.std.proofs.lemmas.Bool.{or_cases}
+use Rattle.std.proofs.lemmas.Bool.{or_cases, cond-true}
 use Rattle.md_base.specs.Place.{serialized_between}
 use Rattle.md_base.proofs.Lies.{lie}
 use Rattle.md_base.specs.declared.event.Name.{Name}
 use Rattle.md_base.specs.declared.event.Name.TheVariants as name_variants
 use name_variants.{LineEnding, BlankLineEnding, BlockQuote, ListOrdered, ListUnordered, ListItem}
 use name_variants.{CodeIndented, CodeFenced, CodeFlowChunk, MathFlow, MathFlowChunk, HtmlFlow}
-use name_variants.{HtmlFlowData, HeadingAtx, HeadingSetextUnderlineSequence, Paragraph}
-use name_variants.{ThematicBreak}
+use name_variants.{HtmlFlowData, HtmlTextData, HeadingAtx, HeadingSetextUnderlineSequence}
+use name_variants.{Paragraph, ThematicBreak}
 use Rattle.md_text.specs.Encode.{encoded}
 use Rattle.md_text.proofs.EncodeLaws.{is_escaped-encoded}
 use Rattle.md_text.proofs.EscapedLemmas.{escaped-append}
@@ -20,15 +20,16 @@ use Rattle.md_base.specs.declared.event.Point.{Point}
 use Rattle.md_base.specs.Tree.{Forest}
 use Rattle.md_base.specs.Children.{spine_names}
 use Rattle.md_base.specs.NameTests.{is_chunk}
-use Rattle.md_meaning.specs.Meaning.At.{At}
+use Rattle.md_meaning.specs.Meaning.At.{Given, At}
 use Rattle.md_meaning.specs.Meaning.Around.{is_tight}
 use Rattle.md_meaning.specs.Meaning.Layout.{Piece, Text, Needed, Forced, said, on_own_line, when}
 use Rattle.md_meaning.specs.Meaning.Means.{prints}
-use Rattle.md_meaning.specs.Meaning.Spans.{is_at}
+use Rattle.md_meaning.specs.Meaning.Spans.{escaped, html, is_at}
 use Rattle.md_meaning.specs.Meaning.Blocks.{list_start, ends_in_line, atx_rank, underline_rank}
-use Rattle.md_meaning.specs.Meaning.Blocks.{chunk, code_end, is_unclosed, runs_out}
+use Rattle.md_meaning.specs.Meaning.Blocks.{chunk, code_end, is_unclosed, runs_out, fenced}
 use Rattle.md_shape.specs.Underlined.{is_underline}
-use Rattle.md_shape.specs.Built.{Blocks, IsFit, is_line, is_fence}
+use Rattle.md_shape.specs.Built.{Blocks, FirstFence, FirstMathFence, IsFit, is_line}
+use Rattle.md_shape.specs.Built.{is_fence, content_of}
 use Rattle.md_safe.proofs.Texts.{Escaped}
 use Rattle.md_safe.proofs.Laid.{adds-append, adds-weaker, adds-text, adds-needed, adds-forced}
 use Rattle.md_safe.proofs.Tags.{Bracket, IsFramed, void-read, adds-flat, adds-pair, adds-framed}
@@ -38,9 +39,8 @@ use Rattle.md_safe.proofs.Elements.{bracket-plain, bracket-code, adds-heading, o
 use Rattle.md_safe.proofs.Elements.{code_closing}
 use Rattle.md_safe.proofs.RawElements.{adds-raw, code_tag, math_tag}
 use Rattle.md_safe.proofs.Insides.{is_raw}
-use Rattle.md_safe.proofs.Spot.{Setting, IsFitAt, Prints, Inside}
+use Rattle.md_safe.proofs.Spot.{Setting, IsFitAt, Prints, Inside, encoded-escaped}
 use Rattle.md_safe.proofs.StringNodes.{line_ending-escaped}
-use Rattle.md_safe.proofs.SpanNodes.{html-escaped}
 
 -- blocks with tags or raw text
 abbrev pub is_flow : Name → Bool
@@ -62,7 +62,7 @@ is_flow name = elim name [
 
 -- a line of code or its end, or HTML
 abbrev is_html : Name → Bool
-is_html name = elim name [ HtmlFlowData ↦ true | _ ↦ false ]
+is_html name = elim name [ HtmlFlowData ↦ true | HtmlTextData ↦ true | _ ↦ false ]
 
 abbrev pub is_leaf : Name → Bool
 is_leaf name = is_line name || is_html name
@@ -74,6 +74,34 @@ pub has-fence : (bytes : List ℕ) (name : Name) (start end : Point) (children :
 has-fence bytes CodeFenced start end children is fit = fit
 has-fence bytes MathFlow start end children is fit = fit
 has-fence bytes _ start end children is fit = lie is
+
+-- math, and else code; what is printed of it, and what stands in it
+abbrev pub is_math : Name → Bool
+is_math name = elim (content_of name Blocks) [ FirstMathFence ↦ true | _ ↦ false ]
+
+abbrev pub raw_tag : Bool → List ℕ
+raw_tag math = cond math math_tag code_tag
+
+raw-pieces : (given : Given) (t : At) (name : Name) (inner : List Piece) →
+    cond (is_raw name) (prints given t name inner) (fenced t (raw_tag (is_math name)) inner)
+    ≡ fenced t (raw_tag (is_math name)) inner
+raw-pieces given t Paragraph inner = refl
+raw-pieces given t _ inner = refl
+
+pub raw-prints : (given : Given) (t : At) (name : Name) → is_raw name ≡ true →
+    (inner : List Piece) → prints given t name inner ≡ fenced t (raw_tag (is_math name)) inner
+raw-prints given t name is inner =
+    sym (cond-true (is_raw name) (prints given t name inner) _ is)
+    ∙ raw-pieces given t name inner
+
+raw-content : (name : Name) → cond (is_raw name) (content_of name Blocks)
+    (cond (is_math name) FirstMathFence FirstFence) ≡ cond (is_math name) FirstMathFence FirstFence
+raw-content Paragraph = refl
+raw-content _ = refl
+
+pub in-raw : (name : Name) → is_raw name ≡ true →
+    content_of name Blocks ≡ cond (is_math name) FirstMathFence FirstFence
+in-raw name is = sym (cond-true (is_raw name) (content_of name Blocks) _ is) ∙ raw-content name
 
 -- what is claimed of a text
 abbrev pub Reads : Setting → List ℕ → Type 0
@@ -151,6 +179,13 @@ chunk-escaped s t =
     let x : List ℕ = unwrap_or (serialized_between s.given.bytes t.place.start t.place.end) [] in
     adds-text s.given.ending Escaped (encoded true x) (is_escaped-encoded x)
 
+-- HTML, escaped
+html-escaped : (s : Setting) (t : At) → t.around.is_escaping ≡ true →
+    Prints s Escaped (escaped t (html s.given t))
+html-escaped s t e =
+    adds-text s.given.ending Escaped (encoded t.around.is_escaping (html s.given t))
+    (encoded-escaped t.around.is_escaping (html s.given t) e)
+
 -- lines are escaped, wherever they stand
 pub line-escaped : (s : Setting) (t : At) (name : Name) → is_line name ≡ true → IsFitAt s t name →
     (inner : List Piece) → Prints s Escaped (prints s.given t name inner)
@@ -170,6 +205,7 @@ leaf-escaped s t name e is fit inner = elim (or_cases (is_line name) (is_html na
   where
     by : (name : Name) → is_html name ≡ true → Prints s Escaped (prints s.given t name inner)
     by HtmlFlowData is = html-escaped s t e
+    by HtmlTextData is = html-escaped s t e
     by _ is = lie is
 
 pub leaf-node : (s : Setting) (t : At) (name : Name) → t.around.is_escaping ≡ true →

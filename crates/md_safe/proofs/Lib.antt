@@ -16,6 +16,7 @@ pub mod LaterFences
 pub mod BlocksAsked
 pub mod Spot
 pub mod StringNodes
+pub mod SpanSorts
 pub mod SpanNodes
 pub mod FlowNodes
 pub mod BlockNodes

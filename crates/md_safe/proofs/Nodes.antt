@@ -31,7 +31,7 @@ use Rattle.md_safe.proofs.Spot.{IsWhole, Setting, IsFitAt, IsGoodTarget, Here, P
 use Rattle.md_safe.proofs.Spot.{narrow-wide, wide-escaped}
 use Rattle.md_safe.proofs.StringNodes.{string-node, is_text, text-node}
 use Rattle.md_safe.proofs.SpanNodes.{is_shown, span-node, autolink-node}
-use Rattle.md_safe.proofs.FlowNodes.{Reads}
+use Rattle.md_safe.proofs.FlowNodes.{Reads, is_leaf, leaf-escaped}
 use Rattle.md_safe.proofs.FenceNodes.{IsNil, inside-is, code_fence-node, math_fence-node}
 use Rattle.md_safe.proofs.FenceNodes.{line-node}
 use Rattle.md_safe.proofs.BlockNodes.{is_hidden, hidden-prints, is_silent, silent-prints}
@@ -39,7 +39,7 @@ use Rattle.md_safe.proofs.BlockNodes.{block-node}
 
 -- spans print nothing, or only their children, or one of these
 span-sorts : (name : Name) → not (may_stand Spans name) || (is_hidden name || (is_silent name
-    || (is_text name || (is_shown name || is_autolink name)))) ≡ true
+    || (is_text name || (is_shown name || (is_leaf name || is_autolink name))))) ≡ true
 span-sorts SpaceOrTab = refl
 span-sorts _ = refl
 
@@ -57,7 +57,8 @@ span-any : (s : Setting) (t : At) (name : Name) →
 span-any s t name suits stands fit good inner a =
     let w = wide-escaped s.p t.around.in_image suits.1 in
     let sorts = subst (λ b. not b || (is_hidden name || (is_silent name
-    || (is_text name || (is_shown name || is_autolink name)))) ≡ true) stands (span-sorts name) in
+    || (is_text name || (is_shown name || (is_leaf name || is_autolink name))))) ≡ true) stands
+    (span-sorts name) in
     elim (or_cases (is_hidden name) _ sorts) [
       | inl is ↦ subst (Prints s Escaped) (sym (hidden-prints s.given t name is inner))
           (adds-nothing s.given.ending Escaped refl)
@@ -69,10 +70,13 @@ span-any s t name suits stands fit good inner a =
         | inr c ↦ elim (or_cases (is_text name) _ c) [
           | inl is ↦ text-node s t Escaped name (narrow-wide s.p t.around.is_escaping
               t.around.in_image Escaped suits.0 w) is fit inner
-          | inr c ↦ elim (or_cases (is_shown name) (is_autolink name) c) [
+          | inr c ↦ elim (or_cases (is_shown name) _ c) [
             | inl is ↦ span-node s t Spans name suits.0 w is
                 (λ _ out. lie (sym out ∙ suits.1)) good inner a
-            | inr is ↦ autolink-node s t Spans name w is inner
+            | inr c ↦ elim (or_cases (is_leaf name) (is_autolink name) c) [
+              | inl is ↦ leaf-escaped s t name suits.0 is fit inner
+              | inr is ↦ autolink-node s t Spans name w is inner
+            ]
           ]
         ]
       ]

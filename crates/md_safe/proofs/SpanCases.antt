@@ -1,32 +1,34 @@
--- What spans and links print where phrasing content stands: a case for each name.
-use Rattle.std.proofs.Common.{◌≡◌, ℕ, suc, Bool, true, false, ◌||◌, cond, List, [], ◌∷◌, refl, sym}
-use Rattle.std.proofs.Common.{subst, codes}
-use Rattle.std.proofs.lemmas.Bool.{or_parts}
+-- What spans and links print where phrasing content stands.
+use Rattle.std.proofs.Common.{◌≡◌, ℕ, suc, Bool, true, false, not, ◌&&◌, ◌||◌, cond, List, [], ◌∷◌}
+use Rattle.std.proofs.Common.{◌++◌, refl, sym, subst, inl, inr, codes}
+use Rattle.std.proofs.lemmas.Bool.{or_parts, or_cases, and_parts, not-true}
 use Rattle.md_base.proofs.Lies.{lie}
+use Rattle.md_base.specs.Is.{is as named}
 use Rattle.md_base.specs.declared.event.Name.{Name}
 use Rattle.md_base.specs.declared.event.Name.TheVariants as name_variants
-use name_variants.{HtmlTextData, Emphasis, Strong, GfmStrikethrough, CodeText, MathText, Link}
-use name_variants.{Image, HardBreakEscape, HardBreakTrailing, GfmTaskListItemCheck}
-use name_variants.{GfmFootnoteCall, AutolinkEmail, AutolinkProtocol, GfmAutolinkLiteralEmail}
-use name_variants.{GfmAutolinkLiteralMailto, GfmAutolinkLiteralProtocol, GfmAutolinkLiteralWww}
-use name_variants.{GfmAutolinkLiteralXmpp}
+use name_variants.{Link, Image, HardBreakEscape, HardBreakTrailing}
+use name_variants.{GfmTaskListItemCheck, GfmFootnoteCall, AutolinkEmail, AutolinkProtocol}
+use name_variants.{GfmAutolinkLiteralEmail, GfmAutolinkLiteralMailto, GfmAutolinkLiteralProtocol}
+use name_variants.{GfmAutolinkLiteralWww, GfmAutolinkLiteralXmpp}
 use Rattle.md_meaning.specs.Meaning.At.{At, identifier_of}
 use Rattle.md_meaning.specs.Meaning.Layout.{Piece, Text, layout, said}
 use Rattle.md_meaning.specs.Meaning.Means.{prints}
-use Rattle.md_meaning.specs.Meaning.Spans.{escaped, html}
 use Rattle.md_meaning.specs.Meaning.Media.{anchor, picture, leads_to, literal}
 use Rattle.md_meaning.specs.Meaning.Footnotes.{call, place_among, distinct, count_of}
-use Rattle.md_shape.specs.Built.{is_autolink}
+use Rattle.md_shape.specs.Built.{Blocks, content_of, is_autolink}
 use Rattle.md_safe.proofs.Texts.{Escaped}
+use Rattle.md_safe.proofs.Insides.{is_blocks}
 use Rattle.md_safe.proofs.Laid.{adds-alone, adds-weaker}
 use Rattle.md_safe.proofs.Tags.{attribute}
 use Rattle.md_safe.proofs.Spot.{target-title}
 use Rattle.md_safe.proofs.StringNodes.{is_text, text-node}
-use Rattle.md_safe.proofs.SpanNodes.{html-escaped, is_shown}
+use Rattle.md_safe.proofs.SpanSorts.{is_pair, pair_tag, by_pair, pair-prints, is_code, is_math}
+use Rattle.md_safe.proofs.SpanSorts.{code_opening, code-prints, code-text}
+use Rattle.md_safe.proofs.SpanNodes.{is_single, is_shown}
 use Rattle.md_safe.proofs.Costs.{Document, read_in}
 use Rattle.md_safe.specs.Contents.{Content, Phrasing}
 use Rattle.md_safe.proofs.Linking.{in_link}
-use Rattle.md_safe.proofs.Stands.{Stands, turns-plain}
+use Rattle.md_safe.proofs.Stands.{Stands, Turns, turns-plain}
 use Rattle.md_safe.proofs.SpanContents.{Prints, AreSpans, Known, Here, pair, flat}
 use Rattle.md_safe.proofs.LinksAndImages.{autolinked, link, image}
 use Rattle.md_safe.proofs.TasksAndCalls.{coded, code-node, break, task-node, call-node}
@@ -49,40 +51,47 @@ string-node nested d content t name is inner k a =
     adds-weaker d.given.ending Escaped (Stands nested content) (prints d.given t name inner)
     a.spans.text (text-node (read_in d) t Escaped name (λ x h. h k.escaping) is k.fit inner)
 
-pub span-node : (nested : Bool) (d : Document) (content : Content) (t : At) (name : Name) →
-    is_shown name ≡ true →
+-- in spans with tags around them blocks stand, and they are no links
+pair-blocks : (name : Name) →
+    not (is_pair name) || (is_blocks (content_of name Blocks) && not (named Link name)) ≡ true
+pair-blocks Link = refl
+pair-blocks _ = refl
+
+pair-node : (nested : Bool) (d : Document) (content : Content) (t : At) (name : Name) →
+    is_pair name ≡ true → t.around.in_image ≡ false → (inner : List Piece) →
+    Here nested d t content name inner → Prints nested d content (prints d.given t name inner)
+pair-node nested d content t name is out inner a =
+    let tag : List ℕ = pair_tag name in
+    let own = and_parts (is_blocks (content_of name Blocks)) (not (named Link name))
+    (subst (λ b. not b || (is_blocks (content_of name Blocks) && not (named Link name)) ≡ true) is
+    (pair-blocks name)) in
+    subst (Prints nested d content) (sym (pair-prints d.given t name is inner))
+    (pair nested d t content a.spans.spaced out (60 ∷ (tag ++ (62 ∷ [])))
+    (60 ∷ 47 ∷ (tag ++ (62 ∷ [])))
+    (by_pair (λ tag. Turns nested content content (60 ∷ (tag ++ (62 ∷ [])))
+    (60 ∷ 47 ∷ (tag ++ (62 ∷ []))))
+    (turns-plain nested content content (codes "em") refl a.spans.em)
+    (turns-plain nested content content (codes "strong") refl a.spans.strong)
+    (turns-plain nested content content (codes "del") refl a.spans.del) name is)
+    inner (a.own own.0 (not-true (named Link name) own.1)))
+
+any-code : (nested : Bool) (d : Document) (content : Content) (f : AreSpans nested content)
+    (math : Bool) (x : List ℕ) → Escaped x → Prints nested d content
+    (Text (code_opening math) ∷ Text x ∷ Text (codes "</code>") ∷ [])
+any-code nested d content f true x h = flat nested d content
+    (Text (code_opening true) ∷ Text x ∷ Text (codes "</code>") ∷ []) refl
+    (coded nested d content f (attribute (codes "class") (codes "language-math math-inline")
+    ∷ []) x refl h)
+any-code nested d content f false x h = flat nested d content
+    (Text (code_opening false) ∷ Text x ∷ Text (codes "</code>") ∷ []) refl
+    (coded nested d content f [] x refl h)
+
+single-node : (nested : Bool) (d : Document) (content : Content) (t : At) (name : Name) →
+    is_single name ≡ true →
     (inner : List Piece) →
     Known nested d t name inner → Here nested d t content name inner → Prints nested d content
     (prints d.given t name inner)
-span-node nested d content t HtmlTextData is inner k a =
-    adds-weaker d.given.ending Escaped (Stands nested content) (escaped t (html d.given t))
-    a.spans.text (html-escaped (read_in d) t k.escaping)
-span-node nested d content t Emphasis is inner k a =
-    pair nested d t content a.spans.spaced k.outside (codes "<em>") (codes "</em>")
-    (turns-plain nested content content (codes "em") refl a.spans.em) inner (a.own refl refl)
-span-node nested d content t Strong is inner k a =
-    pair nested d t content a.spans.spaced k.outside (codes "<strong>") (codes "</strong>")
-    (turns-plain nested content content (codes "strong") refl a.spans.strong)
-    inner (a.own refl refl)
-span-node nested d content t GfmStrikethrough is inner k a =
-    pair nested d t content a.spans.spaced k.outside (codes "<del>") (codes "</del>")
-    (turns-plain nested content content (codes "del") refl a.spans.del) inner (a.own refl refl)
-span-node nested d content t CodeText is inner k a =
-    code-node nested d content a.spans t k.outside (codes "<code>")
-    (λ x h. flat nested d content (Text (codes "<code>") ∷ Text x ∷ Text (codes "</code>") ∷ [])
-    refl (coded nested d content a.spans [] x refl h))
-    (layout d.given.ending inner) (adds-alone d.given.ending
-    (λ x. t.around.is_escaping ≡ true → Escaped x) inner k.within k.escaping)
-span-node nested d content t MathText is inner k a =
-    code-node nested d content a.spans t k.outside
-    (codes "<code class=\"language-math math-inline\">") (λ x h. flat nested d content
-    (Text (codes "<code class=\"language-math math-inline\">") ∷ Text x ∷ Text (codes "</code>")
-    ∷ []) refl
-    (coded nested d content a.spans (attribute (codes "class") (codes "language-math math-inline")
-    ∷ []) x refl h))
-    (layout d.given.ending inner) (adds-alone d.given.ending
-    (λ x. t.around.is_escaping ≡ true → Escaped x) inner k.within k.escaping)
-span-node nested d content t Link is inner k a =
+single-node nested d content t Link is inner k a =
     let label : List ℕ = layout d.given.ending inner in
     subst (λ b. Prints nested d content
     (cond b (said label) (anchor d.given.options (leads_to d.given t) label)))
@@ -91,25 +100,41 @@ span-node nested d content t Link is inner k a =
     (sym (a.free refl))
     (link nested d (leads_to d.given t) label (target-title (read_in d) t k.resource)
     (adds-alone d.given.ending (Stands nested (in_link nested)) inner (a.label refl))))
-span-node nested d content t Image is inner k a =
+single-node nested d content t Image is inner k a =
     let label : List ℕ = layout d.given.ending inner in
     subst (λ b. Prints nested d content
     (cond b (said label) (picture d.given.options (leads_to d.given t) label)))
     (sym k.outside)
     (image nested d content a.spans (leads_to d.given t) label
     (target-title (read_in d) t k.resource) (adds-alone d.given.ending Escaped inner k.within))
-span-node nested d content t HardBreakEscape is inner k a =
+single-node nested d content t HardBreakEscape is inner k a =
     break nested d content a.spans t k.outside
-span-node nested d content t HardBreakTrailing is inner k a =
+single-node nested d content t HardBreakTrailing is inner k a =
     break nested d content a.spans t k.outside
-span-node nested d content t GfmTaskListItemCheck is inner k a =
+single-node nested d content t GfmTaskListItemCheck is inner k a =
     task-node nested d content a.spans t k.outside inner k.within
-span-node nested d content t GfmFootnoteCall is inner k a =
+single-node nested d content t GfmFootnoteCall is inner k a =
     let identifier : List ℕ = identifier_of d.given.bytes t.children in
     subst (λ c. Prints nested d c (call d.given t)) (sym (a.free refl))
     (call-node nested d t k.outside identifier (place_among (distinct d.given.calls) identifier)
     (suc (count_of t.calls identifier)))
-span-node nested d content t _ is inner k a = lie is
+single-node nested d content t _ is inner k a = lie is
+
+pub span-node : (nested : Bool) (d : Document) (content : Content) (t : At) (name : Name) →
+    is_shown name ≡ true →
+    (inner : List Piece) →
+    Known nested d t name inner → Here nested d t content name inner → Prints nested d content
+    (prints d.given t name inner)
+span-node nested d content t name is inner k a = elim (or_cases (is_pair name) _ is) [
+  | inl is ↦ pair-node nested d content t name is k.outside inner a
+  | inr c ↦ elim (or_cases (is_code name) (is_single name) c) [
+    | inl is ↦ subst (Prints nested d content) (sym (code-prints d.given t name is inner))
+        (code-node nested d content a.spans t k.outside (code_opening (is_math name))
+        (any-code nested d content a.spans (is_math name)) (layout d.given.ending inner)
+        (code-text (read_in d) t Blocks name k.escaping is inner k.within))
+    | inr is ↦ single-node nested d content t name is inner k a
+  ]
+]
 
 pub autolink-node : (nested : Bool) (d : Document) (content : Content) (t : At) (name : Name) →
     is_autolink name ≡ true →

@@ -1,13 +1,12 @@
--- The nodes of spans print texts with readings, and in images escaped ones: a case for each name.
+-- The nodes of spans print texts with readings, and in images escaped ones.
 use Rattle.std.proofs.Common.{◌≡◌, ℕ, suc, Bool, true, false, not, ◌||◌, cond, List, [], ◌∷◌, ◌++◌}
 use Rattle.std.proofs.Common.{refl, sym, subst, inl, inr, codes}
 use Rattle.std.specs.Prelude.{None}
-use Rattle.std.proofs.lemmas.Bool.{cond_both, or_parts}
+use Rattle.std.proofs.lemmas.Bool.{cond_both, or_parts, or_cases}
 use Rattle.md_base.proofs.Lies.{lie}
 use Rattle.md_base.specs.declared.event.Name.{Name}
 use Rattle.md_base.specs.declared.event.Name.TheVariants as name_variants
-use name_variants.{HtmlTextData, Emphasis, Strong, GfmStrikethrough, CodeText, MathText, Link}
-use name_variants.{Image, HardBreakEscape, HardBreakTrailing, GfmTaskListItemCheck}
+use name_variants.{Link, Image, HardBreakEscape, HardBreakTrailing, GfmTaskListItemCheck}
 use name_variants.{GfmFootnoteCall, AutolinkEmail, AutolinkProtocol, GfmAutolinkLiteralEmail}
 use name_variants.{GfmAutolinkLiteralMailto, GfmAutolinkLiteralProtocol, GfmAutolinkLiteralWww}
 use name_variants.{GfmAutolinkLiteralXmpp}
@@ -17,7 +16,7 @@ use Rattle.md_text.proofs.HtmlJoin.{text}
 use Rattle.md_meaning.specs.Meaning.At.{At, text_in, identifier_of}
 use Rattle.md_meaning.specs.Meaning.Layout.{Piece, Text, layout, said, when}
 use Rattle.md_meaning.specs.Meaning.Means.{prints}
-use Rattle.md_meaning.specs.Meaning.Spans.{escaped, html, span, task_start, code, trimmed}
+use Rattle.md_meaning.specs.Meaning.Spans.{span, task_start, code, trimmed}
 use Rattle.md_meaning.specs.Meaning.Spans.{without_escapes}
 use Rattle.md_meaning.specs.Meaning.Media.{anchor, picture, leads_to, autolink, literal}
 use Rattle.md_meaning.specs.Meaning.Footnotes.{place_among, distinct, count_of, call_id}
@@ -30,17 +29,13 @@ use Rattle.md_safe.proofs.Media.{adds-link, adds-image}
 use Rattle.md_safe.proofs.Calls.{adds-call, call_tags}
 use Rattle.md_safe.proofs.Elements.{IsDone, bracket-plain, adds-code, adds-math, adds-task}
 use Rattle.md_safe.proofs.Spot.{Setting, Here, Prints, Inside, IsWide, IsGoodTarget, PassesIds}
-use Rattle.md_safe.proofs.Spot.{encoded-escaped, target-title}
+use Rattle.md_safe.proofs.Spot.{target-title}
+use Rattle.md_safe.proofs.SpanSorts.{pair_tag, is_pair, by_pair, pair-prints, pair-inside, is_code}
+use Rattle.md_safe.proofs.SpanSorts.{is_math, code_opening, code-prints, code-text}
 
--- spans that print something else than their children
-abbrev pub is_shown : Name → Bool
-is_shown name = elim name [
-  | HtmlTextData ↦ true
-  | Emphasis ↦ true
-  | Strong ↦ true
-  | GfmStrikethrough ↦ true
-  | CodeText ↦ true
-  | MathText ↦ true
+-- other spans that print something else than their children
+abbrev pub is_single : Name → Bool
+is_single name = elim name [
   | Link ↦ true
   | Image ↦ true
   | HardBreakEscape ↦ true
@@ -49,6 +44,9 @@ is_shown name = elim name [
   | GfmFootnoteCall ↦ true
   | _ ↦ false
 ]
+
+abbrev pub is_shown : Name → Bool
+is_shown name = is_pair name || (is_code name || is_single name)
 
 -- tags outside images around what stands in a node
 prints-pair : (s : Setting) (t : At) (holds : List ℕ → Type 0) →
@@ -111,13 +109,6 @@ code-node s t holds w tag tagged x h =
     (Text tag ∷ Text shown ∷ Text (codes "</code>") ∷ [])
     (prints-escaped s t.around.in_image holds w shown e) (λ _. tagged shown e)
 
--- HTML, escaped
-pub html-escaped : (s : Setting) (t : At) → t.around.is_escaping ≡ true →
-    Prints s Escaped (escaped t (html s.given t))
-html-escaped s t e =
-    adds-text s.given.ending Escaped (encoded t.around.is_escaping (html s.given t))
-    (encoded-escaped t.around.is_escaping (html s.given t) e)
-
 -- a break outside images
 break-node : (s : Setting) (t : At) (holds : List ℕ → Type 0) → IsWide s.p t.around.in_image holds →
     Prints s holds (when (not t.around.in_image) (said (codes "<br />")))
@@ -150,34 +141,29 @@ task-node s t holds w inner a = by t.around.in_image w a
         (task_start s.given ++ (inner ++ said (codes "/>")))
         (w.outside refl) (checkable s.given.options.gfm_task_list_item_checkable inner a)
 
-pub span-node : (s : Setting) (t : At) (content : Content) (name : Name) →
-    t.around.is_escaping ≡ true →
-    IsWide s.p t.around.in_image (Here s t content) → is_shown name ≡ true →
+pair-node : (s : Setting) (t : At) (content : Content) (name : Name) →
+    IsWide s.p t.around.in_image (Here s t content) → is_pair name ≡ true → (inner : List Piece) →
+    Inside s t content name inner → Prints s (Here s t content) (prints s.given t name inner)
+pair-node s t content name w is inner a =
+    let tag : List ℕ = pair_tag name in
+    subst (Prints s (Here s t content)) (sym (pair-prints s.given t name is inner))
+    (prints-pair s t (Here s t content) w (60 ∷ (tag ++ (62 ∷ []))) (60 ∷ 47 ∷ (tag ++ (62 ∷ [])))
+    (by_pair (λ tag. Bracket s.p (60 ∷ (tag ++ (62 ∷ []))) (60 ∷ 47 ∷ (tag ++ (62 ∷ []))))
+    (bracket-plain s.p (codes "em") refl) (bracket-plain s.p (codes "strong") refl)
+    (bracket-plain s.p (codes "del") refl) name is) inner (pair-inside s t content name is inner a))
+
+any-code : (s : Setting) (math : Bool) (x : List ℕ) → Escaped x →
+    Prints s s.p.holds (Text (code_opening math) ∷ Text x ∷ Text (codes "</code>") ∷ [])
+any-code s true x h = adds-math s.p s.given.ending s.given.options s.test x h
+any-code s false x h = adds-code s.p s.given.ending x h
+
+single-node : (s : Setting) (t : At) (content : Content) (name : Name) →
+    IsWide s.p t.around.in_image (Here s t content) → is_single name ≡ true →
     (is_call name ≡ true → t.around.in_image ≡ false → PassesIds s.p.test) →
     IsGoodTarget t.found.resource →
     (inner : List Piece) → Inside s t content name inner →
     Prints s (Here s t content) (prints s.given t name inner)
-span-node s t content HtmlTextData e w is ids good inner a =
-    adds-weaker s.given.ending Escaped (Here s t content) (escaped t (html s.given t)) w.own
-    (html-escaped s t e)
-span-node s t content Emphasis e w is ids good inner a =
-    prints-pair s t (Here s t content) w (codes "<em>")
-    (codes "</em>") (bracket-plain s.p (codes "em") refl) inner a
-span-node s t content Strong e w is ids good inner a = prints-pair s t (Here s t content) w
-    (codes "<strong>") (codes "</strong>") (bracket-plain s.p (codes "strong") refl) inner a
-span-node s t content GfmStrikethrough e w is ids good inner a =
-    prints-pair s t (Here s t content) w
-    (codes "<del>") (codes "</del>") (bracket-plain s.p (codes "del") refl) inner a
-span-node s t content CodeText e w is ids good inner a =
-    code-node s t (Here s t content) w (codes "<code>") (λ x h. adds-code s.p s.given.ending x h)
-    (layout s.given.ending inner)
-    (text-holds s (λ x. t.around.is_escaping ≡ true → Escaped x) inner a e)
-span-node s t content MathText e w is ids good inner a =
-    code-node s t (Here s t content) w (codes "<code class=\"language-math math-inline\">")
-    (λ x h. adds-math s.p s.given.ending s.given.options s.test x h)
-    (layout s.given.ending inner)
-    (text-holds s (λ x. t.around.is_escaping ≡ true → Escaped x) inner a e)
-span-node s t content Link e w is ids good inner a =
+single-node s t content Link w is ids good inner a =
     let label : List ℕ = layout s.given.ending inner in
     let h : Here s t content label = text-holds s (Here s t content) inner a in
     prints-outside s t.around.in_image (Here s t content) w (said label)
@@ -185,7 +171,7 @@ span-node s t content Link e w is ids good inner a =
     (adds-text s.given.ending (Here s t content) label h)
     (λ _. adds-link s.p s.given.ending s.given.options s.test (leads_to s.given t) label
     (target-title s t good) (w.read label h))
-span-node s t content Image e w is ids good inner a =
+single-node s t content Image w is ids good inner a =
     let label : List ℕ = layout s.given.ending inner in
     let h : Escaped label = text-holds s Escaped inner a in
     prints-outside s t.around.in_image (Here s t content) w (said label)
@@ -193,12 +179,12 @@ span-node s t content Image e w is ids good inner a =
     (prints-escaped s t.around.in_image (Here s t content) w label h)
     (λ _. adds-image s.p s.given.ending s.given.options s.test (leads_to s.given t) label
     (target-title s t good) h)
-span-node s t content HardBreakEscape e w is ids good inner a = break-node s t (Here s t content) w
-span-node s t content HardBreakTrailing e w is ids good inner a =
+single-node s t content HardBreakEscape w is ids good inner a = break-node s t (Here s t content) w
+single-node s t content HardBreakTrailing w is ids good inner a =
     break-node s t (Here s t content) w
-span-node s t content GfmTaskListItemCheck e w is ids good inner a =
+single-node s t content GfmTaskListItemCheck w is ids good inner a =
     task-node s t (Here s t content) w inner a
-span-node s t content GfmFootnoteCall e w is ids good inner a =
+single-node s t content GfmFootnoteCall w is ids good inner a =
     let identifier : List ℕ = identifier_of s.given.bytes t.children in
     let number : ℕ = place_among (distinct s.given.calls) identifier in
     let occurrence : ℕ = suc (count_of t.calls identifier) in
@@ -206,7 +192,25 @@ span-node s t content GfmFootnoteCall e w is ids good inner a =
     (call_tags s.given.options identifier number occurrence)
     (λ out. adds-call s.p s.given.ending s.given.options s.test identifier number occurrence
     (ids refl out (call_id s.given.options identifier number occurrence)))
-span-node s t content _ e w is ids good inner a = lie is
+single-node s t content _ w is ids good inner a = lie is
+
+pub span-node : (s : Setting) (t : At) (content : Content) (name : Name) →
+    t.around.is_escaping ≡ true →
+    IsWide s.p t.around.in_image (Here s t content) → is_shown name ≡ true →
+    (is_call name ≡ true → t.around.in_image ≡ false → PassesIds s.p.test) →
+    IsGoodTarget t.found.resource →
+    (inner : List Piece) → Inside s t content name inner →
+    Prints s (Here s t content) (prints s.given t name inner)
+span-node s t content name e w is ids good inner a = elim (or_cases (is_pair name) _ is) [
+  | inl is ↦ pair-node s t content name w is inner a
+  | inr c ↦ elim (or_cases (is_code name) (is_single name) c) [
+    | inl is ↦ subst (Prints s (Here s t content)) (sym (code-prints s.given t name is inner))
+        (code-node s t (Here s t content) w (code_opening (is_math name))
+        (any-code s (is_math name)) (layout s.given.ending inner)
+        (code-text s t content name e is inner a))
+    | inr is ↦ single-node s t content name w is ids good inner a
+  ]
+]
 
 -- an autolink, which is plain at least in images
 link-node : (s : Setting) (t : At) (holds : List ℕ → Type 0) → IsWide s.p t.around.in_image holds →
