@@ -49,7 +49,8 @@ use std::alloc::{AllocError, Global};
 /// ```
 /// let body = compile_safe(alloc, &[], b"", &CompileOptions::default(), &[])?;
 /// let text = page(alloc, "a<b", &body)?;
-/// let head = "<!doctype html>\n<html><head><meta charset=\"utf-8\" /><title>a&lt;b</title></head>";
+/// let head =
+///     "<!doctype html>\n<html><head><meta charset=\"utf-8\" /><title>a&lt;b</title></head>";
 /// assert!(text.as_str().starts_with(head));
 /// assert!(text.as_str().ends_with("<body></body></html>\n"));
 /// ```

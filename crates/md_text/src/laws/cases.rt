@@ -56,7 +56,8 @@ pub fn listed_attributes_are_allowed()
         (codes "<section data-footnotes=\"\" class=\"footnotes\"></section>") }
     ensures a { HasReading
         (codes
-        "<a href=\"a\" title=\"b\" id=\"c\" class=\"d\" data-footnote-ref=\"\" data-footnote-backref=\"\" aria-describedby=\"e\" aria-label=\"f\">"
+        "<a href=\"a\" title=\"b\" id=\"c\" class=\"d\" data-footnote-ref=\"\""
+        ++ codes " data-footnote-backref=\"\" aria-describedby=\"e\" aria-label=\"f\">"
         ++ codes "</a>") }
     ensures img { HasReading (codes "<img src=\"a\" alt=\"b\" title=\"c\" />") }
     ensures input { HasReading (codes "<input type=\"checkbox\" disabled=\"\" checked=\"\" />") }
@@ -78,8 +79,8 @@ pub fn documents_have_readings()
         ++ codes "<tbody>\n<tr>\n<td>b</td>\n</tr>\n</tbody>\n</table>") }
     ensures footnotes { HasReading (codes "<section data-footnotes=\"\" class=\"footnotes\">"
         ++ codes "<h2 id=\"footnote-label\" class=\"sr-only\">Footnotes</h2>\n<ol>\n"
-        ++ codes "<li id=\"fn-a\">\n<p>" ++ codes
-        "b <a href=\"#fnref-a\" data-footnote-backref=\"\" aria-label=\"Back to content\" class=\"data-footnote-backref\">"
+        ++ codes "<li id=\"fn-a\">\n<p>b <a href=\"#fnref-a\" data-footnote-backref=\"\""
+        ++ codes " aria-label=\"Back to content\" class=\"data-footnote-backref\">"
         ++ codes "back</a></p>\n</li>\n</ol>\n</section>\n") }
     ensures inline { HasReading
         (codes "<p>a <strong>b</strong><em>c</em>d<br />\n<del>e</del></p>\n<hr />") }
