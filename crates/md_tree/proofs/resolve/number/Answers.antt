@@ -12,3 +12,6 @@ returns-clause-numbers c = λ left all before.
   where
     lost : (c : goal.In_ok-insert) → found_in c.args.numbers.now c.args.identifier ≡ None
     lost c = search rules
+
+pub returns-in-Some-clause-number : goal.returns-in-Some-clause-number
+returns-in-Some-clause-number c = search rules

@@ -12,3 +12,6 @@ overflow_add-result c =
     let within : c.args.self.number < 114 = c.in_ok-letter.ensures.within in
     let small : c.args.self.number + c.in_ok-letter.letter < 256 = omega (arith, within, few) in
     search (rules, small)
+
+pub returns : goal.returns
+returns c = search rules
