@@ -1,0 +1,8 @@
+-- The search that proves it, and no other: a wrong body is refused by it in a second, where all
+-- that is tried without an answer takes ten.
+use Rattle.std.proofs.Common.{arith}
+use Rattle.std.proofs.lemmas.Grind.{common_steps}
+use Rattle.md_footnotes.proofs.calls.Calls.is_empty.Goals as goal
+
+pub returns : goal.returns
+returns c = grind (arith, common_steps)

@@ -1,0 +1,13 @@
+-- The search that proves it, and no other: a wrong body is refused by it in a second, where all
+-- that is tried without an answer takes ten.
+use Rattle.std.proofs.Common.{rules}
+use Rattle.md_html.proofs.unnested.compile_unnested.Goals as goal
+
+pub returns-then-has_nested_link-clause-nested : goal.returns-then-has_nested_link-clause-nested
+returns-then-has_nested_link-clause-nested c = search rules
+
+pub returns-clause-unnested : goal.returns-clause-unnested
+returns-clause-unnested c = search rules
+
+pub returns-clause-tree : goal.returns-clause-tree
+returns-clause-tree c = search rules
