@@ -1,6 +1,5 @@
--- What comes of a call whose answer is good, and which event of the document is meant.
+-- Which event of the document is meant by a call.
 use Rattle.std.proofs.Common.{◌≡◌, ℕ, List, ap, sym, ◌∙◌}
-use Rattle.std.specs.Prelude.{Result, Ok, Err, OnOk, IfOk}
 use Rattle.md_base.specs.declared.event.Name.{Name}
 use Rattle.md_meaning.specs.Meaning.At.{Given}
 use Rattle.md_told.specs.Told.{IsNoticedAt}
@@ -9,17 +8,6 @@ use Rattle.md_shape.specs.State.{State}
 use Rattle.md_shape.specs.Steps.{entered, exited}
 use Rattle.md_emit.specs.declared.given.Given.{Given as Supplied}
 use Rattle.md_emit.specs.Supplies.{Supplies, Enters, Leaves}
-
-pub on_ok : {A E : Type 0} (P Q : Type 0) → (P → Q) → (result : Result A E) →
-    OnOk result P → OnOk result Q
-on_ok P Q f (Ok a) p = f p
-on_ok P Q f (Err e) p = tt
-
-pub if_ok : {A E : Type 0} (P Q : A → Type 0) → ((a : A) → P a → Q a) →
-    (result : Result A E) → IfOk result P →
-    IfOk result Q
-if_ok P Q f (Ok a) p = f a p
-if_ok P Q f (Err e) p = tt
 
 -- what is given, with the line ending that the code has
 abbrev pub ending_in : List ℕ → Given → Given

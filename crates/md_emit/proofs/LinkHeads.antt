@@ -8,7 +8,7 @@ use Rattle.md_meaning.specs.Meaning.Media.{anchor, picture, href, src}
 use Rattle.std.specs.Fmt.{decimal}
 use Rattle.md_meaning.specs.Meaning.Footnotes.{call_id, count_of, distinct, id_of, place_among}
 use Rattle.md_shape.specs.Sides.{call_pieces}
-use Rattle.md_emit.specs.Heads.{anchor_head, picture_head, picture_tail}
+use Rattle.md_output.specs.LinkHeads.{anchor_head, picture_head, picture_tail}
 
 -- texts one after another, by what they are parts of
 anchored : (t a b c d e f : List ℕ) →

@@ -13,12 +13,12 @@ ghost use Rattle.md_meaning.specs.Meaning.Spans.{marker};
 ghost use Rattle.md_text.specs.Encode.{encoded};
 ghost use Rattle.md_tree.specs.Texts.{ExitsAt};
 ghost use Rattle.md_meaning.specs.Meaning.Media.{anchor};
-ghost use Rattle.md_emit.specs.Heads.{anchor_head};
+ghost use Rattle.md_output.specs.LinkHeads.{anchor_head};
 
 use crate::given::Given;
-use crate::media::{Lead, put_anchor_head};
 use crate::printer::Printer;
 use md_base::Name;
+use md_output::{Lead, put_anchor_head};
 use md_told::text_left_at;
 use std::alloc::{AllocError, Global};
 

@@ -19,10 +19,10 @@ ghost use Rattle.md_tree.specs.Texts.{ExitsAt};
 ghost use Rattle.md_base.specs.Place.{serialized_between};
 
 use crate::calls::serialized;
-use crate::code::push_code;
 use crate::given::Given;
 use crate::printer::Printer;
 use md_base::{Name, Point, decode_character_reference};
+use md_output::push_code;
 use md_text::gfm_tagfilter;
 use md_told::{place_left_at, text_left_at, text_of_leaf};
 use std::alloc::{AllocError, Global};

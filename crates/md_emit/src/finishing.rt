@@ -8,9 +8,9 @@ ghost use Rattle.md_shape.specs.Steps as steps;
 
 use crate::around::OUTSIDE;
 use crate::printer::Printer;
-use crate::target::Target;
 use md_base::Name;
 use md_footnotes::Footnotes;
+use md_output::Target;
 use md_text::CompileOptions;
 use std::alloc::{AllocError, Global};
 

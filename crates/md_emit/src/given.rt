@@ -1,6 +1,6 @@
 //! What all nodes of a document are given.
 
-use crate::target::Target;
+use md_output::Target;
 use md_text::CompileOptions;
 use md_tree::Checked;
 use std::alloc::Global;

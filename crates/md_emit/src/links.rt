@@ -14,14 +14,13 @@ ghost use Rattle.md_base.specs.NameTests.{is_transparent};
 ghost use Rattle.md_meaning.specs.Meaning.Spans.{marker};
 ghost use Rattle.md_tree.specs.Texts.{ExitsAt};
 ghost use Rattle.md_tree.specs.Numbers.{ExitsOf, is_of_definitions};
-ghost use Rattle.md_emit.specs.Heads.{anchor_head, picture_head, picture_tail};
+ghost use Rattle.md_output.specs.LinkHeads.{anchor_head, picture_head, picture_tail};
 
 use crate::around::Around;
 use crate::given::Given;
-use crate::media::{Lead, put_anchor_before, put_picture_before, put_picture_tail};
 use crate::printer::Printer;
-use crate::target::Target;
 use md_base::Name;
+use md_output::{Lead, Target, put_anchor_before, put_picture_before, put_picture_tail};
 use md_text::CompileOptions;
 use md_told::definition_led_at;
 use std::alloc::AllocError;
@@ -196,8 +195,7 @@ impl<'a> Printer<'a> {
     {
         self.turn_back();
         self.ends(name);
-        self.target.destination.clear();
-        self.output.move_into(&mut self.target.destination)
+        self.target.note_destination(&mut self.output)
     }
 
     /// Leaves a title, which is kept.
@@ -213,9 +211,7 @@ impl<'a> Printer<'a> {
         }) }
     {
         self.ends(name);
-        self.target.has_title = true;
-        self.target.title.clear();
-        self.output.move_into(&mut self.target.title)
+        self.target.note_title(&mut self.output)
     }
 }
 

@@ -13,10 +13,9 @@ ghost use Rattle.md_emit.specs.View.{around_of};
 mod marks;
 
 use crate::around::{Around, OUTSIDE};
-use crate::target::Target;
 use md_base::Name;
 use md_footnotes::Footnotes;
-use md_output::Output;
+use md_output::{Output, Target};
 use std::alloc::{AllocError, Global};
 use std::marker::Model;
 

@@ -7,3 +7,4 @@ pub mod Renewed
 pub mod Sound
 pub mod Ended
 pub mod HeadsBefore
+pub mod CodeText

@@ -1,3 +1,5 @@
 -- A text with captured texts in it, and how it stands in memory.
 pub mod Texts
 pub mod Waiting
+pub mod LinkHeads
+pub mod Code

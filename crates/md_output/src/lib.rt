@@ -1,9 +1,15 @@
 //! The text that a printer lays out, with captured texts in it.
 #![tactic(auto)]
 
+mod code;
 mod heads;
+mod media;
 mod output;
+mod target;
 #[cfg(test)]
 mod tests;
 
+pub use code::push_code;
+pub use media::{Lead, put_anchor_before, put_anchor_head, put_picture_before, put_picture_tail};
 pub use output::Output;
+pub use target::Target;

@@ -3,7 +3,6 @@ pub mod Rows
 pub mod PairedRows
 pub mod Nodes
 pub mod Noticed
-pub mod Answered
 pub mod EndLemmas
 pub mod FoundLemmas
 pub mod Labelled

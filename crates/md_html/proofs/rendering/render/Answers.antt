@@ -8,7 +8,7 @@ use Rattle.md_tree.specs.Grammar.{IsReadAs}
 use Rattle.md_shape.specs.Run.{defined, given_alone}
 use Rattle.md_told.proofs.FoundLemmas.{grammatical-there}
 use Rattle.md_html.specs.Printed.{text_of}
-use Rattle.md_html.proofs.Answered.{on_answer}
+use Rattle.std.proofs.lemmas.Result.{IfOk-weaker}
 use Rattle.md_html.proofs.Supplying.{alone-supplied, all-supplied}
 use Rattle.md_html.proofs.rendering.render.Goals as goal
 
@@ -65,10 +65,9 @@ returns c =
     ∙ c.steps_print_what_is_meant.ensures options checked.names checked.bytes document
     (grammatical-there checked document c.ending_of-ending.ensures.grammatical flat) in
     record {
-      meaning = on_answer _ _ (λ text is document flat.
+      meaning = IfOk-weaker c.print.result _ _ (λ text is document flat.
           is (given ending document) document (all-supplied _ options checked.names checked.bytes
           ending refl (sym c.names-names.ensures) refl refl document
           flat (c.as_slice.ensures.value ∙ c.in_ok-definitions.ensures alone document none flat))
-          flat ∙ means document flat)
-          c.print.result c.print.ensures;
+          flat ∙ means document flat) c.print.ensures;
     }

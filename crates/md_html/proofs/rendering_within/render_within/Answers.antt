@@ -10,7 +10,7 @@ use Rattle.md_tree.specs.Grammar.{IsReadAs}
 use Rattle.md_shape.specs.Run.{defined, given_alone}
 use Rattle.md_told.proofs.FoundLemmas.{grammatical-there}
 use Rattle.md_html.specs.Printed.{text_of}
-use Rattle.md_html.proofs.Answered.{on_answer}
+use Rattle.std.proofs.lemmas.Result.{IfOk-weaker}
 use Rattle.md_html.proofs.Supplying.{alone-supplied, all-supplied}
 use Rattle.md_html.proofs.rendering_within.render_within.Goals as goal
 
@@ -82,10 +82,10 @@ returns c =
           flat ∙ means document flat)
           c.print_within.result c.print_within.ensures.text;
       within = c.print_within.ensures.within;
-      too_long = on_answer _ _ (λ answer long nothing document flat.
+      too_long = IfOk-weaker c.print_within.result _ _ (λ answer long nothing document flat.
           subst (λ text. c.args.limit < length text) (means document flat)
           (long nothing (given ending document) document (all-supplied _ options checked.names
           checked.bytes ending refl (sym c.names-names.ensures) refl refl document flat
           (c.as_slice.ensures.value ∙ c.in_ok-definitions.ensures alone document none flat)) flat))
-          c.print_within.result c.print_within.ensures.too_long;
+          c.print_within.ensures.too_long;
     }

@@ -1,12 +1,11 @@
 -- The normalized text of the label is the identifier.
 use Rattle.std.proofs.Common.{sym, ap, ◌∙◌}
 use Rattle.md_meaning.specs.Places.{identifier_at}
-use Rattle.md_told.proofs.Answered.{on_answer}
+use Rattle.std.proofs.lemmas.Result.{IfOk-weaker}
 use Rattle.md_told.proofs.identifiers.identifier_at.Goals as goal
 
 pub returns : goal.returns
 returns c =
-    on_answer _ _ (λ identifier is one there.
+    IfOk-weaker c.identifier_of.result _ _ (λ identifier is one there.
     is ∙ ap (λ bytes. identifier_at bytes c.label_read_at.result) c.bytes.ensures
-    ∙ sym (c.label_read_at.ensures one there))
-    c.identifier_of.result c.identifier_of.ensures
+    ∙ sym (c.label_read_at.ensures one there)) c.identifier_of.ensures

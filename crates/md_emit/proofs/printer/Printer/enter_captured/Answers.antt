@@ -5,7 +5,7 @@ use Rattle.std.specs.Prelude.{codes}
 use Rattle.md_shape.specs.Steps as steps
 use Rattle.md_shape.specs.State.{State}
 use Rattle.md_meaning.specs.Meaning.Layout.{laid_after, said, when}
-use Rattle.md_emit.proofs.Answering.{on_ok}
+use Rattle.std.proofs.lemmas.Result.{on_ok_weaker}
 use Rattle.md_emit.proofs.printer.Printer.enter_captured.Goals as goal
 
 pub returns-in-MathText : goal.returns-in-MathText
@@ -18,6 +18,7 @@ returns-in-MathText c =
       around = record s.around { in_code = true };
       arounds = s.around ∷ s.arounds;
     } in
-    on_ok _ _ (λ e given told. e given.ending ∙ ap (inside given.ending) c.enters.ensures
+    on_ok_weaker c.enter_code-in-MathText.result
+    (λ e given told. e given.ending ∙ ap (inside given.ending) c.enters.ensures
     ∙ ap (λ n. steps.entered given told n old) (sym c.in-MathText.is))
-    c.enter_code-in-MathText.result c.enter_code-in-MathText.ensures
+    c.enter_code-in-MathText.ensures

@@ -8,7 +8,8 @@ use Rattle.md_shape.specs.State.{State}
 use Rattle.md_meaning.specs.Meaning.Layout.{laid_after}
 use Rattle.md_meaning.specs.Meaning.At.{text_in}
 use Rattle.md_emit.specs.Parts as parts
-use Rattle.md_emit.proofs.Answering.{on_ok, leaves-by}
+use Rattle.std.proofs.lemmas.Result.{on_ok_weaker}
+use Rattle.md_emit.proofs.Answering.{leaves-by}
 use Rattle.md_emit.proofs.printer.Printer.exit.Goals as goal
 
 pub returns-in-LineEnding : goal.returns-in-LineEnding
@@ -21,23 +22,22 @@ returns-in-LineEnding c =
       ended = Some names.LineEnding;
       marker = 38;
     } in
-    on_ok _ _
+    on_ok_weaker c.leave_line_ending.result
     (λ e. leaves-by code c.args.index c.args.name names.LineEnding old c.leave_line_ending.new.self
     c.in-LineEnding.is (λ given one supplies there.
     e code.ending.now ∙ ap after (c.text_left_at-in-LineEnding.ensures one there
-    ∙ ap (λ bytes. text_in bytes one.told.place) (sym supplies.bytes))))
-    c.leave_line_ending.result c.leave_line_ending.ensures
+    ∙ ap (λ bytes. text_in bytes one.told.place) (sym supplies.bytes)))) c.leave_line_ending.ensures
 
 pub returns-in-ListItem : goal.returns-in-ListItem
 returns-in-ListItem c =
-    on_ok _ _
+    on_ok_weaker c.leave_item.result
     (λ e. leaves-by c.args.given.now c.args.index c.args.name names.ListItem c.args.self.now
     c.leave_item.new.self c.in-ListItem.is (λ given one supplies there.
-    e one.told (sym (c.contributing_left_at.ensures one there)))) c.leave_item.result
+    e one.told (sym (c.contributing_left_at.ensures one there))))
     c.leave_item.ensures
 
 pub returns-in-Strong : goal.returns-in-Strong
 returns-in-Strong c =
-    on_ok _ _ (λ e given one supplies there. e given.ending
+    on_ok_weaker c.leave_span-in-Strong.result (λ e given one supplies there. e given.ending
     ∙ ap (λ n. steps.exited given one.told n c.args.self.now) (sym c.in-Strong.is))
-    c.leave_span-in-Strong.result c.leave_span-in-Strong.ensures
+    c.leave_span-in-Strong.ensures

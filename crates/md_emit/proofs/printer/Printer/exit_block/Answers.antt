@@ -7,7 +7,8 @@ use Rattle.md_shape.specs.Steps as steps
 use Rattle.md_shape.specs.State.{State}
 use Rattle.md_meaning.specs.Meaning.Layout.{Needed, laid_after, on_own_line, when}
 use Rattle.md_meaning.specs.Meaning.Blocks.{heading_tag}
-use Rattle.md_emit.proofs.Answering.{on_ok, leaves-by}
+use Rattle.std.proofs.lemmas.Result.{on_ok_weaker}
+use Rattle.md_emit.proofs.Answering.{leaves-by}
 use Rattle.md_emit.proofs.printer.Printer.exit_block.Goals as goal
 
 pub returns-in-BlankLineEnding : goal.returns-in-BlankLineEnding
@@ -20,17 +21,18 @@ returns-in-BlankLineEnding c =
       ended = Some names.BlankLineEnding;
       marker = 38;
     } in
-    on_ok _ _
+    on_ok_weaker c.leave_blank.result
     (λ e. leaves-by code c.args.index c.args.name names.BlankLineEnding old c.leave_blank.new.self
     c.in-BlankLineEnding.is
     (λ given one supplies there. e ∙ ap last (c.is_last_at.ensures one there)))
-    c.leave_blank.result c.leave_blank.ensures
+    c.leave_blank.ensures
 
 pub returns-in-BlockQuote : goal.returns-in-BlockQuote
 returns-in-BlockQuote c =
-    on_ok _ _ (λ e given one supplies there. e given one.told supplies.ending
+    on_ok_weaker c.leave_quote.result
+    (λ e given one supplies there. e given one.told supplies.ending
     ∙ ap (λ n. steps.exited given one.told n c.args.self.now) (sym c.in-BlockQuote.is))
-    c.leave_quote.result c.leave_quote.ensures
+    c.leave_quote.ensures
 
 pub returns-in-HeadingAtx : goal.returns-in-HeadingAtx
 returns-in-HeadingAtx c =
@@ -40,10 +42,11 @@ returns-in-HeadingAtx c =
       ended = Some names.HeadingAtx;
       marker = 38;
     } in
-    on_ok _ _ (λ e. leaves-by c.args.given.now c.args.index c.args.name names.HeadingAtx old
+    on_ok_weaker c.leave_heading.result
+    (λ e. leaves-by c.args.given.now c.args.index c.args.name names.HeadingAtx old
     c.leave_heading.new.self c.in-HeadingAtx.is
     (λ given one supplies there. e ∙ ap ranked (c.rank_left_at.ensures one there)))
-    c.leave_heading.result c.leave_heading.ensures
+    c.leave_heading.ensures
 
 pub returns-in-GfmTable : goal.returns-in-GfmTable
 returns-in-GfmTable c =
@@ -53,10 +56,11 @@ returns-in-GfmTable c =
       ended = Some names.GfmTable;
       marker = 38;
     } in
-    on_ok _ _ (λ e. leaves-by code c.args.index c.args.name names.GfmTable c.args.self.now
+    on_ok_weaker c.leave_line-in-GfmTable.result
+    (λ e. leaves-by code c.args.index c.args.name names.GfmTable c.args.self.now
     c.leave_line-in-GfmTable.new.self
     c.in-GfmTable.is (λ given one supplies there. e ∙ ap tagged c.turn_back.ensures))
-    c.leave_line-in-GfmTable.result c.leave_line-in-GfmTable.ensures
+    c.leave_line-in-GfmTable.ensures
 
 pub returns-in-GfmTableHead : goal.returns-in-GfmTableHead
 returns-in-GfmTableHead c =
@@ -66,14 +70,15 @@ returns-in-GfmTableHead c =
       ended = Some names.GfmTableHead;
       marker = 38;
     } in
-    on_ok _ _ (λ e. leaves-by code c.args.index c.args.name names.GfmTableHead c.args.self.now
+    on_ok_weaker c.leave_line-in-GfmTableHead.result
+    (λ e. leaves-by code c.args.index c.args.name names.GfmTableHead c.args.self.now
     c.leave_line-in-GfmTableHead.new.self c.in-GfmTableHead.is
     (λ given one supplies there. e ∙ ap tagged c.turn_back-in-GfmTableHead.ensures))
-    c.leave_line-in-GfmTableHead.result c.leave_line-in-GfmTableHead.ensures
+    c.leave_line-in-GfmTableHead.ensures
 
 pub returns-in-GfmTableBody : goal.returns-in-GfmTableBody
 returns-in-GfmTableBody c =
-    on_ok _ _
+    on_ok_weaker c.leave_line-in-GfmTableBody.result
     (λ e. leaves-by c.args.given.now c.args.index c.args.name names.GfmTableBody c.args.self.now
     c.leave_line-in-GfmTableBody.new.self c.in-GfmTableBody.is (λ given one supplies there. e))
-    c.leave_line-in-GfmTableBody.result c.leave_line-in-GfmTableBody.ensures
+    c.leave_line-in-GfmTableBody.ensures

@@ -8,7 +8,8 @@ use Rattle.md_shape.specs.Steps as steps
 use Rattle.md_shape.specs.State.{State}
 use Rattle.md_meaning.specs.Meaning.Layout.{laid_after, when}
 use Rattle.md_text.specs.declared.options.CompileOptions.{CompileOptions}
-use Rattle.md_emit.proofs.Answering.{on_ok, leaves-by}
+use Rattle.std.proofs.lemmas.Result.{on_ok_weaker}
+use Rattle.md_emit.proofs.Answering.{leaves-by}
 use Rattle.md_emit.proofs.printer.Printer.leave_call.Goals as goal
 
 pub returns : goal.returns
@@ -27,7 +28,8 @@ returns c =
     } in
     let counted : State → List ℕ → State =
     λ s identifier. record s { calls = s.calls ++ identifier ∷ [] } in
-    on_ok _ _ (λ e. leaves-by code c.args.index names.GfmFootnoteCall names.GfmFootnoteCall old
+    on_ok_weaker c.count_call.result
+    (λ e. leaves-by code c.args.index names.GfmFootnoteCall names.GfmFootnoteCall old
     c.count_call.new.self refl (λ given one supplies there.
     let identifier = one.told.identifier in
     let own = string_bytes c.in_ok-identifier.identifier in
@@ -36,4 +38,4 @@ returns c =
     ∙ ap (λ i. counted (printed left code.options.now i) own) c.as_str.ensures.value
     ∙ ap (λ i. counted (printed left code.options.now i) i) (c.in_ok-identifier.ensures one there)
     ∙ ap (λ o. counted (printed left o identifier) identifier) (sym supplies.options)))
-    c.count_call.result c.count_call.ensures
+    c.count_call.ensures

@@ -6,7 +6,7 @@ use Rattle.md_shape.specs.State.{State}
 use Rattle.md_base.specs.declared.event.Position.{Position}
 use Rattle.md_base.specs.Place.{serialized_between}
 use Rattle.md_text.specs.Encode.{encoded}
-use Rattle.md_emit.proofs.Answering.{on_ok}
+use Rattle.std.proofs.lemmas.Result.{on_ok_weaker}
 use Rattle.md_emit.proofs.printer.Printer.leave_chunk.Goals as goal
 
 pub returns : goal.returns
@@ -17,7 +17,6 @@ returns c =
       text = s.text ++ encoded true (unwrap_or (serialized_between bytes place.start place.end) []);
     } in
     let ended : State = record old { ended = Some c.args.name; marker = 38; has_chunk = true } in
-    on_ok _ _ (λ e one there.
+    on_ok_weaker c.put_line_of_code.result (λ e one there.
     e ∙ ap (λ s. line s c.place_left_at-place.result) c.ends_chunk.ensures
-    ∙ ap (line ended) (c.place_left_at-place.ensures one there))
-    c.put_line_of_code.result c.put_line_of_code.ensures
+    ∙ ap (line ended) (c.place_left_at-place.ensures one there)) c.put_line_of_code.ensures

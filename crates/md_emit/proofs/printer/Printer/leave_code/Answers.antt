@@ -7,7 +7,7 @@ use Rattle.md_shape.specs.Steps as steps
 use Rattle.md_shape.specs.State.{State, Told}
 use Rattle.md_meaning.specs.Meaning.Layout.{laid_after, said, when}
 use Rattle.md_meaning.specs.Meaning.Spans.{trimmed, without_escapes}
-use Rattle.md_emit.proofs.Answering.{on_ok}
+use Rattle.std.proofs.lemmas.Result.{on_ok_weaker}
 use Rattle.md_emit.proofs.printer.Printer.leave_code.Goals as goal
 
 pub returns : goal.returns
@@ -27,8 +27,7 @@ returns c =
           ++ trimmed (if s.around.in_table then without_escapes s.text else s.text);
       below = steps.others_of s.below;
     } in
-    on_ok _ _ (λ e ending. e ending
+    on_ok_weaker c.tag.result (λ e ending. e ending
     ∙ ap (λ (s : State). record s {
       text = laid_after ending s.text (when (not s.around.in_image) (said (codes "</code>")));
-    }) (c.in_ok-put_code.ensures ∙ ap coded came))
-    c.tag.result c.tag.ensures
+    }) (c.in_ok-put_code.ensures ∙ ap coded came)) c.tag.ensures

@@ -6,7 +6,8 @@ use Rattle.md_base.specs.declared.event.Name.TheVariants as names
 use Rattle.md_shape.specs.State as states
 use Rattle.md_shape.specs.Steps as steps
 use Rattle.md_shape.specs.State.{State, Told}
-use Rattle.md_emit.proofs.Answering.{on_ok, leaves-by}
+use Rattle.std.proofs.lemmas.Result.{on_ok_weaker}
+use Rattle.md_emit.proofs.Answering.{leaves-by}
 use Rattle.md_emit.proofs.printer.Printer.leave_footnote.Goals as goal
 
 pub returns : goal.returns
@@ -30,12 +31,11 @@ returns c =
     } in
     let own = string_bytes c.in_ok-identifier.identifier in
     let inner = string_bytes c.in_ok-text.text in
-    on_ok _ _
+    on_ok_weaker c.note_footnote.result
     (λ e. leaves-by code c.args.index names.GfmFootnoteDefinition names.GfmFootnoteDefinition old
     c.note_footnote.new.self refl (λ given one supplies there.
     e ∙ ap (λ s. noting s own inner) (c.in_ok-text.ensures.left ∙ ap (λ (s : State).
     record s { text = steps.first_or [] s.below; below = steps.others_of s.below }) came)
     ∙ ap (λ i. noting left i inner) (c.in_ok-identifier.ensures one there)
     ∙ ap (λ t. noting left one.told.identifier t)
-    (c.in_ok-text.ensures.text ∙ ap (λ (s : State). s.text) came)))
-    c.note_footnote.result c.note_footnote.ensures
+    (c.in_ok-text.ensures.text ∙ ap (λ (s : State). s.text) came))) c.note_footnote.ensures

@@ -11,9 +11,10 @@ use Rattle.md_meaning.specs.Meaning.Layout.{laid_after, said}
 use Rattle.md_text.specs.declared.options.CompileOptions.{CompileOptions}
 use Rattle.md_meaning.specs.Meaning.At.{Target}
 use Rattle.md_meaning.specs.Meaning.Media.{picture}
-use Rattle.md_emit.specs.Heads.{picture_head, picture_tail}
+use Rattle.md_output.specs.LinkHeads.{picture_head, picture_tail}
 use Rattle.md_emit.proofs.LinkHeads.{picture-laid}
-use Rattle.md_emit.proofs.Answering.{on_ok, leaves-by}
+use Rattle.std.proofs.lemmas.Result.{on_ok_weaker}
+use Rattle.md_emit.proofs.Answering.{leaves-by}
 use Rattle.md_emit.proofs.printer.Printer.leave_image.Goals as goal
 
 pub returns : goal.returns
@@ -40,7 +41,7 @@ returns c =
     let shown : around.in_image ≡ false =
     sym (ap (λ (s : State). s.around.in_image) came) ∙ sym c.is_in_image-is_text_alone.ensures
     ∙ c.if-is_text_alone.false in
-    on_ok _ _
+    on_ok_weaker c.put_picture.result
     (λ e. leaves-by code c.args.index names.Image names.Image old c.put_picture.new.self refl
     (λ given one supplies there.
     let target = sides.leads given left one.told in
@@ -51,4 +52,4 @@ returns c =
     ∙ ap (λ o. printed left o target) (sym supplies.options)
     ∙ ap laid (sym (picture-laid code.ending.now under given.options target old.text))
     ∙ ap (λ b. laid (laid_after code.ending.now under (if b then said old.text else pieces)))
-    (sym shown))) c.put_picture.result c.put_picture.ensures
+    (sym shown))) c.put_picture.ensures

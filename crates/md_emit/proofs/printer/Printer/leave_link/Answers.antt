@@ -11,9 +11,10 @@ use Rattle.md_meaning.specs.Meaning.Layout.{laid_after, said}
 use Rattle.md_text.specs.declared.options.CompileOptions.{CompileOptions}
 use Rattle.md_meaning.specs.Meaning.At.{Target}
 use Rattle.md_meaning.specs.Meaning.Media.{anchor}
-use Rattle.md_emit.specs.Heads.{anchor_head}
+use Rattle.md_output.specs.LinkHeads.{anchor_head}
 use Rattle.md_emit.proofs.LinkHeads.{anchor-laid}
-use Rattle.md_emit.proofs.Answering.{on_ok, leaves-by}
+use Rattle.std.proofs.lemmas.Result.{on_ok_weaker}
+use Rattle.md_emit.proofs.Answering.{leaves-by}
 use Rattle.md_emit.proofs.printer.Printer.leave_link.Goals as goal
 
 pub returns : goal.returns
@@ -39,7 +40,8 @@ returns c =
     let shown : around.in_image ≡ false =
     sym (ap (λ (s : State). s.around.in_image) came) ∙ sym c.is_in_image-is_label_alone.ensures
     ∙ c.if-is_label_alone.false in
-    on_ok _ _ (λ e. leaves-by code c.args.index names.Link names.Link old c.put_link.new.self refl
+    on_ok_weaker c.put_link.result
+    (λ e. leaves-by code c.args.index names.Link names.Link old c.put_link.new.self refl
     (λ given one supplies there.
     let target = sides.leads given left one.told in
     let pieces = anchor given.options target old.text in
@@ -49,4 +51,4 @@ returns c =
     ∙ ap (λ o. printed left o target) (sym supplies.options)
     ∙ ap laid (sym (anchor-laid code.ending.now under given.options target old.text))
     ∙ ap (λ b. laid (laid_after code.ending.now under (if b then said old.text else pieces)))
-    (sym shown))) c.put_link.result c.put_link.ensures
+    (sym shown))) c.put_link.ensures

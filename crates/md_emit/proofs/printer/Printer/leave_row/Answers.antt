@@ -9,7 +9,7 @@ use Rattle.std.specs.Prelude.{drop}
 use Rattle.std.specs.List.{flat_map}
 use Rattle.md_meaning.specs.Meaning.Tables.{cell_of}
 use Rattle.md_shape.proofs.Laid.{laid-append}
-use Rattle.md_emit.proofs.Answering.{on_ok}
+use Rattle.std.proofs.lemmas.Result.{on_ok_weaker}
 use Rattle.md_emit.proofs.printer.Printer.leave_row.Goals as goal
 
 pub returns : goal.returns
@@ -19,7 +19,7 @@ returns c =
     let cells = flat_map (cell_of old.around.in_head []) (drop old.cells old.around.columns) in
     let left : List ℕ → State =
     λ t. record old { text = t; ended = Some names.GfmTableRow; marker = 38 } in
-    on_ok _ _ (λ e.
+    on_ok_weaker c.line.result (λ e.
     e
     ∙ ap (λ (s : State). record s { text = laid_after ending s.text (on_own_line (codes "</tr>")) })
     (c.in_ok-put_empty_cells.ensures ∙ ap (λ (s : State). record s {
@@ -27,4 +27,4 @@ returns c =
           (flat_map (cell_of s.around.in_head []) (drop s.cells s.around.columns));
     }) c.ends.ensures)
     ∙ ap left (sym (laid-append ending old.text cells (on_own_line (codes "</tr>")))))
-    c.line.result c.line.ensures
+    c.line.ensures

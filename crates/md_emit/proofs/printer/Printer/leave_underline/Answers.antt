@@ -8,7 +8,8 @@ use Rattle.md_meaning.specs.Meaning.Layout.{laid_after, said, on_own_line}
 use Rattle.md_base.specs.declared.event.Position.{Position}
 use Rattle.md_meaning.specs.Meaning.Blocks.{heading_tag}
 use Rattle.md_meaning.specs.Meaning.Spans.{is_at}
-use Rattle.md_emit.proofs.Answering.{on_ok, leaves-by}
+use Rattle.std.proofs.lemmas.Result.{on_ok_weaker}
+use Rattle.md_emit.proofs.Answering.{leaves-by}
 use Rattle.md_emit.proofs.printer.Printer.leave_underline.Goals as goal
 
 pub returns : goal.returns
@@ -23,11 +24,11 @@ returns c =
     } in
     let ended : State =
     record old { ended = Some names.HeadingSetextUnderlineSequence; marker = 38 } in
-    on_ok _ _ (λ e. leaves-by code c.args.index names.HeadingSetextUnderlineSequence
+    on_ok_weaker c.put_setext.result
+    (λ e. leaves-by code c.args.index names.HeadingSetextUnderlineSequence
     names.HeadingSetextUnderlineSequence old c.put_setext.new.self refl (λ given one supplies there.
     e ∙ ap (λ s. heading s c.is_dash_at.result) c.ends.ensures
     ∙ ap (heading ended) (c.is_dash_at.ensures
     ∙ ap (λ bytes. is_at 45 bytes place.start.index) (c.bytes.ensures ∙ sym supplies.bytes)
     ∙ ap (λ (p : Position). is_at 45 given.bytes p.start.index)
-    (c.place_left_at-place.ensures one there))))
-    c.put_setext.result c.put_setext.ensures
+    (c.place_left_at-place.ensures one there)))) c.put_setext.ensures

@@ -5,7 +5,7 @@ use Rattle.md_meaning.specs.Meaning.Layout.{Needed, laid_after, on_own_line}
 use Rattle.md_meaning.specs.Meaning.Tables.{align_attribute}
 use Rattle.md_shape.specs.State.{State}
 use Rattle.md_emit.specs.Parts.{cell_start}
-use Rattle.md_emit.proofs.Answering.{on_ok}
+use Rattle.std.proofs.lemmas.Result.{on_ok_weaker}
 use Rattle.md_emit.proofs.Cells.{started}
 use Rattle.md_emit.proofs.printer.Printer.open_column.Goals as goal
 
@@ -15,10 +15,9 @@ returns c =
     let ending = c.args.ending.now in
     let tag = if old.around.in_head then codes "<th" else codes "<td" in
     let here = laid_after ending old.text (Needed ∷ []) in
-    on_ok _ _ (λ e.
+    on_ok_weaker c.line.result (λ e.
     e ∙ ap (λ tag. record old { text = laid_after ending old.text (on_own_line tag) })
     (c.cell_start-tag.ensures
     ∙ ap (λ (s : State). cell_start s.around.in_head c.args.kind) c.self.view_is)
     ∙ ap (λ text. record old { text = text })
-    (started here tag (align_attribute c.args.kind) (codes ">")))
-    c.line.result c.line.ensures
+    (started here tag (align_attribute c.args.kind) (codes ">"))) c.line.ensures

@@ -6,7 +6,7 @@ use Rattle.md_shape.specs.Sides as sides
 use Rattle.md_shape.specs.State.{State}
 use Rattle.md_meaning.specs.Meaning.Layout.{laid_after, said, on_own_line}
 use Rattle.md_shape.proofs.Laid.{laid-append}
-use Rattle.md_emit.proofs.Answering.{on_ok}
+use Rattle.std.proofs.lemmas.Result.{on_ok_weaker}
 use Rattle.md_emit.proofs.printer.Printer.open_list.Goals as goal
 
 pub returns : goal.returns
@@ -15,11 +15,10 @@ returns c =
     let ending = c.args.given.now.ending.now in
     let tag : List ℕ = laid_after ending old.text (on_own_line (codes "<ol")) in
     let entered : List ℕ → State = λ t. record old { text = t; ended = None; marker = 38 } in
-    on_ok _ _ (λ e all one supplies there.
+    on_ok_weaker c.put.result (λ e all one supplies there.
     let more = sides.list_opening all one.told in
     e ∙ ap (λ (s : State). record s { text = s.text ++ codes ">" })
     (c.in_ok-open_start.ensures all one supplies there ending
     ∙ ap (λ (s : State). record s { text = laid_after ending s.text more })
     c.in_ok-enter_line.ensures)
-    ∙ ap entered (sym (laid-append ending tag more (said (codes ">")))))
-    c.put.result c.put.ensures
+    ∙ ap entered (sym (laid-append ending tag more (said (codes ">"))))) c.put.ensures

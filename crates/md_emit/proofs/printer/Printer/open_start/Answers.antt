@@ -9,14 +9,14 @@ use Rattle.md_shape.specs.State.{State}
 use Rattle.md_meaning.specs.Meaning.Layout.{Text, laid_after, when}
 use Rattle.md_meaning.specs.Meaning.At.{text_in}
 use Rattle.md_meaning.specs.Meaning.Blocks.{without_zeros}
-use Rattle.md_emit.proofs.Answering.{on_ok}
+use Rattle.std.proofs.lemmas.Result.{on_ok_weaker}
 use Rattle.md_emit.proofs.printer.Printer.open_start.Goals as goal
 
 pub returns-in-Some : goal.returns-in-Some
 returns-in-Some c =
     let old = c.args.self.now in
     let place = c.in-Some.place in
-    on_ok _ _ (λ e all one supplies there ending.
+    on_ok_weaker c.open_number.result (λ e all one supplies there ending.
     let with : List ℕ → State = λ digits. record old {
       text = laid_after ending old.text (when (not (bytes_eq digits (codes "1")))
           (Text (codes " start=\"") ∷ Text digits ∷ Text (codes "\"") ∷ []));
@@ -26,8 +26,7 @@ returns-in-Some c =
     ∙ ap (λ bytes. text_in bytes place) (sym supplies.bytes)))
     ∙ ap (λ (o : Option Position). record old {
       text = laid_after ending old.text (sides.list_opening all (record one.told { number = o }));
-    }) (sym c.in-Some.is ∙ c.number_at.ensures one there))
-    c.open_number.result c.open_number.ensures
+    }) (sym c.in-Some.is ∙ c.number_at.ensures one there)) c.open_number.ensures
 
 pub returns-in-None : goal.returns-in-None
 returns-in-None c = λ all one supplies there ending.

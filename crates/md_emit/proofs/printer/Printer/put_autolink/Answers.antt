@@ -9,7 +9,7 @@ use Rattle.md_text.specs.Encode.{encoded}
 use Rattle.md_meaning.specs.Meaning.Layout.{Piece}
 use Rattle.md_meaning.specs.Meaning.Media.{anchor}
 use Rattle.md_meaning.specs.Meaning.At.{text_in}
-use Rattle.md_emit.proofs.Answering.{on_ok}
+use Rattle.std.proofs.lemmas.Result.{on_ok_weaker}
 use Rattle.md_emit.proofs.printer.Printer.put_autolink.Goals as goal
 
 pub returns-then-plain : goal.returns-then-plain
@@ -21,7 +21,7 @@ returns c =
     let link : CompileOptions → List ℕ → List Piece = λ options text.
     anchor options (record { destination = c.args.prefix.now ++ text; title = None })
     (encoded true text) in
-    on_ok _ _ (λ e all one supplies there.
+    on_ok_weaker c.put_anchor.result (λ e all one supplies there.
     let after : List Piece → State = λ pieces. record old {
       text = laid_after all.ending old.text pieces;
     } in
@@ -31,4 +31,4 @@ returns c =
     ∙ ap (λ bytes. text_in bytes one.told.place) (sym supplies.bytes))
     ∙ ap (λ o. after (link o text)) (sym supplies.options)
     ∙ ap (λ b. after (if b then said (encoded true text) else link all.options text))
-    (sym c.if-plain.false)) c.put_anchor.result c.put_anchor.ensures
+    (sym c.if-plain.false)) c.put_anchor.ensures

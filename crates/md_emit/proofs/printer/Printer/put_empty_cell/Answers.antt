@@ -5,7 +5,7 @@ use Rattle.md_meaning.specs.Meaning.Layout.{Needed, laid_after, on_own_line}
 use Rattle.md_meaning.specs.Meaning.Tables.{align_attribute}
 use Rattle.md_shape.specs.State.{State}
 use Rattle.md_emit.specs.Parts.{empty_cell}
-use Rattle.md_emit.proofs.Answering.{on_ok}
+use Rattle.std.proofs.lemmas.Result.{on_ok_weaker}
 use Rattle.md_emit.proofs.Cells.{emptied}
 use Rattle.md_emit.proofs.printer.Printer.put_empty_cell.Goals as goal
 
@@ -16,10 +16,9 @@ returns c =
     let tag = if old.around.in_head then codes "<th" else codes "<td" in
     let end = if old.around.in_head then codes "</th>" else codes "</td>" in
     let here = laid_after ending old.text (Needed ∷ []) in
-    on_ok _ _ (λ e.
+    on_ok_weaker c.line.result (λ e.
     e ∙ ap (λ tag. record old { text = laid_after ending old.text (on_own_line tag) })
     (c.empty_cell-cell.ensures
     ∙ ap (λ (s : State). empty_cell s.around.in_head c.args.kind) c.self.view_is)
     ∙ ap (λ text. record old { text = text })
-    (emptied here tag (align_attribute c.args.kind) (codes ">") end))
-    c.line.result c.line.ensures
+    (emptied here tag (align_attribute c.args.kind) (codes ">") end)) c.line.ensures

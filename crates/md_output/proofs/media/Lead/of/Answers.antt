@@ -1,7 +1,7 @@
 -- The search that proves it, and no other: a wrong body is refused by it in a second, where all
 -- that is tried without an answer takes ten.
 use Rattle.std.proofs.Common.{rules}
-use Rattle.md_emit.proofs.media.Lead.of.Goals as goal
+use Rattle.md_output.proofs.media.Lead.of.Goals as goal
 
 pub returns-then-has_resource : goal.returns-then-has_resource
 returns-then-has_resource c = search rules

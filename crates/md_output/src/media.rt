@@ -4,11 +4,11 @@ ghost use Rattle.std.specs.Prelude.{◌≡◌, ◌++◌, OnOk, List, ℕ, option
 ghost use Rattle.std.specs.Prelude.{unwrap_or, Some, None};
 ghost use Rattle.md_meaning.specs.Meaning.Media.{href, src};
 ghost use Rattle.md_shape.specs.Steps.{nowhere};
-ghost use Rattle.md_emit.specs.Heads.{anchor_head, picture_head, picture_tail, title_text};
+ghost use Rattle.md_output.specs.LinkHeads.{anchor_head, picture_head, picture_tail, title_text};
 
+use crate::output::Output;
 use crate::target::Target;
 use md_base::{SAFE_PROTOCOL_HREF, SAFE_PROTOCOL_SRC};
-use md_output::Output;
 use md_text::CompileOptions;
 use std::alloc::AllocError;
 use std::marker::Model;
@@ -16,10 +16,11 @@ use std::marker::Model;
 /// Where a link or an image leads, and its title as it is printed, in texts that are kept
 /// elsewhere.
 #[derive(Drop)]
-pub(crate) struct Lead<'a> {
+pub struct Lead<'a> {
     /// The destination, not yet sanitized; empty where there is none.
-    pub(crate) destination: &'a str,
-    pub(crate) title: Option<&'a str>,
+    pub destination: &'a str,
+    /// The title as it is printed, if there is one.
+    pub title: Option<&'a str>,
 }
 
 impl<'a> Model for Lead<'a> {
@@ -34,11 +35,7 @@ impl<'a> Model for Lead<'a> {
 impl<'a> Lead<'a> {
     /// Where a resource says, if there is one, else where a definition does that was
     /// found, else nowhere.
-    pub(crate) fn of(
-        has_resource: bool,
-        resource: &'a Target,
-        found: Option<&'a Target>,
-    ) -> Lead<'a>
+    pub fn of(has_resource: bool, resource: &'a Target, found: Option<&'a Target>) -> Lead<'a>
         ensures { result ≡ unwrap_or (if has_resource then Some resource.now else None)
             (unwrap_or (option_copied found.entry) nowhere) }
     {
@@ -99,7 +96,7 @@ fn put_title(out: &mut Output, title: Option<&str>) -> Result<(), AllocError>
 /// # Errors
 ///
 /// Only where memory runs out.
-pub(crate) fn put_anchor_head(
+pub fn put_anchor_head(
     out: &mut Output,
     options: &CompileOptions,
     lead: &Lead,
@@ -133,7 +130,7 @@ fn put_picture_head(
 /// # Errors
 ///
 /// Only where memory runs out.
-pub(crate) fn put_picture_tail(out: &mut Output, title: Option<&str>) -> Result<(), AllocError>
+pub fn put_picture_tail(out: &mut Output, title: Option<&str>) -> Result<(), AllocError>
     ensures { OnOk result (out.new
         ≡ record out.old { text = out.old.text ++ picture_tail (option_copied title.entry) }) }
 {
@@ -148,7 +145,7 @@ pub(crate) fn put_picture_tail(out: &mut Output, title: Option<&str>) -> Result<
 /// # Errors
 ///
 /// Only where memory runs out.
-pub(crate) fn put_anchor_before(
+pub fn put_anchor_before(
     out: &mut Output,
     scratch: &mut String,
     options: &CompileOptions,
@@ -174,7 +171,7 @@ pub(crate) fn put_anchor_before(
 /// # Errors
 ///
 /// Only where memory runs out.
-pub(crate) fn put_picture_before(
+pub fn put_picture_before(
     out: &mut Output,
     scratch: &mut String,
     options: &CompileOptions,

@@ -1,9 +1,11 @@
 //! Where a link or an image leads, as it is kept.
 
-ghost use Rattle.std.specs.Prelude.{◌≡◌, IfOk, option_copied};
+ghost use Rattle.std.specs.Prelude.{◌≡◌, [], Some, IfOk, OnOk, option_copied};
+ghost use Rattle.md_output.specs.Texts.{first_or, others_of};
 ghost use Rattle.md_shape.specs.Steps.{nowhere};
 
 use crate::media::Lead;
+use crate::output::Output;
 use std::alloc::{AllocError, Global};
 use std::marker::Model;
 
@@ -11,11 +13,11 @@ use std::marker::Model;
 #[derive(Drop)]
 pub struct Target {
     /// The destination, not yet sanitized; empty where there is none.
-    pub(crate) destination: String,
+    destination: String,
     /// The title as it is printed, if there is one.
-    pub(crate) title: String,
+    title: String,
     /// There is a title.
-    pub(crate) has_title: bool,
+    has_title: bool,
 }
 
 impl Model for Target {
@@ -32,7 +34,7 @@ impl Model for Target {
 
 impl Target {
     /// Nowhere, with no title.
-    pub(crate) fn new(alloc: Global) -> Target
+    pub fn new(alloc: Global) -> Target
         ensures { result ≡ nowhere }
     {
         Target {
@@ -43,15 +45,45 @@ impl Target {
     }
 
     /// It leads nowhere again.
-    pub(crate) fn clear(&mut self)
+    pub fn clear(&mut self)
         ensures { self.new ≡ nowhere }
     {
         self.destination.clear();
         self.has_title = false;
     }
 
+    /// Notes the innermost text as the destination, and ends that text.
+    ///
+    /// # Errors
+    ///
+    /// Only where memory runs out.
+    pub fn note_destination(&mut self, out: &mut Output) -> Result<(), AllocError>
+        ensures noted { OnOk result (self.new ≡ record self.old { destination = out.old.text }) }
+        ensures left { OnOk result (out.new
+            ≡ record { text = first_or [] out.old.below; below = others_of out.old.below }) }
+    {
+        let destination = &mut self.destination;
+        destination.clear();
+        out.move_into(destination)
+    }
+
+    /// Notes the innermost text as the title, and ends that text.
+    ///
+    /// # Errors
+    ///
+    /// Only where memory runs out.
+    pub fn note_title(&mut self, out: &mut Output) -> Result<(), AllocError>
+        ensures noted { OnOk result (self.new ≡ record self.old { title = Some out.old.text }) }
+        ensures left { OnOk result (out.new
+            ≡ record { text = first_or [] out.old.below; below = others_of out.old.below }) }
+    {
+        self.has_title = true;
+        self.title.clear();
+        out.move_into(&mut self.title)
+    }
+
     /// Where it leads.
-    pub(crate) fn lead(&self) -> Lead
+    pub fn lead(&self) -> Lead
         ensures { result ≡ self.now }
     {
         Lead {
@@ -76,7 +108,7 @@ impl Target {
     /// # Errors
     ///
     /// Only where memory runs out.
-    pub(crate) fn copied(&self, alloc: Global) -> Result<Target, AllocError>
+    pub fn copied(&self, alloc: Global) -> Result<Target, AllocError>
         ensures { IfOk result (λ other. other ≡ self.now) }
     {
         let destination = String::from_str(alloc, self.destination.as_str())?;

@@ -7,8 +7,8 @@ use Rattle.std.specs.Option.{option_map_or}
 use Rattle.std.proofs.lemmas.Bool.{cases_lt, cases_eq}
 use Rattle.std.proofs.lemmas.Str.{encode_ascii}
 use Rattle.md_text.proofs.HighBytes.{AllHigh, encode_utf8-high}
-use Rattle.md_emit.specs.Code.{unescaped_pipes, escapes_pipe, begins_with_pipe, is_space, is_blank}
-use Rattle.md_emit.specs.Code.{without_padding}
+use Rattle.md_output.specs.Code.{unescaped_pipes, escapes_pipe, begins_with_pipe, is_space}
+use Rattle.md_output.specs.Code.{is_blank, without_padding}
 use Rattle.md_meaning.specs.Meaning.Spans.{is_at, without_escapes, trimmed}
 
 -- a byte that is no backslash stays

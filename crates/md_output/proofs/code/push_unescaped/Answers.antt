@@ -1,9 +1,9 @@
 -- A backslash before a pipe goes, and every other character stays.
 use Rattle.std.proofs.Common.{◌≡◌, ◌++◌, OnOk, string_bytes, ap, sym, subst, arith}
 use Rattle.std.proofs.lemmas.Grind.{common_steps}
-use Rattle.md_emit.specs.Code.{unescaped_pipes}
-use Rattle.md_emit.proofs.CodeText.{unescaped_pipes-step}
-use Rattle.md_emit.proofs.code.push_unescaped.Goals as goal
+use Rattle.md_output.specs.Code.{unescaped_pipes}
+use Rattle.md_output.proofs.CodeText.{unescaped_pipes-step}
+use Rattle.md_output.proofs.code.push_unescaped.Goals as goal
 
 pub returns-else-escapes_pipe : goal.returns-else-escapes_pipe
 returns-else-escapes_pipe c =

@@ -1,8 +1,8 @@
 -- At each turn: what is written, and after it what the rest becomes, is what the
 -- whole text becomes.
 use Rattle.std.proofs.Common.{◌≡◌, ◌++◌, string_bytes}
-use Rattle.md_emit.specs.Code.{unescaped_pipes}
-use Rattle.md_emit.proofs.code.unescape_pipes.Given as goal
+use Rattle.md_output.specs.Code.{unescaped_pipes}
+use Rattle.md_output.proofs.code.unescape_pipes.Given as goal
 
 -- what is written, and what stands for the rest
 abbrev pub invariant-loop-c : goal.invariant-loop-c

@@ -6,9 +6,9 @@ use Rattle.std.specs.Bool.{OnTrue}
 use Rattle.std.specs.Str.{IsCharBoundary, IsUtf8}
 use Rattle.std.proofs.lemmas.Bool.{eqb-true, false≢true}
 use Rattle.std.proofs.lemmas.Str.{IsCharBoundary-after_ascii}
-use Rattle.md_emit.specs.Code.{is_space}
-use Rattle.md_emit.proofs.code.is_padded.Goals as goal
-use Rattle.md_emit.proofs.code.is_padded.Goals.{then-is_space, else-is_space}
+use Rattle.md_output.specs.Code.{is_space}
+use Rattle.md_output.proofs.code.is_padded.Goals as goal
+use Rattle.md_output.proofs.code.is_padded.Goals.{then-is_space, else-is_space}
 
 space_cut : (text : List ℕ) → IsUtf8 text → is_space (slice_get text 0) ≡ true →
     IsCharBoundary text 1

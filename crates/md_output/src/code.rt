@@ -5,9 +5,9 @@ ghost use Rattle.std.specs.Prelude.{◌-◌, option_copied, if◌then◌else◌}
 ghost use Rattle.std.specs.Bool.{OnTrue};
 ghost use Rattle.std.specs.Str.{IsCharBoundary};
 ghost use Rattle.md_meaning.specs.Meaning.Spans.{trimmed, without_escapes};
-ghost use Rattle.md_emit.specs.Code as code;
+ghost use Rattle.md_output.specs.Code as code;
 
-use md_output::Output;
+use crate::output::Output;
 use std::alloc::{AllocError, Global};
 
 /// The text of code: in a table each backslash directly before a pipe goes, and then one space goes
@@ -16,7 +16,7 @@ use std::alloc::{AllocError, Global};
 /// # Errors
 ///
 /// Only where memory runs out.
-pub(crate) fn push_code(
+pub fn push_code(
     alloc: Global,
     out: &mut Output,
     in_table: bool,

@@ -4,21 +4,21 @@ use Rattle.std.proofs.Common.{ap, sym, ◌∙◌}
 use Rattle.std.specs.Prelude.{if◌then◌else◌}
 use Rattle.md_output.specs.Texts.{Texts}
 use Rattle.md_meaning.specs.Meaning.Spans.{trimmed, without_escapes}
-use Rattle.md_emit.specs.Code.{without_padding, unescaped_pipes}
-use Rattle.md_emit.proofs.Answering.{on_ok}
-use Rattle.md_emit.proofs.CodeText.{trimmed-same, escapes-same}
-use Rattle.md_emit.proofs.code.push_code.Goals as goal
+use Rattle.md_output.specs.Code.{without_padding, unescaped_pipes}
+use Rattle.std.proofs.lemmas.Result.{on_ok_weaker}
+use Rattle.md_output.proofs.CodeText.{trimmed-same, escapes-same}
+use Rattle.md_output.proofs.code.push_code.Goals as goal
 
 pub returns-in_ok-unescaped : goal.returns-in_ok-unescaped
 returns-in_ok-unescaped c =
     let old = c.args.out.now in
     let with : List ℕ → Texts = λ t. record { text = old.text ++ t; below = old.below } in
-    on_ok _ _ (λ e. e ∙ ap with (c.trim.ensures
+    on_ok_weaker c.put.result (λ e. e ∙ ap with (c.trim.ensures
     ∙ ap without_padding (c.as_str.ensures.value ∙ c.in_ok-unescaped.ensures)
     ∙ trimmed-same (unescaped_pipes c.args.text.now) ∙ ap trimmed (escapes-same c.args.text.now)
     ∙ ap (λ b. trimmed (if b then without_escapes c.args.text.now else c.args.text.now))
     (sym c.if-in_table.true)))
-    c.put.result c.put.ensures
+    c.put.ensures
 
 pub returns-else-in_table : goal.returns-else-in_table
 returns-else-in_table c = search rules
