@@ -104,23 +104,6 @@ after text list whole start is at =
       omega (arith, at, ap length is, length-append text list),
     )
 
-pub listed-some : (prefix text whole : List ℕ) (start : ℕ) (x : List Token) (found : List Listed) →
-    whole ≡ text ++ listing found → start ≡ length text →
-    IsTokenized text (with_heading_ids prefix x) →
-    IsAttributed text → found ≡ headings_of x →
-    (IsTrue (are_distinct (ids_among x)) → IsTrue (none_begins (shown prefix) (ids_among x)) →
-    IsTrue (are_distinct (ids_among (with_heading_ids prefix x)))) →
-    IsListedAfter (Some prefix) x start whole
-listed-some prefix text whole start x found is at tokenized kept headings distinct =
-    let parts = after text (listing found) whole start is at in
-    record {
-      within = parts.2;
-      added = subst (λ t. IsTokenized t (with_heading_ids prefix x)) (sym parts.0) tokenized;
-      attributed = subst IsAttributed (sym parts.0) kept;
-      headings = parts.1 ∙ ap listing headings;
-      distinct = distinct;
-    }
-
 pub listed-none : (text whole : List ℕ) (start : ℕ) (x : List Token) → whole ≡ text ++ [] →
     start ≡ length text →
     IsTokenized text x → IsAttributed text → IsListedAfter None x start whole

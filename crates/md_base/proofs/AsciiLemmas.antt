@@ -29,10 +29,3 @@ ascii_in xs i n room few none k from to =
           (none_from_empty_mask p xs i n 0 room (sym mask ∙ eqb-true _ 0 none) k from to)
           (ap (λ t. top 7 (cond t 255 0)) (le-leb 128 (get_or xs k 0) high)))
     ]
-
--- each byte, by its place
-pub ascii_all : (xs : List ℕ) → ((k : ℕ) → k < length xs → get_or xs k 0 < 128) → IsAscii xs
-ascii_all xs h k = elim (cases_lt k (length xs)) [
-  | inl inside ↦ h k inside
-  | inr past ↦ omega (arith, get_or_past xs k 0 past)
-]

@@ -16,9 +16,6 @@ abbrev pub is_transparent : Name → Bool
 is_transparent name =
     elim name [ Other number ↦ true | BlockQuotePrefix ↦ true | SpaceOrTab ↦ true | _ ↦ false ]
 
-abbrev pub is_blank_line_ending : Name → Bool
-is_blank_line_ending name = elim name [ BlankLineEnding ↦ true | _ ↦ false ]
-
 -- a line ending, blank or not
 abbrev pub is_line_ending : Name → Bool
 is_line_ending name = elim name [ LineEnding ↦ true | BlankLineEnding ↦ true | _ ↦ false ]
@@ -34,12 +31,6 @@ is_item_prefix name = elim name [ ListItemPrefix ↦ true | _ ↦ false ]
 
 abbrev pub is_item_value : Name → Bool
 is_item_value name = elim name [ ListItemValue ↦ true | _ ↦ false ]
-
-abbrev pub is_block_quote : Name → Bool
-is_block_quote name = elim name [ BlockQuote ↦ true | _ ↦ false ]
-
-abbrev pub is_block_quote_prefix : Name → Bool
-is_block_quote_prefix name = elim name [ BlockQuotePrefix ↦ true | _ ↦ false ]
 
 -- a child after which a line ending is dropped
 abbrev pub is_definition : Name → Bool
@@ -91,12 +82,6 @@ is_cell name = elim name [ GfmTableCell ↦ true | _ ↦ false ]
 
 abbrev pub is_table : Name → Bool
 is_table name = elim name [ GfmTable ↦ true | _ ↦ false ]
-
-abbrev pub is_delimiter_value : Name → Bool
-is_delimiter_value name = elim name [ GfmTableDelimiterCellValue ↦ true | _ ↦ false ]
-
-abbrev pub is_delimiter_marker : Name → Bool
-is_delimiter_marker name = elim name [ GfmTableDelimiterMarker ↦ true | _ ↦ false ]
 
 abbrev pub is_table_head : Name → Bool
 is_table_head name = elim name [ GfmTableHead ↦ true | _ ↦ false ]

@@ -3,7 +3,3 @@ use Rattle.std.proofs.Common.{◌≡◌, List, refl}
 use Rattle.md_meaning.specs.Meaning.At.{Footnote, Given}
 use Rattle.md_meaning.specs.Meaning.Footnotes.{section}
 use Rattle.md_footnotes.specs.Seen.{given_by}
-
-pub section-given : (given : Given) (footnotes : List Footnote) →
-    section (given_by given.options given.calls) footnotes ≡ section given footnotes
-section-given given footnotes = refl

@@ -123,13 +123,6 @@ turn-fits code at document index to event more before after supplies flat lt got
 pub lt-later : (index to end : ℕ) → index < to → to ≤ end → index < end
 lt-later index to end lt le = omega (arith, lt, le)
 
--- no event is gone over yet
-pub goes-none : (code : Supplied) (from to : ℕ) (state : State) → Goes code from from to state state
-goes-none code from to state = record {
-  runs = λ at document end supplies flat le. refl;
-  fits = λ at document end supplies flat le f. f;
-}
-
 pub goes-turn :
     (code : Supplied) (from index to : ℕ) (event : Event) (more : ℕ) (first before after : State) →
     index < to → slice_get code.checked.now.events index ≡ Some event →

@@ -94,9 +94,3 @@ trimmed-same text =
   where
     less : (n : ℕ) → n - 1 - 1 ≡ n - 2
     less n = omega arith
-
-pub code-same : (in_table : Bool) (text : List ℕ) →
-    without_padding (if in_table then unescaped_pipes text else text)
-    ≡ trimmed (if in_table then without_escapes text else text)
-code-same true text = trimmed-same (unescaped_pipes text) ∙ ap trimmed (escapes-same text)
-code-same false text = trimmed-same text

@@ -203,7 +203,3 @@ open-within [] (suc n) h = absurd (true≢false (sym h))
 open-within (other ∷ waiting) zero h = omega arith
 open-within (other ∷ waiting) (suc n) h =
     (let k : n < length waiting = open-within waiting n h in omega arith)
-
-pub not_open : (waiting : List Head) → is_open waiting ≡ false → without_open waiting ≡ waiting
-not_open [] h = refl
-not_open (other ∷ waiting) h = ap (λ (b : Bool). if b then waiting else other ∷ waiting) h

@@ -130,9 +130,6 @@ place-outside i past =
 pub rows-count : (rows : List (List ℕ)) → AreRows rows → length rows ≡ 114
 rows-count rows are = rows-counted rows are
 
-pub places-count : length places ≡ 114
-places-count = counted
-
 -- past the rows nothing follows
 pub moved-outside : (i : ℕ) (seen : Symbol) → 114 ≤ i → moved_from (place_at i) seen ≡ None
 moved-outside i seen past = ap (λ place. moved_from place seen) (place-outside i past)
@@ -140,16 +137,6 @@ moved-outside i seen past = ap (λ place. moved_from place seen) (place-outside 
 otherwise : (b : Bool) (x : Option At) → (b ≡ true → ⊥) → cond b None x ≡ x
 otherwise true x other = absurd (other refl)
 otherwise false x other = refl
-
--- a letter that isn't the dot leads to a row
-pub told-some : (i letter : ℕ) → (letter ≡ 46 → ⊥) →
-    told i letter ≡ Some (place_at (i + letter - 109))
-told-some i letter other =
-    otherwise (eqb letter 46) (Some (place_at (i + letter - 109)))
-    (λ is. other (eqb-true letter 46 is))
-
-pub told-none : (i letter : ℕ) → letter ≡ 46 → told i letter ≡ None
-told-none i letter is = ap (λ l. told i l) is
 
 led : (a b c : Bool) (x : ℕ) → (a ≡ true → ⊥) → (a || (b && c)) ≡ true → (b ≡ true) × (c ≡ true)
 led true b c x other all = absurd (other refl)
@@ -263,10 +250,3 @@ mapped : (r : Role) (seen : Symbol) (next : Option (ℕ × Stage)) →
     (λ n. record { role = r; before = Some seen; position = n.0; stage = n.1 }) next
 mapped r seen None = refl
 mapped r seen (Some n) = refl
-
-pub advance-at : (place : At) (before : Option Symbol) (seen : Symbol) →
-    option_map (λ next. state_at next (Some seen)) (moved_from place seen)
-    ≡ advance (state_at place before) seen
-advance-at place before seen =
-    mapped place.role seen
-    (moved place.stage place.position (drop place.position (pattern_of place.role)) seen)

@@ -60,11 +60,6 @@ abbrev pub Waiting : List ℕ → Bool → ℕ → List ℕ → Type 0
 Waiting w true n x = Counts w n x
 Waiting w false n x = Unit {0}
 
-pub waiting-none : (w : List ℕ) (waits : Bool) (n : ℕ) → Waiting w waits n []
-waiting-none w true n =
-    counts-more w 0 n [] (omega arith) (counts-plain w [] (nothing (is_without w)))
-waiting-none w false n = tt
-
 -- an id stands in the texts of some footnotes at most so often
 abbrev pub TextsCount : List ℕ → ℕ → List Footnote → Type 0
 TextsCount w n [] = Unit {0}

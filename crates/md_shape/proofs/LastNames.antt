@@ -96,11 +96,6 @@ solid-names (Node n start end children rest) around before shaped =
     (solid-here (standing_of n) n children around before refl (told n) shaped.0.1
     (solid-names children _ _ shaped.1)) (solid-names rest _ _ shaped.2)
 
--- the last of some names is the one at the last place
-got-later : (n : Name) (names : List Name) (k : ℕ) →
-    slice_get (n ∷ names) (suc k) ≡ slice_get names k
-got-later n names k = refl
-
 pub last-got : (names : List Name) → last_of names ≡ slice_get names (length names - 1)
 last-got [] = refl
 last-got (n ∷ []) = refl

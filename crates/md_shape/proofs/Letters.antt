@@ -112,10 +112,3 @@ pub followed-all : (test : Symbol → Bool) → list_all test followers ≡ true
     (firsts spine : List Symbol) →
     IsGrouped firsts spine → list_all test firsts ≡ true → list_all test spine ≡ true
 followed-all test after = grouped-all test (λ first tail h is. tail-all test first tail after is)
-
--- a test on the roles that a name with this usual one may have
-pub by_after : (test : Role → Bool) (around : Role) (before : Option Symbol) (usual : Role) →
-    list_all test (roles_for true usual) ≡ true → list_all test (roles_for false usual) ≡ true →
-    test (role_for around before usual) ≡ true
-by_after test around None usual later first = role_listed test around None usual first
-by_after test around (Some s) usual later first = role_listed test around (Some s) usual later

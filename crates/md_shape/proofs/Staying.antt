@@ -69,10 +69,3 @@ past-laid _ = refl
 pub childless : (forest : Forest) → Fits Childless forest → forest ≡ Empty
 childless Empty fits = refl
 childless (Node name start end children rest) fits = lie fits.0
-
--- names that are looked through
-pub through-row : (n : Name) → is_transparent n ≡ true → (is_row n ≡ false) × (is_cell n ≡ false)
-through-row SpaceOrTab h = (refl, refl)
-through-row BlockQuotePrefix h = (refl, refl)
-through-row (Other number) h = (refl, refl)
-through-row _ h = lie h

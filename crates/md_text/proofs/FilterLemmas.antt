@@ -55,14 +55,6 @@ filtered-run (b ∷ bs) (suc i) m (suc j) e le =
 from : (bs : List ℕ) (i : ℕ) → i < length bs → drop i bs ≡ get_or bs i 0 ∷ drop (i + 1) bs
 from bs i h = sym (rw (add-one, ← drop-cons bs i 0) refl)
 
--- a `<` that opens a tag to disarm, and one that doesn't
-pub filtered-disarmed : (bs : List ℕ) (i : ℕ) → i < length bs → get_or bs i 0 ≡ 60 →
-    begins_disarmed_name (past_slash (drop (i + 1) bs)) ≡ true →
-    tag_filtered (drop i bs) ≡ codes "&lt;" ++ tag_filtered (drop (i + 1) bs)
-filtered-disarmed bs i h is disarmed =
-    ap tag_filtered (from bs i h ∙ ap (λ b. b ∷ drop (i + 1) bs) is)
-    ∙ ap (λ t. cond t (codes "&lt;") (60 ∷ []) ++ tag_filtered (drop (i + 1) bs)) disarmed
-
 pub filtered-angle : (bs : List ℕ) (i : ℕ) → i < length bs → get_or bs i 0 ≡ 60 →
     begins_disarmed_name (past_slash (drop (i + 1) bs)) ≡ false →
     take (i + 1) bs ++ tag_filtered (drop (i + 1) bs) ≡ take i bs ++ tag_filtered (drop i bs)

@@ -173,10 +173,3 @@ pub noticed-entered : (given : Handed) (document : Forest) (index : ℕ) (name :
 noticed-entered given document index name flat enters =
     let found = node-entered given document flat index name enters in
     (noticed_in given document name index found.0 found.1, (document, flat, found.1.at_entry))
-
-pub noticed-exited : (given : Handed) (document : Forest) (index : ℕ) (name : Name) →
-    flatten document ≡ given.events → ExitsAt given.events index name →
-    (one : Noticed) × IsNoticedAt given index one
-noticed-exited given document index name flat exits =
-    let found = node-exited given document flat index name exits in
-    (noticed_in given document name found.0 index found.1, (document, flat, found.1.at_exit))

@@ -48,10 +48,6 @@ NumbersFrom-put old new text before later from updates wanted =
       | false ↦ from wanted ∙ counted_on before (which later (identifier_of wanted))
     ]
 
-pub NumbersFrom-none : (numbers : Numbered) (before : ℕ) → numbers.entries ≡ [] →
-    NumbersFrom numbers before []
-NumbersFrom-none numbers before none wanted = ap (λ es. lookup (is_at (text_cmp wanted)) es) none
-
 none_before : (places : Option ℕ) →
     option_map (λ place. suc (0 + place)) places ≡ option_map (λ place. suc place) places
 none_before None = refl
@@ -59,12 +55,6 @@ none_before (Some place) = ap Some (plus_zero place)
   where
     plus_zero : (n : ℕ) → suc (0 + n) ≡ suc n
     plus_zero n = omega arith
-
-pub Numbers-from : (numbers : Numbered) (before : ℕ) (all : List Identifier) → before ≡ 0 →
-    NumbersFrom numbers before all → Numbers numbers all
-Numbers-from numbers before all none from wanted =
-    from wanted ∙ ap (λ n. option_map (λ place. suc (n + place)) (which all (identifier_of wanted)))
-    none ∙ none_before (which all (identifier_of wanted))
 
 none_more : (n : ℕ) → n ≡ 0 + n
 none_more n = omega arith
@@ -96,31 +86,6 @@ defined-last bytes (one ∷ before) last =
 
     sums : (a b c : ℕ) → a + (b + c) ≡ (a + b) + c
     sums a b c = omega arith
-
--- before all of them, and after all
-pub NumbersBefore-none : (numbers : Numbered) (all : List Identifier) → numbers.entries ≡ [] →
-    NumbersBefore numbers 1 all all
-NumbersBefore-none numbers all none wanted =
-    sym (ap (λ es. found_or (lookup (is_at (text_cmp wanted)) es) 1
-    (which all (identifier_of wanted))) none ∙ counted (which all (identifier_of wanted)))
-  where
-    one : (place : ℕ) → 1 + place ≡ suc place
-    one place = omega arith
-
-    counted : (o : Option ℕ) → found_or None 1 o ≡ option_map (λ place. suc place) o
-    counted None = refl
-    counted (Some place) = ap Some (one place)
-
-pub Numbers-all : (numbers : Numbered) (next : ℕ) (left all : List Identifier) → left ≡ [] →
-    NumbersBefore numbers next left all → Numbers numbers all
-Numbers-all numbers next left all none before wanted =
-    sym (before wanted
-    ∙ ap (λ xs. found_or (found_in numbers wanted) next (which xs (identifier_of wanted))) none
-    ∙ itself (found_in numbers wanted))
-  where
-    itself : (o : Option ℕ) → found_or o next None ≡ o
-    itself None = refl
-    itself (Some number) = refl
 
 -- a loop over mentions numbers what they define, which F gives: at one that defines an
 -- identifier, and at another
@@ -216,9 +181,3 @@ module _ (number : Mention → ℕ) (mentioned : List Mentioned) (i : ℕ) (fact
       ap (λ fs. numbered number (drop (i + 1) mentioned) fs) (sym (put-none facts (Mentioned.index
       (get_or mentioned i n)) (number (Mentioned.mention (get_or mentioned i n))) none))
       ∙ sym (at_drop_more (λ ms. numbered number ms facts) mentioned i n inside) ∙ so_far
-
-pub numbered-all :
-    (number : Mention → ℕ) (mentioned : List Mentioned) (i : ℕ) (facts all : List Fact) →
-    length mentioned ≤ i → numbered number (drop i mentioned) facts ≡ all → facts ≡ all
-numbered-all number mentioned i facts all end so_far =
-    sym (ap (λ ms. numbered number ms facts) (drop_all i mentioned end)) ∙ so_far
