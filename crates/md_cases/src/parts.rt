@@ -5,6 +5,7 @@
 //! texts; then the script.
 
 mod attributed;
+mod captured;
 mod compiled;
 mod endings;
 mod places;
@@ -91,6 +92,7 @@ fn answer_to(alloc: Global, asked: &Asked<'_>, question: &str) -> Result<String,
         "tree" => trees::answer(alloc, asked, call),
         "compiled" => compiled::answer(alloc, asked, call),
         "attributed" => attributed::answer(alloc, asked, call),
+        "captured" => captured::answer(alloc, call),
         _ => no_such_call(alloc),
     }
 }

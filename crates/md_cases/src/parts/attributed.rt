@@ -1,7 +1,7 @@
 //! Questions on the attributes that are added to the tags of a safe text.
 
 use super::compiled::by_safe;
-use super::{Asked, Call, no_such_call};
+use super::{Asked, Call, no_such_call, word_and_rest};
 use md_html::SafeHtml;
 use md_page::{Heading, Html, WithHeadingIds, page_around, with_heading_ids, with_link_rel};
 use std::alloc::{AllocError, Global};
@@ -23,6 +23,7 @@ fn answer_of(alloc: Global, html: &SafeHtml, call: Call<'_>) -> Result<String, A
     let text = call.argument;
     match call.name {
         "rel" => copied(alloc, &with_link_rel(alloc, html, text)?),
+        "rel_again" => rel_again(alloc, html, word_and_rest(text)),
         "ids" => copied(alloc, &with_heading_ids(alloc, html, text)?.html),
         "headings" => listed(alloc, &with_heading_ids(alloc, html, text)?),
         "both" => copied(
@@ -37,6 +38,12 @@ fn answer_of(alloc: Global, html: &SafeHtml, call: Call<'_>) -> Result<String, A
         "page_with_rel" => page_around(alloc, text, &with_link_rel(alloc, html, text)?),
         _ => no_such_call(alloc),
     }
+}
+
+/// The text with a `rel`, which is then asked for another.
+fn rel_again(alloc: Global, html: &SafeHtml, rels: (&str, &str)) -> Result<String, AllocError> {
+    let first = with_link_rel(alloc, html, rels.0)?;
+    copied(alloc, &with_link_rel(alloc, &first, rels.1)?)
 }
 
 /// The text.
