@@ -11,6 +11,7 @@ mod endings;
 mod places;
 mod texts;
 mod trees;
+mod written;
 
 use crate::reading::Script;
 use std::alloc::{AllocError, Global};
@@ -93,6 +94,7 @@ fn answer_to(alloc: Global, asked: &Asked<'_>, question: &str) -> Result<String,
         "compiled" => compiled::answer(alloc, asked, call),
         "attributed" => attributed::answer(alloc, asked, call),
         "captured" => captured::answer(alloc, call),
+        "written" => written::answer(alloc, call),
         _ => no_such_call(alloc),
     }
 }

@@ -2,7 +2,6 @@
 
 use super::compiled::by_safe;
 use super::{Asked, Call, no_such_call, word_and_rest};
-use md_html::SafeHtml;
 use md_page::{Heading, Html, WithHeadingIds, page_around, with_heading_ids, with_link_rel};
 use std::alloc::{AllocError, Global};
 
@@ -19,7 +18,11 @@ pub(super) fn answer(
 }
 
 /// What a call answers of a text; `both` and `turned` add both attributes, one or the other first.
-fn answer_of(alloc: Global, html: &SafeHtml, call: Call<'_>) -> Result<String, AllocError> {
+pub(super) fn answer_of<H: Html>(
+    alloc: Global,
+    html: &H,
+    call: Call<'_>,
+) -> Result<String, AllocError> {
     let text = call.argument;
     match call.name {
         "rel" => copied(alloc, &with_link_rel(alloc, html, text)?),
@@ -41,7 +44,7 @@ fn answer_of(alloc: Global, html: &SafeHtml, call: Call<'_>) -> Result<String, A
 }
 
 /// The text with a `rel`, which is then asked for another.
-fn rel_again(alloc: Global, html: &SafeHtml, rels: (&str, &str)) -> Result<String, AllocError> {
+fn rel_again<H: Html>(alloc: Global, html: &H, rels: (&str, &str)) -> Result<String, AllocError> {
     let first = with_link_rel(alloc, html, rels.0)?;
     copied(alloc, &with_link_rel(alloc, &first, rels.1)?)
 }
