@@ -6,8 +6,6 @@ mod heads;
 mod media;
 mod output;
 mod target;
-#[cfg(test)]
-mod tests;
 
 pub use code::push_code;
 pub use media::{Lead, put_anchor_before, put_anchor_head, put_picture_before, put_picture_tail};

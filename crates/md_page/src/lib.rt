@@ -7,8 +7,6 @@ mod html;
 mod ids;
 mod rel;
 mod scan;
-#[cfg(test)]
-mod tests;
 
 ghost use Rattle.std.specs.Prelude.{◌≡◌, false, IfOk, string_bytes};
 ghost use Rattle.md_text.specs.Encode.{encoded};
