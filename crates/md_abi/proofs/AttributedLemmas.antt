@@ -2,13 +2,12 @@
 use Rattle.std.proofs.Common.{◌≡◌, ℕ, ◌≤◌, Bool, true, false, cond, eqb, List, [], ◌∷◌, ◌++◌}
 use Rattle.std.proofs.Common.{length, take, drop, Option, Some, None, Result, Ok, Err, IfOk, IfErr}
 use Rattle.std.proofs.Common.{refl, sym, ap, ◌∙◌, subst, arith}
-use Rattle.std.specs.Prelude.{IsErrAnd, IsTrue, option_map, option_and_then, string_bytes}
+use Rattle.std.specs.Prelude.{IsErrAnd, option_map, option_and_then, string_bytes}
 use Rattle.std.proofs.lemmas.Bool.{eqb-true}
 use Rattle.std.proofs.lemmas.List.{length-append, take-append-le, drop-append-le, take_all}
 use Rattle.std.proofs.lemmas.List.{drop_all}
 use Rattle.md_base.specs.Place.{text_when}
 use Rattle.md_text.specs.Html.{any_attribute, HasOneReadingWith}
-use Rattle.md_text.specs.Ids.{are_distinct}
 use Rattle.md_text.proofs.HtmlReading.{one_reading, all-any}
 use Rattle.md_text.specs.declared.options.CompileOptions.{CompileOptions}
 use Rattle.md_tree.specs.Grammar.{Handed}
@@ -21,13 +20,11 @@ use Rattle.md_html.specs.Safe.{IsRefusedFor, OfCompile}
 use Rattle.md_html.specs.declared.safe_html.SafeError.{SafeError}
 use Rattle.md_html.specs.declared.safe_html.SafeError.TheVariants as wrong
 use Rattle.md_safe.specs.Options as safe
-use Rattle.md_page.specs.Added.{Listed, with_heading_ids, headings_of, shown}
 use Rattle.md_page.specs.Attributed.{IsAttributed}
-use Rattle.md_page.specs.Ids.{ids_among, none_begins}
 use Rattle.md_page.specs.Pieces.{IsWritten}
 use Rattle.md_page.proofs.Rules.{attributed}
 use Rattle.md_abi.specs.Options.{flag_of, text_of, HasOptions, KeepsImages}
-use Rattle.md_abi.specs.Attributes.{asked, with_rel, listing}
+use Rattle.md_abi.specs.Attributes.{asked, with_rel}
 use Rattle.md_abi.specs.Attributed.{IsListedAfter, IsAttributedText}
 use Rattle.md_abi.specs.Refusals.{refusal_of, IsRefusalFor}
 use Rattle.md_abi.specs.Rendered.{IsRendered}

@@ -2,10 +2,9 @@
 use Rattle.std.proofs.Common.{◌≡◌, ℕ, ◌+◌, ◌%◌, ◌^◌, ◌<◌, ◌≤◌, eqb, leb, cond, true, List, map}
 use Rattle.std.proofs.Common.{length, get_or, replicate, sym, ap, ◌∙◌, arith, inl, inr}
 use Rattle.std.proofs.lemmas.Bool.{cases_lt, both_ways, eqb-true, le-leb}
-use Rattle.std.proofs.lemmas.List.{get_or_past, length-map}
+use Rattle.std.proofs.lemmas.List.{length-map}
 use Rattle.std.proofs.lemmas.Simd.{map-map, mask_l-mod, length-chunk, zip2_splat_left}
 use Rattle.std.proofs.lemmas.Simd.{none_from_empty_mask}
-use Rattle.std.specs.Str.{IsAscii}
 use lib.Lanes.{chunk, mask_l, top, zip2}
 
 -- a load none of whose lanes is 128 or more

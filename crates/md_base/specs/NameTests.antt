@@ -2,12 +2,12 @@
 use Rattle.std.specs.Prelude.{Bool, true, false, not, ◌||◌}
 use Rattle.md_base.specs.declared.event.Name.{Name}
 use Rattle.md_base.specs.declared.event.Name.TheVariants as name_variants
-use name_variants.{LineEnding, BlankLineEnding, BlockQuote, BlockQuotePrefix, ListItem}
+use name_variants.{LineEnding, BlankLineEnding, BlockQuotePrefix, ListItem}
 use name_variants.{ListItemPrefix, ListItemValue, GfmFootnoteDefinition}
 use name_variants.{GfmFootnoteDefinitionPrefix, GfmFootnoteDefinitionLabelString, GfmFootnoteCall}
 use name_variants.{Definition, DefinitionLabelString, CodeFencedFence, MathFlowFence, CodeFlowChunk}
 use name_variants.{MathFlowChunk, HeadingAtxSequence, GfmTable, GfmTableCell}
-use name_variants.{GfmTableDelimiterMarker, GfmTableDelimiterCellValue, GfmTableDelimiterRow}
+use name_variants.{GfmTableDelimiterRow}
 use name_variants.{GfmTableHead, ReferenceString, Label, LabelText, SpaceOrTab, Other}
 use Rattle.md_base.specs.Is.{is}
 

@@ -1,5 +1,5 @@
 -- What one turn of the run does: its index, the counts, and what is left to go over.
-use Rattle.std.proofs.Common.{◌≡◌, ◌≤◌, ◌<◌, ℕ, suc, ◌+◌, true, Some, List, ◌∷◌, length, drop, refl}
+use Rattle.std.proofs.Common.{◌≡◌, ◌≤◌, ◌<◌, ℕ, suc, ◌+◌, true, Some, List, ◌∷◌, length, drop}
 use Rattle.std.proofs.Common.{sym, ap, ◌∙◌, subst, arith}
 use Rattle.std.specs.Prelude.{slice_get}
 use Rattle.md_base.specs.declared.event.Event.{Event}

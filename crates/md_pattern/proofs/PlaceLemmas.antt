@@ -1,6 +1,6 @@
 -- The table of places: what its letters tell, row by row and symbol by symbol.
-use Rattle.std.proofs.Common.{◌≡◌, ℕ, zero, suc, ◌+◌, ◌-◌, ◌<◌, ◌≤◌, Bool, true, false, ◌&&◌}
-use Rattle.std.proofs.Common.{Option, Some, None, List, [], ◌∷◌, map, length, get_or, drop, take}
+use Rattle.std.proofs.Common.{◌≡◌, ℕ, zero, suc, ◌+◌, ◌<◌, ◌≤◌, Bool, true, false, ◌&&◌}
+use Rattle.std.proofs.Common.{Option, Some, None, List, [], ◌∷◌, map, length, get_or, take}
 use Rattle.std.proofs.Common.{cond, eqb, leb, ltb, ◌||◌, refl, sym, ap, ◌∙◌, subst, arith}
 use Rattle.std.specs.List.{list_all}
 use Rattle.std.proofs.lemmas.List.{length-map, get_or-map, get_or-take}
@@ -18,8 +18,7 @@ use Rattle.md_pattern.specs.Places.{moves, moved_from, leads, lead_from, state_a
 use Rattle.md_pattern.specs.Places.{AreStarts}
 use Rattle.md_pattern.specs.declared.state.State.{State}
 use Rattle.md_pattern.specs.declared.state.Stage.{Stage}
-use Rattle.md_pattern.specs.Pattern.{pattern_of}
-use Rattle.md_pattern.specs.Steps.{moved, advance, is_complete, may_hold, start_of}
+use Rattle.md_pattern.specs.Steps.{is_complete, may_hold, start_of}
 use Rattle.std.specs.Prelude.{option_map}
 
 pub symbol-numbered : (seen : Symbol) →

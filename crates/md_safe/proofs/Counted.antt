@@ -5,7 +5,7 @@ use Rattle.std.specs.Prelude.{bytes_eq}
 use Rattle.std.proofs.lemmas.Bool.{and_parts, true≢false}
 use Rattle.md_text.specs.References.{read_back}
 use Rattle.md_text.specs.Html.{Attribute, is_tag, elements}
-use Rattle.md_text.proofs.HtmlJoin.{nothing, text}
+use Rattle.md_text.proofs.HtmlJoin.{text}
 use Rattle.md_text.proofs.HtmlWriting.{attributes_before, written_attributes-before}
 use Rattle.md_text.specs.Ids.{ids_in}
 use Rattle.md_text.proofs.HtmlIds.{occurs, is_without, none-attributes, Counts, counts-plain}

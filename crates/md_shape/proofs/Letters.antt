@@ -1,7 +1,7 @@
 -- What holds of all letters of a role's pattern holds of what fits it, and of the spine of each
 -- node with that role. So a test on symbols is computed over the patterns, and told of every spine.
-use Rattle.std.proofs.Common.{◌≡◌, inl, inr, ℕ, zero, suc, Bool, true, false, List, [], ◌∷◌, ◌++◌}
-use Rattle.std.proofs.Common.{refl, sym, subst, ◌∙◌, Option, Some, None}
+use Rattle.std.proofs.Common.{◌≡◌, inl, inr, ℕ, zero, suc, Bool, true, List, [], ◌∷◌, ◌++◌}
+use Rattle.std.proofs.Common.{refl, sym, subst, ◌∙◌}
 use Rattle.std.specs.Prelude.{replicate}
 use Rattle.std.specs.List.{list_all}
 use Rattle.std.proofs.lemmas.Bool.{and_parts, and_from}
@@ -10,15 +10,11 @@ use Rattle.md_pattern.specs.declared.kinds.Symbol.{Symbol}
 use Rattle.md_pattern.specs.declared.kinds.Symbol.TheVariants as symbol_variants
 use symbol_variants.{ReferenceMarker, ReferenceNumeric, ReferenceHexadecimal, ReferenceValue}
 use symbol_variants.{SetextText, SetextUnderline, LineEnding}
-use Rattle.md_pattern.specs.declared.kinds.Role.{Role}
 use Rattle.md_pattern.specs.declared.kinds.Item.{Item}
 use Rattle.md_pattern.specs.declared.kinds.Class.{Class}
 use Rattle.md_pattern.specs.Pattern.{Fits, members, class_of, takes}
 use Rattle.md_pattern.specs.Spine.{IsTail, IsGrouped}
-use Rattle.md_pattern.specs.Shape.{role_for}
-use Rattle.md_shape.proofs.Symbols.{roles_for}
 use Rattle.md_shape.proofs.Admitted.{taken}
-use Rattle.md_shape.proofs.Spots.{role_listed}
 
 -- what holds of all members of a class holds of those that it takes
 pub own-all : (test : Symbol → Bool) (class : Class) (own : List Symbol) →

@@ -2,13 +2,11 @@
 use Rattle.std.proofs.Common.{◌≡◌, Bool, true, false, refl, ap, ◌∙◌}
 use Rattle.std.specs.Prelude.{if◌then◌else◌}
 use Rattle.md_base.specs.declared.event.Name.{Name}
-use Rattle.md_base.specs.declared.event.Name.TheVariants.{SpaceOrTab, BlockQuotePrefix, Other}
 use Rattle.md_base.proofs.Lies.{lie}
 use Rattle.md_base.specs.Tree.{Forest, Empty, Node}
-use Rattle.md_base.specs.NameTests.{is_transparent, is_cell}
+use Rattle.md_base.specs.NameTests.{is_transparent}
 use Rattle.md_shape.specs.Content.{Content, BeforeLabel, Childless, Fits, content_past}
 use Rattle.md_shape.specs.Content.{content_after, content_after_node}
-use Rattle.md_shape.specs.Steps.{is_row}
 use Rattle.md_shape.specs.Claim.{is_laid, keeps_cells, keeps_lines, has_marks}
 
 one_or_other : {A : Type 0} (b : Bool) {x y z : A} → x ≡ z → y ≡ z → (if b then x else y) ≡ z

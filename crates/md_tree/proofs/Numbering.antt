@@ -4,9 +4,8 @@ use Rattle.std.proofs.Common.{arith, ◌≡◌, ℕ, zero, suc, ◌+◌, ◌<◌
 use Rattle.std.proofs.Common.{Some, None, List, [], ◌∷◌, ◌++◌, length, get_or, drop, refl, sym, ap}
 use Rattle.std.proofs.Common.{◌∙◌, subst}
 use Rattle.std.specs.Prelude.{option_map, if◌then◌else◌, set, slice_get}
-use Rattle.std.specs.BTreeMap.{is_at, UpdatesBy}
-use Rattle.std.specs.Map.{lookup}
-use Rattle.std.proofs.lemmas.List.{at_drop_more, drop_all}
+use Rattle.std.specs.BTreeMap.{UpdatesBy}
+use Rattle.std.proofs.lemmas.List.{at_drop_more}
 use Rattle.md_base.specs.declared.event.Position.{Position}
 use Rattle.md_pattern.specs.declared.facts.Fact.{Fact}
 use Rattle.md_tree.specs.declared.mention.Mention.{Mention}
@@ -15,8 +14,7 @@ use Rattle.md_tree.specs.declared.mention.Mention.TheVariants.{FootnoteDefinitio
 use Rattle.md_tree.specs.declared.mention.Mentioned.{Mentioned}
 use Rattle.md_tree.specs.Mentions.{defined, defined_by, footnoted_by, mentions_among}
 use Rattle.md_tree.specs.Numbers.{is_same, which, with_number, put_number, numbered}
-use Rattle.md_tree.specs.Numbers.{footnote_number, found_in, found_or, NumbersBefore, NumbersFrom}
-use Rattle.md_tree.specs.Numbers.{Numbers}
+use Rattle.md_tree.specs.Numbers.{footnote_number, found_in, NumbersBefore, NumbersFrom}
 use Rattle.md_tree.proofs.OneMoreIdentifier.{Text, Identifier, identifier_of, text_cmp, Numbered}
 use Rattle.md_tree.proofs.OneMoreIdentifier.{compared}
 
