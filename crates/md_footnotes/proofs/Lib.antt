@@ -1,6 +1,5 @@
 -- The lemmas: counting calls one after another, entries found by their places, numbers, lists, and
--- texts without the line endings at their ends; and, for the crates above, what the section reads
--- of what is given.
+-- texts without the line endings at their ends.
 mod Tally
 mod Placing
 mod MappedPlaces
@@ -8,4 +7,3 @@ mod PlacedCalls
 mod Numbers
 mod Lists
 mod Endings
-pub mod Given

@@ -1,1 +1,0 @@
--- Of what is given the section reads the options and the calls alone.
