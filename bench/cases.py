@@ -33,8 +33,8 @@ import written  # noqa: E402
 
 # In the order in which their cases stand, behind those that are written by hand.
 MODULES = [cuts, ids, attacks, flags, footnote_texts, labels, many]
-FIRST = b"worked cases, then each call that may fail, and then hostile events\n"
-LAST = b"each call was made\neach hostile list was tried\n"
+FIRST = b"worked cases, and then each call that may fail\n"
+LAST = b"each call was made\n"
 SHOWN_CASES, SHOWN_BEFORE, SHOWN_BYTES = 5, 40, 160
 
 

@@ -29,7 +29,7 @@ WRITTEN = re.compile(rf"Written by {SCRIPTS}\s+from\s+\S*numbers\.txt")
 BENCHMARK = "crates/md_bench/"
 PROMISED = re.compile(r"crates/md_ffi/src/export\.rt bivdrazo_compile\w*"
                       r"|crates/md_html/src/within\.rt compile_(safe_)?within")
-TESTS = re.compile(r"crates/md_(bench|cases|failure_cases|hostile_cases)/")
+TESTS = re.compile(r"crates/md_(bench|cases)/")
 WORDS = r"(?m)^( *)(?:pub(?:\(\w+\))? )?(?:const )?(?:unsafe )?(?:extern \"C\" )?"
 FUNCTION = re.compile(WORDS + r"fn (\w+)(?:<(?:[^<>]|->|<[^<>]*>)*>)?\(")
 BODY = re.compile(r"(?m)^(\{|[^ \n].* \{)$|\}$")

@@ -1,5 +1,5 @@
 //! Runs the worked cases that come on standard input, and writes what each answers; then makes
-//! calls whose memory, reads and writes fail (`failing`), and tries hostile events (`hostile`).
+//! calls whose memory, reads and writes fail (`failing`).
 //!
 //! Where the first word of standard input isn't `worked`, it says which of those calls are made,
 //! and nothing else is read: so no memory is taken before them. Where there is no word nothing is
@@ -13,13 +13,12 @@
 mod answers;
 mod compiling;
 mod failing;
-mod hostile;
 mod parts;
 mod reading;
 
 use answers::answer;
 use md_script::{ServeError, read_input};
-use std::io::{self, Read};
+use std::io::Read;
 use std::process::ExitCode;
 
 /// How a case begins.
@@ -62,21 +61,13 @@ fn main(rt: HostRuntime) -> ExitCode {
 fn ask<R: Input + Print + AllocGlobal>(rt: &R, word: &[u8]) -> Result<(), ServeError> {
     if word.starts_with(b"worked") {
         answer_cases(rt)?;
-        make_each(rt, word)?;
-        told(hostile::ask_each(rt))
-    } else {
-        make_each(rt, word)
     }
+    make_each(rt, word)
 }
 
 /// Makes the calls that a word asks for.
 fn make_each<R: Print + AllocGlobal>(rt: &R, word: &[u8]) -> Result<(), ServeError> {
-    told(failing::ask_each(rt, word))
-}
-
-/// What became of writing, as a program ends with it.
-fn told(written: io::Result<()>) -> Result<(), ServeError> {
-    match written {
+    match failing::ask_each(rt, word) {
         Ok(()) => Ok(()),
         Err(_) => Err(ServeError::Output),
     }

@@ -1,0 +1,85 @@
+#!/usr/bin/env python3
+"""Tries hostile events: tests that judge by code of their own, apart from the calls under test.
+
+usage: bench/hostile.py CASES MDEVENTS
+
+CASES is crates/md_cases/out/md_cases, once `rt run < stdin` there has built it: it answers many
+scripts in a run, by `run`, `compile`, `compile_checked`, `compile_counted` (with two visits of each
+event) and `compile_within`, and tells where these differ. MDEVENTS is crates/mdevents/out/mdevents,
+which is given some of the scripts too. The modules in bench/hostile, and what each asks:
+
+- few: each list of at most four of eight events, which has a text exactly if it has no fault
+- shapes: documents of up to a hundred thousand levels or items, each with its exact text, and those
+  of scaled_shapes, nodes in one another at each power of two
+- trees: trees of the grammar (grammar, growing) with all names, odd places, bytes that aren't UTF-8
+  and repeated names of references: each has a text, and that under safe options is read (reading)
+- broken: such trees with one event left out, doubled, exchanged, renamed or moved: what they may
+  give, and that the mended ones give what they gave
+
+The seeds are fixed. Ends with status 1 where something is wrong, and names the list, or the seed.
+"""
+
+import collections
+import multiprocessing
+import os
+import pathlib
+import sys
+
+sys.dont_write_bytecode = True
+sys.path.insert(0, str(pathlib.Path(__file__).resolve().parent / "hostile"))
+
+import asking  # noqa: E402  (without bytecode in this folder)
+import broken  # noqa: E402
+import few  # noqa: E402
+import reading  # noqa: E402
+import shapes  # noqa: E402
+import trees  # noqa: E402
+
+Programs = collections.namedtuple("Programs", "cases mdevents")
+SEEDS = {trees: 800, broken: 300}
+# How many trees are asked of a process.
+SEEDS_OF_JOB = 50
+SHOWN, SHOWN_LETTERS = 20, 500
+
+
+def jobs():
+    """What is asked, each a module and what that is to ask, the longest first."""
+    asked = [(shapes, name) for name in shapes.SHAPES]
+    for module, seeds in SEEDS.items():
+        asked += [(module, range(first, min(first + SEEDS_OF_JOB, seeds)))
+                  for first in range(0, seeds, SEEDS_OF_JOB)]
+    return asked + [(few, length) for length in range(few.GREATEST + 1)]
+
+
+def ask(job):
+    """What a job counts, and what is wrong."""
+    programs, place = job
+    module, asked = jobs()[place]
+    try:
+        return module.ask(programs, asked)
+    except asking.Wrong as wrong:
+        return collections.Counter(), [f"{module.__name__}, {asked}: {wrong}"]
+
+
+def main():
+    """Makes each test."""
+    if len(sys.argv) != 3:
+        sys.exit("usage: bench/hostile.py CASES MDEVENTS")
+    programs = Programs(*map(os.path.abspath, sys.argv[1:]))
+    counts, faults = collections.Counter(), reading.faults()
+    with multiprocessing.Pool() as pool:
+        places = range(len(jobs()))
+        for counted, wrong in pool.imap(ask, [(programs, place) for place in places]):
+            counts += counted
+            faults += wrong
+    if counts[few.WITH_TEXT] != few.TEXTS:
+        faults.append(f"{counts[few.WITH_TEXT]} lists of few events have a text")
+    for fault in faults[:SHOWN]:
+        print(f"hostile events: {fault[:SHOWN_LETTERS]}")
+    told = ", ".join(f"{count:,} {what}" for what, count in counts.items())
+    print(f"hostile events: {told}; {len(faults)} faults")
+    sys.exit(1 if faults else 0)
+
+
+if __name__ == "__main__":
+    main()
