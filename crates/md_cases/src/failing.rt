@@ -16,6 +16,7 @@ mod unnested;
 mod within;
 
 use log::Log;
+use std::alloc::Global;
 use std::io;
 
 /// Makes the calls that a word asks for, and writes which of them answered wrong, or that each
@@ -23,34 +24,36 @@ use std::io;
 /// for the others that take none, `methods` this and those, `memory` all that takes memory,
 /// else everything.
 pub fn ask_each<R: Print + AllocGlobal>(rt: &R, word: &[u8]) -> io::Result<()> {
-    let mut log = Log { refusals: 0 };
-    ask(rt, &mut log, word)?;
+    let mut log = Log {
+        refusals: 0,
+        wrong: None,
+    };
+    ask(rt.alloc(), &mut log, word);
     log.close(rt)
 }
 
 /// Makes the calls that this word asks for.
-fn ask<R: Print + AllocGlobal>(rt: &R, log: &mut Log, word: &[u8]) -> io::Result<()> {
+fn ask(alloc: Global, log: &mut Log, word: &[u8]) {
     if word.starts_with(b"plain") {
-        plain::ask_each(rt, log)
+        plain::ask_each(log);
     } else if word.starts_with(b"checked") {
-        documents::check_each(rt, log, false)
+        documents::check_each(alloc, log, false);
     } else if word.starts_with(b"methods") {
-        documents::check_each(rt, log, true)
+        documents::check_each(alloc, log, true);
     } else {
-        ask_with_memory(rt, log)?;
-        if word.starts_with(b"memory") {
-            return Ok(());
+        ask_with_memory(alloc, log);
+        if !word.starts_with(b"memory") {
+            serving::ask_each(alloc, log);
         }
-        serving::ask_each(rt, log)
     }
 }
 
 /// Makes the calls over texts and documents, and those that take no memory.
-fn ask_with_memory<R: Print + AllocGlobal>(rt: &R, log: &mut Log) -> io::Result<()> {
-    plain::ask_each(rt, log)?;
-    texts::ask_each(rt, log)?;
-    documents::ask_each(rt, log)?;
-    unnested::ask_each(rt, log)?;
-    within::ask_each(rt, log)?;
-    attributes::ask_each(rt, log)
+fn ask_with_memory(alloc: Global, log: &mut Log) {
+    plain::ask_each(log);
+    texts::ask_each(alloc, log);
+    documents::ask_each(alloc, log);
+    unnested::ask_each(alloc, log);
+    within::ask_each(alloc, log);
+    attributes::ask_each(alloc, log);
 }

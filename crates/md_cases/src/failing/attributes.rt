@@ -6,7 +6,6 @@ use super::rows::attributed;
 use md_html::SafeHtml;
 use md_page::{Heading, page_around, with_heading_ids, with_link_rel};
 use std::alloc::{AllocError, Global};
-use std::io;
 
 /// The document's text with a `rel`.
 const WITH_REL: &str = "<h1><a href=\"b\" rel=\"&lt;\">a</a></h1>";
@@ -20,27 +19,22 @@ const IN_PAGE: &str =
     <h1><a href=\"b\">a</a></h1></body></html>\n";
 
 /// Makes each call over a heading with a link.
-pub fn ask_each<R: Print + AllocGlobal>(rt: &R, log: &mut Log) -> io::Result<()> {
+pub fn ask_each(alloc: Global, log: &mut Log) {
     let row = attributed();
-    match &safe_of(rt.alloc(), log, row) {
-        Ok(html) => ask(rt, log, html, row.name),
-        Err(_) => log.tell(rt, false, "compile_safe", row.name),
+    match &safe_of(alloc, log, row) {
+        Ok(html) => ask(alloc, log, html, row.name),
+        Err(_) => log.tell(false, "compile_safe", row.name),
     }
 }
 
 /// Makes each call over a safe text.
-fn ask<R: Print + AllocGlobal>(
-    rt: &R,
-    log: &mut Log,
-    html: &SafeHtml,
-    name: &str,
-) -> io::Result<()> {
-    let is_right = adds_rel(rt.alloc(), log, html);
-    log.tell(rt, is_right, "with_link_rel", name)?;
-    let is_right = adds_ids(rt.alloc(), log, html);
-    log.tell(rt, is_right, "with_heading_ids", name)?;
-    let is_right = is_in_page(rt.alloc(), log, html);
-    log.tell(rt, is_right, "page_around", name)
+fn ask(alloc: Global, log: &mut Log, html: &SafeHtml, name: &'static str) {
+    let is_right = adds_rel(alloc, log, html);
+    log.tell(is_right, "with_link_rel", name);
+    let is_right = adds_ids(alloc, log, html);
+    log.tell(is_right, "with_heading_ids", name);
+    let is_right = is_in_page(alloc, log, html);
+    log.tell(is_right, "page_around", name);
 }
 
 /// Whether `with_link_rel` answers what is wanted.

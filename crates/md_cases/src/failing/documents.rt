@@ -14,152 +14,109 @@ use md_html::{
 };
 use scripts::{runs, runs_safely, tells_unreadable_line, tells_unsafe_options};
 use std::alloc::{AllocError, Global};
-use std::io;
 
 /// Makes each call over each document.
-pub fn ask_each<R: Print + AllocGlobal>(rt: &R, log: &mut Log) -> io::Result<()> {
+pub fn ask_each(alloc: Global, log: &mut Log) {
     for rows in documents() {
-        ask_rows(rt, log, rows)?;
+        ask_rows(alloc, log, rows);
     }
-    ask(rt, log, named(), &NAMES)?;
-    let is_right = tells_unsafe_options(rt.alloc(), log);
-    log.tell(rt, is_right, "run_safe", "unsafe options")?;
-    let is_right = tells_unreadable_line(rt.alloc(), log);
-    log.tell(rt, is_right, "run_safe", "a line that can't be read")
+    ask(alloc, log, named(), &NAMES);
+    let is_right = tells_unsafe_options(alloc, log);
+    log.tell(is_right, "run_safe", "unsafe options");
+    let is_right = tells_unreadable_line(alloc, log);
+    log.tell(is_right, "run_safe", "a line that can't be read");
 }
 
 /// Makes each call over each of these documents.
-fn ask_rows<R: Print + AllocGlobal>(rt: &R, log: &mut Log, rows: &[Row]) -> io::Result<()> {
+fn ask_rows(alloc: Global, log: &mut Log, rows: &[Row]) {
     for row in rows {
-        ask_script(rt, log, row)?;
-        ask(rt, log, row, &[])?;
-        ask_page(rt, log, row)?;
+        ask_script(alloc, log, row);
+        ask(alloc, log, row, &[]);
+        ask_page(alloc, log, row);
     }
-    Ok(())
 }
 
 /// Makes the calls over a script.
-fn ask_script<R: Print + AllocGlobal>(rt: &R, log: &mut Log, row: &Row) -> io::Result<()> {
-    let is_right = runs(rt.alloc(), log, row);
-    log.tell(rt, is_right, "run", row.name)?;
-    let is_right = runs_safely(rt.alloc(), log, row);
-    log.tell(rt, is_right, "run_safe", row.name)
+fn ask_script(alloc: Global, log: &mut Log, row: &Row) {
+    let is_right = runs(alloc, log, row);
+    log.tell(is_right, "run", row.name);
+    let is_right = runs_safely(alloc, log, row);
+    log.tell(is_right, "run_safe", row.name);
 }
 
 /// Makes the call that puts a safe text into a page.
-fn ask_page<R: Print + AllocGlobal>(rt: &R, log: &mut Log, row: &Row) -> io::Result<()> {
-    match &safe_of(rt.alloc(), log, row) {
+fn ask_page(alloc: Global, log: &mut Log, row: &Row) {
+    match &safe_of(alloc, log, row) {
         Ok(html) => {
-            let is_right = is_in_page(rt.alloc(), log, html, &row.wanted);
-            log.tell(rt, is_right, "page", row.name)
+            let is_right = is_in_page(alloc, log, html, &row.wanted);
+            log.tell(is_right, "page", row.name);
         }
-        Err(_) => Ok(()),
+        Err(_) => {}
     }
 }
 
 /// Makes the calls over events.
-fn ask<R: Print + AllocGlobal>(
-    rt: &R,
-    log: &mut Log,
-    row: &Row,
-    names: &[(&str, &str)],
-) -> io::Result<()> {
-    ask_compilers(rt, log, row, names)?;
-    ask_check(rt, log, row, names)
+fn ask(alloc: Global, log: &mut Log, row: &Row, names: &[(&str, &str)]) {
+    ask_compilers(alloc, log, row, names);
+    ask_check(alloc, log, row, names);
 }
 
 /// Makes the calls that compile events.
-fn ask_compilers<R: Print + AllocGlobal>(
-    rt: &R,
-    log: &mut Log,
-    row: &Row,
-    names: &[(&str, &str)],
-) -> io::Result<()> {
-    let is_right = compiles(rt.alloc(), log, row, names);
-    log.tell(rt, is_right, "compile", row.name)?;
-    let is_right = counts(rt.alloc(), log, row, names);
-    log.tell(rt, is_right, "compile_counted", row.name)
+fn ask_compilers(alloc: Global, log: &mut Log, row: &Row, names: &[(&str, &str)]) {
+    let is_right = compiles(alloc, log, row, names);
+    log.tell(is_right, "compile", row.name);
+    let is_right = counts(alloc, log, row, names);
+    log.tell(is_right, "compile_counted", row.name);
 }
 
 /// Makes the call that checks events, and those over what it answers.
-fn ask_check<R: Print + AllocGlobal>(
-    rt: &R,
-    log: &mut Log,
-    row: &Row,
-    names: &[(&str, &str)],
-) -> io::Result<()> {
-    match &checked_of(rt.alloc(), log, row, names) {
-        Ok(checked) => ask_checked(rt, log, row, checked),
-        Err(cause) => log.tell(rt, is_refusal(cause, &row.wanted), "check", row.name),
+fn ask_check(alloc: Global, log: &mut Log, row: &Row, names: &[(&str, &str)]) {
+    match &checked_of(alloc, log, row, names) {
+        Ok(checked) => ask_checked(alloc, log, row, checked),
+        Err(cause) => log.tell(is_refusal(cause, &row.wanted), "check", row.name),
     }
 }
 
 /// Makes the calls over what was checked.
-fn ask_checked<R: Print + AllocGlobal>(
-    rt: &R,
-    log: &mut Log,
-    row: &Row,
-    checked: &Checked,
-) -> io::Result<()> {
-    let is_right = compiles_checked(rt.alloc(), log, row, checked);
-    log.tell(rt, is_right, "compile_checked", row.name)?;
-    let is_right = aligns(rt.alloc(), log, checked);
-    log.tell(rt, is_right, "gfm_table_align", row.name)?;
-    plain::ask_of_checked(rt, log, row, checked)
+fn ask_checked(alloc: Global, log: &mut Log, row: &Row, checked: &Checked) {
+    let is_right = compiles_checked(alloc, log, row, checked);
+    log.tell(is_right, "compile_checked", row.name);
+    let is_right = aligns(alloc, log, checked);
+    log.tell(is_right, "gfm_table_align", row.name);
+    plain::ask_of_checked(log, row, checked);
 }
 
 /// Checks each document and compiles it as safe; then, where asked, makes the calls that read
 /// what these answered.
-pub fn check_each<R: Print + AllocGlobal>(
-    rt: &R,
-    log: &mut Log,
-    asks_methods: bool,
-) -> io::Result<()> {
+pub fn check_each(alloc: Global, log: &mut Log, asks_methods: bool) {
     for rows in documents() {
-        check_rows(rt, log, rows, asks_methods)?;
+        check_rows(alloc, log, rows, asks_methods);
     }
-    Ok(())
 }
 
 /// The same for these documents.
-fn check_rows<R: Print + AllocGlobal>(
-    rt: &R,
-    log: &mut Log,
-    rows: &[Row],
-    asks_methods: bool,
-) -> io::Result<()> {
+fn check_rows(alloc: Global, log: &mut Log, rows: &[Row], asks_methods: bool) {
     for row in rows {
-        check_row(rt, log, row, asks_methods)?;
-        compile_row(rt, log, row, asks_methods)?;
+        check_row(alloc, log, row, asks_methods);
+        compile_row(alloc, log, row, asks_methods);
     }
-    Ok(())
 }
 
 /// Checks a document; then, where asked, makes the calls that read what was checked.
-fn check_row<R: Print + AllocGlobal>(
-    rt: &R,
-    log: &mut Log,
-    row: &Row,
-    asks_methods: bool,
-) -> io::Result<()> {
-    match &checked_of(rt.alloc(), log, row, &[]) {
-        Ok(checked) if asks_methods => plain::ask_of_checked(rt, log, row, checked),
-        _ => Ok(()),
+fn check_row(alloc: Global, log: &mut Log, row: &Row, asks_methods: bool) {
+    match &checked_of(alloc, log, row, &[]) {
+        Ok(checked) if asks_methods => plain::ask_of_checked(log, row, checked),
+        _ => {}
     }
 }
 
 /// Compiles a document as safe; then, where asked, makes the call that reads the text.
-fn compile_row<R: Print + AllocGlobal>(
-    rt: &R,
-    log: &mut Log,
-    row: &Row,
-    asks_methods: bool,
-) -> io::Result<()> {
-    match &safe_of(rt.alloc(), log, row) {
+fn compile_row(alloc: Global, log: &mut Log, row: &Row, asks_methods: bool) {
+    match &safe_of(alloc, log, row) {
         Ok(html) if asks_methods => {
-            log.tell(rt, is_text(html.as_str(), &row.wanted), "as_str", row.name)
+            log.tell(is_text(html.as_str(), &row.wanted), "as_str", row.name);
         }
-        _ => Ok(()),
+        _ => {}
     }
 }
 

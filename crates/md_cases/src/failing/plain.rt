@@ -10,22 +10,16 @@ use md_html::{
     Checked, CompileOptions, LineEnding, Name, Position, Slice, list_item_loose, list_loose,
 };
 use md_script::{RunError, ServeError};
-use std::io;
 use std::str::FromStr;
 
 /// Makes the calls that ask for nothing that takes memory.
-pub fn ask_each<R: Print>(rt: &R, log: &Log) -> io::Result<()> {
+pub fn ask_each(log: &mut Log) {
     let cut = "a slice that is cut within tabs";
-    log.tell(rt, endings_answer(), "as_str and from_str", "line endings")?;
-    log.tell(rt, options_answer(), "default and gfm", "options")?;
-    log.tell(rt, errors_answer(), "status", "errors")?;
-    log.tell(rt, cut_slice_answers(), "each call but serialize", cut)?;
-    log.tell(
-        rt,
-        inner_slice_answers(),
-        "from_indices and as_str",
-        "a slice",
-    )
+    log.tell(endings_answer(), "as_str and from_str", "line endings");
+    log.tell(options_answer(), "default and gfm", "options");
+    log.tell(errors_answer(), "status", "errors");
+    log.tell(cut_slice_answers(), "each call but serialize", cut);
+    log.tell(inner_slice_answers(), "from_indices and as_str", "a slice");
 }
 
 /// Whether line endings have their texts.
@@ -68,44 +62,41 @@ fn inner_slice_answers() -> bool {
 }
 
 /// Makes the calls that ask for what was checked.
-pub fn ask_of_checked<R: Print>(rt: &R, log: &Log, row: &Row, checked: &Checked) -> io::Result<()> {
-    ask_of_each(rt, log, row, checked)?;
-    ask_of_link(rt, log, row, checked)?;
-    ask_of_footnote(rt, log, row, checked)
+pub fn ask_of_checked(log: &mut Log, row: &Row, checked: &Checked) {
+    ask_of_each(log, row, checked);
+    ask_of_link(log, row, checked);
+    ask_of_footnote(log, row, checked);
 }
 
 /// Makes those that each document has.
-fn ask_of_each<R: Print>(rt: &R, log: &Log, row: &Row, checked: &Checked) -> io::Result<()> {
+fn ask_of_each(log: &mut Log, row: &Row, checked: &Checked) {
     let (name, of_item) = (row.name, "list_item_loose and last_contributing");
     log.tell(
-        rt,
         is_kept(row, checked),
         "events, visits, bytes and names",
         name,
-    )?;
-    log.tell(rt, partners_answer(row, checked), "partner", name)?;
-    log.tell(rt, list_answers(checked), "list_loose", name)?;
-    log.tell(rt, item_answers(checked), of_item, name)
+    );
+    log.tell(partners_answer(row, checked), "partner", name);
+    log.tell(list_answers(checked), "list_loose", name);
+    log.tell(item_answers(checked), of_item, name);
 }
 
 /// Makes those of a link by a label, where it is the second node.
-fn ask_of_link<R: Print>(rt: &R, log: &Log, row: &Row, checked: &Checked) -> io::Result<()> {
+fn ask_of_link(log: &mut Log, row: &Row, checked: &Checked) {
     if checked.enters(1, Name::Link)
         && checked.exits(5, Name::Data)
         && checked.exits(6, Name::LabelText)
     {
-        return log.tell(rt, link_answers(checked), "the calls of a link", row.name);
+        log.tell(link_answers(checked), "the calls of a link", row.name);
     }
-    Ok(())
 }
 
 /// Makes the call of a footnote's call and of its definition, where they are the second node and
 /// one that ends later.
-fn ask_of_footnote<R: Print>(rt: &R, log: &Log, row: &Row, checked: &Checked) -> io::Result<()> {
+fn ask_of_footnote(log: &mut Log, row: &Row, checked: &Checked) {
     if checked.exits(6, Name::GfmFootnoteCall) && checked.exits(23, Name::GfmFootnoteDefinition) {
-        return log.tell(rt, footnote_answers(checked), "footnote_of", row.name);
+        log.tell(footnote_answers(checked), "footnote_of", row.name);
     }
-    Ok(())
 }
 
 /// Whether both are of the first footnote.

@@ -9,7 +9,6 @@ use md_html::Rule;
 use md_script::{RunError, ServeError, serve};
 use messages::have_messages;
 use std::alloc::{AllocError, Global};
-use std::io;
 use streams::{
     EndlessReader, FailingReader, FailingWriter, MEGABYTE, STEP, SlowReader, StuckWriter,
 };
@@ -20,28 +19,28 @@ const BREAK: &[u8] = b"+ThematicBreak 0\n-ThematicBreak 3\n--\n***";
 const BREAK_TEXT: &[u8] = b"<hr />";
 
 /// Makes each call of `serve`, and those that tell of its errors.
-pub fn ask_each<R: Print + AllocGlobal>(rt: &R, log: &Log) -> io::Result<()> {
-    ask_of_scripts(rt, log)?;
-    ask_of_failures(rt, log)
+pub fn ask_each(alloc: Global, log: &mut Log) {
+    ask_of_scripts(alloc, log);
+    ask_of_failures(alloc, log);
 }
 
 /// Makes those where each read and write succeeds, and those that tell of errors.
-fn ask_of_scripts<R: Print + AllocGlobal>(rt: &R, log: &Log) -> io::Result<()> {
-    let alloc = rt.alloc();
-    log.tell(rt, is_written(alloc), "serve", "a break")?;
-    log.tell(rt, slow_is_read(alloc), "serve", "a slow reader")?;
-    log.tell(rt, is_appended(alloc) == Ok(true), "append_text", "a break")?;
-    log.tell(rt, refusals_are_told(alloc), "serve", "refused scripts")?;
-    log.tell(rt, have_messages(alloc) == Ok(true), "to_string", "errors")
+fn ask_of_scripts(alloc: Global, log: &mut Log) {
+    let alloc = alloc;
+    log.tell(is_written(alloc), "serve", "a break");
+    log.tell(slow_is_read(alloc), "serve", "a slow reader");
+    log.tell(is_appended(alloc) == Ok(true), "append_text", "a break");
+    log.tell(refusals_are_told(alloc), "serve", "refused scripts");
+    log.tell(have_messages(alloc) == Ok(true), "to_string", "errors");
 }
 
 /// Makes those where one fails, or never ends.
-fn ask_of_failures<R: Print + AllocGlobal>(rt: &R, log: &Log) -> io::Result<()> {
-    let alloc = rt.alloc();
-    log.tell(rt, reads_are_told(alloc), "serve", "reads that fail")?;
-    log.tell(rt, writes_are_told(alloc), "serve", "writes that fail")?;
-    log.tell(rt, stuck_is_told(alloc), "serve", "writers that are stuck")?;
-    log.tell(rt, endless_is_told(alloc), "serve", "an endless reader")
+fn ask_of_failures(alloc: Global, log: &mut Log) {
+    let alloc = alloc;
+    log.tell(reads_are_told(alloc), "serve", "reads that fail");
+    log.tell(writes_are_told(alloc), "serve", "writes that fail");
+    log.tell(stuck_is_told(alloc), "serve", "writers that are stuck");
+    log.tell(endless_is_told(alloc), "serve", "an endless reader");
 }
 
 /// What `serve` answers, and what it wrote, where these reads and writes fail, and

@@ -7,7 +7,6 @@ use md_html::{
     normalize_identifier, sanitize, sanitize_with_protocols,
 };
 use std::alloc::{AllocError, Global};
-use std::io;
 
 /// A call over a text.
 enum Tool {
@@ -103,17 +102,16 @@ static CASES: [Case; 17] = [
 ];
 
 /// Makes each call.
-pub fn ask_each<R: Print + AllocGlobal>(rt: &R, log: &mut Log) -> io::Result<()> {
-    ask_cases(rt, log, &CASES)
+pub fn ask_each(alloc: Global, log: &mut Log) {
+    ask_cases(alloc, log, &CASES);
 }
 
 /// Makes each of these calls.
-fn ask_cases<R: Print + AllocGlobal>(rt: &R, log: &mut Log, cases: &[Case]) -> io::Result<()> {
+fn ask_cases(alloc: Global, log: &mut Log, cases: &[Case]) {
     for (call, tool, text, wanted) in cases {
-        let is_right = is_answered(rt.alloc(), log, tool, text, *wanted);
-        log.tell(rt, is_right, call, text)?;
+        let is_right = is_answered(alloc, log, tool, text, *wanted);
+        log.tell(is_right, call, text);
     }
-    Ok(())
 }
 
 /// Whether a call answers what is wanted.

@@ -8,41 +8,34 @@ use md_html::{
     has_nested_link,
 };
 use std::alloc::{AllocError, Global};
-use std::io;
 
 /// Makes these calls over each document, none of which has a link in a link, and over two with
 /// links and images.
-pub fn ask_each<R: Print + AllocGlobal>(rt: &R, log: &mut Log) -> io::Result<()> {
+pub fn ask_each(alloc: Global, log: &mut Log) {
     for rows in documents() {
-        ask_rows(rt, log, rows)?;
+        ask_rows(alloc, log, rows);
     }
-    ask_row(rt, log, in_image())?;
+    ask_row(alloc, log, in_image());
     let row = nested();
-    log.tell(rt, has_nested_link(row.events), "has_nested_link", row.name)?;
-    let is_right = refuses_nested(rt.alloc(), log, row);
-    log.tell(rt, is_right, "compile_unnested", row.name)?;
-    let is_right = refuses_options(rt.alloc(), log);
-    log.tell(rt, is_right, "compile_unnested", "unsafe options")
+    log.tell(has_nested_link(row.events), "has_nested_link", row.name);
+    let is_right = refuses_nested(alloc, log, row);
+    log.tell(is_right, "compile_unnested", row.name);
+    let is_right = refuses_options(alloc, log);
+    log.tell(is_right, "compile_unnested", "unsafe options");
 }
 
 /// Makes them over each of these documents.
-fn ask_rows<R: Print + AllocGlobal>(rt: &R, log: &mut Log, rows: &[Row]) -> io::Result<()> {
+fn ask_rows(alloc: Global, log: &mut Log, rows: &[Row]) {
     for row in rows {
-        ask_row(rt, log, row)?;
+        ask_row(alloc, log, row);
     }
-    Ok(())
 }
 
 /// Makes them over a document without a link in a link.
-fn ask_row<R: Print + AllocGlobal>(rt: &R, log: &mut Log, row: &Row) -> io::Result<()> {
-    log.tell(
-        rt,
-        !has_nested_link(row.events),
-        "has_nested_link",
-        row.name,
-    )?;
-    let is_right = compiles_unnested(rt.alloc(), log, row);
-    log.tell(rt, is_right, "compile_unnested", row.name)
+fn ask_row(alloc: Global, log: &mut Log, row: &Row) {
+    log.tell(!has_nested_link(row.events), "has_nested_link", row.name);
+    let is_right = compiles_unnested(alloc, log, row);
+    log.tell(is_right, "compile_unnested", row.name);
 }
 
 /// Whether `compile_unnested` answers what is wanted.

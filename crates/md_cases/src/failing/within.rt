@@ -8,30 +8,27 @@ use md_html::{
     compile_safe_within, compile_within, work_of,
 };
 use std::alloc::Global;
-use std::io;
 
 /// No limit.
 const NONE: usize = usize::MAX;
 
 /// Makes these calls over each document: at its exact length and work, at one less of each, and at
 /// the least and the greatest limits.
-pub fn ask_each<R: Print + AllocGlobal>(rt: &R, log: &mut Log) -> io::Result<()> {
+pub fn ask_each(alloc: Global, log: &mut Log) {
     for rows in documents() {
-        ask_rows(rt, log, rows)?;
+        ask_rows(alloc, log, rows);
     }
-    Ok(())
 }
 
 /// Makes them over each of these documents.
-fn ask_rows<R: Print + AllocGlobal>(rt: &R, log: &mut Log, rows: &[Row]) -> io::Result<()> {
+fn ask_rows(alloc: Global, log: &mut Log, rows: &[Row]) {
     for row in rows {
-        ask_row(rt, log, row)?;
+        ask_row(alloc, log, row);
     }
-    Ok(())
 }
 
 /// Makes them over a document.
-fn ask_row<R: Print + AllocGlobal>(rt: &R, log: &mut Log, row: &Row) -> io::Result<()> {
+fn ask_row(alloc: Global, log: &mut Log, row: &Row) {
     let (length, work) = (length_of(&row.wanted), work_of(row.events));
     let limits = [
         (length, work),
@@ -45,22 +42,16 @@ fn ask_row<R: Print + AllocGlobal>(rt: &R, log: &mut Log, row: &Row) -> io::Resu
             text: *text,
             work: *work,
         };
-        ask_limits(rt, log, row, limits)?;
+        ask_limits(alloc, log, row, limits);
     }
-    Ok(())
 }
 
 /// Makes both calls over a document, with these limits.
-fn ask_limits<R: Print + AllocGlobal>(
-    rt: &R,
-    log: &mut Log,
-    row: &Row,
-    limits: Limits,
-) -> io::Result<()> {
-    let is_right = compiles_within(rt.alloc(), log, row, limits);
-    log.tell(rt, is_right, "compile_within", row.name)?;
-    let is_right = compiles_safe_within(rt.alloc(), log, row, limits);
-    log.tell(rt, is_right, "compile_safe_within", row.name)
+fn ask_limits(alloc: Global, log: &mut Log, row: &Row, limits: Limits) {
+    let is_right = compiles_within(alloc, log, row, limits);
+    log.tell(is_right, "compile_within", row.name);
+    let is_right = compiles_safe_within(alloc, log, row, limits);
+    log.tell(is_right, "compile_safe_within", row.name);
 }
 
 /// Whether `compile_within` answers what is wanted.
