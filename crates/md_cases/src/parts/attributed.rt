@@ -2,7 +2,7 @@
 
 use super::compiled::by_safe;
 use super::{Asked, Call, no_such_call, word_and_rest};
-use md_page::{Heading, Html, WithHeadingIds, page_around, with_heading_ids, with_link_rel};
+use md_page::{Heading, Html, page_around, with_heading_ids, with_link_rel};
 use std::alloc::{AllocError, Global};
 
 /// What a call answers of the safe text.
@@ -25,39 +25,60 @@ pub(super) fn answer_of<H: Html>(
 ) -> Result<String, AllocError> {
     let text = call.argument;
     match call.name {
-        "rel" => copied(alloc, &with_link_rel(alloc, html, text)?),
+        "rel" => rel(alloc, html, text),
         "rel_again" => rel_again(alloc, html, word_and_rest(text)),
-        "ids" => copied(alloc, &with_heading_ids(alloc, html, text)?.html),
-        "headings" => listed(alloc, &with_heading_ids(alloc, html, text)?),
-        "both" => copied(
-            alloc,
-            &with_heading_ids(alloc, &with_link_rel(alloc, html, text)?, text)?.html,
-        ),
-        "turned" => copied(
-            alloc,
-            &with_link_rel(alloc, &with_heading_ids(alloc, html, text)?.html, text)?,
-        ),
+        "ids" => ids(alloc, html, text),
+        "headings" => headings(alloc, html, text),
+        "both" => both(alloc, html, text),
+        "turned" => turned(alloc, html, text),
         "page" => page_around(alloc, text, html),
-        "page_with_rel" => page_around(alloc, text, &with_link_rel(alloc, html, text)?),
+        "page_with_rel" => page_with_rel(alloc, html, text),
         _ => no_such_call(alloc),
     }
 }
 
-/// The text with a `rel`, which is then asked for another.
-fn rel_again<H: Html>(alloc: Global, html: &H, rels: (&str, &str)) -> Result<String, AllocError> {
-    let first = with_link_rel(alloc, html, rels.0)?;
-    copied(alloc, &with_link_rel(alloc, &first, rels.1)?)
+/// The text with a `rel`.
+fn rel<H: Html>(alloc: Global, html: &H, rel: &str) -> Result<String, AllocError> {
+    String::from_str(alloc, with_link_rel(alloc, html, rel)?.as_str())
 }
 
-/// The text.
-fn copied<H: Html>(alloc: Global, html: &H) -> Result<String, AllocError> {
-    String::from_str(alloc, html.as_str())
+/// The text with a `rel`, which is then asked for another.
+fn rel_again<H: Html>(alloc: Global, html: &H, rels: (&str, &str)) -> Result<String, AllocError> {
+    rel(alloc, &with_link_rel(alloc, html, rels.0)?, rels.1)
+}
+
+/// The text with ids on its headings.
+fn ids<H: Html>(alloc: Global, html: &H, prefix: &str) -> Result<String, AllocError> {
+    String::from_str(alloc, with_heading_ids(alloc, html, prefix)?.html.as_str())
+}
+
+/// The text with a `rel`, and then with ids.
+fn both<H: Html>(alloc: Global, html: &H, text: &str) -> Result<String, AllocError> {
+    ids(alloc, &with_link_rel(alloc, html, text)?, text)
+}
+
+/// The text with ids, and then with a `rel`.
+fn turned<H: Html>(alloc: Global, html: &H, text: &str) -> Result<String, AllocError> {
+    rel(alloc, &with_heading_ids(alloc, html, text)?.html, text)
+}
+
+/// A page around the text with a `rel`.
+fn page_with_rel<H: Html>(alloc: Global, html: &H, text: &str) -> Result<String, AllocError> {
+    page_around(alloc, text, &with_link_rel(alloc, html, text)?)
+}
+
+/// Each heading that has got an id.
+fn headings<H: Html>(alloc: Global, html: &H, prefix: &str) -> Result<String, AllocError> {
+    listed(
+        alloc,
+        with_heading_ids(alloc, html, prefix)?.headings.as_slice(),
+    )
 }
 
 /// Each heading: its level, its number and its text.
-fn listed(alloc: Global, after: &WithHeadingIds) -> Result<String, AllocError> {
+fn listed(alloc: Global, headings: &[Heading]) -> Result<String, AllocError> {
     let mut said = String::new(alloc);
-    for heading in &after.headings {
+    for heading in headings {
         say(&mut said, heading)?;
     }
     Ok(said)

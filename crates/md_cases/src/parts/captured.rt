@@ -30,10 +30,9 @@ fn answer_with(alloc: Global, steps: &str, long: &str) -> Result<String, AllocEr
     for step in steps.chars() {
         take(&mut out, &mut moved, long, step)?;
     }
-    let mut text = out.into_text(alloc)?;
-    text.push_str("|")?;
-    text.push_str(moved.as_str())?;
-    text.replace(alloc, long, "~")
+    let text = out.into_text(alloc)?;
+    let said = format!(in alloc; "{text}|{moved}")?;
+    said.replace(alloc, long, "~")
 }
 
 /// Takes a step.
