@@ -39,8 +39,8 @@ impl Log {
         }
     }
 
-    /// Writes what was wrong, if anything was, and that each call was made. Only one request is refused in a run, so that at most one
-    /// call may run out of memory.
+    /// Writes what was wrong, if anything was, and that each call was made. Only one request is
+    /// refused in a run, so that at most one call may run out of memory.
     pub fn close<R: Print>(&self, rt: &R) -> io::Result<()> {
         if self.refusals > 1 {
             println!(rt; "wrong: {} calls wanted memory", self.refusals)?;
