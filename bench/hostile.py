@@ -20,7 +20,7 @@ The seeds are fixed. Ends with status 1 where something is wrong, and names the 
 """
 
 import collections
-import multiprocessing
+import concurrent.futures
 import os
 import pathlib
 import sys
@@ -37,8 +37,8 @@ import trees  # noqa: E402
 
 Programs = collections.namedtuple("Programs", "cases mdevents")
 SEEDS = {trees: 800, broken: 300}
-# How many trees are asked of a process.
-SEEDS_OF_JOB = 50
+# How many trees are asked of a process, and how many processes run at once, each in 0.3 GB.
+SEEDS_OF_JOB, MOST_PROCESSES = 50, 4
 SHOWN, SHOWN_LETTERS = 20, 500
 
 
@@ -67,9 +67,9 @@ def main():
         sys.exit("usage: bench/hostile.py CASES MDEVENTS")
     programs = Programs(*map(os.path.abspath, sys.argv[1:]))
     counts, faults = collections.Counter(), reading.faults()
-    with multiprocessing.Pool() as pool:
+    with concurrent.futures.ProcessPoolExecutor(min(os.cpu_count(), MOST_PROCESSES)) as pool:
         places = range(len(jobs()))
-        for counted, wrong in pool.imap(ask, [(programs, place) for place in places]):
+        for counted, wrong in pool.map(ask, [(programs, place) for place in places]):
             counts += counted
             faults += wrong
     if counts[few.WITH_TEXT] != few.TEXTS:
