@@ -81,24 +81,13 @@ pub fn spaced(last: Last) -> Last
     }
 }
 
-/// Nothing stands after a marker in the last child.
-fn is_bare(last: Last) -> bool
-    ensures { result ≡ spec.is_bare_last last }
-{
-    matches!(
-        last,
-        Last::Prefix | Last::PrefixSpace | Last::Bare | Last::BareSpace
-    )
-}
-
 /// What an item is, by its own last child.
 fn item_as(own: Last) -> Last
     ensures { result ≡ spec.item_as own }
 {
-    if is_bare(own) {
-        Last::BareItem
-    } else {
-        Last::Plain
+    match own {
+        Last::Prefix | Last::PrefixSpace | Last::Bare | Last::BareSpace => Last::BareItem,
+        _ => Last::Plain,
     }
 }
 
