@@ -6,8 +6,8 @@ ghost use Rattle.std.specs.Prelude.{length, set, slice_get};
 ghost use Rattle.md_pattern.specs.Facts as spec;
 ghost use Rattle.md_pattern.specs.FactWords.{IsWord, fact_of_word};
 
-use super::Fact;
 use super::nodes::partner_alone;
+use super::{Fact, room};
 use std::alloc::{AllocError, Global};
 use std::marker::Model;
 
@@ -79,7 +79,7 @@ impl FactList {
         ensures { OnOk result (self.new ≡ self.old ++ fact ∷ []) }
     {
         let word = word_for(&mut self.records, fact, self.words.capacity())?;
-        push_word(&mut self.words, word)
+        room::push(&mut self.words, word, 1)
     }
 
     /// Adds what is found at an entry and at its own exit, which comes right after; answers the
@@ -154,10 +154,7 @@ fn number_of_record(records: &mut Vec<Fact>, fact: Fact, events: usize) -> Resul
         → fact_of_word records.new.items word ≡ fact_of_word records.old.items word }
 {
     let number = records.len();
-    if number == records.capacity() {
-        records.reserve(events / 8 + 1)?;
-    }
-    records.push_reserved(fact);
+    room::push(records, fact, events / 8 + 1)?;
     Ok(RECORDS + number)
 }
 
@@ -174,20 +171,7 @@ fn fact_of_word(records: &[Fact], word: usize) -> Fact
     }
 }
 
-/// Adds a word. Mostly there is room, and no call is made.
-#[inline(always)]
-fn push_word(words: &mut Vec<usize>, word: usize) -> Result<(), AllocError>
-    ensures pushed { OnOk result (words.new.items ≡ words.old.items ++ word ∷ []) }
-    ensures refused { OnErr result (words.new.items ≡ words.old.items) }
-{
-    if words.len() == words.capacity() {
-        words.reserve(1)?;
-    }
-    words.push_reserved(word);
-    Ok(())
-}
-
-/// Adds the words of an entry and of its own exit, likewise; answers the index of the entry.
+/// Adds the words of an entry and of its own exit; answers the index of the entry.
 #[inline(always)]
 fn push_two(words: &mut Vec<usize>) -> Result<usize, AllocError>
     ensures entry { IfOk result (λ entry. entry ≡ length words.old.items) }
