@@ -129,16 +129,16 @@ pub fn tell(told: &mut Told, name: Name, own: Told)
 {
     match name {
         Name::BlankLineEnding => {
-            told.without_items = told.without_items || parts(told.last);
-            told.of_item = told.of_item || loosens(told.last);
+            told.without_items |= parts(told.last);
+            told.of_item |= loosens(told.last);
             told.last = Last::Plain;
         }
         Name::ListItem => {
             told.last = item_as(own.last);
-            told.has_loose_item = told.has_loose_item || own.of_item;
+            told.has_loose_item |= own.of_item;
         }
         Name::GfmTableDelimiterMarker => {
-            told.begins_with_marker = told.begins_with_marker || is_nothing(told.last);
+            told.begins_with_marker |= is_nothing(told.last);
             told.last = Last::Marker;
         }
         Name::SpaceOrTab => told.last = spaced(told.last),
