@@ -18,6 +18,7 @@ use self::nodes::{document_node, fact_of, opened, partner_alone};
 use crate::columns::Columns;
 use crate::seeking::Sought;
 use crate::told::{Looseness, Told};
+use md_base::name_tests::is_link_definition;
 use md_base::{AlignKind, Event, Kind, Name};
 use std::alloc::{AllocError, Global};
 use std::marker::Model;
@@ -271,4 +272,15 @@ fn exits_line_ending(event: &Event) -> bool
 {
     matches!(event.kind, Kind::Exit)
         && matches!(event.name, Name::LineEnding | Name::BlankLineEnding)
+}
+
+/// Adds the entry of a node that exits, if it is a definition.
+fn define(definitions: &mut Vec<usize>, name: Name, entry: usize) -> Result<(), AllocError>
+    ensures { OnOk result
+        (definitions.new.items ≡ spec.definitions_with name entry definitions.old.items) }
+{
+    if is_link_definition(name) {
+        definitions.push(entry)?;
+    }
+    Ok(())
 }

@@ -6,11 +6,11 @@ ghost use Rattle.md_pattern.specs.Facts as spec;
 ghost use Rattle.md_pattern.specs.Columns.{columns_exited};
 ghost use Rattle.md_pattern.specs.Told.{nothing_told, told_with};
 
-use super::{Ended, OpenNode};
+use super::{Ended, OpenNode, define};
 use crate::seeking::{Sought, is_idle, see};
 use crate::told::{Last, NOTHING_TOLD, Told, spaced, tell};
 use md_base::Name;
-use md_base::name_tests::{contributes, is_link_definition, is_transparent};
+use md_base::name_tests::{contributes, is_transparent};
 use std::alloc::{AllocError, Global};
 
 /// Notes a child that exits: as the last contributing one of the node around it, or among
@@ -29,10 +29,10 @@ fn note_child(
 {
     if contributes(name) {
         *contributing = entry;
-    } else if is_link_definition(name) {
-        definitions.push(entry)?;
+        Ok(())
+    } else {
+        define(definitions, name, entry)
     }
-    Ok(())
 }
 
 /// Goes on with a search after a child, given that in it.

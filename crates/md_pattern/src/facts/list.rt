@@ -127,7 +127,8 @@ fn is_partner_alone(fact: &Fact) -> bool
 }
 
 /// The word for a fact, which gets a record where it needs one: `events` is for how many there is
-/// room.
+/// room. Where there is none for the record, it is made for an eighth of the events, since making
+/// it by and by would copy the records again and again.
 #[inline(always)]
 fn word_for(records: &mut Vec<Fact>, fact: Fact, events: usize) -> Result<usize, AllocError>
     ensures word { IfOk result (λ word. IsWord records.new.items word) }
@@ -137,22 +138,8 @@ fn word_for(records: &mut Vec<Fact>, fact: Fact, events: usize) -> Result<usize,
         → fact_of_word records.new.items word ≡ fact_of_word records.old.items word }
 {
     if is_partner_alone(&fact) {
-        Ok(fact.partner)
-    } else {
-        number_of_record(records, fact, events)
+        return Ok(fact.partner);
     }
-}
-
-/// The word for a fact that gets a record. Where there is no room, it is made for an eighth of the
-/// events, since making it by and by would copy the records again and again.
-#[inline(always)]
-fn number_of_record(records: &mut Vec<Fact>, fact: Fact, events: usize) -> Result<usize, AllocError>
-    ensures word { IfOk result (λ word. IsWord records.new.items word) }
-    ensures fact { IfOk result (λ word. fact_of_word records.new.items word ≡ fact) }
-    ensures words { (word : ℕ) → IsWord records.old.items word → IsWord records.new.items word }
-    ensures facts { (word : ℕ) → IsWord records.old.items word
-        → fact_of_word records.new.items word ≡ fact_of_word records.old.items word }
-{
     let number = records.len();
     room::push(records, fact, events / 8 + 1)?;
     Ok(RECORDS + number)
