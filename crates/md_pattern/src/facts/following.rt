@@ -4,11 +4,11 @@ ghost use Rattle.std.specs.Prelude.{◌≡◌, true, false, OnOk};
 ghost use Rattle.md_base.specs.NameTests.{is_transparent, contributes};
 ghost use Rattle.md_pattern.specs.Facts as spec;
 ghost use Rattle.md_pattern.specs.Columns.{columns_exited};
-ghost use Rattle.md_pattern.specs.Told.{nothing_told, told_with};
+ghost use Rattle.md_pattern.specs.Told.{nothing_told};
 
 use super::{Ended, OpenNode, define};
 use crate::seeking::{Sought, is_idle, see};
-use crate::told::{Last, NOTHING_TOLD, Told, spaced, tell};
+use crate::told::{Last, NOTHING_TOLD, spaced, tell};
 use md_base::Name;
 use md_base::name_tests::{contributes, is_transparent};
 use std::alloc::{AllocError, Global};
@@ -85,7 +85,15 @@ pub(super) fn follow(
         here.told.last = Last::Plain;
         return Ok(());
     }
-    follow_told(alloc, here, ended, name, own.entry, own.told)
+    ended.columns.exit(alloc, name, own.told, here.collects)?;
+    note_child(
+        &mut here.contributing,
+        &mut ended.definitions,
+        name,
+        own.entry,
+    )?;
+    tell(&mut here.told, name, own.told);
+    Ok(())
 }
 
 /// The same after a child without children of its own.
@@ -108,32 +116,12 @@ pub(super) fn follow_leaf(
         follow_simple(here, name, entry);
         return Ok(());
     }
-    search_leaf(&mut here.sought, name, entry);
-    follow_told(alloc, here, ended, name, entry, NOTHING_TOLD)
-}
-
-/// The same but for what is sought, after a child whose children tell this.
-#[inline(always)]
-fn follow_told(
-    alloc: Global,
-    here: &mut OpenNode,
-    ended: &mut Ended,
-    name: Name,
-    entry: usize,
-    told: Told,
-) -> Result<(), AllocError>
-    ensures here { OnOk result (here.new ≡ record here.old {
-      contributing = spec.contributing_after name entry here.old.contributing;
-      told = told_with name told here.old.told;
-    }) }
-    ensures columns { OnOk result (ended.new.columns
-        ≡ columns_exited name told here.old.collects ended.old.columns) }
-    ensures definitions { OnOk result (ended.new.definitions.items
-        ≡ spec.definitions_with name entry ended.old.definitions.items) }
-{
-    ended.columns.exit(alloc, name, told, here.collects)?;
+    ended
+        .columns
+        .exit(alloc, name, NOTHING_TOLD, here.collects)?;
     note_child(&mut here.contributing, &mut ended.definitions, name, entry)?;
-    tell(&mut here.told, name, told);
+    search_leaf(&mut here.sought, name, entry);
+    tell(&mut here.told, name, NOTHING_TOLD);
     Ok(())
 }
 
