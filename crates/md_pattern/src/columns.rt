@@ -25,12 +25,12 @@ fn part_of(name: Name) -> Part
 {
     match name {
         Name::GfmTable => Part::Table,
-        Name::GfmTableHead
-        | Name::GfmTableDelimiterRow
-        | Name::BlockQuotePrefix
-        | Name::SpaceOrTab
-        | Name::Other(_) => Part::Leads,
+        Name::GfmTableHead => Part::Leads,
+        Name::GfmTableDelimiterRow => Part::Leads,
         Name::GfmTableDelimiterCellValue => Part::Value,
+        Name::BlockQuotePrefix => Part::Leads,
+        Name::SpaceOrTab => Part::Leads,
+        Name::Other(_) => Part::Leads,
         _ => Part::Apart,
     }
 }

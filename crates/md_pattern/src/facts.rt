@@ -10,11 +10,10 @@ ghost use Rattle.md_pattern.specs.Ending.{exits_line_ending, ending_after};
 mod following;
 mod list;
 mod nodes;
-mod room;
 
 use self::following::{follow, follow_leaf};
 pub use self::list::FactList;
-use self::nodes::{document_node, fact_of, opened, partner_alone};
+use self::nodes::{document_node, fact_of, opened, partner_alone, push_node};
 use crate::columns::Columns;
 use crate::seeking::Sought;
 use crate::told::{Looseness, Told};
@@ -165,7 +164,7 @@ impl Pass {
         self.facts.push(partner_alone(0))?;
         self.ended.columns.enter(name)?;
         let inside = opened(entry, name, innermost(&self.open_nodes, &self.document));
-        room::push(&mut self.open_nodes, inside, 1)
+        push_node(&mut self.open_nodes, inside)
     }
 
     /// The exit of a node.

@@ -82,7 +82,8 @@ fn wanted_by(name: Name) -> Wanted
         Name::ListOrdered => Wanted::Item,
         Name::ListItem => Wanted::Prefix,
         Name::ListItemPrefix => Wanted::Value,
-        Name::Link | Name::Image => Wanted::Media,
+        Name::Link => Wanted::Media,
+        Name::Image => Wanted::Media,
         Name::GfmFootnoteCall => Wanted::Label,
         Name::Label => Wanted::LabelText,
         Name::Definition => Wanted::DefinitionLabel,
@@ -104,22 +105,47 @@ pub fn search_of(name: Name) -> Sought
     }
 }
 
+/// What a node of this name is on the spine of a link or an image.
+fn sight_in_media(name: Name) -> Sight
+    ensures { result ≡ spec.sight_in_media name }
+{
+    match name {
+        Name::Label => Sight::Holder,
+        Name::ReferenceString => Sight::Reference,
+        _ => Sight::Other,
+    }
+}
+
+/// What a node is that is what is sought, if it is.
+fn itself_if(is: bool) -> Sight
+    ensures { result ≡ spec.itself_if is }
+{
+    if is { Sight::Itself } else { Sight::Other }
+}
+
+/// What a node is that holds what is sought, if it does.
+fn holder_if(is: bool) -> Sight
+    ensures { result ≡ spec.holder_if is }
+{
+    if is { Sight::Holder } else { Sight::Other }
+}
+
 /// What a node of this name is on a spine.
 fn sight_of(wanted: Wanted, name: Name) -> Sight
     ensures { result ≡ spec.sight wanted name }
 {
-    match (wanted, name) {
-        (Wanted::Mark, Name::HeadingAtxSequence)
-        | (Wanted::Value, Name::ListItemValue)
-        | (Wanted::LabelText, Name::LabelText)
-        | (Wanted::DefinitionLabel, Name::DefinitionLabelString)
-        | (Wanted::FootnoteLabel, Name::GfmFootnoteDefinitionLabelString) => Sight::Itself,
-        (Wanted::Item, Name::ListItem)
-        | (Wanted::Prefix, Name::ListItemPrefix)
-        | (Wanted::Media | Wanted::Label, Name::Label)
-        | (Wanted::FootnotePrefix, Name::GfmFootnoteDefinitionPrefix) => Sight::Holder,
-        (Wanted::Media, Name::ReferenceString) => Sight::Reference,
-        _ => Sight::Other,
+    match wanted {
+        Wanted::Nothing => Sight::Other,
+        Wanted::Mark => itself_if(matches!(name, Name::HeadingAtxSequence)),
+        Wanted::Item => holder_if(matches!(name, Name::ListItem)),
+        Wanted::Prefix => holder_if(matches!(name, Name::ListItemPrefix)),
+        Wanted::Value => itself_if(matches!(name, Name::ListItemValue)),
+        Wanted::Media => sight_in_media(name),
+        Wanted::Label => holder_if(matches!(name, Name::Label)),
+        Wanted::LabelText => itself_if(matches!(name, Name::LabelText)),
+        Wanted::DefinitionLabel => itself_if(matches!(name, Name::DefinitionLabelString)),
+        Wanted::FootnotePrefix => holder_if(matches!(name, Name::GfmFootnoteDefinitionPrefix)),
+        Wanted::FootnoteLabel => itself_if(matches!(name, Name::GfmFootnoteDefinitionLabelString)),
     }
 }
 

@@ -3,9 +3,62 @@
 ghost use Rattle.std.specs.Prelude.{◌≡◌, false, Option};
 ghost use Rattle.md_pattern.specs.declared.kinds.Role.{Role};
 ghost use Rattle.md_pattern.specs.declared.kinds.Symbol.{Symbol};
-ghost use Rattle.md_pattern.specs.Shape.{role_for};
+ghost use Rattle.md_pattern.specs.Shape.{role_for, item_in, prefix_in, code_fence_after};
+ghost use Rattle.md_pattern.specs.Shape.{math_fence_after, label_in};
 
 use crate::kinds::{Role, Symbol};
+
+/// An item, in an ordered list the first one or a later one.
+fn item_in(around: Role, before: Option<Symbol>) -> Role
+    ensures { result ≡ item_in around before }
+{
+    match (around, before) {
+        (Role::OrderedList, None) => Role::FirstOrderedItem,
+        (Role::OrderedList, Some(_)) => Role::OrderedItem,
+        _ => Role::Item,
+    }
+}
+
+/// The prefix of an item.
+fn prefix_in(around: Role) -> Role
+    ensures { result ≡ prefix_in around }
+{
+    match around {
+        Role::FirstOrderedItem => Role::FirstOrderedPrefix,
+        Role::OrderedItem => Role::OrderedPrefix,
+        _ => Role::Prefix,
+    }
+}
+
+/// The label of a footnote call, or of a link or an image.
+fn label_in(around: Role) -> Role
+    ensures { result ≡ label_in around }
+{
+    match around {
+        Role::FootnoteCall => Role::CallLabel,
+        _ => Role::Label,
+    }
+}
+
+/// A fence of code.
+fn code_fence_after(before: Option<Symbol>) -> Role
+    ensures { result ≡ code_fence_after before }
+{
+    match before {
+        None => Role::FirstCodeFence,
+        Some(_) => Role::CodeFence,
+    }
+}
+
+/// A fence of mathematics.
+fn math_fence_after(before: Option<Symbol>) -> Role
+    ensures { result ≡ math_fence_after before }
+{
+    match before {
+        None => Role::FirstMathFence,
+        Some(_) => Role::MathFence,
+    }
+}
 
 /// The role that a name with this usual one has in a node of a role, after a symbol on its spine.
 #[inline(always)]
@@ -36,14 +89,12 @@ pub(crate) fn goes_by_place(usual: Role) -> bool
 fn role_at(around: Role, before: Option<Symbol>, usual: Role) -> Role
     ensures { result ≡ role_for around before usual }
 {
-    match (usual, around, before) {
-        (Role::Item, Role::OrderedList, None) => Role::FirstOrderedItem,
-        (Role::Item, Role::OrderedList, Some(_)) => Role::OrderedItem,
-        (Role::Prefix, Role::FirstOrderedItem, _) => Role::FirstOrderedPrefix,
-        (Role::Prefix, Role::OrderedItem, _) => Role::OrderedPrefix,
-        (Role::CodeFence, _, None) => Role::FirstCodeFence,
-        (Role::MathFence, _, None) => Role::FirstMathFence,
-        (Role::Label, Role::FootnoteCall, _) => Role::CallLabel,
+    match usual {
+        Role::Item => item_in(around, before),
+        Role::Prefix => prefix_in(around),
+        Role::CodeFence => code_fence_after(before),
+        Role::MathFence => math_fence_after(before),
+        Role::Label => label_in(around),
         _ => usual,
     }
 }

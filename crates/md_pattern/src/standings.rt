@@ -20,13 +20,13 @@ pub fn standing_of(name: Name) -> Standing
     use crate::kinds::Symbol::*;
 
     match name {
-        Name::AutolinkEmail
-        | Name::AutolinkProtocol
-        | Name::GfmAutolinkLiteralEmail
-        | Name::GfmAutolinkLiteralMailto
-        | Name::GfmAutolinkLiteralProtocol
-        | Name::GfmAutolinkLiteralWww
-        | Name::GfmAutolinkLiteralXmpp => Solid(Span, Role::Empty, Reading::Text),
+        Name::AutolinkEmail => Solid(Span, Role::Empty, Reading::Text),
+        Name::AutolinkProtocol => Solid(Span, Role::Empty, Reading::Text),
+        Name::GfmAutolinkLiteralEmail => Solid(Span, Role::Empty, Reading::Text),
+        Name::GfmAutolinkLiteralMailto => Solid(Span, Role::Empty, Reading::Text),
+        Name::GfmAutolinkLiteralProtocol => Solid(Span, Role::Empty, Reading::Text),
+        Name::GfmAutolinkLiteralWww => Solid(Span, Role::Empty, Reading::Text),
+        Name::GfmAutolinkLiteralXmpp => Solid(Span, Role::Empty, Reading::Text),
         Name::LineEnding => Solid(LineEnding, Role::Childless, Reading::LineEnding),
         Name::BlankLineEnding => Solid(BlankLineEnding, Role::Childless, Reading::LineEnding),
         Name::BlockQuote => Solid(Block, Role::Flow, Free),
@@ -40,7 +40,8 @@ pub fn standing_of(name: Name) -> Standing
         Name::GfmFootnoteDefinition => Solid(Block, Role::FootnoteDefinition, FootnoteDefinition),
         Name::GfmFootnoteDefinitionPrefix => Solid(FootnotePrefix, Role::FootnotePrefix, Holder),
         Name::GfmFootnoteDefinitionLabelString => Solid(FootnoteLabel, Role::String, Identifier),
-        Name::Data | Name::CharacterEscapeValue => Solid(Text, Role::Empty, Reading::Text),
+        Name::Data => Solid(Text, Role::Empty, Reading::Text),
+        Name::CharacterEscapeValue => Solid(Text, Role::Empty, Reading::Text),
         Name::CharacterReferenceMarker => Solid(ReferenceMarker, Role::Empty, Free),
         Name::CharacterReferenceMarkerNumeric => Solid(ReferenceNumeric, Role::Empty, Free),
         Name::CharacterReferenceMarkerHexadecimal => Solid(ReferenceHexadecimal, Role::Empty, Free),
@@ -67,7 +68,8 @@ pub fn standing_of(name: Name) -> Standing
         Name::DefinitionLabelString => Solid(DefinitionLabel, Role::String, Identifier),
         Name::DefinitionDestinationString => Solid(DefinitionDestination, Role::String, Free),
         Name::DefinitionTitleString => Solid(DefinitionTitle, Role::String, Free),
-        Name::Link | Name::Image => Solid(Span, Role::Media, Media),
+        Name::Link => Solid(Span, Role::Media, Media),
+        Name::Image => Solid(Span, Role::Media, Media),
         Name::Label => Solid(Label, Role::Label, Holder),
         Name::LabelText => Solid(LabelText, Role::Phrasing, Identifier),
         Name::Resource => Solid(Resource, Role::Resource, Reading::Resource),
@@ -92,19 +94,22 @@ pub fn standing_of(name: Name) -> Standing
             Free,
         ),
         Name::GfmTableDelimiterMarker => Solid(TableDelimiterMarker, Role::Empty, Free),
-        Name::Emphasis | Name::Strong | Name::GfmStrikethrough => Solid(Span, Role::Phrasing, Free),
+        Name::Emphasis => Solid(Span, Role::Phrasing, Free),
+        Name::Strong => Solid(Span, Role::Phrasing, Free),
+        Name::GfmStrikethrough => Solid(Span, Role::Phrasing, Free),
         Name::GfmTaskListItemCheck => Solid(Span, Role::TaskCheck, Free),
         Name::GfmTaskListItemValueChecked => Solid(TaskChecked, Role::Empty, Free),
-        Name::HardBreakEscape | Name::HardBreakTrailing => Solid(Span, Role::Empty, Free),
+        Name::HardBreakEscape => Solid(Span, Role::Empty, Free),
+        Name::HardBreakTrailing => Solid(Span, Role::Empty, Free),
         Name::Paragraph => Solid(Block, Role::Phrasing, Free),
         Name::ThematicBreak => Solid(Block, Role::Empty, Free),
         Name::Frontmatter => Solid(Block, Role::Frontmatter, Free),
         Name::SpaceOrTab => Space,
-        Name::MdxEsm
-        | Name::MdxFlowExpression
-        | Name::MdxTextExpression
-        | Name::MdxJsxFlowTag
-        | Name::MdxJsxTextTag => Mdx,
+        Name::MdxEsm => Mdx,
+        Name::MdxFlowExpression => Mdx,
+        Name::MdxTextExpression => Mdx,
+        Name::MdxJsxFlowTag => Mdx,
+        Name::MdxJsxTextTag => Mdx,
         Name::Other(_) => Through,
     }
 }

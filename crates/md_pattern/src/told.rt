@@ -81,13 +81,24 @@ pub fn spaced(last: Last) -> Last
     }
 }
 
+/// Nothing stands after a marker in the last child.
+fn is_bare(last: Last) -> bool
+    ensures { result ≡ spec.is_bare_last last }
+{
+    matches!(
+        last,
+        Last::Prefix | Last::PrefixSpace | Last::Bare | Last::BareSpace
+    )
+}
+
 /// What an item is, by its own last child.
 fn item_as(own: Last) -> Last
     ensures { result ≡ spec.item_as own }
 {
-    match own {
-        Last::Prefix | Last::PrefixSpace | Last::Bare | Last::BareSpace => Last::BareItem,
-        _ => Last::Plain,
+    if is_bare(own) {
+        Last::BareItem
+    } else {
+        Last::Plain
     }
 }
 
@@ -129,16 +140,16 @@ pub fn tell(told: &mut Told, name: Name, own: Told)
 {
     match name {
         Name::BlankLineEnding => {
-            told.without_items |= parts(told.last);
-            told.of_item |= loosens(told.last);
+            told.without_items = told.without_items || parts(told.last);
+            told.of_item = told.of_item || loosens(told.last);
             told.last = Last::Plain;
         }
         Name::ListItem => {
             told.last = item_as(own.last);
-            told.has_loose_item |= own.of_item;
+            told.has_loose_item = told.has_loose_item || own.of_item;
         }
         Name::GfmTableDelimiterMarker => {
-            told.begins_with_marker |= is_nothing(told.last);
+            told.begins_with_marker = told.begins_with_marker || is_nothing(told.last);
             told.last = Last::Marker;
         }
         Name::SpaceOrTab => told.last = spaced(told.last),

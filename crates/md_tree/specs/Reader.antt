@@ -1,14 +1,11 @@
 -- How far events have been read, and what was found at them. Only contracts of private
 -- functions speak of it.
-use Rattle.std.specs.Prelude.{◌≡◌, ℕ, List, [], true, take}
+use Rattle.std.specs.Prelude.{◌≡◌, ℕ, List, take}
 use Rattle.md_base.specs.declared.event.Event.{Event}
 use Rattle.md_base.specs.declared.event.Kind.TheVariants.{Enter, Exit}
 use Rattle.md_pattern.specs.Ending.{first_index}
 use Rattle.md_pattern.specs.Facts.{passed_over, pass_beginning}
-use Rattle.md_pattern.specs.Places.{state_of}
-use Rattle.md_pattern.specs.Steps.{is_complete}
 use Rattle.md_tree.specs.declared.reader.Reader.{Reader}
-use Rattle.md_tree.specs.declared.walk.Walk.{Walk}
 use Rattle.md_tree.specs.Machine.{Runs, beginning}
 use Rattle.md_tree.specs.Walk.{course_of, Unbroken}
 
@@ -26,8 +23,3 @@ pub record HasRead (bytes : List ℕ) (names : List (List ℕ × List ℕ))
       Runs (Unbroken bytes names) (take count events) beginning (course_of events count reader.walk)
   pub passed : reader.pass ≡ passed_over (take count events) pass_beginning
   pub first_ending : reader.first_ending ≡ first_index (take count events)
-
--- no node is open, and the spine may end
-abbrev pub IsDone : Walk → Type 0
-IsDone walk =
-    (walk.open_nodes.items ≡ []) × (is_complete (state_of walk.place walk.before) ≡ true)

@@ -8,8 +8,9 @@ ghost use Rattle.md_tree.specs.Refusal.{IsOrder, IsMdx, IsOfNode, IsLost, IsOuts
 ghost use Rattle.md_tree.specs.Numbers.{AreNumbered};
 ghost use Rattle.md_pattern.specs.Steps.{is_complete};
 ghost use Rattle.md_pattern.specs.Places.{state_of};
-ghost use Rattle.md_tree.specs.Reader.{HasRead, IsDone};
-ghost use Rattle.md_pattern.specs.Facts.{tables_at, definitions_at};
+ghost use Rattle.md_tree.specs.Machine.{Runs, beginning};
+ghost use Rattle.md_tree.specs.Walk.{course_of, Unbroken};
+ghost use Rattle.md_pattern.specs.Facts.{facts_at, tables_at, definitions_at};
 
 use crate::checked::Checked;
 use crate::input::Input;
@@ -61,80 +62,105 @@ pub fn check<'a>(
     ensures of_node { IfErr result (IsOfNode (handed events.now bytes.now names.now)) }
     ensures lost { IfErr result (IsLost (handed events.now bytes.now names.now)) }
 {
-    let mut texts = Texts::new(alloc, bytes)?;
-    let facts = find(alloc, events, &mut texts, names)?;
-    Ok(Checked::new(events, texts, names, facts))
+    let found = find(alloc, events, bytes, names)?;
+    Ok(Checked::new(events, found.texts, names, found.facts))
 }
 
-/// What is found at the events, which are of the grammar.
-fn find(
+/// What is found of a document of the grammar.
+#[derive(Drop)]
+struct Found<'a> {
+    texts: Texts<'a>,
+    facts: Facts,
+}
+
+/// What is found of the document, and at its events, which are of the grammar.
+fn find<'a>(
     alloc: Global,
     events: &[Event],
-    texts: &mut Texts,
+    bytes: &'a [u8],
     names: &[(&str, &str)],
-) -> Result<Facts, CompileError>
-    ensures texts { texts.new ≡ texts.old }
-    ensures grammatical { OnOk result (IsChecked (handed events.now texts.old names.now)) }
+) -> Result<Found<'a>, CompileError>
+    ensures grammatical { OnOk result (IsChecked (handed events.now bytes.now names.now)) }
+    ensures texts { IfOk result (λ found. found.texts ≡ bytes.now) }
     ensures facts { IfOk result
-        (λ found. AreNumbered (handed events.now texts.old names.now) found.facts) }
+        (λ found. AreNumbered (handed events.now bytes.now names.now) found.facts.facts) }
     ensures tables { IfOk result
-        (λ found. map (λ t. t.items) found.tables.items ≡ tables_at events.now) }
+        (λ found. map (λ t. t.items) found.facts.tables.items ≡ tables_at events.now) }
     ensures definitions { IfOk result
-        (λ found. found.definitions.items ≡ definitions_at events.now) }
-    ensures first_ending { IfOk result (λ found. found.first_ending ≡ first_index events.now) }
-    ensures visits { IfOk result (λ found. found.visits ≡ length events.now) }
-    ensures refused { IfErr result (IsRefusal (handed events.now texts.old names.now)) }
+        (λ found. found.facts.definitions.items ≡ definitions_at events.now) }
+    ensures first_ending { IfOk result
+        (λ found. found.facts.first_ending ≡ first_index events.now) }
+    ensures visits { IfOk result (λ found. found.facts.visits ≡ length events.now) }
+    ensures refused { IfErr result (IsRefusal (handed events.now bytes.now names.now)) }
 {
+    let texts = Texts::new(alloc, bytes)?;
     let input = Input {
         alloc,
         events,
-        bytes: texts,
+        bytes: &texts,
         names,
     };
-    let mut reader = Reader::new(input)?;
-    let visits = read_events(&mut reader, input)?;
-    let Reader {
-        walk,
-        pass,
-        first_ending,
-    } = reader;
-    let mut found = pass.into_facts(first_ending, visits);
+    let read = read_events(input)?;
+    if !is_done(&read.walk) {
+        return Err(CompileError::Event {
+            index: events.len(),
+            rule: Rule::Order,
+        });
+    }
+    let Read { walk, mut found } = read;
     // Identifiers may be long, and each is of a text that is read once: the list of other texts
     // makes room for them.
-    texts.keep_front_alone(alloc);
-    resolve(alloc, texts, &walk.mentions, &mut found.facts)?;
-    Ok(found)
+    let texts = texts.with_front_alone(alloc);
+    resolve(alloc, &texts, &walk.mentions, &mut found.facts)?;
+    Ok(Found {
+        texts,
+        facts: found,
+    })
 }
 
-/// Reads all events, each by the walk and by the pass that finds what is read or inferred; answers
-/// how many they are.
-fn read_events(reader: &mut Reader, input: Input) -> Result<usize, CompileError>
-    requires { HasRead input.bytes.now (name_table input.names.now) input.events.now 0 reader.old }
-    ensures read { OnOk result
-        (HasRead input.entry.bytes.now (name_table input.entry.names.now) input.entry.events.now
-        (length input.entry.events.now) reader.new) }
-    ensures done { OnOk result (IsDone reader.new.walk) }
-    ensures visits { IfOk result (λ visits. visits ≡ length input.entry.events.now) }
+/// What is known of events that have been read.
+#[derive(Drop)]
+struct Read {
+    walk: Walk,
+    found: Facts,
+}
+
+/// Reads all events, each by the walk and by the pass that finds what is read or inferred.
+fn read_events(input: Input) -> Result<Read, CompileError>
+    ensures walked { IfOk result
+        (λ read. Runs (Unbroken input.entry.bytes.now (name_table input.entry.names.now))
+        input.entry.events.now beginning
+        (course_of input.entry.events.now (length input.entry.events.now) read.walk)) }
+    ensures facts { IfOk result (λ read. read.found.facts ≡ facts_at input.entry.events.now) }
+    ensures tables { IfOk result (λ read. map (λ t. t.items) read.found.tables.items
+        ≡ tables_at input.entry.events.now) }
+    ensures definitions { IfOk result
+        (λ read. read.found.definitions.items ≡ definitions_at input.entry.events.now) }
+    ensures first_ending { IfOk result
+        (λ read. read.found.first_ending ≡ first_index input.entry.events.now) }
+    ensures visits { IfOk result (λ read. read.found.visits ≡ length input.entry.events.now) }
     ensures refused { IfErr result
         (IsRefusal (handed input.entry.events.now input.entry.bytes.now input.entry.names.now)) }
 {
+    let mut reader = Reader::new(input)?;
     let mut visits = 0;
     // Each turn visits an event, or an entry and its own exit.
     while let Some(event) = input.events.get(visits) {
         visits += reader.advance(input, visits, *event)?;
     }
-    if !is_done(&reader.walk) {
-        return Err(CompileError::Event {
-            index: visits,
-            rule: Rule::Order,
-        });
-    }
-    Ok(visits)
+    let Reader {
+        walk,
+        pass,
+        first_ending,
+    } = reader;
+    let found = pass.into_facts(first_ending, visits);
+    Ok(Read { walk, found })
 }
 
 /// Whether all nodes have ended, and the document's spine may end.
 fn is_done(walk: &Walk) -> bool
-    ensures done { result ≡ true → IsDone walk.now }
+    ensures done { result ≡ true → (walk.now.open_nodes.items ≡ [])
+        × (is_complete (state_of walk.now.place walk.now.before) ≡ true) }
     ensures undone { result ≡ false → walk.now.open_nodes.items ≡ []
         → is_complete (state_of walk.now.place walk.now.before) ≡ false }
 {

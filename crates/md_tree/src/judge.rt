@@ -18,7 +18,7 @@ use self::broken::{
     broken_ending, broken_identifier, broken_mark, broken_number, broken_target, broken_text,
     broken_underline, broken_value,
 };
-use crate::input::{Input, place_at, text_of};
+use crate::input::{Input, place_at, point_at, text_of};
 use crate::mention::Mention;
 use crate::open_nodes::{Aim, Open, Outer};
 use crate::rule::Rule;
@@ -211,25 +211,24 @@ fn read_other(
         → target_seen events target.new ≡ target_at spot.reading (target_seen events target.old)
         (target_seen events inner) (place_at events spot.entry spot.exit) }
 {
-    let rule = match spot.reading {
-        Reading::Text => broken_text(text_of(input, spot.entry, spot.exit)),
-        Reading::LineEnding => broken_ending(text_of(input, spot.entry, spot.exit)),
-        Reading::Number => {
-            let text = text_of(input, spot.entry, spot.exit);
-            broken_number(spot.around.role(), spot.before, text)
-        }
-        Reading::Value => {
-            let text = text_of(input, spot.entry, spot.exit);
-            return broken_value(input, spot.before, text);
-        }
-        Reading::Mark => {
-            let role = spot.around.role();
-            broken_mark(input, role, spot.before, spot.entry, spot.exit)
-        }
-        Reading::Underline => broken_underline(input, spot.entry),
+    let Spot {
+        around,
+        before,
+        reading,
+        entry,
+        exit,
+    } = spot;
+    let bytes = input.bytes.bytes();
+    let rule = match reading {
+        Reading::Text => broken_text(text_of(input, entry, exit)),
+        Reading::LineEnding => broken_ending(text_of(input, entry, exit)),
+        Reading::Number => broken_number(around.role(), before, text_of(input, entry, exit)),
+        Reading::Value => broken_value(input, before, text_of(input, entry, exit))?,
+        Reading::Mark => broken_mark(input, around.role(), before, entry, exit),
+        Reading::Underline => broken_underline(bytes, point_at(input.events, entry)),
         Reading::Identifier => {
-            *target = Aim::Label(spot.entry, spot.exit);
-            broken_identifier(input, spot.entry, spot.exit)
+            *target = Aim::Label(entry, exit);
+            broken_identifier(input, entry, exit)
         }
         Reading::Media => broken_target(inner),
         Reading::Holder => {

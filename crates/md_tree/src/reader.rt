@@ -73,8 +73,14 @@ impl Reader {
             input.entry.names.now)) }
     {
         match own_exit(input.events, index, &event) {
-            Some(exit) => self.read_leaf(input, index, event, exit).and(Ok(2)),
-            None => self.read(input, index, event).and(Ok(1)),
+            Some(exit) => {
+                self.read_leaf(input, index, event, exit)?;
+                Ok(2)
+            }
+            None => {
+                self.read(input, index, event)?;
+                Ok(1)
+            }
         }
     }
 
@@ -91,17 +97,17 @@ impl Reader {
             input.entry.names.now)) }
     {
         // Many nodes have such a name: for them it is written, as for leaves.
-        match event.name {
-            Name::Other(number) => {
-                self.read_one(input, index, with_name(event, Name::Other(number)))
-            }
-            _ => self.read_one(input, index, event),
+        if let Name::Other(number) = event.name {
+            return self.read_other(input, index, with_name(event, Name::Other(number)));
         }
+        self.walk.step(input, index, &event)?;
+        self.pass.find(input.alloc, &event)?;
+        note_ending(&mut self.first_ending, input.events, index);
+        Ok(())
     }
 
-    /// The same, where the name may be written at the call.
-    #[inline(always)]
-    fn read_one(&mut self, input: Input, index: usize, event: Event) -> Result<(), CompileError>
+    /// The same of an event with a name that has no meaning.
+    fn read_other(&mut self, input: Input, index: usize, event: Event) -> Result<(), CompileError>
         requires here { slice_get input.events.now index ≡ Some event }
         requires before { HasRead input.bytes.now (name_table input.names.now) input.events.now
             index self.old }

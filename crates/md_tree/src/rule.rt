@@ -1,8 +1,5 @@
 //! The rules of the grammar, and why a check refuses.
 
-ghost use Rattle.std.specs.Prelude.{◌≡◌};
-ghost use Rattle.md_tree.specs.Names.{name_of};
-
 use std::alloc::{AllocError, AllocFailed};
 use std::fmt;
 use thiserror::Error;
@@ -39,25 +36,18 @@ impl fmt::Display for Rule {
     ghost output = { λ rule. Some (name_of rule) };
 
     fn fmt<W: fmt::Write>(&self, f: &mut fmt::Formatter<W>) -> fmt::Result {
-        f.write_str(name(*self))
-    }
-}
-
-/// The name of a rule.
-fn name(rule: Rule) -> &'static str
-    ensures { result.now ≡ name_of rule }
-{
-    match rule {
-        Rule::Order => "Order",
-        Rule::Mdx => "Mdx",
-        Rule::Place => "Place",
-        Rule::LineEnding => "LineEnding",
-        Rule::HeadingMark => "HeadingMark",
-        Rule::ListNumber => "ListNumber",
-        Rule::CharacterReference => "CharacterReference",
-        Rule::Definition => "Definition",
-        Rule::Footnote => "Footnote",
-        Rule::Target => "Target",
+        match *self {
+            Rule::Order => f.write_str("Order"),
+            Rule::Mdx => f.write_str("Mdx"),
+            Rule::Place => f.write_str("Place"),
+            Rule::LineEnding => f.write_str("LineEnding"),
+            Rule::HeadingMark => f.write_str("HeadingMark"),
+            Rule::ListNumber => f.write_str("ListNumber"),
+            Rule::CharacterReference => f.write_str("CharacterReference"),
+            Rule::Definition => f.write_str("Definition"),
+            Rule::Footnote => f.write_str("Footnote"),
+            Rule::Target => f.write_str("Target"),
+        }
     }
 }
 
@@ -79,7 +69,7 @@ impl fmt::Display for CompileError {
 
     fn fmt<W: fmt::Write>(&self, f: &mut fmt::Formatter<W>) -> fmt::Result {
         match self {
-            CompileError::Memory => f.write_str("out of memory"),
+            CompileError::Memory => write!(f, "out of memory"),
             CompileError::Event { index, rule } => write!(f, "event {index}: {rule}"),
         }
     }

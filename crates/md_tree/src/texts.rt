@@ -100,12 +100,21 @@ impl<'a> Texts<'a> {
         })
     }
 
-    /// Keeps only the text that they begin with: mostly all of them. Other texts are read each time
-    /// that they are asked for, so that nothing is kept of them.
-    pub fn keep_front_alone(&mut self, alloc: Global)
-        ensures { self.new ≡ self.old }
+    /// The same bytes with only the text that they begin with: mostly all of them. Other texts are
+    /// read each time that they are asked for, so that nothing is kept of them.
+    pub fn with_front_alone(self, alloc: Global) -> Texts<'a>
+        ensures { result ≡ self.entry }
     {
-        self.runs = Vec::new(alloc);
+        let Texts {
+            bytes,
+            front,
+            runs: _,
+        } = self;
+        Texts {
+            bytes,
+            front,
+            runs: Vec::new(alloc),
+        }
     }
 
     /// All bytes.

@@ -6,8 +6,8 @@ ghost use Rattle.std.specs.Prelude.{length, set, slice_get};
 ghost use Rattle.md_pattern.specs.Facts as spec;
 ghost use Rattle.md_pattern.specs.FactWords.{IsWord, fact_of_word};
 
+use super::Fact;
 use super::nodes::partner_alone;
-use super::{Fact, room};
 use std::alloc::{AllocError, Global};
 use std::marker::Model;
 
@@ -79,7 +79,7 @@ impl FactList {
         ensures { OnOk result (self.new ≡ self.old ++ fact ∷ []) }
     {
         let word = word_for(&mut self.records, fact, self.words.capacity())?;
-        room::push(&mut self.words, word, 1)
+        push_word(&mut self.words, word)
     }
 
     /// Adds what is found at an entry and at its own exit, which comes right after; answers the
@@ -127,8 +127,7 @@ fn is_partner_alone(fact: &Fact) -> bool
 }
 
 /// The word for a fact, which gets a record where it needs one: `events` is for how many there is
-/// room. Where there is none for the record, it is made for an eighth of the events, since making
-/// it by and by would copy the records again and again.
+/// room.
 #[inline(always)]
 fn word_for(records: &mut Vec<Fact>, fact: Fact, events: usize) -> Result<usize, AllocError>
     ensures word { IfOk result (λ word. IsWord records.new.items word) }
@@ -138,10 +137,27 @@ fn word_for(records: &mut Vec<Fact>, fact: Fact, events: usize) -> Result<usize,
         → fact_of_word records.new.items word ≡ fact_of_word records.old.items word }
 {
     if is_partner_alone(&fact) {
-        return Ok(fact.partner);
+        Ok(fact.partner)
+    } else {
+        number_of_record(records, fact, events)
     }
+}
+
+/// The word for a fact that gets a record. Where there is no room, it is made for an eighth of the
+/// events, since making it by and by would copy the records again and again.
+#[inline(always)]
+fn number_of_record(records: &mut Vec<Fact>, fact: Fact, events: usize) -> Result<usize, AllocError>
+    ensures word { IfOk result (λ word. IsWord records.new.items word) }
+    ensures fact { IfOk result (λ word. fact_of_word records.new.items word ≡ fact) }
+    ensures words { (word : ℕ) → IsWord records.old.items word → IsWord records.new.items word }
+    ensures facts { (word : ℕ) → IsWord records.old.items word
+        → fact_of_word records.new.items word ≡ fact_of_word records.old.items word }
+{
     let number = records.len();
-    room::push(records, fact, events / 8 + 1)?;
+    if number == records.capacity() {
+        records.reserve(events / 8 + 1)?;
+    }
+    records.push_reserved(fact);
     Ok(RECORDS + number)
 }
 
@@ -158,7 +174,20 @@ fn fact_of_word(records: &[Fact], word: usize) -> Fact
     }
 }
 
-/// Adds the words of an entry and of its own exit; answers the index of the entry.
+/// Adds a word. Mostly there is room, and no call is made.
+#[inline(always)]
+fn push_word(words: &mut Vec<usize>, word: usize) -> Result<(), AllocError>
+    ensures pushed { OnOk result (words.new.items ≡ words.old.items ++ word ∷ []) }
+    ensures refused { OnErr result (words.new.items ≡ words.old.items) }
+{
+    if words.len() == words.capacity() {
+        words.reserve(1)?;
+    }
+    words.push_reserved(word);
+    Ok(())
+}
+
+/// Adds the words of an entry and of its own exit, likewise; answers the index of the entry.
 #[inline(always)]
 fn push_two(words: &mut Vec<usize>) -> Result<usize, AllocError>
     ensures entry { IfOk result (λ entry. entry ≡ length words.old.items) }

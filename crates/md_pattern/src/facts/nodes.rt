@@ -1,6 +1,8 @@
 //! What is known of an open node, and the fact of one that ends.
 
-ghost use Rattle.std.specs.Prelude.{◌≡◌};
+ghost use Rattle.std.specs.Prelude.{◌≡◌, ◌+◌, false, OnOk, [], ◌∷◌, ◌++◌, length};
+ghost use Rattle.std.specs.Prelude.{set, IfOk};
+ghost use Rattle.md_base.specs.NameTests.{is_transparent};
 ghost use Rattle.md_pattern.specs.Facts as spec;
 
 use super::{Fact, OpenNode};
@@ -9,6 +11,7 @@ use crate::seeking::{NOTHING_SOUGHT, Sought, search_of};
 use crate::told::{NOT_LOOSE, NOTHING_TOLD, told_looseness};
 use md_base::Name;
 use md_base::name_tests::is_transparent;
+use std::alloc::AllocError;
 
 /// The document itself.
 pub(super) fn document_node() -> OpenNode
@@ -115,4 +118,16 @@ pub(super) fn partner_alone(partner: usize) -> Fact
         read_at: 0,
         looseness: NOT_LOOSE,
     }
+}
+
+/// Adds an open node. Mostly there is room, and no call is made.
+#[inline(always)]
+pub(super) fn push_node(open_nodes: &mut Vec<OpenNode>, node: OpenNode) -> Result<(), AllocError>
+    ensures { OnOk result (open_nodes.new.items ≡ open_nodes.old.items ++ node ∷ []) }
+{
+    if open_nodes.len() == open_nodes.capacity() {
+        open_nodes.reserve(1)?;
+    }
+    open_nodes.push_reserved(node);
+    Ok(())
 }

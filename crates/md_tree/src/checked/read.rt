@@ -6,7 +6,6 @@ ghost use Rattle.md_base.specs.Place.{text_between};
 ghost use Rattle.md_base.specs.declared.event.Event.{Event};
 ghost use Rattle.md_pattern.specs.declared.facts.Fact.{Fact};
 ghost use Rattle.md_tree.specs.Found.{index_if, position_at, position_there, position_ended};
-ghost use Rattle.md_tree.specs.Found.{position_from};
 
 use super::{Checked, fact_at, index_if};
 use md_base::{AlignKind, Event, Point, Position};
@@ -120,7 +119,13 @@ impl<'a> Checked<'a> {
 fn position_ended(events: &[Event], facts: &FactList, index: usize) -> Option<Position>
     ensures { result ≡ position_ended events.now facts.now index }
 {
-    position_between(events, facts.get(index)?.partner, index)
+    let fact = facts.get(index)?;
+    let first = events.get(fact.partner)?;
+    let last = events.get(index)?;
+    Some(Position {
+        start: first.point,
+        end: last.point,
+    })
 }
 
 /// Where the node lies that is read of the node of a fact, if there is one.
@@ -134,20 +139,13 @@ fn position_read(events: &[Event], facts: &FactList, fact: Fact) -> Option<Posit
 fn position_of(events: &[Event], facts: &FactList, index: usize) -> Option<Position>
     ensures { result ≡ position_there events.now facts.now index }
 {
-    position_between(events, index, facts.get(index)?.partner)
-}
-
-/// Where a node lies that the events at two indices enter and exit, where both are there.
-fn position_between(events: &[Event], entry: usize, exit: usize) -> Option<Position>
-    ensures { result ≡ position_from (slice_get events.now entry) (slice_get events.now exit) }
-{
-    match (events.get(entry), events.get(exit)) {
-        (Some(first), Some(last)) => Some(Position {
-            start: first.point,
-            end: last.point,
-        }),
-        _ => None,
-    }
+    let first = events.get(index)?;
+    let fact = facts.get(index)?;
+    let last = events.get(fact.partner)?;
+    Some(Position {
+        start: first.point,
+        end: last.point,
+    })
 }
 
 /// The columns of a table.

@@ -182,14 +182,12 @@ fn is_heading_rank(rank: usize) -> bool
     1 <= rank && rank <= 6
 }
 
-/// The first byte of an underline that is entered at an index.
+/// The first byte of an underline.
 #[inline(always)]
-pub(super) fn broken_underline(input: Input, entry: usize) -> Option<Rule>
-    ensures { result ≡ unless (nat_lt (point_at input.entry.events.now entry).index
-        (length input.entry.bytes.now)) rule.Place }
+pub(super) fn broken_underline(bytes: &[u8], start: Point) -> Option<Rule>
+    ensures { result ≡ unless (nat_lt start.index (length bytes.now)) rule.Place }
 {
-    let start = point_at(input.events, entry);
-    rule_unless(start.index < input.bytes.bytes().len(), Rule::Place)
+    rule_unless(start.index < bytes.len(), Rule::Place)
 }
 
 /// The target of a link or an image.

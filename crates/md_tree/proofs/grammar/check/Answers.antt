@@ -3,5 +3,5 @@
 use Rattle.std.proofs.Common.{rules}
 use Rattle.md_tree.proofs.grammar.check.Goals as goal
 
-pub returns-in_err-facts-clause-order : goal.returns-in_err-facts-clause-order
-returns-in_err-facts-clause-order c = search rules
+pub returns-in_err-found-clause-order : goal.returns-in_err-found-clause-order
+returns-in_err-found-clause-order c = search rules

@@ -13,5 +13,5 @@ returns c =
     let word = c.in_ok-word.word in
     rw (← c.self.view_is) (on_ok _ _ (λ pushed. ap (facts_of_words records) pushed
     ∙ facts-push before records c.word_for.ensures.words c.word_for.ensures.facts words word
-    c.args.fact c.self.invariant c.in_ok-word.ensures.fact) c.push.result
-    c.push.ensures.pushed)
+    c.args.fact c.self.invariant c.in_ok-word.ensures.fact) c.push_word.result
+    c.push_word.ensures.pushed)

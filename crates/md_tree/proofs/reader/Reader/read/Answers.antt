@@ -15,7 +15,7 @@ use Rattle.md_tree.proofs.Checking.{Runs-more}
 use Rattle.md_tree.proofs.Stopped.{IsRefusal-stopped}
 use Rattle.md_pattern.proofs.FirstIndex.{first_index-more}
 use Rattle.md_pattern.proofs.Passing.{passed_more}
-use Rattle.md_tree.proofs.reader.Reader.read_one.Goals as goal
+use Rattle.md_tree.proofs.reader.Reader.read.Goals as goal
 
 pub returns-in_err-step-clause-refused : goal.returns-in_err-step-clause-refused
 returns-in_err-step-clause-refused c =

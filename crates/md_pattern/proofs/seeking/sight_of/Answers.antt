@@ -1,7 +1,0 @@
--- The search that proves it, and no other: a wrong body is refused by it in a second, where all
--- that is tried without an answer takes ten.
-use Rattle.std.proofs.Common.{rules}
-use Rattle.md_pattern.proofs.seeking.sight_of.Goals as goal
-
-pub returns-in-Media-ReferenceString : goal.returns-in-Media-ReferenceString
-returns-in-Media-ReferenceString c = search rules
