@@ -88,23 +88,24 @@ impl<'a> Printer<'a> {
     {
         let place = place_left_at(given.checked, index);
         self.ends(Name::HeadingSetextUnderlineSequence);
-        self.put_setext(given, is_dash_at(given.checked.bytes(), place.start.index))
+        self.put_setext(
+            given.ending,
+            is_dash_at(given.checked.bytes(), place.start.index),
+        )
     }
 
     /// Prints a setext heading.
-    fn put_setext(&mut self, given: &Given, dashed: bool) -> Result<(), AllocError>
+    fn put_setext(&mut self, ending: &str, dashed: bool) -> Result<(), AllocError>
         ensures { OnOk result (self.new ≡ record self.old {
-          text = laid_after given.now.ending.now self.old.text
+          text = laid_after ending.now self.old.text
               (on_own_line (heading_tag (codes "<h") (if dashed then 2 else 1))
               ++ (said self.old.heading
               ++ said (heading_tag (codes "</h") (if dashed then 2 else 1))));
         }) }
     {
-        let rank = setext_rank(dashed);
-        self.need(given.ending)?;
-        self.put_heading(given.alloc, "<h", rank)?;
+        self.line(ending, setext_start(dashed))?;
         self.output.put(self.heading.as_str())?;
-        self.put_heading(given.alloc, "</h", rank)
+        self.put(setext_end(dashed))
     }
 }
 
@@ -133,9 +134,16 @@ fn is_dash_at(bytes: &[u8], index: usize) -> bool
     }
 }
 
-/// The rank of a setext heading, whose underline is of dashes or isn't.
-fn setext_rank(dashed: bool) -> usize
-    ensures { result ≡ (if dashed then 2 else 1) }
+/// The start tag of a setext heading.
+fn setext_start(dashed: bool) -> &'static str
+    ensures { result.now ≡ heading_tag (codes "<h") (if dashed then 2 else 1) }
 {
-    if dashed { 2 } else { 1 }
+    if dashed { "<h2>" } else { "<h1>" }
+}
+
+/// The end tag of a setext heading.
+fn setext_end(dashed: bool) -> &'static str
+    ensures { result.now ≡ heading_tag (codes "</h") (if dashed then 2 else 1) }
+{
+    if dashed { "</h2>" } else { "</h1>" }
 }
