@@ -1,9 +1,10 @@
 -- At each turn: what is read and what is still to be read before the definition are what is read
 -- before it of all; no more nodes are open than events gone over.
 use Rattle.std.proofs.Common.{◌≡◌, ◌+◌, ◌-◌, ◌^◌, ◌≤◌, length}
-use Rattle.md_html.specs.Work.{before_definition, read_from, read_length}
+use Rattle.md_html.specs.Work.{before_definition, read_length}
 use Rattle.md_html.specs.Counting.{capped}
-use Rattle.md_html.proofs.work.definition_length.Given as goal
+use Rattle.md_html.proofs.Counting.{read_from}
+use Rattle.md_html.proofs.reuse.definition_length.Given as goal
 
 abbrev pub invariant-loop-event : goal.invariant-loop-event
 invariant-loop-event l = record {

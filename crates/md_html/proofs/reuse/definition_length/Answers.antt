@@ -1,9 +1,9 @@
 -- Nothing is still to be read before the definition.
 use Rattle.std.proofs.Common.{ap, sym, ◌∙◌}
 use Rattle.std.proofs.lemmas.List.{nil_from_length}
-use Rattle.md_html.specs.Work.{before_definition, read_from, read_length}
-use Rattle.md_html.proofs.Counting.{all-added, none-before}
-use Rattle.md_html.proofs.work.definition_length.Goals as goal
+use Rattle.md_html.specs.Work.{before_definition, read_length}
+use Rattle.md_html.proofs.Counting.{all-added, none-before, read_from}
+use Rattle.md_html.proofs.reuse.definition_length.Goals as goal
 
 pub returns-then-is_link_definition : goal.returns-then-is_link_definition
 returns-then-is_link_definition c =
