@@ -1,7 +1,7 @@
 -- What a document uses again is counted at the exits of links and images, where the check says to
 -- which definition they lead, and elsewhere no mention leads to one.
 use Rattle.std.proofs.Common.{◌≡◌, ◌<◌, ◌≤◌, ℕ, zero, suc, ◌+◌, true, false, Option, Some, None}
-use Rattle.std.proofs.Common.{List, [], ◌∷◌, ◌++◌, length, refl, sym, ap, ◌∙◌, subst, arith}
+use Rattle.std.proofs.Common.{List, [], ◌∷◌, length, refl, sym, ap, ◌∙◌, subst, arith}
 use Rattle.std.proofs.lemmas.Grind.{common_steps}
 use Rattle.std.specs.Prelude.{map, drop, slice_get, option_map}
 use Rattle.std.specs.Option.{option_map_or}

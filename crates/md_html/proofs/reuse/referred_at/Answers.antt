@@ -1,5 +1,5 @@
 -- Elsewhere no mention leads to a definition.
-use Rattle.std.proofs.Common.{◌≡◌, ℕ, Option, ap, sym, ◌∙◌}
+use Rattle.std.proofs.Common.{ap, sym, ◌∙◌}
 use Rattle.md_html.specs.Reuse.{length_at, definition_lengths}
 use Rattle.md_html.specs.Counting.{capped}
 use Rattle.md_html.proofs.Reusing.{none-led}
