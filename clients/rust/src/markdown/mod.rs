@@ -188,11 +188,7 @@ pub fn markdown_with_headings(text: &str, options: &MarkdownOptions) -> Result<R
         return Err(Error::OutputTooLong { limit });
     }
     let document = events::document_of(parser.into_offset_iter(), options)?;
-    document.into_rendered(
-        &options.for_library(),
-        &options.attributes(),
-        limits,
-    )
+    document.into_rendered(&options.for_library(), &options.attributes(), limits)
 }
 
 /// How many bytes the parser may copy for links, where no bound on the text says it, and where a

@@ -183,19 +183,65 @@ fn bare() {
         ("www.a.org/b?c=d&copy;", vec!["http://www.a.org/b?c=d"]),
         ("www.a.org/b<c", vec!["http://www.a.org/b"]),
         (
-            "http://a.org ftp://b.org/c HTTPS://d.org",
-            vec!["http://a.org", "ftp://b.org/c", "HTTPS://d.org"],
+            "http://a.org HTTPS://d.org",
+            vec!["http://a.org", "HTTPS://d.org"],
         ),
         (
-            "a@b.org, mailto:c@d.org",
-            vec!["mailto:a@b.org", "mailto:c@d.org"],
+            "a@b.org, mailto:c@d.org MailTo:e@f.org",
+            vec!["mailto:a@b.org", "mailto:c@d.org", "MailTo:e@f.org"],
+        ),
+        (
+            "xmpp:a@b.org, Xmpp:c@d.org/e",
+            vec!["xmpp:a@b.org", "Xmpp:c@d.org"],
         ),
         (
             "a.org awww.a.org \"www.a.org :www.a.org irc://a.org javascript://a.org a@b",
             vec![],
         ),
+        ("ftp://b.org/c FTP://www.b.org", vec![]),
+        (
+            "a@b.mailto:c@d.ee",
+            vec!["mailto:a@b.mailto", "mailto:c@d.ee"],
+        ),
     ] {
         assert_eq!(links(text), wanted, "{text:?}");
+    }
+}
+
+/// Links that a word is made of, in any order and with all that could belong to two of them: they
+/// are disjoint and stand in their order.
+#[test]
+fn bare_links_in_a_row() {
+    let pieces = [
+        "a@b.mailto",
+        "mailto:",
+        "xmpp:",
+        "c@d.ee",
+        "www.e.fg",
+        "http://h.ij",
+        "ftp://k.lm",
+        ":",
+        ".",
+        "@",
+        "/",
+        "&amp",
+        ";",
+        "(",
+        "\u{e9}",
+    ];
+    let count = pieces.len();
+    for number in 0..count.pow(4) {
+        let chosen = (0..4).map(|place| pieces[number / count.pow(place) % count]);
+        let text: String = chosen.collect();
+        let mut at = 0;
+        for bare in bare_links(&text) {
+            assert!(
+                at <= bare.range.start && bare.range.start < bare.range.end,
+                "{text:?}"
+            );
+            at = bare.range.end;
+        }
+        assert!(at <= text.len());
     }
 }
 
@@ -213,6 +259,16 @@ fn bare_links_in_a_document() {
     assert_eq!(
         html("![www.a.org](x)"),
         "<p><img src=\"x\" alt=\"www.a.org\" /></p>\n"
+    );
+    let own = |url: &str, text: &str| format!("<a href=\"{url}\">{text}</a>");
+    assert_eq!(
+        html("a@b.mailto:c@d.ee xmpp:a@b.cd ftp://a.org"),
+        format!(
+            "<p>{}:{} {} ftp://a.org</p>\n",
+            own("mailto:a@b.mailto", "a@b.mailto"),
+            own("mailto:c@d.ee", "c@d.ee"),
+            own("xmpp:a@b.cd", "xmpp:a@b.cd")
+        )
     );
     assert_eq!(
         html_with("https://a.org", |options| options.bare_links = false).unwrap(),
