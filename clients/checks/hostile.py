@@ -6,8 +6,9 @@ time and memory.
 OUT is the folder where clients/build put what it made, with bivdrazo-checks in target/release and
 markdown_file. Each shape, of about a megabyte, is rendered by the crate for Rust, by C, by Python
 and by bivdrazo-render, as a process each. All four must make the same text, within SECONDS of a
-processor. The memory beyond input and text, which counts the program itself, must stay within
-MEGABYTES, or within what hostile.txt has for that shape. Ends with status 1 where that isn't so.
+processor; of the shapes in REFUSED, which are more work than is done by default, none. The memory
+beyond input and text, which counts the program itself, must stay within MEGABYTES, or within what
+hostile.txt has for that shape. Ends with status 1 where that isn't so.
 --table prints all of it, and what pulldown-cmark's own renderer takes.
 """
 
@@ -26,6 +27,13 @@ MEGA = 1 << 20
 SECONDS = 5
 MEGABYTES = 64
 MOST_MEMORY = 4 << 30  # of address space: past it a program fails, and not the machine
+
+REFUSED = {
+    "a long destination that is used often",
+    "a long title that is used often",
+    "images in images",
+    "images in links in images",
+}
 
 PYTHON = """
 import sys
@@ -97,7 +105,8 @@ def faults(path, runs, most):
     first = next(iter(runs.values()))
     for name, found in runs.items():
         memory = beyond(path, found)
-        if found.status != 0:
+        is_right = found.status > 0 if path.stem in REFUSED else found.status == 0
+        if not is_right:
             yield f"{name} ends with status {found.status}"
         elif found.digest != first.digest:
             yield f"{name} makes another text"
