@@ -2,7 +2,6 @@
 
 use super::*;
 use crate::markdown::autolinks::bare_links;
-use crate::markdown::base::resolved;
 use crate::markdown::comments::without_comments;
 
 #[test]
@@ -63,74 +62,6 @@ fn comments() {
     ] {
         assert_eq!(without_comments(html), wanted, "{html:?}");
     }
-}
-
-#[test]
-fn bases() {
-    let based = |text| {
-        html_with(text, |options| {
-            options.base = Some("https://a.b/c/d?e".to_string())
-        })
-        .unwrap()
-    };
-    assert_eq!(
-        based("[x](f) ![y](../g) [z](#h)"),
-        "<p><a href=\"https://a.b/c/f\">x</a> <img src=\"https://a.b/g\" alt=\"y\" /> \
-         <a href=\"#h\">z</a></p>\n"
-    );
-    assert_eq!(
-        based("[x](javascript:f) <i@j.k>"),
-        "<p><a href=\"\">x</a> <a href=\"mailto:i@j.k\">i@j.k</a></p>\n"
-    );
-    let script = html_with("[x](f)", |options| {
-        options.base = Some("javascript:g".to_string())
-    });
-    assert_eq!(script.unwrap(), "<p><a href=\"\">x</a></p>\n");
-}
-
-/// The examples of RFC 3986, 5.4.1 and 5.4.2.
-#[test]
-fn urls_against_a_base() {
-    let base = "http://a/b/c/d;p?q";
-    for (url, wanted) in [
-        ("g:h", "g:h"),
-        ("g", "http://a/b/c/g"),
-        ("./g", "http://a/b/c/g"),
-        ("g/", "http://a/b/c/g/"),
-        ("/g", "http://a/g"),
-        ("//g", "http://g"),
-        ("?y", "http://a/b/c/d;p?y"),
-        ("g?y", "http://a/b/c/g?y"),
-        ("g#s", "http://a/b/c/g#s"),
-        ("g?y#s", "http://a/b/c/g?y#s"),
-        (";x", "http://a/b/c/;x"),
-        ("g;x?y#s", "http://a/b/c/g;x?y#s"),
-        (".", "http://a/b/c/"),
-        ("./", "http://a/b/c/"),
-        ("..", "http://a/b/"),
-        ("../", "http://a/b/"),
-        ("../g", "http://a/b/g"),
-        ("../..", "http://a/"),
-        ("../../g", "http://a/g"),
-        ("../../../g", "http://a/g"),
-        ("/./g", "http://a/g"),
-        ("/../g", "http://a/g"),
-        ("g.", "http://a/b/c/g."),
-        (".g", "http://a/b/c/.g"),
-        ("..g", "http://a/b/c/..g"),
-        ("./../g", "http://a/b/g"),
-        ("./g/.", "http://a/b/c/g/"),
-        ("g/./h", "http://a/b/c/g/h"),
-        ("g/../h", "http://a/b/c/h"),
-        ("g;x=1/../y", "http://a/b/c/y"),
-        ("g?y/../x", "http://a/b/c/g?y/../x"),
-        ("http:g", "http:g"),
-        ("", ""),
-        ("#s", "#s"),
-    ] {
-        assert_eq!(resolved(base, url), wanted, "{url:?}");
-    }
-    assert_eq!(resolved("http://a", "g"), "http://a/g");
 }
 
 #[test]
