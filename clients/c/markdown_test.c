@@ -142,6 +142,25 @@ static void test_bounds(void) {
     check(renders("a", &options, "<p>a</p>\n"), "a text within its bound");
 }
 
+/* Bounds on work: one that is given, none, and the default one. */
+static void test_work(void) {
+    bivdrazo_markdown_options options = bivdrazo_markdown_options_default();
+    char *html;
+    check(options.max_work == BIVDRAZO_MARKDOWN_WORK_BY_LENGTH, "the default bound on work");
+    options.max_work = 4;
+    check(renders("abc", &options, "<p>abc</p>\n"), "work within its bound");
+    for (size_t work = 0; work < 4; work++) {
+        options.max_work = work;
+        check(fails("abc", 3, &options, BIVDRAZO_MARKDOWN_TOO_MUCH_WORK, 0), "too much work");
+        check(bivdrazo_markdown((const uint8_t *)"abc", 3, &options, &html).length == work,
+              "how much work there may be");
+    }
+    options.heading_ids = text_of("a");
+    check(fails("abc", 3, &options, BIVDRAZO_MARKDOWN_TOO_MUCH_WORK, 0), "work, with ids");
+    options.max_work = SIZE_MAX;
+    check(renders("abc", &options, "<p>abc</p>\n"), "any amount of work");
+}
+
 static void test_failures(void) {
     bivdrazo_markdown_options options = bivdrazo_markdown_options_default();
     check(fails("ab\xFF", 3, NULL, BIVDRAZO_MARKDOWN_NOT_UTF8, 2), "what isn't UTF-8");
@@ -191,6 +210,7 @@ int main(void) {
     test_attributes();
     test_footnotes();
     test_bounds();
+    test_work();
     test_failures();
     test_threads();
     if (failures == 0)
