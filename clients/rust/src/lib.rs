@@ -48,7 +48,8 @@ mod values;
 
 #[cfg(feature = "markdown")]
 pub use markdown::{
-    events_of, markdown_to_html, markdown_with_headings, Document, DocumentHtml, MarkdownOptions,
+    default_work, events_of, markdown_to_html, markdown_with_headings, Document, DocumentHtml,
+    MarkdownOptions,
 };
 
 pub use errors::Error;

@@ -13,9 +13,11 @@ mod events;
 mod nests;
 mod pieces;
 mod tables;
+mod work;
 
 pub use document::Document;
 pub use events::events_of;
+pub use work::default_work;
 
 use crate::{Attributes, Error, Limits, Options, Rendered};
 use pulldown_cmark::{CowStr, Parser};
@@ -78,8 +80,7 @@ pub struct MarkdownOptions {
     /// if there is none, for all links that may use it.
     pub max_output: Option<usize>,
     /// How much there may be to read and to print in what the parser makes of the document, as
-    /// [`Limits`] counts it; else any amount. With [`rel`](MarkdownOptions::rel) or
-    /// [`heading_ids`](MarkdownOptions::heading_ids) the text is made twice then.
+    /// [`Limits`] counts it; else what [`default_work`] says. `usize::MAX` is no limit.
     pub max_work: Option<usize>,
 }
 
@@ -123,11 +124,11 @@ impl MarkdownOptions {
         }
     }
 
-    /// The limits of the text and of the work.
-    fn limits(&self) -> Limits {
+    /// The limits of the text and of the work, for a document of so many bytes.
+    fn limits(&self, length: usize) -> Limits {
         Limits {
             text: self.max_output.unwrap_or(usize::MAX),
-            work: self.max_work.unwrap_or(usize::MAX),
+            work: self.max_work.unwrap_or_else(|| default_work(length)),
         }
     }
 }
@@ -179,6 +180,7 @@ pub fn markdown_with_headings(text: &str, options: &MarkdownOptions) -> Result<R
         let length = text.len();
         return Err(Error::InputTooLong { length, limit });
     }
+    let limits = options.limits(text.len());
     let text = nests::bounded(text.strip_prefix('\u{feff}').unwrap_or(text));
     let parser = Parser::new_ext(&text, parser_options(&text));
     let limit = options.max_output.unwrap_or(MOST_COPIED);
@@ -189,7 +191,7 @@ pub fn markdown_with_headings(text: &str, options: &MarkdownOptions) -> Result<R
     document.into_rendered(
         &options.for_library(),
         &options.attributes(),
-        options.limits(),
+        limits,
     )
 }
 

@@ -1,6 +1,7 @@
 //! The bounds, and what is long, wide or deep.
 
 use super::*;
+use crate::default_work;
 use crate::markdown::events::document_of;
 use crate::markdown::tables::{has_few_missing_cells, missing_cells};
 
@@ -55,6 +56,19 @@ fn work() {
         let limit = html(table).len() - 1;
         assert_eq!(with(10, Some(limit)), Err(Error::OutputTooLong { limit }));
     }
+}
+
+/// Where no limit of the work is set, the document's length says it.
+#[test]
+fn default_limit_of_work() {
+    let text = |uses| format!("[a]: {}\n\n{}", "b".repeat(10_000), "[a] ".repeat(uses));
+    let with = |work| html_with(&text(1000), |options| options.max_work = work);
+    let limit = default_work(text(1000).len());
+    assert_eq!(limit, (1 << 20) + 64 * 14_007);
+    assert_eq!(with(None), Err(Error::TooMuchWork { limit }));
+    assert!(with(Some(usize::MAX)).unwrap().len() > 10_000_000);
+    assert!(html(&text(100)).len() > 1_000_000);
+    assert_eq!(default_work(usize::MAX), usize::MAX);
 }
 
 /// A destination that is used often stands in the bytes once, and is told early where it
