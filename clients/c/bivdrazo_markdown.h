@@ -32,7 +32,7 @@
 extern "C" {
 #endif
 
-/* As max_work: a bound that goes by the length of the Markdown. */
+/* As max_work: a bound that goes by the length of the Markdown: 2^20, and 64 for each byte. */
 #define BIVDRAZO_MARKDOWN_WORK_BY_LENGTH (SIZE_MAX - 1)
 
 /*
@@ -41,6 +41,9 @@ extern "C" {
  * The ids of headings are distinct from one another, and from all others where no other begins with
  * heading_ids. Those of footnotes are `footnote-label`, and what footnote_prefix says and `fn`;
  * they are distinct from one another where number_ids is 1.
+ *
+ * Work is bounded by default; the lengths of the Markdown and of the text aren't. Whoever renders
+ * what strangers write sets all three bounds.
  */
 typedef struct bivdrazo_markdown_options {
     uint32_t version;                  /* BIVDRAZO_MARKDOWN_VERSION */
@@ -62,8 +65,8 @@ typedef struct bivdrazo_markdown_options {
     size_t max_input;                  /* how many bytes the Markdown may have;
                                           SIZE_MAX: any number */
     size_t max_output;                 /* how many bytes the text may have; SIZE_MAX: any number */
-    size_t max_work;                   /* how much there may be to read and to print, as the limits
-                                          of bivdrazo.h have it; SIZE_MAX: any amount;
+    size_t max_work;                   /* how much there may be to read and to print, as
+                                          bivdrazo_limits counts it; SIZE_MAX: any amount;
                                           BIVDRAZO_MARKDOWN_WORK_BY_LENGTH, the default */
 } bivdrazo_markdown_options;
 

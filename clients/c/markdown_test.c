@@ -161,6 +161,26 @@ static void test_work(void) {
     check(renders("abc", &options, "<p>abc</p>\n"), "any amount of work");
 }
 
+/* The default bound on work goes by the length: a long destination that is used often passes it. */
+static void test_default_work(void) {
+    enum { LONG = 10000, USES = 1000, LENGTH = 5 + LONG + 2 + 4 * USES };
+    static char text[LENGTH + 1] = "[a]: ";
+    memset(text + 5, 'b', LONG);
+    memcpy(text + 5 + LONG, "\n\n", 2);
+    for (size_t use = 0; use < USES; use++)
+        memcpy(text + 7 + LONG + 4 * use, "[a] ", 4);
+    char *html;
+    bivdrazo_answer answer = bivdrazo_markdown((const uint8_t *)text, LENGTH, NULL, &html);
+    check(answer.status == BIVDRAZO_MARKDOWN_TOO_MUCH_WORK && html == NULL, "a default bound");
+    check(answer.length == ((size_t)1 << 20) + 64 * LENGTH, "how much that bound is");
+    bivdrazo_markdown_options options = bivdrazo_markdown_options_default();
+    check(fails(text, LENGTH, &options, BIVDRAZO_MARKDOWN_TOO_MUCH_WORK, 0), "default options");
+    options.max_work = SIZE_MAX;
+    answer = bivdrazo_markdown((const uint8_t *)text, LENGTH, &options, &html);
+    check(answer.status == BIVDRAZO_OK && answer.length > LONG * USES, "no bound on work");
+    bivdrazo_markdown_free(html);
+}
+
 static void test_failures(void) {
     bivdrazo_markdown_options options = bivdrazo_markdown_options_default();
     check(fails("ab\xFF", 3, NULL, BIVDRAZO_MARKDOWN_NOT_UTF8, 2), "what isn't UTF-8");
@@ -211,6 +231,7 @@ int main(void) {
     test_footnotes();
     test_bounds();
     test_work();
+    test_default_work();
     test_failures();
     test_threads();
     if (failures == 0)

@@ -113,15 +113,19 @@ def markdown_to_html(
     rel: the `rel` of each link whose URL isn't empty and doesn't begin with `#`. heading_ids:
     what the ids of headings begin with, their numbers follow; they are distinct from one
     another, and from all others where no other begins so: those of footnotes are
-    `footnote-label`, and the prefix and `fn`. max_input, max_output: how many bytes of UTF-8 the
-    document and the text may have.
+    `footnote-label`, and the prefix and `fn`.
+
+    max_input, max_output: how many bytes of UTF-8 the document and the text may have; else any
+    number. max_work: how much there may be to read and to print in what the parser makes of the
+    document, as compile_within counts it; else 2^20, and 64 for each byte of the document. A number
+    of 2^64 or more is no bound. Whoever renders what strangers write sets all three.
 
     >>> markdown_to_html("a <b>c</b>\\nd", html="left-out", hard_breaks=True)
     '<p>a c<br />\\nd</p>\\n'
 
-    Raises TooLong where a bound is passed, MemoryError where the library finds no memory,
-    UnicodeEncodeError for a surrogate that is alone, and TypeError for a value of another type.
-    Other threads run during the call.
+    Raises TooLong where a bound on bytes is passed, TooMuchWork where that on work is, the default
+    one too, MemoryError where the library finds no memory, UnicodeEncodeError for a surrogate that
+    is alone, and TypeError for a value of another type. Other threads run during the call.
     """
     document = coded("text", text)
     given = options_of(

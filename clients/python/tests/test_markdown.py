@@ -90,6 +90,14 @@ class Texts(unittest.TestCase):
                     markdown_to_html("abc", max_work=work, **options)
                 self.assertEqual(caught.exception.limit, work)
 
+    def test_default_work(self):
+        text = f"[a]: {'b' * 10_000}\n\n{'[a] ' * 1000}"
+        for options in ({}, {"rel": "b"}, {"max_work": None}):
+            with self.subTest(options=options), self.assertRaises(TooMuchWork) as caught:
+                markdown_to_html(text, **options)
+            self.assertEqual(caught.exception.limit, (1 << 20) + 64 * len(text))
+        self.assertGreater(len(markdown_to_html(text, max_work=1 << 64)), 10_000_000)
+
 
 @unittest.skipIf(WHY, WHY)
 class Errors(unittest.TestCase):
