@@ -43,7 +43,12 @@ extern "C" {
  * they are distinct from one another where number_ids is 1.
  *
  * Work is bounded by default; the lengths of the Markdown and of the text aren't. Whoever renders
- * what strangers write sets all three bounds.
+ * what strangers write sets all three bounds. Whatever they are, a document that would take the
+ * parser much time or memory is read otherwise: without tables, if these would have more than
+ * 524,288 cells that aren't written; without footnotes, if as many as there can be, times its
+ * lines, are more than 2^29; with a mark of a quote or an item past 128 bytes of a line's beginning
+ * as text, if its longest beginning, times its lines but at least 1,024, is more than 2^26; and
+ * without bare links in a word of more than 2,048 bytes.
  */
 typedef struct bivdrazo_markdown_options {
     uint32_t version;                  /* BIVDRAZO_MARKDOWN_VERSION */

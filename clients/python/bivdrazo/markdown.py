@@ -120,6 +120,13 @@ def markdown_to_html(
     document, as compile_within counts it; else 2^20, and 64 for each byte of the document. A number
     of 2^64 or more is no bound. Whoever renders what strangers write sets all three.
 
+    Whatever they are, a document that would take the parser much time or memory is read otherwise:
+    without tables, if these would have more than 524,288 cells that aren't written; without
+    footnotes, if as many as there can be, times its lines, are more than 2^29; with a mark of a
+    quote or an item past 128 bytes of a line's beginning as text, if its longest beginning, times
+    its lines but at least 1,024, is more than 2^26; and without bare links in a word of more than
+    2,048 bytes.
+
     >>> markdown_to_html("a <b>c</b>\\nd", html="left-out", hard_breaks=True)
     '<p>a c<br />\\nd</p>\\n'
 

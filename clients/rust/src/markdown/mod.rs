@@ -135,9 +135,12 @@ impl MarkdownOptions {
 /// The HTML of a Markdown document, with tables, strikethrough, tasks, footnotes and bare links. A
 /// byte order mark before it is passed over.
 ///
-/// A document that would take the parser much time or memory is read otherwise: without tables or
-/// without footnotes, or with marks of quotes and lists that are text far from a line's beginning.
-/// No document that people wrote is known that is.
+/// A document that would take the parser much time or memory is read otherwise: without tables, if
+/// these would have more than 524,288 cells that aren't written; without footnotes, if as many as
+/// there can be, times its lines, are more than 2^29; with a mark of a quote or an item past 128
+/// bytes of a line's beginning as text, if its longest beginning, times its lines but at least
+/// 1,024, is more than 2^26; and without bare links in a word of more than 2,048 bytes. But for the
+/// last, no document that people wrote is known that is.
 ///
 /// # Errors
 ///

@@ -5,6 +5,7 @@ use crate::markdown::definitions::Numbered;
 use crate::markdown::tables::{has_few_missing_cells, missing_cells};
 use crate::markdown::{document_of, document_of_numbered, events, parser_options, work};
 use crate::{default_work, Document, Limits};
+use std::time::{Duration, Instant};
 
 #[test]
 fn bounds() {
@@ -57,6 +58,27 @@ fn work() {
         let limit = html(table).len() - 1;
         assert_eq!(with(10, Some(limit)), Err(Error::OutputTooLong { limit }));
     }
+}
+
+/// A text that is much longer than its limit isn't made, with attributes either.
+#[test]
+fn long_texts_with_attributes() {
+    let text = format!(
+        "[a]: b '{}'\n\n{}",
+        "\"".repeat(100_000),
+        "[a] ".repeat(600)
+    );
+    let start = Instant::now();
+    let limit = 100_000;
+    for rel in [None, Some("nofollow".to_string())] {
+        let html = html_with(&text, |options| {
+            options.rel = rel.clone();
+            options.max_work = Some(usize::MAX);
+            options.max_output = Some(limit);
+        });
+        assert_eq!(html, Err(Error::OutputTooLong { limit }));
+    }
+    assert!(start.elapsed() < Duration::from_secs(2));
 }
 
 /// What is told to be the most work is no less than what the library counts, and not much more.
