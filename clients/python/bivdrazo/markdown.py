@@ -113,7 +113,8 @@ def markdown_to_html(
     rel: the `rel` of each link whose URL isn't empty and doesn't begin with `#`. heading_ids:
     what the ids of headings begin with, their numbers follow; they are distinct from one
     another, and from all others where no other begins so: those of footnotes are
-    `footnote-label`, and the prefix and `fn`.
+    `footnote-label`, and the prefix and `fn`. On a page with several documents let it end with a
+    separator that is no digit.
 
     max_input, max_output: how many bytes of UTF-8 the document and the text may have; else any
     number. max_work: how much there may be to read and to print in what the parser makes of the
