@@ -1,16 +1,17 @@
 //! Markdown in for C: one call with its options, declared in `c/bivdrazo_markdown.h`, which also
 //! says what a caller must keep to.
 
+#![deny(unsafe_op_in_unsafe_fn)]
+
 mod answer;
 mod numbers;
 
 pub use answer::Answer;
 
 use answer::{answer_of, failed, no_option, with_status};
-use bivdrazo::{markdown_with_headings, DocumentHtml, Error, Heading, MarkdownOptions};
+use bivdrazo::{markdown_with_headings, quietly, DocumentHtml, Error, Heading, MarkdownOptions};
 use std::ffi::CString;
 use std::os::raw::c_char;
-use std::panic::{catch_unwind, AssertUnwindSafe};
 use std::{mem, ptr, slice, str};
 
 /// A text that may be unset: `bivdrazo_text`.
@@ -131,11 +132,11 @@ unsafe fn made_of(
     length: usize,
     options: *const Options,
 ) -> (Answer, Option<Made>) {
-    let rendered = catch_unwind(AssertUnwindSafe(|| {
+    let rendered = quietly(|| {
         // SAFETY: the caller keeps to what is said above.
         unsafe { render(bytes_of(text, length), options.as_ref()) }
-    }));
-    match rendered.unwrap_or_else(|_| Err(failed())) {
+    });
+    match rendered.unwrap_or_else(|| Err(failed())) {
         Ok(made) => (rendered_answer(&made), Some(made)),
         Err(answer) => (answer, None),
     }

@@ -43,6 +43,7 @@ mod layouts;
 mod markdown;
 mod numbers;
 mod options;
+mod quiet;
 mod references;
 mod values;
 
@@ -54,6 +55,8 @@ pub use markdown::{
 
 pub use errors::Error;
 pub use numbers::{Name, Rule, VERSION, VERSION_TEXT};
+#[doc(hidden)]
+pub use quiet::quietly;
 pub use references::REFERENCES;
 pub use values::{Attributes, Event, Heading, Kind, Limits, LineEnding, Options, Rendered};
 

@@ -1,5 +1,6 @@
 //! A document as the library takes it.
 
+use super::work;
 use crate::{
     compile, compile_within, ffi, Attributes, Error, Event, Kind, Limits, Name, Options, Rendered,
 };
@@ -61,6 +62,14 @@ impl Document {
         limits: Limits,
     ) -> Result<Rendered, Error> {
         if *attributes != Attributes::default() {
+            let limits = match work::at_most(&self.events) <= limits.work {
+                // What can't be more work needn't be made once more for that.
+                true => Limits {
+                    work: usize::MAX,
+                    ..limits
+                },
+                false => limits,
+            };
             return ffi::compile_attributed_owned(
                 self.events,
                 &self.bytes,
