@@ -43,7 +43,9 @@ extern "C" {
  * they are distinct from one another where number_ids is 1.
  *
  * Work is bounded by default; the lengths of the Markdown and of the text aren't. Whoever renders
- * what strangers write sets all three bounds.
+ * what strangers write sets all three bounds. A document that would take the parser much time or
+ * memory is read otherwise in any case: without tables, without footnotes, or with marks of quotes
+ * and lists that are text far from a line's beginning.
  */
 typedef struct bivdrazo_markdown_options {
     uint32_t version;                  /* BIVDRAZO_MARKDOWN_VERSION */

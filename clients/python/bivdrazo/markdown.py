@@ -120,6 +120,9 @@ def markdown_to_html(
     number. max_work: how much there may be to read and to print in what the parser makes of the
     document, as compile_within counts it; else 2^20, and 64 for each byte of the document. A number
     of 2^64 or more is no bound. Whoever renders what strangers write sets all three.
+    A document that would take the parser much time or memory is read otherwise in any case: without
+    tables, without footnotes, or with marks of quotes and lists that are text far from a line's
+    beginning.
 
     >>> markdown_to_html("a <b>c</b>\\nd", html="left-out", hard_breaks=True)
     '<p>a c<br />\\nd</p>\\n'
