@@ -63,7 +63,7 @@ pub enum Error {
 impl fmt::Display for Error {
     fn fmt(&self, formatter: &mut fmt::Formatter) -> fmt::Result {
         match self {
-            Error::Refused { index, rule } => write!(formatter, "event {index}: {rule:?}"),
+            Error::Refused { index, rule } => write!(formatter, "event {index}: {}", rule.text()),
             Error::Event(index) => write!(formatter, "event {index}: no such kind or name"),
             Error::Name(index) => write!(formatter, "character reference {index}: not UTF-8"),
             Error::Option(number) => {
