@@ -3,8 +3,8 @@
 
     statuses_test.py OUT
 
-Compiles a program in the folder OUT, with CC, that prints what bivdrazo_markdown_status_text says of
-each number. Ends with status 1 where a status has none.
+Compiles a program in the folder OUT, with CC, that prints what bivdrazo_markdown_status_text says
+of each number. Ends with status 1 where a status has none.
 """
 
 import os

@@ -113,12 +113,16 @@ def markdown_to_html(
     rel: the `rel` of each link whose URL isn't empty and doesn't begin with `#`. heading_ids:
     what the ids of headings begin with, their numbers follow; they are distinct from one
     another, and from all others where no other begins so: those of footnotes are
-    `footnote-label`, and the prefix and `fn`.
+    `footnote-label`, and the prefix and `fn`. On a page with several documents let it end with a
+    separator that is no digit.
 
     max_input, max_output: how many bytes of UTF-8 the document and the text may have; else any
     number. max_work: how much there may be to read and to print in what the parser makes of the
     document, as compile_within counts it; else 2^20, and 64 for each byte of the document. A number
     of 2^64 or more is no bound. Whoever renders what strangers write sets all three.
+    A document that would take the parser much time or memory is read otherwise in any case: without
+    tables, without footnotes, or with marks of quotes and lists that are text far from a line's
+    beginning.
 
     Whatever they are, a document that would take the parser much time or memory is read otherwise:
     without tables, if these would have more than 524,288 cells that aren't written; without

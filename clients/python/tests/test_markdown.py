@@ -4,7 +4,9 @@ import ctypes
 import doctest
 import functools
 import html.entities
+import itertools
 import pickle
+import re
 import threading
 import time
 import unittest
@@ -64,6 +66,24 @@ class Texts(unittest.TestCase):
         self.assertIn('<h2 id="p-2">c<br />', html)
         self.assertEqual(markdown_with_headings(NOTE, "p-")[1], [])
         self.assertEqual(markdown_with_headings("", "p-"), ("", []))
+
+    def test_ids_of_two_documents(self):
+        ids = functools.partial(re.findall, ' id="([^"]*)"')
+
+        def ids_of(prefix, text="# a\n" * 120):
+            return set(ids(markdown_to_html(text, heading_ids=prefix, number_ids=True,
+                                            footnote_prefix=f"{prefix}-")))
+
+        prefixes = ["s", "s1", "s10", "s0", "s01", "s1-", "s-", "t", "1", "11", ""]
+        for one, other in itertools.combinations(prefixes, 2):
+            is_shared = any(re.fullmatch(re.escape(short) + "[1-9][0-9]*", long)
+                            for short, long in [(one, other), (other, one)])
+            with self.subTest(one=one, other=other):
+                self.assertEqual(bool(ids_of(one) & ids_of(other)), is_shared)
+        self.assertIn("s11", ids_of("s") & ids_of("s1"))
+        found = [ids_of(f"comment-{number}-part-", NOTE + "# a\n" * 120) for number in (1, 7, 71)]
+        for one, other in itertools.combinations(found, 2):
+            self.assertEqual(one & other, {"footnote-label"})
 
     def test_html(self):
         text = "<b>a<!-- c -->"

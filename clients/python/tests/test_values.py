@@ -1,4 +1,4 @@
-"""Tests of what is handed to C: subclasses that lie about their bytes, and how statuses are told."""
+"""Tests of what is handed to C: subclasses that lie about their bytes, and texts of statuses."""
 
 import ctypes
 import unittest
