@@ -32,12 +32,23 @@
 extern "C" {
 #endif
 
+/* As max_work: a bound that goes by the length of the Markdown: 2^20, and 64 for each byte. */
+#define BIVDRAZO_MARKDOWN_WORK_BY_LENGTH (SIZE_MAX - 1)
+
 /*
  * The options. Whatever is chosen, the text is safe. Each text may be any UTF-8.
  *
  * The ids of headings are distinct from one another, and from all others where no other begins with
  * heading_ids. Those of footnotes are `footnote-label`, and what footnote_prefix says and `fn`;
  * they are distinct from one another where number_ids is 1.
+ *
+ * Work is bounded by default; the lengths of the Markdown and of the text aren't. Whoever renders
+ * what strangers write sets all three bounds. Whatever they are, a document that would take the
+ * parser much time or memory is read otherwise: without tables, if these would have more than
+ * 524,288 cells that aren't written; without footnotes, if as many as there can be, times its
+ * lines, are more than 2^29; with a mark of a quote or an item past 128 bytes of a line's beginning
+ * as text, if its longest beginning, times its lines but at least 1,024, is more than 2^26; and
+ * without bare links in a word of more than 2,048 bytes.
  */
 typedef struct bivdrazo_markdown_options {
     uint32_t version;                  /* BIVDRAZO_MARKDOWN_VERSION */
@@ -59,12 +70,15 @@ typedef struct bivdrazo_markdown_options {
     size_t max_input;                  /* how many bytes the Markdown may have;
                                           SIZE_MAX: any number */
     size_t max_output;                 /* how many bytes the text may have; SIZE_MAX: any number */
+    size_t max_work;                   /* how much there may be to read and to print, as
+                                          bivdrazo_limits counts it; SIZE_MAX: any amount;
+                                          BIVDRAZO_MARKDOWN_WORK_BY_LENGTH, the default */
 } bivdrazo_markdown_options;
 
-BIVDRAZO_ASSERT(sizeof(bivdrazo_markdown_options) == 168, "the options' size");
+BIVDRAZO_ASSERT(sizeof(bivdrazo_markdown_options) == 176, "the options' size");
 BIVDRAZO_ASSERT(offsetof(bivdrazo_markdown_options, html) == 7, "the last option by its number");
 BIVDRAZO_ASSERT(offsetof(bivdrazo_markdown_options, heading_ids) == 128, "the last text");
-BIVDRAZO_ASSERT(offsetof(bivdrazo_markdown_options, max_output) == 160, "the last bound");
+BIVDRAZO_ASSERT(offsetof(bivdrazo_markdown_options, max_work) == 168, "the last bound");
 
 /*
  * The HTML of a Markdown document. Under BIVDRAZO_OK `*html` is the text, `length` bytes of
@@ -108,7 +122,8 @@ static inline bivdrazo_markdown_options bivdrazo_markdown_options_default(void) 
                                          {0, 0, 0},
                                          {0, 0, 0},
                                          SIZE_MAX,
-                                         SIZE_MAX};
+                                         SIZE_MAX,
+                                         BIVDRAZO_MARKDOWN_WORK_BY_LENGTH};
     options.footnote_prefix = bivdrazo_text_unset();
     options.footnote_label = bivdrazo_text_unset();
     options.footnote_back_label = bivdrazo_text_unset();
@@ -131,6 +146,8 @@ static inline const char *bivdrazo_markdown_status_text(uint32_t status) {
         return "the options are of an unknown version";
     case BIVDRAZO_MARKDOWN_FAILED:
         return "the parser failed";
+    case BIVDRAZO_MARKDOWN_TOO_MUCH_WORK:
+        return "there is too much work";
     default:
         return bivdrazo_status_text(status);
     }

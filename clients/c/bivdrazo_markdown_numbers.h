@@ -3,7 +3,7 @@
 #define BIVDRAZO_MARKDOWN_NUMBERS_H
 
 /* The number of the interface for Markdown: it changes when a layout or a number of it changes. */
-#define BIVDRAZO_MARKDOWN_VERSION 2
+#define BIVDRAZO_MARKDOWN_VERSION 3
 
 /* What became of a call, beside the statuses of the library. */
 enum {
@@ -18,6 +18,8 @@ enum {
     /* The parser failed, or the library answered what isn't known: a fault that should be
      * reported. */
     BIVDRAZO_MARKDOWN_FAILED = 36,
+    /* There is more to read and to print than there may be: `length` tells how much that is. */
+    BIVDRAZO_MARKDOWN_TOO_MUCH_WORK = 37,
 };
 
 /* What becomes of HTML in a document. */

@@ -142,6 +142,45 @@ static void test_bounds(void) {
     check(renders("a", &options, "<p>a</p>\n"), "a text within its bound");
 }
 
+/* Bounds on work: one that is given, none, and the default one. */
+static void test_work(void) {
+    bivdrazo_markdown_options options = bivdrazo_markdown_options_default();
+    char *html;
+    check(options.max_work == BIVDRAZO_MARKDOWN_WORK_BY_LENGTH, "the default bound on work");
+    options.max_work = 4;
+    check(renders("abc", &options, "<p>abc</p>\n"), "work within its bound");
+    for (size_t work = 0; work < 4; work++) {
+        options.max_work = work;
+        check(fails("abc", 3, &options, BIVDRAZO_MARKDOWN_TOO_MUCH_WORK, 0), "too much work");
+        check(bivdrazo_markdown((const uint8_t *)"abc", 3, &options, &html).length == work,
+              "how much work there may be");
+    }
+    options.heading_ids = text_of("a");
+    check(fails("abc", 3, &options, BIVDRAZO_MARKDOWN_TOO_MUCH_WORK, 0), "work, with ids");
+    options.max_work = SIZE_MAX;
+    check(renders("abc", &options, "<p>abc</p>\n"), "any amount of work");
+}
+
+/* The default bound on work goes by the length: a long destination that is used often passes it. */
+static void test_default_work(void) {
+    enum { LONG = 10000, USES = 1000, LENGTH = 5 + LONG + 2 + 4 * USES };
+    static char text[LENGTH + 1] = "[a]: ";
+    memset(text + 5, 'b', LONG);
+    memcpy(text + 5 + LONG, "\n\n", 2);
+    for (size_t use = 0; use < USES; use++)
+        memcpy(text + 7 + LONG + 4 * use, "[a] ", 4);
+    char *html;
+    bivdrazo_answer answer = bivdrazo_markdown((const uint8_t *)text, LENGTH, NULL, &html);
+    check(answer.status == BIVDRAZO_MARKDOWN_TOO_MUCH_WORK && html == NULL, "a default bound");
+    check(answer.length == ((size_t)1 << 20) + 64 * LENGTH, "how much that bound is");
+    bivdrazo_markdown_options options = bivdrazo_markdown_options_default();
+    check(fails(text, LENGTH, &options, BIVDRAZO_MARKDOWN_TOO_MUCH_WORK, 0), "default options");
+    options.max_work = SIZE_MAX;
+    answer = bivdrazo_markdown((const uint8_t *)text, LENGTH, &options, &html);
+    check(answer.status == BIVDRAZO_OK && answer.length > LONG * USES, "no bound on work");
+    bivdrazo_markdown_free(html);
+}
+
 static void test_failures(void) {
     bivdrazo_markdown_options options = bivdrazo_markdown_options_default();
     check(fails("ab\xFF", 3, NULL, BIVDRAZO_MARKDOWN_NOT_UTF8, 2), "what isn't UTF-8");
@@ -191,6 +230,8 @@ int main(void) {
     test_attributes();
     test_footnotes();
     test_bounds();
+    test_work();
+    test_default_work();
     test_failures();
     test_threads();
     if (failures == 0)

@@ -116,11 +116,16 @@ def compare_mutated(out, mutated):
     return counted(triples), [text for status, text in found if status == OK], wrong + refused
 
 
+def left_out(what, packages):
+    """Tells what is left out, and has it counted."""
+    subprocess.run([pathlib.Path(__file__).resolve().parent.parent / "left_out", what, packages],
+                   check=True)
+
+
 def check_reading(texts):
     """How many of the texts hold what isn't permitted."""
     if importlib.util.find_spec("html5lib") is None:
-        print("*** the reading by an HTML5 parser is LEFT OUT: "
-              "apt-get install python3-html5lib ***")
+        left_out("the reading by an HTML5 parser", "python3-html5lib")
         return 0
     import reading
 
@@ -144,7 +149,7 @@ def check_memory(out, mutated):
     try:
         subprocess.run(["valgrind", "--version"], capture_output=True, check=True)
     except OSError:
-        print("*** the run under valgrind is LEFT OUT: apt-get install valgrind ***")
+        left_out("the run of changed events under valgrind", "valgrind")
         return
     run_batch([*valgrind.split(), out / "batch", str(SEED), "1"], mutated)
     print(f"  under valgrind: {len(mutated)} documents, each with a list of changed events: "

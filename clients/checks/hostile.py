@@ -5,9 +5,11 @@ time and memory.
 
 OUT is the folder where clients/build put what it made, with bivdrazo-checks in target/release and
 markdown_file. Each shape, of about a megabyte, is rendered by the crate for Rust, by C, by Python
-and by bivdrazo-render, as a process each. All four must make the same text, within SECONDS of a
-processor. The memory beyond input and text, which counts the program itself, must stay within
-MEGABYTES, or within what hostile.txt has for that shape. Ends with status 1 where that isn't so.
+and by bivdrazo-render, as a process each, within the default bounds. All four must make the same
+text, within SECONDS of a processor. The memory beyond input and text, which counts the program
+itself, must stay within MEGABYTES, or within what hostile.txt has for that shape. Of one that
+hostile.txt says to be too much work all four must tell that. Ends with status 1 where that isn't
+so.
 --table prints all of it, and what pulldown-cmark's own renderer takes.
 """
 
@@ -29,10 +31,17 @@ MOST_MEMORY = 4 << 30  # of address space: past it a program fails, and not the 
 
 PYTHON = """
 import sys
-from bivdrazo import markdown_to_html
+from bivdrazo import TooMuchWork, markdown_to_html
 text = sys.stdin.buffer.read().decode("utf-8")
-sys.stdout.write(markdown_to_html(text))
+try:
+    sys.stdout.write(markdown_to_html(text))
+except TooMuchWork:
+    sys.exit(6)
 """
+
+# How each way ends where there is too much work; Rust's tells each error so.
+TOO_MUCH = {"Rust": 2, "C": 37, "Python": 6, "bivdrazo-render": 6}
+WORK = "too much work"
 
 
 class Run(NamedTuple):
@@ -86,9 +95,11 @@ def beyond(path, found):
 
 
 def allowed():
-    """How many megabytes a shape may take that takes more than the others, by its name."""
+    """How many megabytes a shape may take that takes more than the others, or that it is too much
+    work, by its name.
+    """
     lines = (HERE / "hostile.txt").read_text(encoding="utf-8").splitlines()
-    return {name: int(most)
+    return {name: most if most == WORK else int(most)
             for name, most in (line.rsplit(": ", 1) for line in lines if not line.startswith("#"))}
 
 
@@ -97,7 +108,10 @@ def faults(path, runs, most):
     first = next(iter(runs.values()))
     for name, found in runs.items():
         memory = beyond(path, found)
-        if found.status != 0:
+        if most == WORK:
+            if found.status != TOO_MUCH[name] or found.length != 0:
+                yield f"{name} ends with status {found.status}, and it is to be too much work"
+        elif found.status != 0:
             yield f"{name} ends with status {found.status}"
         elif found.digest != first.digest:
             yield f"{name} makes another text"
@@ -146,7 +160,8 @@ def main():
             slowest = max(slowest, (max(found.seconds for found in runs.values()), path.stem))
     wrong += len(more.keys() - {path.stem for path in paths})
     seconds, shape = slowest
-    print(f"hostile: {len(paths)} shapes by {len(runs)} ways, {wrong} faults, "
+    print(f"hostile: {len(paths)} shapes by {len(runs)} ways, of which "
+          f"{list(more.values()).count(WORK)} are too much work, {wrong} faults, "
           f"{seconds:.2f} seconds at most ({shape})")
     return 1 if wrong else 0
 

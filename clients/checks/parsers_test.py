@@ -21,6 +21,7 @@ KNOWN = {
     670: "a space at a line's end",
     614: "an escaped character before an address",
     625: "a bare link with brackets that aren't balanced",
+    628: "a bare link of ftp, which isn't permitted",
     631: "an address whose last label has one letter",
 }
 

@@ -13,7 +13,7 @@ import html
 import json
 import sys
 
-from bivdrazo import TooLong, markdown_to_html
+from bivdrazo import TooLong, TooMuchWork, markdown_to_html
 
 # How the id stands in a text, and nothing else: a quotation mark is escaped but in tags, where it
 # is around values.
@@ -33,8 +33,9 @@ def comment(number, author, text):
             html="left-out",
             max_input=10_000,
             max_output=100_000,
+            max_work=50_000,
         )
-    except TooLong as error:
+    except (TooLong, TooMuchWork) as error:
         print(f"comment {number}: {error}", file=sys.stderr)
         return ""
     return f'<article id="comment-{number}"><h1>{html.escape(author)}</h1>\n{body}</article>\n'

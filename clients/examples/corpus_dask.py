@@ -23,6 +23,7 @@ from bivdrazo import TooLong, markdown_to_html
 
 MAX_INPUT = 10_000
 MAX_OUTPUT = 100_000
+MAX_WORK = 50_000
 TOGETHER = 1000  # so many files are one task
 WORKERS = 2
 
@@ -61,7 +62,8 @@ def render(name, folder, site):
     """Renders one file; nothing, or what the report says of it."""
     try:
         text = read(folder / name)
-        html = markdown_to_html(text, number_ids=True, max_input=MAX_INPUT, max_output=MAX_OUTPUT)
+        html = markdown_to_html(text, number_ids=True, max_input=MAX_INPUT, max_output=MAX_OUTPUT,
+                                max_work=MAX_WORK)
         write(site / f"{name[:-3]}.html", html)
     except Exception as error:  # whatever it is, the others are rendered
         return {"file": name, "cause": cause_of(error)}

@@ -21,8 +21,11 @@ static bivdrazo_markdown_options options_of(uint8_t flags, uint8_t bounds) {
         options.base = bivdrazo_text_of((const uint8_t *)"https://a.b/c/", 14);
     if (flags >> 6 & 1)
         options.footnote_prefix = bivdrazo_text_of((const uint8_t *)"\"<x>&", 5);
-    if (flags >> 7 & 1)
+    if (flags >> 7 & 1) {
         options.max_output = 8u * bounds;
+        if (bounds & 1)
+            options.max_work = 4u * bounds;
+    }
     return options;
 }
 
@@ -44,6 +47,7 @@ int LLVMFuzzerTestOneInput(const uint8_t *data, size_t size) {
     const bivdrazo_answer answer = bivdrazo_markdown(document.bytes, size - 2, &options, &html);
     const int may_fail =
         answer.status == BIVDRAZO_MARKDOWN_NOT_UTF8 ||
+        answer.status == BIVDRAZO_MARKDOWN_TOO_MUCH_WORK ||
         (answer.status == BIVDRAZO_MARKDOWN_OUTPUT_TOO_LONG && options.max_output != SIZE_MAX);
     if (answer.status == BIVDRAZO_OK)
         check_text(html, answer.length, &options);

@@ -1,7 +1,7 @@
 """The numbers of the C interface for C."""
 
 from listed import (MARKDOWN_TITLES, NOTICE, RELEASE, RELEASE_COMMENT, TITLES, commented, of_group,
-                    upper)
+                    told, upper)
 
 PREFIXES = {
     "status": "",
@@ -32,8 +32,7 @@ def rule_text():
     text = "/* What a rule means, in English. */\n"
     text += "static inline const char *bivdrazo_rule_text(uint32_t rule) {\n    switch (rule) {\n"
     for entry in of_group("rule"):
-        told = (entry.comment[0].lower() + entry.comment[1:]).rstrip(".").replace('"', '\\"')
-        text += f"    case BIVDRAZO_RULE_{upper(entry.name)}:\n        return \"{told}\";\n"
+        text += f"    case BIVDRAZO_RULE_{upper(entry.name)}:\n        return \"{told(entry)}\";\n"
     return text + "    default:\n        return \"an unknown rule\";\n    }\n}\n"
 
 

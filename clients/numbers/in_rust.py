@@ -1,6 +1,7 @@
 """The numbers of the C interface for Rust, and the options as Rust hands them in."""
 
-from listed import NOTICE, RELEASE, RELEASE_COMMENT, TITLES, WIDTH, commented, of_group, upper
+from listed import (NOTICE, RELEASE, RELEASE_COMMENT, TITLES, WIDTH, commented, of_group, told,
+                    upper)
 
 
 def markdown_numbers():
@@ -67,12 +68,23 @@ def names():
     return text + "".join(f"    Name::{entry.name},\n" for entry in by_number) + "];\n"
 
 
+def arm_of_rule(entry):
+    """The arm that tells what a rule means, as the formatter lays it out."""
+    line = f"            Rule::{entry.name} => \"{told(entry)}\",\n"
+    if len(line) > WIDTH + 1:
+        line = line.replace(" => ", " => {\n" + 16 * " ").replace("\",\n", "\"\n" + 12 * " " + "}\n")
+    return line
+
+
 def rules():
-    """The rules by their numbers."""
+    """The rules by their numbers, and what they mean."""
     text = "impl Rule {\n    /// The number of the rule, as C has it.\n"
     text += "    pub fn number(self) -> u32 {\n        match self {\n"
     text += "".join(f"            Rule::{entry.name} => {entry.number},\n"
                     for entry in of_group("rule"))
+    text += "        }\n    }\n\n    /// What the rule means, in English.\n"
+    text += "    pub fn text(self) -> &'static str {\n        match self {\n"
+    text += "".join(map(arm_of_rule, of_group("rule")))
     text += "        }\n    }\n\n    /// The rule with that number.\n"
     text += "    pub(crate) fn from_number(number: u32) -> Option<Rule> {\n        match number {\n"
     text += "".join(f"            {entry.number} => Some(Rule::{entry.name}),\n"

@@ -68,6 +68,12 @@ def upper(name):
     return re.sub(r"(?<=[a-z])(?=[A-Z])", "_", name).upper()
 
 
+def told(entry):
+    """What an entry means, as a part of a sentence in a string."""
+    text = (entry.comment[0].lower() + entry.comment[1:]).rstrip(".")
+    return text.replace('"', '\\"')
+
+
 def commented(text, indent, first, next_, last=""):
     """A comment over as many lines as it needs."""
     room = WIDTH - len(indent) - len(next_) - len(last)

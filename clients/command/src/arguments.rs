@@ -2,7 +2,7 @@
 
 use crate::files;
 use crate::parser::ParserLimits;
-use bivdrazo::{Attributes, DocumentHtml, Limits, MarkdownOptions, Options};
+use bivdrazo::{default_work, Attributes, DocumentHtml, Limits, MarkdownOptions, Options};
 use clap::error::ErrorKind;
 use clap::{value_parser, CommandFactory, Parser, ValueEnum, ValueHint};
 use clap_complete::Shell;
@@ -106,7 +106,7 @@ pub struct Arguments {
     pub max_output: Option<usize>,
 
     /// How much there may be to read and to print in what the parser makes of a document, in bytes;
-    /// 6 is the status where one has more.
+    /// 2^20, and 64 for each of its bytes. 6 is the status where one has more.
     #[arg(long, value_name = "BYTES")]
     pub max_work: Option<usize>,
 
@@ -204,11 +204,12 @@ impl Arguments {
         }
     }
 
-    /// The limits of the text and of the work, for the events of cmark-gfm's parser.
-    pub fn limits(&self) -> Limits {
+    /// The limits of the text and of the work, for the events of cmark-gfm's parser of a document of
+    /// so many bytes.
+    pub fn limits(&self, length: usize) -> Limits {
         Limits {
             text: self.max_output.unwrap_or(usize::MAX),
-            work: self.max_work.unwrap_or(usize::MAX),
+            work: self.max_work.unwrap_or_else(|| default_work(length)),
         }
     }
 

@@ -6,6 +6,7 @@ use std::fs::{self, File, OpenOptions};
 use std::io::{self, Read, Write};
 use std::path::{Path, PathBuf};
 use std::process;
+use std::sync::atomic::{AtomicUsize, Ordering};
 
 /// The text of a file, or of standard input, which may have so many bytes.
 pub fn read(path: &Path, limit: Option<usize>) -> Result<String, Failure> {
@@ -91,8 +92,8 @@ pub fn write(path: &Path, texts: &[&str]) -> io::Result<()> {
     if matches!(&found, Ok(found) if !found.is_file()) {
         return write_all(&mut OpenOptions::new().write(true).open(&path)?, texts);
     }
-    let beside = beside(&path)?;
-    let written = write_new(&beside, texts)
+    let (beside, file) = new_beside(&path)?;
+    let written = write_whole(file, texts)
         .and_then(|()| {
             found.map_or(Ok(()), |found| {
                 fs::set_permissions(&beside, found.permissions())
@@ -105,18 +106,25 @@ pub fn write(path: &Path, texts: &[&str]) -> io::Result<()> {
     written
 }
 
-/// A name in the same folder that is nobody's else.
-fn beside(path: &Path) -> io::Result<PathBuf> {
-    let mut name = path
-        .file_name()
-        .ok_or(io::ErrorKind::InvalidInput)?
-        .to_os_string();
-    name.push(format!(".{}.part", process::id()));
-    Ok(path.with_file_name(name))
+/// A new file in the same folder. Its name is short, however long that of the other one is.
+fn new_beside(path: &Path) -> io::Result<(PathBuf, File)> {
+    static NUMBER: AtomicUsize = AtomicUsize::new(0);
+    path.file_name().ok_or(io::ErrorKind::InvalidInput)?;
+    loop {
+        let number = NUMBER.fetch_add(1, Ordering::Relaxed);
+        let beside = path.with_file_name(format!(".{}-{number}.part", process::id()));
+        match OpenOptions::new()
+            .write(true)
+            .create_new(true)
+            .open(&beside)
+        {
+            Err(error) if error.kind() == io::ErrorKind::AlreadyExists => {}
+            made => return made.map(|file| (beside, file)),
+        }
+    }
 }
 
-fn write_new(path: &Path, texts: &[&str]) -> io::Result<()> {
-    let mut file = OpenOptions::new().write(true).create_new(true).open(path)?;
+fn write_whole(mut file: File, texts: &[&str]) -> io::Result<()> {
     write_all(&mut file, texts)?;
     file.sync_all()
 }

@@ -8,7 +8,7 @@ mod progress;
 mod script;
 
 use arguments::{Arguments, ParserName};
-use bivdrazo::markdown_to_html;
+use bivdrazo::{markdown_to_html, quietly, Attributes};
 use page::Page;
 use parser::ParserError;
 use rayon::prelude::*;
@@ -61,26 +61,16 @@ fn run(arguments: &Arguments) -> Result<Vec<Failed>, Failure> {
         return Ok(Vec::new());
     }
     let page = Page::of(arguments)?;
-    let told = |name: &str| {
-        let name = name.to_string();
-        move |error: Failure| Failed {
-            told: format!("{name}: {error}"),
-            status: match error.downcast_ref() {
-                Some(bivdrazo::Error::OutputTooLong { .. }) => TOO_LONG,
-                Some(bivdrazo::Error::TooMuchWork { .. }) => TOO_MUCH,
-                _ => FAILED,
-            },
-        }
-    };
     match &arguments.out_dir {
         Some(folder) => {
             let targets = files::targets(&arguments.files, folder)?;
             let bar = progress::bar(targets.len());
             let jobs = arguments.files.par_iter().zip(&targets);
             let done = jobs.map(|(source, target)| {
-                let done = render(arguments, &page, source, Some(target));
+                let work = || render(arguments, &page, source, Some(target));
+                let done = told(&source.display().to_string(), work);
                 bar.inc(1);
-                done.map_err(told(&source.display().to_string()))
+                done
             });
             let failed = done.filter_map(Result::err).collect();
             bar.finish_and_clear();
@@ -92,10 +82,24 @@ fn run(arguments: &Arguments) -> Result<Vec<Failed>, Failure> {
                 Some("-") => "standard input".to_string(),
                 _ => source.display().to_string(),
             };
-            let done = render(arguments, &page, source, arguments.output.as_deref());
-            Ok(done.map_err(told(&name)).err().into_iter().collect())
+            let work = || render(arguments, &page, source, arguments.output.as_deref());
+            Ok(told(&name, work).err().into_iter().collect())
         }
     }
+}
+
+/// What is told where the work on a file of that name fails. A panic in it is told as other causes
+/// are, so that the other files are written.
+fn told(name: &str, work: impl FnOnce() -> Result<(), Failure>) -> Result<(), Failed> {
+    let done = quietly(work).unwrap_or_else(|| Err("the program failed: please report it".into()));
+    done.map_err(|error| Failed {
+        told: format!("{name}: {error}"),
+        status: match error.downcast_ref() {
+            Some(bivdrazo::Error::OutputTooLong { .. }) => TOO_LONG,
+            Some(bivdrazo::Error::TooMuchWork { .. }) => TOO_MUCH,
+            _ => FAILED,
+        },
+    })
 }
 
 /// Renders one file; to standard output where there is no target.
@@ -127,11 +131,38 @@ fn html_of(text: String, arguments: &Arguments) -> Result<String, Failure> {
     if arguments.parser == ParserName::PulldownCmark {
         return Ok(markdown_to_html(&text, &arguments.options())?);
     }
+    let limits = arguments.limits(text.len());
     let document = parser::events_of(text, arguments.parser_limits())?;
     let (options, attributes) = (arguments.library_options(), arguments.attributes());
-    let made = document.compile_attributed(&options, &attributes, arguments.limits());
-    made.map(|made| made.html).map_err(|error| match error {
+    let made = if attributes == Attributes::default() {
+        document.compile_within(&options, limits)
+    } else {
+        let made = document.compile_attributed(&options, &attributes, limits);
+        made.map(|made| made.html)
+    };
+    made.map_err(|error| match error {
         bivdrazo::Error::Refused { .. } => ParserError::Refused(error).into(),
         _ => error.into(),
     })
+}
+
+#[cfg(test)]
+mod tests {
+    use super::*;
+
+    /// A panic in the work on one of several files is told with its name, and the others are done.
+    #[test]
+    fn panics() {
+        let names = ["a.md", "b.md", "c.md"];
+        let done = names.par_iter().map(|&name| {
+            told(name, || match name {
+                "b.md" => panic!("the text of a document"),
+                _ => Ok(()),
+            })
+        });
+        let failed: Vec<Failed> = done.filter_map(Result::err).collect();
+        let texts: Vec<&str> = failed.iter().map(|each| &*each.told).collect();
+        assert_eq!(texts, ["b.md: the program failed: please report it"]);
+        assert_eq!(status_of(&failed), FAILED);
+    }
 }

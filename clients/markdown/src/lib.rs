@@ -1,23 +1,18 @@
 //! Markdown in for C: one call with its options, declared in `c/bivdrazo_markdown.h`, which also
 //! says what a caller must keep to.
 
+#![deny(unsafe_op_in_unsafe_fn)]
+
+mod answer;
 mod numbers;
 
-use bivdrazo::{markdown_with_headings, DocumentHtml, Error, Heading, MarkdownOptions};
+pub use answer::Answer;
+
+use answer::{answer_of, failed, no_option, with_status};
+use bivdrazo::{markdown_with_headings, quietly, DocumentHtml, Error, Heading, MarkdownOptions};
 use std::ffi::CString;
 use std::os::raw::c_char;
-use std::panic::{catch_unwind, AssertUnwindSafe};
 use std::{mem, ptr, slice, str};
-
-/// What the call answers: `bivdrazo_answer`.
-#[repr(C)]
-#[derive(Clone, Copy, Debug, Default, Eq, PartialEq)]
-pub struct Answer {
-    status: u32,
-    rule: u32,
-    index: usize,
-    length: usize,
-}
 
 /// A text that may be unset: `bivdrazo_text`.
 #[repr(C)]
@@ -43,11 +38,15 @@ pub struct Options {
     heading_ids: Text,
     max_input: usize,
     max_output: usize,
+    max_work: usize,
 }
+
+/// As `max_work`: a bound that goes by the length of the Markdown.
+const WORK_BY_LENGTH: usize = usize::MAX - 1;
 
 const _: () = assert!(mem::size_of::<Answer>() == 24);
 const _: () = assert!(mem::size_of::<Text>() == 24);
-const _: () = assert!(mem::size_of::<Options>() == 168);
+const _: () = assert!(mem::size_of::<Options>() == 176);
 
 /// Texts for C: the HTML, and a line for each heading that got an id.
 struct Made {
@@ -133,11 +132,11 @@ unsafe fn made_of(
     length: usize,
     options: *const Options,
 ) -> (Answer, Option<Made>) {
-    let rendered = catch_unwind(AssertUnwindSafe(|| {
+    let rendered = quietly(|| {
         // SAFETY: the caller keeps to what is said above.
         unsafe { render(bytes_of(text, length), options.as_ref()) }
-    }));
-    match rendered.unwrap_or_else(|_| Err(failed())) {
+    });
+    match rendered.unwrap_or_else(|| Err(failed())) {
         Ok(made) => (rendered_answer(&made), Some(made)),
         Err(answer) => (answer, None),
     }
@@ -157,17 +156,6 @@ fn lines_of(headings: &[Heading]) -> String {
         format!("{} {} {text}\n", heading.level, heading.number)
     };
     headings.iter().map(line).collect()
-}
-
-fn failed() -> Answer {
-    with_status(numbers::STATUS_FAILED)
-}
-
-fn with_status(status: u32) -> Answer {
-    Answer {
-        status,
-        ..Answer::default()
-    }
 }
 
 /// So many bytes; the pointer isn't looked at where there are none.
@@ -209,24 +197,6 @@ unsafe fn render(text: &[u8], options: Option<&Options>) -> Result<Made, Answer>
     })
 }
 
-/// The answer for an error.
-fn answer_of(error: Error) -> Answer {
-    match error {
-        Error::Refused { index, rule } => Answer {
-            rule: rule.number(),
-            index,
-            ..with_status(numbers::STATUS_REFUSED)
-        },
-        Error::Memory => with_status(numbers::STATUS_MEMORY),
-        Error::InputTooLong { length, .. } => Answer {
-            length,
-            ..with_status(numbers::STATUS_INPUT_TOO_LONG)
-        },
-        Error::OutputTooLong { .. } => with_status(numbers::STATUS_OUTPUT_TOO_LONG),
-        _ => failed(),
-    }
-}
-
 /// # Safety
 ///
 /// The texts that are set are as long as they say.
@@ -258,14 +228,8 @@ unsafe fn options_of(given: &Options) -> Result<MarkdownOptions, Answer> {
     }
     options.max_input = bound_of(given.max_input);
     options.max_output = bound_of(given.max_output);
+    options.max_work = Some(given.max_work).filter(|&work| work != WORK_BY_LENGTH);
     Ok(options)
-}
-
-fn no_option(index: usize) -> Answer {
-    Answer {
-        index,
-        ..with_status(numbers::STATUS_NO_OPTION)
-    }
 }
 
 /// A bound; the greatest number is none.

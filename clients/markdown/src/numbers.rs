@@ -1,7 +1,7 @@
 // Written by clients/numbers/generate from numbers.txt. Don't edit it.
 
 /// The number of the interface for Markdown: it changes when a layout or a number of it changes.
-pub const MARKDOWN_VERSION: u32 = 2;
+pub const MARKDOWN_VERSION: u32 = 3;
 
 pub const STATUS_OK: u32 = 0;
 pub const STATUS_REFUSED: u32 = 2;
@@ -12,6 +12,7 @@ pub const STATUS_OUTPUT_TOO_LONG: u32 = 33;
 pub const STATUS_NOT_UTF8: u32 = 34;
 pub const STATUS_NO_VERSION: u32 = 35;
 pub const STATUS_FAILED: u32 = 36;
+pub const STATUS_TOO_MUCH_WORK: u32 = 37;
 
 pub const HTML_TEXT: u8 = 0;
 pub const HTML_LEFT_OUT: u8 = 1;

@@ -6,15 +6,14 @@ import ctypes
 import functools
 import struct
 from collections.abc import Callable, Iterable, Mapping
-from typing import Any, NamedTuple, Union
+from typing import Any, NamedTuple
 
 from .errors import Invalid, TooLong, TooMuchWork, error_of
 from .library import LIBRARY, CAnswer, CEvent, CLimits, COptions, CReference, CText
 from .numbers import Kind, LineEnding, Name, Status
 from .references import REFERENCES
-from .values import bound_of
+from .values import Bytes, bound_of, bytes_of, coded
 
-Bytes = Union[bytes, bytearray, memoryview]
 EVENT = struct.Struct("@NHHBB2x")
 
 
@@ -82,7 +81,7 @@ def compile(
     )
     made, length = events_of(events)
     references = references_of(names)
-    document = bytes(data)
+    document = bytes_of("data", data)
     return answered(
         first_size(length, len(document)),
         lambda buffer, room: LIBRARY.bivdrazo_compile(
@@ -126,7 +125,7 @@ def compile_within(
     limits = CLimits(bound_of("max_output", max_output), bound_of("max_work", max_work, "work"))
     made, length = events_of(events)
     references = references_of(names)
-    document = bytes(data)
+    document = bytes_of("data", data)
     return answered(
         min(first_size(length, len(document)), limits.text),
         lambda buffer, room: LIBRARY.bivdrazo_compile_within(
@@ -142,7 +141,7 @@ def run(script: Bytes) -> str:
 
     Raises Unreadable where a line can't be read, Refused where the events are refused, MemoryError.
     """
-    given = bytes(script)
+    given = bytes_of("script", script)
     return answered(
         first_size(0, len(given)),
         lambda buffer, room: LIBRARY.bivdrazo_run(given, len(given), buffer, room),
@@ -198,11 +197,11 @@ def options_of(
         bool(gfm_tagfilter),
         line_ending_of(default_line_ending),
         bool(gfm_footnote_number_ids),
-        text_of(gfm_footnote_back_label),
-        text_of(gfm_footnote_clobber_prefix),
-        text_of(gfm_footnote_label),
-        text_of(gfm_footnote_label_attributes),
-        text_of(gfm_footnote_label_tag_name),
+        text_of("gfm_footnote_back_label", gfm_footnote_back_label),
+        text_of("gfm_footnote_clobber_prefix", gfm_footnote_clobber_prefix),
+        text_of("gfm_footnote_label", gfm_footnote_label),
+        text_of("gfm_footnote_label_attributes", gfm_footnote_label_attributes),
+        text_of("gfm_footnote_label_tag_name", gfm_footnote_label_tag_name),
     )
 
 
@@ -234,9 +233,9 @@ def made_references(names: Mapping[str, str]
                     | Iterable[tuple[str, str]]) -> ctypes.Array[CReference]:
     """The character references as C has them, with one more after them."""
     pairs = [*(names.items() if isinstance(names, Mapping) else names), ("", "")]
-    coded = [(name.encode("utf-8"), text.encode("utf-8")) for name, text in pairs]
-    return (CReference * len(coded))(*[CReference(name, len(name), text, len(text))
-                                       for name, text in coded])
+    made = [(coded("names", name), coded("names", text)) for name, text in pairs]
+    return (CReference * len(made))(*[CReference(name, len(name), text, len(text))
+                                      for name, text in made])
 
 
 def line_ending_of(ending: LineEnding) -> int:
@@ -244,7 +243,7 @@ def line_ending_of(ending: LineEnding) -> int:
     return LineEnding(ending).value
 
 
-def text_of(text: str | None) -> CText:
+def text_of(name: str, text: str | None) -> CText:
     """A text as C has it, set or unset."""
-    coded = b"" if text is None else text.encode("utf-8")
-    return CText(coded, len(coded), text is not None)
+    made = b"" if text is None else coded(name, text)
+    return CText(made, len(made), text is not None)

@@ -2,7 +2,29 @@
 
 from __future__ import annotations
 
-from .numbers import OPTIONS, Rule, Status
+from .numbers import OPTIONS, MarkdownStatus, Rule, Status
+
+# What each status means, as C's functions tell it.
+TEXTS = {
+    Status.OK: "there is a text",
+    Status.TOO_SHORT: "the buffer is too short",
+    Status.REFUSED: "an event is refused",
+    Status.NO_EVENT: "an event has no such kind or name",
+    Status.NO_NAME: "a character reference isn't UTF-8",
+    Status.NO_OPTION: "an option has no such value",
+    Status.NO_LINE: "a line of the script can't be read",
+    Status.MEMORY: "out of memory",
+    Status.UNSAFE: "the options aren't safe",
+    Status.NO_ATTRIBUTE: "an attribute has no such value",
+    Status.TOO_LONG: "the text is too long",
+    Status.TOO_MUCH: "there is too much work",
+    MarkdownStatus.INPUT_TOO_LONG: "the Markdown is too long",
+    MarkdownStatus.OUTPUT_TOO_LONG: "the text is too long",
+    MarkdownStatus.NOT_UTF8: "the Markdown isn't UTF-8",
+    MarkdownStatus.NO_VERSION: "the options are of an unknown version",
+    MarkdownStatus.FAILED: "the parser failed",
+    MarkdownStatus.TOO_MUCH_WORK: "there is too much work",
+}
 
 
 class Error(ValueError):
@@ -67,7 +89,9 @@ class TooLong(Error):
 
 
 class TooMuchWork(Error):
-    """There is more to read and to print than `limit`."""
+    """There is more to read and to print than `limit`: that of a call, or what goes by the length
+    of the Markdown.
+    """
 
     def __init__(self, limit: int) -> None:
         super().__init__(f"there is more work than {limit}")
@@ -95,5 +119,10 @@ def error_of(status: int, index: int, rule: int) -> Exception:
     if status == Status.NO_LINE:
         return Unreadable(index)
     if status == Status.MEMORY:
-        return MemoryError("out of memory")
-    return RuntimeError(f"the library answered the status {status}")
+        return MemoryError(text_of_status(status))
+    return RuntimeError(text_of_status(status))
+
+
+def text_of_status(status: int) -> str:
+    """What a status means, in English."""
+    return TEXTS.get(status, f"the library answered the unknown status {status}")

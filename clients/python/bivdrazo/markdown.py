@@ -8,10 +8,14 @@ import os
 import pathlib
 from typing import Any, Literal, NamedTuple
 
-from .errors import MarkdownError, TooLong, error_of
+from .calls import text_of
+from .errors import MarkdownError, TooLong, TooMuchWork, error_of, text_of_status
 from .library import CAnswer, CText
 from .numbers import MARKDOWN_OPTIONS, MARKDOWN_VERSION, DocumentHtml, MarkdownStatus, Status
-from .values import bound_of, typed
+from .values import MOST, bound_of, coded, typed
+
+# As `max_work` C's name for the bound that goes by the document's length.
+WORK_BY_LENGTH = MOST - 1
 
 HTML = {"text": DocumentHtml.TEXT, "left-out": DocumentHtml.LEFT_OUT,
         "without-comments": DocumentHtml.WITHOUT_COMMENTS}
@@ -44,6 +48,7 @@ class CMarkdownOptions(ctypes.Structure):
         ("heading_ids", CText),
         ("max_input", ctypes.c_size_t),
         ("max_output", ctypes.c_size_t),
+        ("max_work", ctypes.c_size_t),
     ]
 
 
@@ -88,6 +93,7 @@ def markdown_to_html(
     heading_ids: str | None = None,
     max_input: int | None = None,
     max_output: int | None = None,
+    max_work: int | None = None,
 ) -> str:
     """The HTML of a Markdown document, with tables, strikethrough, tasks, footnotes and bare links.
 
@@ -107,17 +113,29 @@ def markdown_to_html(
     rel: the `rel` of each link whose URL isn't empty and doesn't begin with `#`. heading_ids:
     what the ids of headings begin with, their numbers follow; they are distinct from one
     another, and from all others where no other begins so: those of footnotes are
-    `footnote-label`, and the prefix and `fn`. max_input, max_output: how many bytes of UTF-8 the
-    document and the text may have.
+    `footnote-label`, and the prefix and `fn`. On a page with several documents let it end with a
+    separator that is no digit.
+
+    max_input, max_output: how many bytes of UTF-8 the document and the text may have; else any
+    number. max_work: how much there may be to read and to print in what the parser makes of the
+    document, as compile_within counts it; else 2^20, and 64 for each byte of the document. A number
+    of 2^64 or more is no bound. Whoever renders what strangers write sets all three.
+
+    Whatever they are, a document that would take the parser much time or memory is read otherwise:
+    without tables, if these would have more than 524,288 cells that aren't written; without
+    footnotes, if as many as there can be, times its lines, are more than 2^29; with a mark of a
+    quote or an item past 128 bytes of a line's beginning as text, if its longest beginning, times
+    its lines but at least 1,024, is more than 2^26; and without bare links in a word of more than
+    2,048 bytes.
 
     >>> markdown_to_html("a <b>c</b>\\nd", html="left-out", hard_breaks=True)
     '<p>a c<br />\\nd</p>\\n'
 
-    Raises TooLong where a bound is passed, MemoryError where the library finds no memory,
-    UnicodeEncodeError for a surrogate that is alone, and TypeError for a value of another type.
-    Other threads run during the call.
+    Raises TooLong where a bound on bytes is passed, TooMuchWork where that on work is, the default
+    one too, MemoryError where the library finds no memory, UnicodeEncodeError for a surrogate that
+    is alone, and TypeError for a value of another type. Other threads run during the call.
     """
-    document = typed("text", text, str).encode("utf-8")
+    document = coded("text", text)
     given = options_of(
         number_ids=number_ids,
         hard_breaks=hard_breaks,
@@ -131,6 +149,7 @@ def markdown_to_html(
         heading_ids=heading_ids,
         max_input=max_input,
         max_output=max_output,
+        max_work=max_work,
     )
     return rendered(document, given)[0]
 
@@ -146,7 +165,7 @@ def markdown_with_headings(text: str, heading_ids: str, **options: Any) -> tuple
 
     In a heading's text a space stands for each line feed.
     """
-    document = typed("text", text, str).encode("utf-8")
+    document = coded("text", text)
     html, lines = rendered(document,
                            options_of(heading_ids=typed("heading_ids", heading_ids, str),
                                       **options))
@@ -173,6 +192,7 @@ def options_of(
     heading_ids: str | None = None,
     max_input: int | None = None,
     max_output: int | None = None,
+    max_work: int | None = None,
 ) -> CMarkdownOptions:
     """The options as C has them."""
     return CMarkdownOptions(
@@ -189,6 +209,7 @@ def options_of(
         text_of("heading_ids", heading_ids),
         bound_of("max_input", max_input),
         bound_of("max_output", max_output),
+        WORK_BY_LENGTH if max_work is None else bound_of("max_work", max_work, "work"),
     )
 
 
@@ -217,20 +238,16 @@ def html_of(html: str) -> int:
     return number
 
 
-def text_of(name: str, text: str | None) -> CText:
-    """A text as C has it, set or unset."""
-    coded = b"" if text is None else typed(name, text, str).encode("utf-8")
-    return CText(coded, len(coded), text is not None)
-
-
 def markdown_error_of(answer: CAnswer, options: CMarkdownOptions) -> Exception:
     """The error that an answer without a text stands for."""
     if answer.status == MarkdownStatus.INPUT_TOO_LONG:
         return TooLong("input", options.max_input)
     if answer.status == MarkdownStatus.OUTPUT_TOO_LONG:
         return TooLong("output", options.max_output)
+    if answer.status == MarkdownStatus.TOO_MUCH_WORK:
+        return TooMuchWork(answer.length)
     if answer.status == Status.NO_OPTION:
         return ValueError(f"{MARKDOWN_OPTIONS[answer.index]}: no such value")
     if answer.status == MarkdownStatus.FAILED:
-        return MarkdownError("the parser failed")
+        return MarkdownError(text_of_status(MarkdownStatus.FAILED))
     return error_of(answer.status, answer.index, answer.rule)

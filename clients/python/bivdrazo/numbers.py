@@ -28,7 +28,7 @@ OPTIONS = (
 )
 
 # The number of the interface for Markdown: it changes when a layout or a number of it changes.
-MARKDOWN_VERSION = 2
+MARKDOWN_VERSION = 3
 
 # The options for Markdown, by their numbers.
 MARKDOWN_OPTIONS = (
@@ -327,6 +327,8 @@ class MarkdownStatus(enum.IntEnum):
     NO_VERSION = 35
     # The parser failed, or the library answered what isn't known: a fault that should be reported.
     FAILED = 36
+    # There is more to read and to print than there may be: `length` tells how much that is.
+    TOO_MUCH_WORK = 37
 
 
 class DocumentHtml(enum.IntEnum):

@@ -3,8 +3,9 @@
 from __future__ import annotations
 
 import ctypes
-from typing import TypeVar
+from typing import TypeVar, Union
 
+Bytes = Union[bytes, bytearray, memoryview]
 MOST = ctypes.c_size_t(-1).value
 T = TypeVar("T")
 
@@ -24,3 +25,16 @@ def bound_of(name: str, bound: int | None, counted: str = "bytes") -> int:
         error = TypeError if isinstance(bound, bool) else ValueError
         raise error(f"{name}: a count of {counted} is wanted, not {bound}")
     return min(bound, MOST)
+
+
+def coded(name: str, text: str) -> bytes:
+    """The bytes of a text. A subclass of `str` has no say in what they are, nor in how many."""
+    return str.encode(typed(name, text, str), "utf-8")
+
+
+def bytes_of(name: str, data: Bytes) -> bytes:
+    """The bytes of a buffer, copied. A subclass has no say in how many they are."""
+    try:
+        return memoryview(data).tobytes()
+    except TypeError as error:
+        raise TypeError(f"{name}: bytes are wanted, not {type(data).__name__}") from error

@@ -257,7 +257,7 @@ class Errors(unittest.TestCase):
         self.assertEqual(str(error_of(6, 7, 0)), "line 7: unreadable")
         self.assertEqual(repr(error_of(7, 0, 0)), "MemoryError('out of memory')")
         self.assertEqual(repr(error_of(99, 0, 0)),
-                         "RuntimeError('the library answered the status 99')")
+                         "RuntimeError('the library answered the unknown status 99')")
 
 
 class Interface(unittest.TestCase):

@@ -4,14 +4,16 @@ import ctypes
 import doctest
 import functools
 import html.entities
+import itertools
 import pickle
+import re
 import threading
 import time
 import unittest
 
 import bivdrazo
-from bivdrazo import REFERENCES, Event, Heading, Invalid, Name, Refused, Rule, TooLong, Unreadable
-from bivdrazo import compile, markdown_to_html, markdown_with_headings
+from bivdrazo import REFERENCES, Event, Heading, Invalid, Name, Refused, Rule, TooLong
+from bivdrazo import TooMuchWork, Unreadable, compile, markdown_to_html, markdown_with_headings
 from bivdrazo.markdown import CMarkdownOptions, markdown_error_of, markdown_library
 from bivdrazo.library import CAnswer
 from bivdrazo.numbers import DocumentHtml
@@ -65,6 +67,24 @@ class Texts(unittest.TestCase):
         self.assertEqual(markdown_with_headings(NOTE, "p-")[1], [])
         self.assertEqual(markdown_with_headings("", "p-"), ("", []))
 
+    def test_ids_of_two_documents(self):
+        ids = functools.partial(re.findall, ' id="([^"]*)"')
+
+        def ids_of(prefix, text="# a\n" * 120):
+            return set(ids(markdown_to_html(text, heading_ids=prefix, number_ids=True,
+                                            footnote_prefix=f"{prefix}-")))
+
+        prefixes = ["s", "s1", "s10", "s0", "s01", "s1-", "s-", "t", "1", "11", ""]
+        for one, other in itertools.combinations(prefixes, 2):
+            is_shared = any(re.fullmatch(re.escape(short) + "[1-9][0-9]*", long)
+                            for short, long in [(one, other), (other, one)])
+            with self.subTest(one=one, other=other):
+                self.assertEqual(bool(ids_of(one) & ids_of(other)), is_shared)
+        self.assertIn("s11", ids_of("s") & ids_of("s1"))
+        found = [ids_of(f"comment-{number}-part-", NOTE + "# a\n" * 120) for number in (1, 7, 71)]
+        for one, other in itertools.combinations(found, 2):
+            self.assertEqual(one & other, {"footnote-label"})
+
     def test_html(self):
         text = "<b>a<!-- c -->"
         self.assertEqual(markdown_to_html(text, html="text"), "<p>&lt;b&gt;a&lt;!-- c --&gt;</p>\n")
@@ -81,6 +101,23 @@ class Texts(unittest.TestCase):
             self.assertEqual((caught.exception.what, caught.exception.limit), (what, limit))
         self.assertEqual(markdown_to_html("a", max_input=1 << 70), "<p>a</p>\n")
 
+    def test_work(self):
+        for options in ({}, {"rel": "b"}, {"heading_ids": "c"}):
+            for work in (4, 1 << 70):
+                self.assertEqual(markdown_to_html("abc", max_work=work, **options), "<p>abc</p>\n")
+            for work in (3, 0):
+                with self.assertRaises(TooMuchWork) as caught:
+                    markdown_to_html("abc", max_work=work, **options)
+                self.assertEqual(caught.exception.limit, work)
+
+    def test_default_work(self):
+        text = f"[a]: {'b' * 10_000}\n\n{'[a] ' * 1000}"
+        for options in ({}, {"rel": "b"}, {"max_work": None}):
+            with self.subTest(options=options), self.assertRaises(TooMuchWork) as caught:
+                markdown_to_html(text, **options)
+            self.assertEqual(caught.exception.limit, (1 << 20) + 64 * len(text))
+        self.assertGreater(len(markdown_to_html(text, max_work=1 << 64)), 10_000_000)
+
 
 @unittest.skipIf(WHY, WHY)
 class Errors(unittest.TestCase):
@@ -92,7 +129,7 @@ class Errors(unittest.TestCase):
             "number_ids": 1,
             "rel": b"", "heading_ids": 3,
             "hard_breaks": None, "bare_links": "yes", "html": 0, "max_input": 1.5,
-            "max_output": True,
+            "max_output": True, "max_work": "1",
         }
         for name, value in values.items():
             with self.subTest(name=name), self.assertRaisesRegex(TypeError, f"^{name}: "):
@@ -103,7 +140,8 @@ class Errors(unittest.TestCase):
                 markdown_to_html(text)
 
     def test_values(self):
-        for name, value in {"html": "no", "max_input": -1, "max_output": -2}.items():
+        for name, value in {"html": "no", "max_input": -1, "max_output": -2,
+                            "max_work": -3}.items():
             with self.subTest(name=name), self.assertRaisesRegex(ValueError, f"^{name}: "):
                 markdown_to_html("a", **{name: value})
         with self.assertRaisesRegex(TypeError, "^heading_ids: "):
@@ -119,14 +157,11 @@ class Errors(unittest.TestCase):
         self.assertEqual(told(5, 7), "ValueError('base: no such value')")
         self.assertEqual(told(7), "MemoryError('out of memory')")
         self.assertEqual(told(36), "MarkdownError('the parser failed')")
-        self.assertEqual(told(35), "RuntimeError('the library answered the status 35')")
+        self.assertEqual(told(35), "RuntimeError('the options are of an unknown version')")
 
 
 class Interface(unittest.TestCase):
     """What holds of the module as a whole."""
-
-    def test_size(self):
-        self.assertEqual(ctypes.sizeof(CMarkdownOptions), 168)
 
     def test_pickles(self):
         errors = [Refused(3, Rule.PLACE), Invalid("event", 4), Unreadable(5), TooLong("input", 6)]

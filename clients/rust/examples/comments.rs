@@ -19,6 +19,7 @@ fn main() -> Result<(), Box<dyn error::Error>> {
         options.html = DocumentHtml::LeftOut;
         options.max_input = Some(10_000);
         options.max_output = Some(100_000);
+        options.max_work = Some(50_000);
         match markdown_to_html(&fs::read_to_string(&path)?, &options) {
             Ok(html) => println!("<article id=\"comment-{number}\">\n{html}</article>"),
             Err(error) => eprintln!("{path}: {error}"),

@@ -53,6 +53,9 @@ pub enum Error {
         /// How much there may be.
         limit: usize,
     },
+    /// The parser failed: it, or what makes events of its own, came to a panic. It is a fault that
+    /// should be reported. Nothing is printed of it.
+    Parser,
     /// The library answered what this crate doesn't know: it is of another version.
     Unknown,
 }
@@ -60,7 +63,7 @@ pub enum Error {
 impl fmt::Display for Error {
     fn fmt(&self, formatter: &mut fmt::Formatter) -> fmt::Result {
         match self {
-            Error::Refused { index, rule } => write!(formatter, "event {index}: {rule:?}"),
+            Error::Refused { index, rule } => write!(formatter, "event {index}: {}", rule.text()),
             Error::Event(index) => write!(formatter, "event {index}: no such kind or name"),
             Error::Name(index) => write!(formatter, "character reference {index}: not UTF-8"),
             Error::Option(number) => {
@@ -83,6 +86,7 @@ impl fmt::Display for Error {
             Error::TooMuchWork { limit } => {
                 write!(formatter, "there is more work than {limit}")
             }
+            Error::Parser => write!(formatter, "the parser failed"),
             Error::Unknown => write!(formatter, "a library of another version"),
         }
     }

@@ -143,8 +143,8 @@ fn compile_within_c(
     })
 }
 
-/// Where the work has a limit, the text without attributes is made first: it alone is made within
-/// limits, and no text with attributes is shorter.
+/// Where there are limits, the text without attributes is made first: it alone is made within them,
+/// and no text with attributes is shorter.
 fn compile_attributed_c(
     events: &[CEvent],
     bytes: &[u8],
@@ -153,7 +153,7 @@ fn compile_attributed_c(
     attributes: &Attributes,
     limits: Limits,
 ) -> Result<Rendered, Error> {
-    if limits.work != usize::MAX {
+    if limits != Limits::default() {
         compile_within_c(events, bytes, options, names, limits)?;
     }
     let names = collect(names.iter().map(c_reference))?;

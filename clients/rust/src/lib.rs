@@ -43,16 +43,20 @@ mod layouts;
 mod markdown;
 mod numbers;
 mod options;
+mod quiet;
 mod references;
 mod values;
 
 #[cfg(feature = "markdown")]
 pub use markdown::{
-    events_of, markdown_to_html, markdown_with_headings, Document, DocumentHtml, MarkdownOptions,
+    default_work, events_of, markdown_to_html, markdown_with_headings, Document, DocumentHtml,
+    MarkdownOptions,
 };
 
 pub use errors::Error;
 pub use numbers::{Name, Rule, VERSION, VERSION_TEXT};
+#[doc(hidden)]
+pub use quiet::quietly;
 pub use references::REFERENCES;
 pub use values::{Attributes, Event, Heading, Kind, Limits, LineEnding, Options, Rendered};
 

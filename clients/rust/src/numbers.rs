@@ -509,6 +509,22 @@ impl Rule {
         }
     }
 
+    /// What the rule means, in English.
+    pub fn text(self) -> &'static str {
+        match self {
+            Rule::Order => "no tree's events begin so, or a node or a group is open at the end",
+            Rule::Mdx => "a name of MDX",
+            Rule::Place => "a place that is read doesn't fit the bytes, or isn't UTF-8",
+            Rule::LineEnding => "the text of a line ending is none",
+            Rule::HeadingMark => "the first mark of a heading has not a length of 1 to 6",
+            Rule::ListNumber => "the value of an ordered list's first item is no number under 2^32",
+            Rule::CharacterReference => "a character reference doesn't decode",
+            Rule::Definition => "a link or an image has an identifier that no definition has",
+            Rule::Footnote => "a footnote call has an identifier that no footnote definition has",
+            Rule::Target => "a link or an image leads nowhere",
+        }
+    }
+
     /// The rule with that number.
     pub(crate) fn from_number(number: u32) -> Option<Rule> {
         match number {

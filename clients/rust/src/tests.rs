@@ -153,7 +153,10 @@ fn refusals() {
     };
     assert_eq!(with_defaults(&paragraph(2), b"a"), Err(refused));
     assert_eq!(run(b"+Paragraph 0\n"), Err(Error::Line(2)));
-    assert_eq!(refused.to_string(), "event 2: Place");
+    assert_eq!(
+        refused.to_string(),
+        "event 2: a place that is read doesn't fit the bytes, or isn't UTF-8"
+    );
 }
 
 #[test]

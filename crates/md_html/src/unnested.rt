@@ -64,8 +64,8 @@ impl From<SafeError> for UnnestedError {
 ///
 /// # Errors
 ///
-/// [`UnnestedError::Nested`] exactly where [`compile_safe`] gives a text, or lacks memory for it,
-/// and a link stands in a link, as [`has_nested_link`] tells; else what [`compile_safe`] answers.
+/// [`UnnestedError::Nested`] exactly where [`compile_safe`] gives a text and a link stands in a
+/// link, as [`has_nested_link`] tells; else what [`compile_safe`] answers, out of memory too.
 ///
 /// # Examples
 ///

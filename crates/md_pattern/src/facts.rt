@@ -22,7 +22,8 @@ use md_base::{AlignKind, Event, Kind, Name};
 use std::alloc::{AllocError, Global};
 use std::marker::Model;
 
-/// What is found of a node, at its entry. At an exit there is nothing but the partner.
+/// What is found at an event: of a node all of it at its entry, once it has ended. Before that, and
+/// at its exit, it is the partner alone, of an open node 0.
 #[derive(Clone, Copy)]
 pub struct Fact {
     /// The index of the other event of the node.

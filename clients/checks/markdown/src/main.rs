@@ -8,6 +8,8 @@
 //!         writes what `markdown_to_html` makes of a document
 //!     bivdrazo-checks plain < MARKDOWN
 //!         writes what pulldown-cmark's own renderer makes of it
+//!     bivdrazo-checks work < FILES
+//!         tells which of these files is the most work, by the default limit
 //!
 //! DOCUMENTS are frames: a count of bytes in decimal digits, a line feed, the document. The
 //! comparison ends with status 1 for a difference that isn't permitted, another count than LIST
@@ -20,9 +22,13 @@ mod hostile;
 mod html_blocks;
 mod judge;
 mod parts;
+mod work;
 
 use std::env;
 use std::process::ExitCode;
+
+const USAGE: &str = "usage: bivdrazo-checks compare LIST [--write] | shapes FOLDER [SIZE] | \
+                     render | plain | work";
 
 fn main() -> ExitCode {
     let arguments: Vec<String> = env::args().skip(1).collect();
@@ -34,10 +40,8 @@ fn main() -> ExitCode {
         ["shapes", folder, size] => hostile::write(folder, size).map(|()| true),
         ["render"] => parts::render().map(|()| true),
         ["plain"] => parts::plain().map(|()| true),
-        _ => Err(
-            "usage: bivdrazo-checks compare LIST [--write] | shapes FOLDER [SIZE] | render | plain"
-                .into(),
-        ),
+        ["work"] => work::measure().map(|()| true),
+        _ => Err(USAGE.into()),
     };
     match is_right {
         Ok(true) => ExitCode::SUCCESS,

@@ -6,6 +6,9 @@ use std::ops::Range;
 /// The longest word in which links are looked for: looking takes time that is quadratic in it.
 const LONGEST_WORD: usize = 2048;
 
+/// What may stand before an address and belong to its link.
+const ADDRESSES: [&str; 2] = ["mailto:", "xmpp:"];
+
 /// A link that is found in a text.
 #[derive(Clone, Debug, Eq, PartialEq)]
 pub(super) struct Bare {
@@ -47,46 +50,59 @@ fn may_hold_link(text: &str) -> bool {
     })
 }
 
+/// The links of a word: each begins where the last one ends, or later.
 fn links_of_word(finder: &LinkFinder, start: usize, word: &str) -> Vec<Bare> {
-    finder
-        .links(word)
-        .filter_map(|link| {
-            let (from, before) = beginning(word, link.start(), link.as_str(), link.kind())?;
-            let end = from + without_reference(&word[from..link.end()], &word[link.end()..]).len();
-            Some(Bare {
-                range: start + from..start + end,
+    let mut found = Vec::new();
+    let mut at = 0;
+    for link in finder.links(word) {
+        let Range { start: from, end } = link.start()..link.end();
+        if from < at {
+            continue;
+        }
+        if let Some((own, before)) = beginning(word, at..from, link.as_str(), link.kind()) {
+            let from = from - own;
+            at = from + without_reference(&word[from..end], &word[end..]).len();
+            found.push(Bare {
+                range: start + from..start + at,
                 before,
-            })
-        })
-        .collect()
+            });
+        }
+    }
+    found
 }
 
-/// Where a link begins, and what its URL begins with; nothing where GFM has no such link.
+/// How many bytes that stand before a link belong to it, of those that are free, and what its URL
+/// begins with. Nothing where GFM has no such link, or where one of its protocol leads nowhere.
 fn beginning(
     word: &str,
-    start: usize,
+    free: Range<usize>,
     link: &str,
     kind: &LinkKind,
 ) -> Option<(usize, &'static str)> {
-    let begins_with = |prefix: &str| {
-        link.get(..prefix.len())
-            .map_or(false, |own| own.eq_ignore_ascii_case(prefix))
-    };
     if *kind == LinkKind::Email {
-        return match word[..start].strip_suffix("mailto:") {
-            Some(before) => Some((before.len(), "")),
-            None => Some((start, "mailto:")),
-        };
+        let own = ADDRESSES
+            .iter()
+            .find(|own| ends_with(&word[free.clone()], own));
+        return Some(own.map_or((0, "mailto:"), |own| (own.len(), "")));
     }
-    if ["http://", "https://", "ftp://"]
-        .into_iter()
-        .any(begins_with)
-    {
-        return Some((start, ""));
+    if begins_with(link, "http://") || begins_with(link, "https://") {
+        return Some((0, ""));
     }
-    let follows = word[..start].chars().next_back();
+    let follows = word[..free.end].chars().next_back();
     let may_begin = follows.map_or(true, |last| "*_~(".contains(last));
-    (begins_with("www.") && may_begin).then(|| (start, "http://"))
+    (begins_with(link, "www.") && may_begin).then(|| (0, "http://"))
+}
+
+/// Whether a text begins so, or ends so, the case of ASCII letters aside.
+fn begins_with(text: &str, own: &str) -> bool {
+    let begins = text.get(..own.len());
+    begins.map_or(false, |begins| begins.eq_ignore_ascii_case(own))
+}
+
+fn ends_with(text: &str, own: &str) -> bool {
+    let start = text.len().checked_sub(own.len());
+    let ends = start.and_then(|start| text.get(start..));
+    ends.map_or(false, |ends| ends.eq_ignore_ascii_case(own))
 }
 
 /// A link without what looks like a character reference at its end: its `;` follows the link.

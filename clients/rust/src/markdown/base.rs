@@ -1,4 +1,5 @@
-//! URLs that are read against a base, as RFC 3986 has it (5.2).
+//! URLs that are read against a base, as RFC 3986 has it (5.2). A base may also be relative itself:
+//! what is read against it is relative then.
 
 /// The parts of a URL (3); what isn't there is `None`, and the path is always there.
 #[derive(Clone, Copy)]
@@ -94,7 +95,7 @@ fn merge(base: Parts, path: &str) -> String {
     }
 }
 
-/// A path without its parts `.` and `..` (5.2.4).
+/// A path without its parts `.` and `..` (5.2.4). One that isn't absolute stays so, and isn't empty.
 fn without_dots(path: &str) -> String {
     let mut kept: Vec<&str> = Vec::new();
     let mut parts = path.split('/').peekable();
@@ -114,7 +115,22 @@ fn without_dots(path: &str) -> String {
             kept.push("");
         }
     }
-    kept.join("/")
+    let path = kept.join("/");
+    match is_absolute || !(path.is_empty() || path.starts_with('/')) {
+        true => path,
+        false => format!("./{path}"),
+    }
+}
+
+/// What stands before a path so that it is read as one: as it stands its beginning would be a host
+/// (3.3), or a scheme (4.2).
+fn before_path(parts: &Parts) -> &'static str {
+    let first = parts.path.split('/').next().unwrap_or("");
+    match (parts.scheme, parts.authority) {
+        (_, None) if parts.path.starts_with("//") => "/.",
+        (None, None) if first.contains(':') => "./",
+        _ => "",
+    }
 }
 
 fn join(parts: Parts) -> String {
@@ -122,7 +138,7 @@ fn join(parts: Parts) -> String {
     for (before, part, after) in [
         ("", parts.scheme, ":"),
         ("//", parts.authority, ""),
-        ("", Some(parts.path), ""),
+        (before_path(&parts), Some(parts.path), ""),
         ("?", parts.query, ""),
         ("#", parts.fragment, ""),
     ] {

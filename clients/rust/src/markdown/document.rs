@@ -1,5 +1,6 @@
 //! A document as the library takes it.
 
+use super::work;
 use crate::{
     compile, compile_within, ffi, Attributes, Error, Event, Kind, Limits, Name, Options, Rendered,
 };
@@ -61,17 +62,31 @@ impl Document {
         limits: Limits,
     ) -> Result<Rendered, Error> {
         if *attributes != Attributes::default() {
-            return ffi::compile_attributed_owned(
-                self.events,
-                &self.bytes,
-                options,
-                attributes,
-                limits,
-            );
+            return self.into_attributed(options, attributes, limits);
         }
         let html = ffi::compile_owned(self.events, &self.bytes, options, limits)?;
         let headings = Vec::new();
         Ok(Rendered { html, headings })
+    }
+
+    /// The same with attributes. What can't be more work than a limit, and is likely to be no longer
+    /// than one, isn't made within them first, but measured when it is made.
+    fn into_attributed(
+        self,
+        options: &Options,
+        attributes: &Attributes,
+        limits: Limits,
+    ) -> Result<Rendered, Error> {
+        let work = work::at_most(&self.events);
+        let is_small =
+            work <= limits.work && ffi::first_size(self.events.len(), work) <= limits.text;
+        let first = if is_small { Limits::default() } else { limits };
+        let (events, bytes) = (self.events, &self.bytes);
+        let made = ffi::compile_attributed_owned(events, bytes, options, attributes, first)?;
+        match made.html.len() > limits.text {
+            true => Err(Error::OutputTooLong { limit: limits.text }),
+            false => Ok(made),
+        }
     }
 
     /// Begins a node after the bytes so far.

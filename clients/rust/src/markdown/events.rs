@@ -12,7 +12,7 @@ mod texts;
 use super::document::Document;
 use super::pieces::{whole_html, whole_text};
 use super::MarkdownOptions;
-use crate::{Error, Name};
+use crate::Name;
 use open::{Open, Span};
 use pulldown_cmark::{Alignment, Event, Tag};
 use std::collections::{HashMap, HashSet};
@@ -45,23 +45,17 @@ where
         bare_links: false,
         ..MarkdownOptions::default()
     };
-    let mut walk = Walk::new(&options);
-    walk.all(parser);
-    walk.document
+    document_of(parser, &options)
 }
 
-/// As [`events_of`], under options. Ends early where what links lead to is longer than
-/// the text may be.
-pub(super) fn document_of<'a, P>(parser: P, options: &MarkdownOptions) -> Result<Document, Error>
+/// As [`events_of`], under options.
+pub(super) fn document_of<'a, P>(parser: P, options: &MarkdownOptions) -> Document
 where
     P: IntoIterator<Item = (Event<'a>, Range<usize>)>,
 {
     let mut walk = Walk::new(options);
     walk.all(parser);
-    match options.max_output.filter(|&limit| walk.led > limit) {
-        Some(limit) => Err(Error::OutputTooLong { limit }),
-        None => Ok(walk.document),
-    }
+    walk.document
 }
 
 /// The way through a parser's events. What it does of each kind of node stands in a
@@ -81,8 +75,6 @@ struct Walk<'o, 'a> {
     /// Where the destinations and titles that definitions share stand in the bytes, by their
     /// addresses and lengths.
     shared: HashMap<(usize, usize), Range<usize>>,
-    /// How long the destinations and titles are together.
-    led: usize,
 }
 
 impl<'o, 'a> Walk<'o, 'a> {
@@ -98,22 +90,17 @@ impl<'o, 'a> Walk<'o, 'a> {
             footnotes: HashSet::new(),
             calls: Vec::new(),
             shared: HashMap::new(),
-            led: 0,
         }
     }
 
-    /// Goes through all events; no further once what links lead to is too long.
+    /// Goes through all events.
     fn all<P>(&mut self, parser: P)
     where
         P: IntoIterator<Item = (Event<'a>, Range<usize>)>,
     {
-        let limit = self.options.max_output.unwrap_or(usize::MAX);
         let mut rest = parser.into_iter().peekable();
         while let Some((event, range)) = rest.next() {
             self.one(event, range, &mut rest);
-            if self.led > limit {
-                return;
-            }
         }
         self.document.text(Name::BlankLineEnding, "\n");
         self.settle_calls();

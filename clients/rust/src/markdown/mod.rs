@@ -8,17 +8,21 @@ mod autolinks;
 mod base;
 mod comments;
 mod counts;
+mod definitions;
 mod document;
 mod events;
 mod nests;
 mod pieces;
 mod tables;
+mod work;
 
 pub use document::Document;
 pub use events::events_of;
+pub use work::default_work;
 
-use crate::{Attributes, Error, Limits, Options, Rendered};
-use pulldown_cmark::{CowStr, Parser};
+use crate::{quietly, Attributes, Error, Limits, Options, Rendered};
+use definitions::Numbered;
+use pulldown_cmark::Parser;
 
 /// What becomes of HTML in a document. Whatever is chosen, none of it is HTML in the text.
 #[derive(Clone, Copy, Debug, Default, Eq, Hash, PartialEq)]
@@ -72,14 +76,10 @@ pub struct MarkdownOptions {
     pub heading_ids: Option<String>,
     /// How many bytes the document may have; else any number.
     pub max_input: Option<usize>,
-    /// How many bytes the text may have; else any number. What links and images lead to counts also
-    /// where it is left out, for its protocol. What a definition with a character reference or an
-    /// escaped character leads to is bounded in any case: by this bound or 16 megabytes, or by 256
-    /// if there is none, for all links that may use it.
+    /// How many bytes the text may have; else any number.
     pub max_output: Option<usize>,
     /// How much there may be to read and to print in what the parser makes of the document, as
-    /// [`Limits`] counts it; else any amount. With [`rel`](MarkdownOptions::rel) or
-    /// [`heading_ids`](MarkdownOptions::heading_ids) the text is made twice then.
+    /// [`Limits`] counts it; else what [`default_work`] says. `usize::MAX` is no limit.
     pub max_work: Option<usize>,
 }
 
@@ -123,11 +123,11 @@ impl MarkdownOptions {
         }
     }
 
-    /// The limits of the text and of the work.
-    fn limits(&self) -> Limits {
+    /// The limits of the text and of the work, for a document of so many bytes.
+    fn limits(&self, length: usize) -> Limits {
         Limits {
             text: self.max_output.unwrap_or(usize::MAX),
-            work: self.max_work.unwrap_or(usize::MAX),
+            work: self.max_work.unwrap_or_else(|| default_work(length)),
         }
     }
 }
@@ -135,15 +135,19 @@ impl MarkdownOptions {
 /// The HTML of a Markdown document, with tables, strikethrough, tasks, footnotes and bare links. A
 /// byte order mark before it is passed over.
 ///
-/// A document that would take the parser much time or memory is read otherwise: without tables or
-/// without footnotes, or with marks of quotes and lists that are text far from a line's beginning.
-/// No document that people wrote is known that is.
+/// A document that would take the parser much time or memory is read otherwise: without tables, if
+/// these would have more than 524,288 cells that aren't written; without footnotes, if as many as
+/// there can be, times its lines, are more than 2^29; with a mark of a quote or an item past 128
+/// bytes of a line's beginning as text, if its longest beginning, times its lines but at least
+/// 1,024, is more than 2^26; and without bare links in a word of more than 2,048 bytes. But for the
+/// last, no document that people wrote is known that is.
 ///
 /// # Errors
 ///
 /// [`Error::InputTooLong`], [`Error::OutputTooLong`] and [`Error::TooMuchWork`] where a bound of
-/// the options is passed, [`Error::Memory`] where the library finds no memory. [`Error::Refused`]
-/// would be a fault of this crate or of the parser: no document is known that gets it.
+/// the options is passed, [`Error::Memory`] where the library finds no memory. [`Error::Parser`] and
+/// [`Error::Refused`] would be a fault of this crate or of the parser: no document is known that
+/// gets one of them.
 ///
 /// ```
 /// use bivdrazo::{markdown_to_html, MarkdownOptions};
@@ -179,39 +183,33 @@ pub fn markdown_with_headings(text: &str, options: &MarkdownOptions) -> Result<R
         let length = text.len();
         return Err(Error::InputTooLong { length, limit });
     }
-    let text = nests::bounded(text.strip_prefix('\u{feff}').unwrap_or(text));
-    let parser = Parser::new_ext(&text, parser_options(&text));
-    let limit = options.max_output.unwrap_or(MOST_COPIED);
-    if copied(&parser, &text) > limit.max(LEAST_COPIED) {
-        return Err(Error::OutputTooLong { limit });
-    }
-    let document = events::document_of(parser.into_offset_iter(), options)?;
+    let document = quietly(|| document_of(text, options)).ok_or(Error::Parser)?;
     document.into_rendered(
         &options.for_library(),
         &options.attributes(),
-        options.limits(),
+        options.limits(text.len()),
     )
 }
 
-/// How many bytes the parser may copy for links, where no bound on the text says it, and where a
-/// bound says less.
-const MOST_COPIED: usize = 1 << 28;
-const LEAST_COPIED: usize = 1 << 24;
+/// What the parser finds in a text.
+fn document_of(text: &str, options: &MarkdownOptions) -> Document {
+    let text = nests::bounded(text.strip_prefix('\u{feff}').unwrap_or(text));
+    let read = parser_options(&text);
+    let parser = Parser::new_ext(&text, read);
+    if let Some(numbered) = Numbered::of(&parser, &text, read) {
+        return document_of_numbered(&numbered, read, options);
+    }
+    events::document_of(parser.into_offset_iter(), options)
+}
 
-/// At most so many bytes does the parser copy for links: it does so for each one whose
-/// definition has a character reference or an escaped character in its URL or title. A link has
-/// a bracket at least.
-fn copied(parser: &Parser, text: &str) -> usize {
-    let own = |text: &CowStr| match text {
-        CowStr::Boxed(text) => text.len(),
-        _ => 0,
-    };
-    let definitions = parser.reference_definitions().iter();
-    let longest = definitions
-        .map(|(_, definition)| own(&definition.dest) + definition.title.as_ref().map_or(0, own))
-        .max();
-    let links = counts::count(text, |byte| byte == b'[');
-    longest.unwrap_or(0).saturating_mul(links)
+fn document_of_numbered(
+    numbered: &Numbered,
+    read: pulldown_cmark::Options,
+    options: &MarkdownOptions,
+) -> Document {
+    let parser = Parser::new_ext(numbered.text(), read).into_offset_iter();
+    let events = parser.map(|(event, range)| (numbered.event(event), range));
+    events::document_of(events, options)
 }
 
 /// What the parser reads: no tables where they would have too many cells that nobody wrote, and no

@@ -6,6 +6,7 @@ use crate::{
 };
 use pulldown_cmark::{CowStr, Event, Parser, Tag};
 
+mod bases;
 mod choices;
 mod limits;
 

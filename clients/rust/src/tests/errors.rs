@@ -40,19 +40,15 @@ fn texts_of_errors() {
         assert_eq!(Error::Option(number).to_string(), wanted);
     }
     for (error, text) in [
-        (refused(Rule::Order), "event 3: Order"),
-        (refused(Rule::Mdx), "event 3: Mdx"),
-        (refused(Rule::Place), "event 3: Place"),
-        (refused(Rule::LineEnding), "event 3: LineEnding"),
-        (refused(Rule::HeadingMark), "event 3: HeadingMark"),
-        (refused(Rule::ListNumber), "event 3: ListNumber"),
         (
-            refused(Rule::CharacterReference),
-            "event 3: CharacterReference",
+            refused(Rule::Order),
+            "event 3: no tree's events begin so, or a node or a group is open at the end",
         ),
-        (refused(Rule::Definition), "event 3: Definition"),
-        (refused(Rule::Footnote), "event 3: Footnote"),
-        (refused(Rule::Target), "event 3: Target"),
+        (refused(Rule::Mdx), "event 3: a name of MDX"),
+        (
+            refused(Rule::Target),
+            "event 3: a link or an image leads nowhere",
+        ),
         (Error::Event(4), "event 4: no such kind or name"),
         (Error::Name(5), "character reference 5: not UTF-8"),
         (Error::Line(6), "line 6: unreadable"),
@@ -64,6 +60,7 @@ fn texts_of_errors() {
             "the text has more than 7 bytes",
         ),
         (Error::TooMuchWork { limit: 8 }, "there is more work than 8"),
+        (Error::Parser, "the parser failed"),
         (Error::Unknown, "a library of another version"),
     ] {
         assert_eq!(error.to_string(), text);

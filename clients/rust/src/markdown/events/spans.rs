@@ -100,7 +100,6 @@ impl Walk<'_, '_> {
         };
         let known = place.and_then(|place| self.shared.get(&place).cloned());
         let range = known.unwrap_or_else(|| self.document.put(&made(text)));
-        self.led = self.led.saturating_add(range.len());
         self.document.within_at(name, Name::Data, range.clone());
         if let Some(place) = place {
             self.shared.insert(place, range);

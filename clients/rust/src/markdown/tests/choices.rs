@@ -2,7 +2,6 @@
 
 use super::*;
 use crate::markdown::autolinks::bare_links;
-use crate::markdown::base::resolved;
 use crate::markdown::comments::without_comments;
 
 #[test]
@@ -66,74 +65,6 @@ fn comments() {
 }
 
 #[test]
-fn bases() {
-    let based = |text| {
-        html_with(text, |options| {
-            options.base = Some("https://a.b/c/d?e".to_string())
-        })
-        .unwrap()
-    };
-    assert_eq!(
-        based("[x](f) ![y](../g) [z](#h)"),
-        "<p><a href=\"https://a.b/c/f\">x</a> <img src=\"https://a.b/g\" alt=\"y\" /> \
-         <a href=\"#h\">z</a></p>\n"
-    );
-    assert_eq!(
-        based("[x](javascript:f) <i@j.k>"),
-        "<p><a href=\"\">x</a> <a href=\"mailto:i@j.k\">i@j.k</a></p>\n"
-    );
-    let script = html_with("[x](f)", |options| {
-        options.base = Some("javascript:g".to_string())
-    });
-    assert_eq!(script.unwrap(), "<p><a href=\"\">x</a></p>\n");
-}
-
-/// The examples of RFC 3986, 5.4.1 and 5.4.2.
-#[test]
-fn urls_against_a_base() {
-    let base = "http://a/b/c/d;p?q";
-    for (url, wanted) in [
-        ("g:h", "g:h"),
-        ("g", "http://a/b/c/g"),
-        ("./g", "http://a/b/c/g"),
-        ("g/", "http://a/b/c/g/"),
-        ("/g", "http://a/g"),
-        ("//g", "http://g"),
-        ("?y", "http://a/b/c/d;p?y"),
-        ("g?y", "http://a/b/c/g?y"),
-        ("g#s", "http://a/b/c/g#s"),
-        ("g?y#s", "http://a/b/c/g?y#s"),
-        (";x", "http://a/b/c/;x"),
-        ("g;x?y#s", "http://a/b/c/g;x?y#s"),
-        (".", "http://a/b/c/"),
-        ("./", "http://a/b/c/"),
-        ("..", "http://a/b/"),
-        ("../", "http://a/b/"),
-        ("../g", "http://a/b/g"),
-        ("../..", "http://a/"),
-        ("../../g", "http://a/g"),
-        ("../../../g", "http://a/g"),
-        ("/./g", "http://a/g"),
-        ("/../g", "http://a/g"),
-        ("g.", "http://a/b/c/g."),
-        (".g", "http://a/b/c/.g"),
-        ("..g", "http://a/b/c/..g"),
-        ("./../g", "http://a/b/g"),
-        ("./g/.", "http://a/b/c/g/"),
-        ("g/./h", "http://a/b/c/g/h"),
-        ("g/../h", "http://a/b/c/h"),
-        ("g;x=1/../y", "http://a/b/c/y"),
-        ("g?y/../x", "http://a/b/c/g?y/../x"),
-        ("http:g", "http:g"),
-        ("", ""),
-        ("#s", "#s"),
-    ] {
-        assert_eq!(resolved(base, url), wanted, "{url:?}");
-    }
-    assert_eq!(resolved("http://a", "g"), "http://a/g");
-}
-
-#[test]
 fn attributes() {
     let with = |text, rel: &str| html_with(text, |options| options.rel = Some(rel.to_string()));
     let link = "<p><a href=\"b\" title=\"c\" rel=\"ugc\">a</a> <a href=\"#d\">e</a></p>\n";
@@ -183,19 +114,65 @@ fn bare() {
         ("www.a.org/b?c=d&copy;", vec!["http://www.a.org/b?c=d"]),
         ("www.a.org/b<c", vec!["http://www.a.org/b"]),
         (
-            "http://a.org ftp://b.org/c HTTPS://d.org",
-            vec!["http://a.org", "ftp://b.org/c", "HTTPS://d.org"],
+            "http://a.org HTTPS://d.org",
+            vec!["http://a.org", "HTTPS://d.org"],
         ),
         (
-            "a@b.org, mailto:c@d.org",
-            vec!["mailto:a@b.org", "mailto:c@d.org"],
+            "a@b.org, mailto:c@d.org MailTo:e@f.org",
+            vec!["mailto:a@b.org", "mailto:c@d.org", "MailTo:e@f.org"],
+        ),
+        (
+            "xmpp:a@b.org, Xmpp:c@d.org/e",
+            vec!["xmpp:a@b.org", "Xmpp:c@d.org"],
         ),
         (
             "a.org awww.a.org \"www.a.org :www.a.org irc://a.org javascript://a.org a@b",
             vec![],
         ),
+        ("ftp://b.org/c FTP://www.b.org", vec![]),
+        (
+            "a@b.mailto:c@d.ee",
+            vec!["mailto:a@b.mailto", "mailto:c@d.ee"],
+        ),
     ] {
         assert_eq!(links(text), wanted, "{text:?}");
+    }
+}
+
+/// Links that a word is made of, in any order and with all that could belong to two of them: they
+/// are disjoint and stand in their order.
+#[test]
+fn bare_links_in_a_row() {
+    let pieces = [
+        "a@b.mailto",
+        "mailto:",
+        "xmpp:",
+        "c@d.ee",
+        "www.e.fg",
+        "http://h.ij",
+        "ftp://k.lm",
+        ":",
+        ".",
+        "@",
+        "/",
+        "&amp",
+        ";",
+        "(",
+        "\u{e9}",
+    ];
+    let count = pieces.len();
+    for number in 0..count.pow(4) {
+        let chosen = (0..4).map(|place| pieces[number / count.pow(place) % count]);
+        let text: String = chosen.collect();
+        let mut at = 0;
+        for bare in bare_links(&text) {
+            assert!(
+                at <= bare.range.start && bare.range.start < bare.range.end,
+                "{text:?}"
+            );
+            at = bare.range.end;
+        }
+        assert!(at <= text.len());
     }
 }
 
@@ -213,6 +190,16 @@ fn bare_links_in_a_document() {
     assert_eq!(
         html("![www.a.org](x)"),
         "<p><img src=\"x\" alt=\"www.a.org\" /></p>\n"
+    );
+    let own = |url: &str, text: &str| format!("<a href=\"{url}\">{text}</a>");
+    assert_eq!(
+        html("a@b.mailto:c@d.ee xmpp:a@b.cd ftp://a.org"),
+        format!(
+            "<p>{}:{} {} ftp://a.org</p>\n",
+            own("mailto:a@b.mailto", "a@b.mailto"),
+            own("mailto:c@d.ee", "c@d.ee"),
+            own("xmpp:a@b.cd", "xmpp:a@b.cd")
+        )
     );
     assert_eq!(
         html_with("https://a.org", |options| options.bare_links = false).unwrap(),

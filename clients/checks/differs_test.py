@@ -1,0 +1,60 @@
+#!/usr/bin/env python3
+"""Runs the cases of docs/GFM.md, "What differs from GFM", here and by cmark-gfm.
+
+    differs_test.py [--own]
+
+A case reads "`INPUT` gives `TEXT`, and GFM `TEXT`", or "as GFM", where it is the same; `\\n` stands
+for a line feed, and `..` for any text. With --own nothing is asked of cmark-gfm. Ends with status 1
+where a text is another one.
+"""
+
+import pathlib
+import re
+import subprocess
+import sys
+
+CLIENTS = pathlib.Path(__file__).resolve().parent.parent
+sys.path.insert(0, str(CLIENTS / "python"))
+sys.dont_write_bytecode = True
+
+from bivdrazo import markdown_to_html  # noqa: E402  (where the module is was just told)
+
+CASE = re.compile(r"`([^`]+)`\s+gives\s+`([^`]+)`,(?:\s+and\s+GFM\s+`([^`]+)`|\s+as\s+GFM)")
+EXTENSIONS = ("footnotes", "table", "strikethrough", "autolink", "tasklist")
+WANTED = 9
+
+
+def gfm(text):
+    """What cmark-gfm makes of a text."""
+    words = [word for name in EXTENSIONS for word in ("-e", name)]
+    return subprocess.run(["cmark-gfm", "--unsafe", *words], input=text.encode("utf-8"),
+                          capture_output=True, check=True).stdout.decode("utf-8")
+
+
+def is_like(pattern, text):
+    """Whether a text is as a case has it."""
+    parts = pattern.replace("\\n", "\n").split("..")
+    return re.fullmatch(".*".join(map(re.escape, parts)), text.rstrip("\n"), re.DOTALL) is not None
+
+
+def main(arguments):
+    """Runs the cases; the status to end with."""
+    page = (CLIENTS.parent / "docs" / "GFM.md").read_text("utf-8")
+    section = re.search(r"## What differs from GFM\n(.*)", page, re.DOTALL)[1]
+    cases = CASE.findall(section)
+    wrong = 0
+    for given, own, other in cases:
+        text = given.replace("\\n", "\n") + "\n"
+        found = [("bivdrazo", own, markdown_to_html(text))]
+        if arguments != ["--own"]:
+            found.append(("cmark-gfm", other or own, gfm(text)))
+        for name, pattern, html in found:
+            if not is_like(pattern, html):
+                wrong += 1
+                print(f"differs: {given}: {name} gives {html!r}")
+    print(f"differs: {len(cases)} cases, {wrong} faults")
+    return 1 if wrong or len(cases) != WANTED else 0
+
+
+if __name__ == "__main__":
+    sys.exit(main(sys.argv[1:]))
