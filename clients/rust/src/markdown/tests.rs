@@ -222,6 +222,16 @@ fn spans_around_blocks() {
     }
 }
 
+/// In a debug build the parser asserts what isn't so of this document: its panic is an error.
+#[test]
+fn parser_that_fails() {
+    let made = markdown_to_html("\r*\r- 1. [x] ", &MarkdownOptions::default());
+    match cfg!(debug_assertions) {
+        true => assert_eq!(made, Err(Error::Parser)),
+        false => assert!(made.is_ok()),
+    }
+}
+
 /// Events that no parser tells: each list is refused or has a text.
 #[test]
 fn strange_parsers() {
