@@ -49,6 +49,7 @@ fn ask_row(alloc: Global, log: &mut Log, row: &Row) {
 }
 
 /// A document, and how much it uses again.
+#[derive(Clone, Copy)]
 struct Asked<'a> {
     row: &'a Row,
     reuse: usize,
