@@ -44,7 +44,7 @@ unset bytes_of given None off stands = refl
 unset bytes_of given (Some text) off stands =
     let same : Some None ≡ Some (Some (bytes_of text)) = ap (text_at given) (sym off) ∙ stands in cc
 
-keeps_grammar : (given : COptions) (options : CompileOptions) → HasOptions given options →
+pub keeps_grammar : (given : COptions) (options : CompileOptions) → HasOptions given options →
     KeepsGrammar given →
     safe.KeepsGrammar options
 keeps_grammar given options has keeps = record {
@@ -56,7 +56,7 @@ keeps_grammar given options has keeps = record {
       keeps.usual_attributes has.label_attributes;
 }
 
-keeps_links : (given : COptions) (options : CompileOptions) →
+pub keeps_links : (given : COptions) (options : CompileOptions) →
     HasOptions given options → KeepsLinks given →
     safe.KeepsLinks options
 keeps_links given options has keeps = record {
@@ -64,7 +64,7 @@ keeps_links given options has keeps = record {
   permitted_links = flag_off _ _ keeps.permitted_links has.dangerous_protocol;
 }
 
-keeps_images : (given : COptions) (options : CompileOptions) →
+pub keeps_images : (given : COptions) (options : CompileOptions) →
     HasOptions given options → KeepsImages given →
     safe.KeepsImages options
 keeps_images given options has keeps = record {
@@ -76,7 +76,7 @@ flag_on : (flag : ℕ) (is_on : Bool) → flag ≡ 1 → flag_of flag ≡ Some i
 flag_on flag is_on on stands =
     let same : Some true ≡ Some is_on = ap flag_of (sym on) ∙ stands in cc
 
-keeps_ids : (given : COptions) (options : CompileOptions) →
+pub keeps_ids : (given : COptions) (options : CompileOptions) →
     HasOptions given options → KeepsIds given →
     safe.KeepsIds options
 keeps_ids given options has keeps = record {
@@ -111,7 +111,7 @@ module _ (events : List CEvent) (bytes : List ℕ) (options : COptions) (names :
     (slice : List Event)
     (given : CompileOptions) (pairs : List (Bor (List ℕ) × Bor (List ℕ)))
     (read : IsRead events options names slice given pairs) where
-  pub rendered : (text : List ℕ) → IsCompiled (handed slice bytes pairs) given text →
+  unfoldable pub rendered : (text : List ℕ) → IsCompiled (handed slice bytes pairs) given text →
       IsRendered events bytes options names text
   rendered text compiled = record {
     document = compiled.grammatical.0;

@@ -5,6 +5,7 @@ use Rattle.std.specs.Prelude.{IsErrAnd}
 use Rattle.std.specs.Borrow.{Bor}
 use Rattle.md_base.specs.Reference.{name_table}
 use Rattle.md_base.specs.declared.event.Event.{Event}
+use Rattle.md_base.specs.Tree.{Forest}
 use Rattle.md_tree.specs.Grammar.{Handed, handed, IsChecked}
 use Rattle.md_tree.specs.Refusal.{IsRefusal, IsOutside, IsOrder, IsMdx, IsOfNode, IsLost}
 use Rattle.md_text.specs.declared.options.CompileOptions.{CompileOptions}
@@ -152,14 +153,16 @@ module _ (events : List CEvent) (bytes : List ℕ) (options : COptions) (names :
       own.text ≡ limits.text → own.work ≡ limits.work →
       IfOk r (λ text. IsCompiledWithin (handed slice bytes pairs) given own (bytes_of text)) →
       IfOk r (λ text. IsRenderedWithin events bytes options names limits (bytes_of text))
+  unfolding rendered
   text_within bytes_of (Ok text) same same_work h =
-      let (document, checked) = h.compiled.grammatical in
-      let reused = h.reused document checked.flattened in
+      let document : Forest = h.compiled.grammatical.0 in
+      let reused = h.reused document h.compiled.grammatical.1.flattened in
+      let within : reuse given bytes document ≤ limits.work = omega (arith, reused, same_work) in
       record {
         rendered =
             rendered events bytes options names slice given pairs read (bytes_of text) h.compiled;
         fits = omega (arith, h.fits, same);
-        reused = omega (arith, reused, same_work);
+        reused = within;
       }
   text_within bytes_of (Err why) same same_work h = tt
 
