@@ -3,7 +3,8 @@
 
    usage: bounds SHAPE DOCUMENT COUNT TEXT WORK
 
-   DOCUMENT bytes, some COUNT nodes, the limits TEXT and WORK. Prints the status, the text's length,
+   DOCUMENT bytes, some COUNT nodes, the limits TEXT and WORK. The bytes are `"`, in shapes whose
+   labels are folded U+0390, which is three letters then. Prints the status, the text's length,
    the seconds of a processor, the most memory of the process in kB, before the call and after it,
    and how many events there were. */
 #include "bivdrazo.h"
@@ -82,13 +83,23 @@ static void row(size_t cells) {
     out(NAME(GFM_TABLE_ROW));
 }
 
+/* A column whose cells are centred, or have no alignment. */
+static void column(int centred) {
+    in(NAME(GFM_TABLE_DELIMITER_CELL_VALUE));
+    if (centred) {
+        leaf(NAME(GFM_TABLE_DELIMITER_MARKER), 0, 0);
+        leaf(NAME(GFM_TABLE_DELIMITER_MARKER), 0, 0);
+    }
+    out(NAME(GFM_TABLE_DELIMITER_CELL_VALUE));
+}
+
 /* The head of a table, up to its body. */
-static void begin_table(size_t columns) {
+static void begin_table(size_t columns, int centred) {
     in(NAME(GFM_TABLE));
     in(NAME(GFM_TABLE_HEAD));
     row(0);
     in(NAME(GFM_TABLE_DELIMITER_ROW));
-    for (size_t i = 0; i < columns; i++) leaf(NAME(GFM_TABLE_DELIMITER_CELL_VALUE), 0, 0);
+    for (size_t i = 0; i < columns; i++) column(centred);
     out(NAME(GFM_TABLE_DELIMITER_ROW));
     out(NAME(GFM_TABLE_HEAD));
     in(NAME(GFM_TABLE_BODY));
@@ -99,15 +110,15 @@ static void end_table(void) {
     out(NAME(GFM_TABLE));
 }
 
-static void table(size_t columns, size_t rows) {
-    begin_table(columns);
+static void table(size_t columns, size_t rows, int centred) {
+    begin_table(columns, centred);
     for (size_t i = 0; i < rows; i++) row(0);
     end_table();
 }
 
 /* A row whose second cell is past the only column, up to that cell. */
 static void begin_dropped(void) {
-    begin_table(1);
+    begin_table(1, 0);
     in(NAME(GFM_TABLE_ROW));
     in(NAME(GFM_TABLE_CELL));
     out(NAME(GFM_TABLE_CELL));
@@ -119,6 +130,18 @@ static void end_dropped(void) {
     out(NAME(GFM_TABLE_ROW));
     end_table();
 }
+
+/* Footnote calls, whose labels are each so long. */
+static void calls(size_t nodes, size_t length) {
+    for (size_t i = 0; i < nodes; i++) {
+        put(1, NAME(GFM_FOOTNOTE_CALL), 0);
+        label(0, length);
+        put(2, NAME(GFM_FOOTNOTE_CALL), length);
+    }
+}
+
+/* Whether a shape has labels that grow when they are folded. */
+static int folded(const char *shape) { return strstr(shape, "folded") != NULL; }
 
 static int make(const char *shape, size_t length, size_t nodes) {
     if (!strcmp(shape, "texts")) {
@@ -150,7 +173,11 @@ static int make(const char *shape, size_t length, size_t nodes) {
         out(NAME(GFM_FOOTNOTE_DEFINITION));
     } else if (!strcmp(shape, "footnote-table")) {
         begin_footnote(0, 1);
-        table(nodes / 2, nodes / 2);
+        table(nodes / 2, nodes / 2, 0);
+        out(NAME(GFM_FOOTNOTE_DEFINITION));
+    } else if (!strcmp(shape, "footnote-centred")) {
+        begin_footnote(0, 1);
+        table(nodes / 2, nodes / 2, 1);
         out(NAME(GFM_FOOTNOTE_DEFINITION));
     } else if (!strcmp(shape, "links")) {
         definition(0, 1, length);
@@ -165,18 +192,25 @@ static int make(const char *shape, size_t length, size_t nodes) {
         out(NAME(LABEL));
         out(NAME(LINK));
     } else if (!strcmp(shape, "table")) {
-        table(nodes / 2, nodes / 2);
-    } else if (!strcmp(shape, "calls")) {
+        table(nodes / 2, nodes / 2, 0);
+    } else if (!strcmp(shape, "centred-table")) {
+        table(nodes / 2, nodes / 2, 1);
+    } else if (!strcmp(shape, "calls") || !strcmp(shape, "folded-calls")) {
         begin_footnote(0, length);
         out(NAME(GFM_FOOTNOTE_DEFINITION));
-        for (size_t i = 0; i < nodes; i++) reference(NAME(GFM_FOOTNOTE_CALL), 0, length);
+        calls(nodes, length);
+    } else if (!strcmp(shape, "dropped-folded-calls") || !strcmp(shape, "dropped-prefixes")) {
+        begin_footnote(0, folded(shape) ? length : 1);
+        calls(nodes, folded(shape) ? length : 1);
+        out(NAME(GFM_FOOTNOTE_DEFINITION));
     } else if (!strcmp(shape, "short-calls")) {
         begin_footnote(0, 1);
         out(NAME(GFM_FOOTNOTE_DEFINITION));
-        for (size_t i = 0; i < nodes; i++) reference(NAME(GFM_FOOTNOTE_CALL), 0, 1);
-    } else if (!strcmp(shape, "labels")) {
-        for (size_t i = 0; i < nodes / 2; i++) definition(i, length, 0);
-        for (size_t i = 0; i < nodes / 2; i++) reference(NAME(LINK), i, length);
+        calls(nodes, 1);
+    } else if (!strcmp(shape, "labels") || !strcmp(shape, "folded-labels")) {
+        size_t step = folded(shape) ? 2 : 1;
+        for (size_t i = 0; i < nodes / 2; i++) definition(i * step, length, 0);
+        for (size_t i = 0; i < nodes / 2; i++) reference(NAME(LINK), i * step, length);
     } else if (!strcmp(shape, "images")) {
         definition(0, 1, 0);
         for (size_t i = 0; i < nodes; i++) {
@@ -219,16 +253,22 @@ static long peak(void) {
 
 int main(int given, char **words) {
     if (given != 6) return 2;
-    size_t length = strtoull(words[2], NULL, 10);
+    size_t length = strtoull(words[2], NULL, 10) / 2 * 2;
     if (!make(words[1], length, strtoull(words[3], NULL, 10))) return 2;
     uint8_t *document = malloc(length + 1), *text = NULL;
     if (document == NULL) return 2;
     memset(document, '"', length);
+    for (size_t i = 0; folded(words[1]) && i < length; i++) document[i] = i % 2 ? 0x90 : 0xCE;
+    bivdrazo_options options = bivdrazo_options_default();
+    if (!strcmp(words[1], "dropped-prefixes")) {
+        bivdrazo_text prefix = {document, length, 1};
+        options.gfm_footnote_clobber_prefix = prefix;
+    }
     bivdrazo_limits limits = {strtoull(words[4], NULL, 10), strtoull(words[5], NULL, 10)};
     long before = peak();
     clock_t began = clock();
-    bivdrazo_answer answer = bivdrazo_compile_within_alloc(events, count, document, length, NULL,
-                                                           NULL, 0, &limits, &text);
+    bivdrazo_answer answer = bivdrazo_compile_within_alloc(events, count, document, length,
+                                                           &options, NULL, 0, &limits, &text);
     double seconds = (double)(clock() - began) / CLOCKS_PER_SEC;
     printf("%u %zu %.6f %ld %ld %zu\n", answer.status, answer.length, seconds, before, peak(),
            count);

@@ -21,7 +21,9 @@ import tempfile
 SHAPES = [
     "texts", "title", "code", "dropped-texts", "footnote-texts", "links", "label-images",
     "dropped-links",
-    "footnote-links", "table", "footnote-table", "calls", "short-calls", "labels", "images",
+    "footnote-links", "table", "footnote-table", "centred-table", "footnote-centred", "calls",
+    "short-calls", "folded-calls", "dropped-folded-calls", "dropped-prefixes", "labels",
+    "folded-labels", "images",
 ]
 SIZES = [1_000, 10_000, 100_000, 1_000_000]
 LIMITS = [10_000, 1_000_000]

@@ -120,9 +120,6 @@ def markdown_to_html(
     number. max_work: how much there may be to read and to print in what the parser makes of the
     document, as compile_within counts it; else 2^20, and 64 for each byte of the document. A number
     of 2^64 or more is no bound. Whoever renders what strangers write sets all three.
-    A document that would take the parser much time or memory is read otherwise in any case: without
-    tables, without footnotes, or with marks of quotes and lists that are text far from a line's
-    beginning.
 
     Whatever they are, a document that would take the parser much time or memory is read otherwise:
     without tables, if these would have more than 524,288 cells that aren't written; without

@@ -117,16 +117,19 @@ pub struct Attributes {
 
 /// How long a text may be, and how much work it may take. The default has no limits.
 ///
-/// What a call costs is bounded by both, the number of events and the document's length. The work
-/// is told from the events alone, before anything is read: the lengths of texts and labels, by the
-/// places of the events (of a parser's events the document's length at most, and that of its labels
-/// once more); for each link and image that leads to a definition, what is read in the longest one;
-/// and for each row of a table, its columns.
+/// What a call costs is bounded by both, the number of events and the document's length. `work`
+/// limits two sums, each by itself. What there is to read and to print is counted from the events
+/// alone, before anything is read: the lengths of texts and labels, by the places of the events (of
+/// a parser's events the document's length at most, and that of its labels once more), and for each
+/// row of a table five for each of its columns. What is used again is counted before anything is
+/// printed: for each link and image that leads to a definition what is read in that one; for each
+/// footnote call five times its length, four times that of the prefix of ids, and that of the label
+/// of the way back.
 #[derive(Clone, Copy, Debug, Eq, Hash, PartialEq)]
 pub struct Limits {
     /// How many bytes the text may have.
     pub text: usize,
-    /// How much there may be to read and to print.
+    /// How much there may be to read and to print, and to use again.
     pub work: usize,
 }
 

@@ -103,13 +103,14 @@ after text list whole start is at =
 
 pub listed-none : (text whole : List ℕ) (start : ℕ) (x : List Token) → whole ≡ text ++ [] →
     start ≡ length text →
-    IsTokenized text x → IsAttributed text → IsListedAfter None x start whole
-listed-none text whole start x is at tokenized kept =
+    IsTokenized text x → IsAttributed text → IsWritten text → IsListedAfter None x start whole
+listed-none text whole start x is at tokenized kept written =
     let parts = after text [] whole start is at in
     record {
       within = parts.2;
       added = subst (λ t. IsTokenized t x) (sym parts.0) tokenized;
       attributed = subst IsAttributed (sym parts.0) kept;
+      written = subst IsWritten (sym parts.0) written;
       headings = parts.1;
       distinct = λ distinct none. distinct;
     }
@@ -123,7 +124,7 @@ pub none-result : {S E : Type 0} (whole : S → List ℕ) (start : S → ℕ) (p
 none-result whole start prefix text given none same written (Ok made) is at = λ x h.
     subst (λ p. IsListedAfter p x (start made) (whole made)) (sym none)
     (listed-none given (whole made) (start made) x (is ∙ ap (λ t. t ++ []) same)
-    (at ∙ ap length same) h (attributed given written))
+    (at ∙ ap length same) h (attributed given written) written)
 none-result whole start prefix text given none same written (Err why) is at = tt
 
 -- what is asked for is what was read

@@ -1,5 +1,5 @@
 -- From what the compiler promises within limits to what C is handed, and what an answer says of it.
-use Rattle.std.proofs.Common.{◌≡◌, ℕ, ◌<◌, ◌≤◌, List, [], ◌∷◌, map, Some, Result, Ok, Err}
+use Rattle.std.proofs.Common.{◌≡◌, ◌⊎◌, inl, inr, ℕ, ◌<◌, ◌≤◌, List, [], ◌∷◌, map, Some, Result, Ok, Err}
 use Rattle.std.proofs.Common.{IfOk, IfErr, OnOk, refl, sym, ap, ◌∙◌, subst, arith}
 use Rattle.std.specs.Prelude.{IsErrAnd}
 use Rattle.std.specs.Borrow.{Bor}
@@ -9,7 +9,8 @@ use Rattle.md_tree.specs.Grammar.{Handed, handed, IsChecked}
 use Rattle.md_tree.specs.Refusal.{IsRefusal, IsOutside, IsOrder, IsMdx, IsOfNode, IsLost}
 use Rattle.md_text.specs.declared.options.CompileOptions.{CompileOptions}
 use Rattle.md_html.specs.Work.{work}
-use Rattle.md_html.specs.Within.{IsLonger, IsTooMuchFor, OfTooLong, OfWithin}
+use Rattle.md_html.specs.Reuse.{reuse}
+use Rattle.md_html.specs.Within.{IsLonger, IsOver, IsTooMuchFor, OfTooLong, OfWithin}
 use Rattle.md_html.specs.declared.within.Limits.{Limits}
 use Rattle.md_html.specs.declared.within.WithinError.{WithinError}
 use Rattle.md_html.specs.declared.within.WithinError.TheVariants as within
@@ -48,11 +49,12 @@ refusal_within given (within.Compile cause) order mdx of_node lost outside =
     record { order = order; mdx = mdx; of_node = of_node; lost = lost; outside = outside }
 
 failure_within : (given : Handed) (options : CompileOptions) (limits : Limits) (why : WithinError) →
-    IsTooMuchFor given.events limits.work why → OfTooLong (IsLonger options given limits.text) why →
+    IsTooMuchFor options given limits.work why →
+    OfTooLong (IsLonger options given limits.text) why →
     OfTooLong (IsChecked given) why → OfWithin (IsRefusal given) why →
     IsFailureWithin given options limits (within_failure_of why)
 failure_within given options limits within.TooLong much longer checked refusal =
-    record { grammatical = checked; longer = longer; bounded = much }
+    record { grammatical = checked; longer = longer; bounded = much.0; reused = much.1 }
 failure_within given options limits within.TooMuch much longer checked refusal = much
 failure_within given options limits (within.Compile cause) much longer checked refusal =
     (much, told_of given cause refusal)
@@ -60,7 +62,8 @@ failure_within given options limits (within.Compile cause) much longer checked r
 -- what its conversion gives
 pub told_within : {T : Type 0} (given : Handed) (options : CompileOptions) (limits : Limits)
     (why : WithinError) (r : Result T WithinFailure) →
-    IsErrAnd r (λ made. made ≡ within_failure_of why) → IsTooMuchFor given.events limits.work why →
+    IsErrAnd r (λ made. made ≡ within_failure_of why) →
+    IsTooMuchFor options given limits.work why →
     OfTooLong (IsLonger options given limits.text) why → OfTooLong (IsChecked given) why →
     OfWithin (IsRefusal given) why → IfErr r (IsFailureWithin given options limits)
 told_within given options limits why (Ok x) same much longer checked refusal = tt
@@ -84,12 +87,26 @@ some_once (x ∷ xs) (y ∷ ys) same =
 module _ (events : List CEvent) (bytes : List ℕ) (options : COptions) (names : List CReference)
     (slice : List Event) (given : CompileOptions) (pairs : List (Bor (List ℕ) × Bor (List ℕ)))
     (limits : CLimits) (own : Limits) (read : IsRead events options names slice given pairs) where
-  much_given : own.work ≡ limits.work → own.work < work slice → IsTooMuch events limits
-  much_given same more = record {
+  much_given : own.work ≡ limits.work → IsOver given (handed slice bytes pairs) own.work →
+      IsTooMuch events bytes options names limits
+  much_given same (inl more) = inl (record {
     read = slice;
     events_stand = read.events_stand;
     more = omega (arith, more, same);
-  }
+  })
+  much_given same (inr over) =
+      let (document, checked) = over.0 in
+      let more = over.1 document checked.flattened in
+      inr (record {
+        document = document;
+        given = given;
+        table = name_table pairs;
+        events_stand = read.events_stand ∙ ap (map Some) (sym checked.flattened);
+        options_stand = read.options_stand;
+        names_stand = read.names_stand;
+        grammatical = checked.grammatical;
+        more = omega (arith, more, same);
+      })
 
   bounded_given : own.work ≡ limits.work → work slice ≤ own.work → IsBounded events limits
   bounded_given same little much =
@@ -97,9 +114,10 @@ module _ (events : List CEvent) (bytes : List ℕ) (options : COptions) (names :
       some_once slice much.read (sym read.events_stand ∙ much.events_stand) in
       omega (arith, little, same, much.more, ap work once)
 
-  long_given : own.text ≡ limits.text → IsTooLongOf (handed slice bytes pairs) given own →
+  long_given : own.text ≡ limits.text → own.work ≡ limits.work →
+      IsTooLongOf (handed slice bytes pairs) given own →
       IsTooLong events bytes options names limits
-  long_given same long =
+  long_given same same_work long =
       let (document, checked) = long.grammatical in
       record {
         document = document;
@@ -110,12 +128,14 @@ module _ (events : List CEvent) (bytes : List ℕ) (options : COptions) (names :
         names_stand = read.names_stand;
         grammatical = checked.grammatical;
         longer = omega (arith, long.longer document checked.flattened, same);
+        reused = omega (arith, long.reused document checked.flattened, same_work);
       }
 
   explained_within : own.text ≡ limits.text → own.work ≡ limits.work → (why : WithinFailure) →
       IsFailureWithin (handed slice bytes pairs) given own why →
       ExplainsWithin events bytes options names limits why
-  explained_within same same_work TooLong h = (long_given same h, bounded_given same_work h.bounded)
+  explained_within same same_work TooLong h =
+      (long_given same same_work h, bounded_given same_work h.bounded)
   explained_within same same_work TooMuch h = much_given same_work h
   explained_within same same_work (Failed cause) h =
       (explained events bytes options names slice given pairs read cause h.1, of cause)
@@ -129,15 +149,19 @@ module _ (events : List CEvent) (bytes : List ℕ) (options : COptions) (names :
       of (failure.Refused index rule) = bounded_given same_work h.0
 
   pub text_within : {S : Type 0} (bytes_of : S → List ℕ) (r : Result S WithinFailure) →
-      own.text ≡ limits.text →
+      own.text ≡ limits.text → own.work ≡ limits.work →
       IfOk r (λ text. IsCompiledWithin (handed slice bytes pairs) given own (bytes_of text)) →
       IfOk r (λ text. IsRenderedWithin events bytes options names limits (bytes_of text))
-  text_within bytes_of (Ok text) same h = record {
-    rendered =
-        rendered events bytes options names slice given pairs read (bytes_of text) h.compiled;
-    fits = omega (arith, h.fits, same);
-  }
-  text_within bytes_of (Err why) same h = tt
+  text_within bytes_of (Ok text) same same_work h =
+      let (document, checked) = h.compiled.grammatical in
+      let reused = h.reused document checked.flattened in
+      record {
+        rendered =
+            rendered events bytes options names slice given pairs read (bytes_of text) h.compiled;
+        fits = omega (arith, h.fits, same);
+        reused = omega (arith, reused, same_work);
+      }
+  text_within bytes_of (Err why) same same_work h = tt
 
   pub bounded_within : {S : Type 0} (bytes_of : S → List ℕ) (r : Result S WithinFailure) →
       own.work ≡ limits.work →
@@ -219,7 +243,7 @@ module _ (events : List CEvent) (bytes : List ℕ) (options : COptions) (names :
     pub no_name : answer.status ≡ 4 → IsFirstWithout reference_of names answer.index
     pub no_option : answer.status ≡ 5 → StandsForNone options answer.index
     pub too_long : answer.status ≡ 10 → IsTooLong events bytes options names limits
-    pub too_much : answer.status ≡ 11 → IsTooMuch events limits
+    pub too_much : answer.status ≡ 11 → IsTooMuch events bytes options names limits
     pub bounded : TellsOfEvents answer.status → IsBounded events limits
 
   -- a failure that tells of events is a refused one

@@ -7,6 +7,7 @@ use Rattle.md_safe.specs.Tokenizer.{IsTokenized}
 use Rattle.md_page.specs.Added.{shown}
 use Rattle.md_page.specs.Attributed.{IsAttributed}
 use Rattle.md_page.specs.Ids.{ids_among, none_begins}
+use Rattle.md_page.specs.Pieces.{IsWritten}
 use Rattle.md_abi.specs.Options.{KeepsImages}
 use Rattle.md_abi.specs.Rendered.{IsRendered}
 use Rattle.md_abi.specs.Attributes.{asked, with_rel, with_ids, headings_with, listing}
@@ -20,14 +21,15 @@ abbrev pub none_begins_with : Option (List ℕ) → List (List ℕ) → Bool
 none_begins_with prefix ids = option_map_or (λ text. none_begins (shown text) ids) prefix true
 
 -- the bytes before the index are tokenized as these tokens with ids on their headings, where a
--- prefix is asked for, and keep to what such a text keeps to; those after it are the list of these
--- headings; where no two ids among the tokens are equal, and none begins with the prefix, no two of
+-- prefix is asked for, and keep to what such a text keeps to; they are written as whole tags and
+-- texts, so that none is open at their end; those after it are the list of these headings; where no two ids among the tokens are equal, and none begins with the prefix, no two of
 -- the text are equal
 pub record IsListedAfter (prefix : Option (List ℕ)) (tokens : List Token) (start : ℕ)
     (whole : List ℕ) : Type 0 where
   pub within : start ≤ length whole
   pub added : IsTokenized (take start whole) (with_ids prefix tokens)
   pub attributed : IsAttributed (take start whole)
+  pub written : IsWritten (take start whole)
   pub headings : drop start whole ≡ listing (headings_with prefix tokens)
   pub distinct : IsTrue (are_distinct (ids_among tokens)) →
       IsTrue (none_begins_with prefix (ids_among tokens)) →

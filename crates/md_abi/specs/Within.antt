@@ -1,11 +1,12 @@
 -- What a text within limits is of what C hands in, and why there is none.
-use Rattle.std.specs.Prelude.{ℕ, ◌≤◌, ◌<◌, List, length}
+use Rattle.std.specs.Prelude.{ℕ, ◌⊎◌, ◌≤◌, ◌<◌, List, length}
 use Rattle.md_base.specs.declared.event.Event.{Event}
 use Rattle.md_base.specs.Tree.{Forest, flatten}
 use Rattle.md_tree.specs.Grammar.{IsGrammatical}
 use Rattle.md_text.specs.declared.options.CompileOptions.{CompileOptions}
 use Rattle.md_meaning.specs.Meaning.{meaning}
 use Rattle.md_html.specs.Work.{work}
+use Rattle.md_html.specs.Reuse.{reuse}
 use Rattle.md_abi.specs.Standing.{StandFor}
 use Rattle.md_abi.specs.Events.{event_of}
 use Rattle.md_abi.specs.References.{reference_of}
@@ -16,14 +17,17 @@ use Rattle.md_abi.specs.declared.reference.CReference.{CReference}
 use Rattle.md_abi.specs.declared.option.COptions.{COptions}
 use Rattle.md_abi.specs.declared.within.CLimits.{CLimits}
 
--- the text is that of what was handed in, and has at most as many bytes as it may
+-- the text is that of what was handed in, and has at most as many bytes as it may; its document uses
+-- no more again than there may be of work
 pub record IsRenderedWithin (events : List CEvent) (bytes : List ℕ) (options : COptions)
     (names : List CReference) (limits : CLimits) (text : List ℕ)
     : Type 0 where
   pub rendered : IsRendered events bytes options names text
   pub fits : length text ≤ limits.text
+  pub reused : reuse rendered.given bytes rendered.document ≤ limits.work
 
--- what was handed in stands for a document of the grammar whose meaning has more bytes than it may
+-- what was handed in stands for a document of the grammar whose meaning has more bytes than it may,
+-- and that uses no more again
 pub record IsTooLong (events : List CEvent) (bytes : List ℕ) (options : COptions)
     (names : List CReference) (limits : CLimits)
     : Type 0 where
@@ -35,13 +39,33 @@ pub record IsTooLong (events : List CEvent) (bytes : List ℕ) (options : COptio
   pub names_stand : StandFor reference_of names table
   pub grammatical : IsGrammatical bytes table document
   pub longer : limits.text < length (meaning given table bytes document)
+  pub reused : reuse given bytes document ≤ limits.work
 
 -- what was handed in stands for events that give more work than there may be
-pub record IsTooMuch (events : List CEvent) (limits : CLimits) : Type 0 where
+pub record GivesTooMuch (events : List CEvent) (limits : CLimits) : Type 0 where
   pub read : List Event
   pub events_stand : StandFor event_of events read
   pub more : limits.work < work read
 
--- it does not
+-- what was handed in stands for a document of the grammar that uses more again than there may be
+-- of work
+pub record ReusesTooMuch (events : List CEvent) (bytes : List ℕ) (options : COptions)
+    (names : List CReference) (limits : CLimits)
+    : Type 0 where
+  pub document : Forest
+  pub given : CompileOptions
+  pub table : List (List ℕ × List ℕ)
+  pub events_stand : StandFor event_of events (flatten document)
+  pub options_stand : HasOptions options given
+  pub names_stand : StandFor reference_of names table
+  pub grammatical : IsGrammatical bytes table document
+  pub more : limits.work < reuse given bytes document
+
+-- one of the two is so
+abbrev pub IsTooMuch : List CEvent → List ℕ → COptions → List CReference → CLimits → Type 0
+IsTooMuch events bytes options names limits =
+    GivesTooMuch events limits ⊎ ReusesTooMuch events bytes options names limits
+
+-- the first is not
 abbrev pub IsBounded : List CEvent → CLimits → Type 0
-IsBounded events limits = IsTooMuch events limits → ⊥
+IsBounded events limits = GivesTooMuch events limits → ⊥

@@ -1,10 +1,10 @@
 -- Why there is no text within limits, and the answer that tells it. Only contracts of private
 -- functions speak of it, but for the two statuses.
-use Rattle.std.specs.Prelude.{ℕ, ◌≤◌, ◌<◌, List, length}
+use Rattle.std.specs.Prelude.{ℕ, ◌≤◌, List, length}
 use Rattle.md_tree.specs.Grammar.{Handed, IsChecked}
 use Rattle.md_text.specs.declared.options.CompileOptions.{CompileOptions}
 use Rattle.md_html.specs.Work.{work}
-use Rattle.md_html.specs.Within.{IsLonger}
+use Rattle.md_html.specs.Within.{IsLonger, IsReuseWithin, IsOver}
 use Rattle.md_html.specs.declared.within.Limits.{Limits}
 use Rattle.md_html.specs.declared.within.WithinError.{WithinError}
 use Rattle.md_html.specs.declared.within.WithinError.TheVariants as within
@@ -41,17 +41,19 @@ pub record IsCompiledWithin (given : Handed) (options : CompileOptions) (limits 
   pub compiled : IsCompiled given options text
   pub fits : length text ≤ limits.text
   pub bounded : work given.events ≤ limits.work
+  pub reused : IsReuseWithin options given limits.work
 
 -- the text of what was read is too long
 pub record IsTooLongOf (given : Handed) (options : CompileOptions) (limits : Limits) : Type 0 where
   pub grammatical : IsChecked given
   pub longer : IsLonger options given limits.text
   pub bounded : work given.events ≤ limits.work
+  pub reused : IsReuseWithin options given limits.work
 
 -- why what was read gives no text within limits
 abbrev pub IsFailureWithin : Handed → CompileOptions → Limits → WithinFailure → Type 0
 IsFailureWithin given options limits TooLong = IsTooLongOf given options limits
-IsFailureWithin given options limits TooMuch = limits.work < work given.events
+IsFailureWithin given options limits TooMuch = IsOver options given limits.work
 IsFailureWithin given options limits (Failed failure) =
     (work given.events ≤ limits.work) × IsRefusalOf given failure
 
@@ -65,6 +67,7 @@ abbrev pub ExplainsWithin : List CEvent → List ℕ → COptions → List CRefe
     WithinFailure → Type 0
 ExplainsWithin events bytes options names limits TooLong =
     IsTooLong events bytes options names limits × IsBounded events limits
-ExplainsWithin events bytes options names limits TooMuch = IsTooMuch events limits
+ExplainsWithin events bytes options names limits TooMuch =
+    IsTooMuch events bytes options names limits
 ExplainsWithin events bytes options names limits (Failed failure) =
     Explains events bytes options names failure × OfRefused (IsBounded events limits) failure

@@ -111,7 +111,7 @@ fn add_ids<H: Html>(alloc: Global, html: &H, prefix: Option<&str>) -> Result<Att
     match prefix {
         Some(prefix) => {
             let after = with_heading_ids(alloc, html, prefix)?;
-            with_list(alloc, after.html.as_str(), after.headings.as_slice())
+            with_list(alloc, Html::as_str(&after.html), after.headings.as_slice())
         }
         None => with_list(alloc, html.as_str(), &[]),
     }

@@ -3,7 +3,7 @@
 use crate::reading::Script;
 use md_html::{
     CompileError, Counted, Limits, WithinError, check, compile, compile_checked, compile_counted,
-    compile_within, work_of,
+    compile_within, reuse_of, work_of,
 };
 use std::alloc::Global;
 
@@ -39,7 +39,7 @@ impl Script<'_> {
     }
 
     /// What `compile_within` answers where a text may have so many bytes, and the work is
-    /// just what there is.
+    /// just what there is, or what is used again if that is more.
     pub(crate) fn compile_within(
         &self,
         alloc: Global,
@@ -47,9 +47,12 @@ impl Script<'_> {
         text: usize,
     ) -> Result<String, WithinError> {
         let events = self.events.as_slice();
+        let checked = check(alloc, events, self.document, names)?;
+        let reuse = reuse_of(alloc, &checked, &self.options)?;
+        drop(checked);
         let limits = Limits {
             text,
-            work: work_of(events),
+            work: work_of(events).max(reuse),
         };
         compile_within(alloc, events, self.document, &self.options, names, limits)
     }

@@ -147,13 +147,15 @@ pub extern "C" fn bivdrazo_compile_attributed(
     }
 }
 
-/// As [`bivdrazo_compile`], where the text has at most as many bytes as `limits` say, and
-/// there is at most as much work: so what it costs is bounded. Printing stops soon after the
-/// text is too long.
+/// As [`bivdrazo_compile`], where the text has at most as many bytes as `limits` say, there is
+/// at most as much work, and no more is used again than that: so what it costs is bounded. Printing
+/// stops soon after the text is too long.
 ///
-/// The work is told from the events alone: what is read of the bytes, by the places of the events;
-/// for each link and image that leads to a definition, what is read in the longest one; for each
-/// row of a table, its columns.
+/// The work is counted from the events alone: what is read of the bytes, by the places of the
+/// events; for each row of a table, five for each of its columns. What is used again is counted
+/// once the events are known to be a document: for each link and image that leads to a definition,
+/// what is read in that one; for each footnote call, five times its length, four times that of the
+/// prefix of ids, and that of the label of the way back.
 ///
 /// Its seven parameters are those of C's call, which has ten in the same order: none for `alloc`,
 /// one each for `options` and `limits`, and two for each of the four slices. What a C caller passes
@@ -163,10 +165,12 @@ pub extern "C" fn bivdrazo_compile_attributed(
 ///
 /// - 0 to 5, 7: as of [`bivdrazo_compile`]. With 1, `length` isn't more than the text may have.
 /// - 10: the text is longer than it may be.
-/// - 11: there is more work than there may be; whether the events are a document isn't told.
+/// - 11: there is more work than there may be, whether or not the events are a document, or they
+///   are a document that uses more again.
 ///
 /// With all but 0 the buffer is as it was. Which of 3 to 5 is told, if several are true, is left
-/// open. With 0, 1, 2 and 10 there isn't more work than there may be.
+/// open. With 0, 1, 2 and 10 there isn't more work than there may be; with 0, 1 and 10 no more is
+/// used again either.
 #[unsafe(no_mangle)]
 pub extern "C" fn bivdrazo_compile_within(
     alloc: Global,
@@ -188,7 +192,8 @@ pub extern "C" fn bivdrazo_compile_within(
     ensures no_option { result.status ≡ no_option → StandsForNone options.now result.index }
     ensures too_long { result.status ≡ too_long →
         IsTooLong events.now bytes.now options.now names.now limits.now }
-    ensures too_much { result.status ≡ too_much → IsTooMuch events.now limits.now }
+    ensures too_much { result.status ≡ too_much →
+        IsTooMuch events.now bytes.now options.now names.now limits.now }
     ensures bounded { TellsOfEvents result.status → IsBounded events.now limits.now }
     ensures fields { IsOfWithin result }
 {

@@ -1,12 +1,16 @@
 -- The work is counted event by event, in numbers that stop at the most that a `u128` holds: after
 -- the last event nothing is still to come.
-use Rattle.std.proofs.Common.{◌≡◌, ℕ, ◌+◌, ◌-◌, ◌^◌, ◌≤◌, max, Bool, true, List, [], ◌∷◌, ap, sym}
+use Rattle.std.proofs.Common.{◌≡◌, ℕ, ◌+◌, ◌-◌, ◌^◌, ◌≤◌, Bool, true, List, [], ◌∷◌, ap, sym}
 use Rattle.std.proofs.Common.{◌∙◌}
 use Rattle.std.specs.Prelude.{if◌then◌else◌}
-use Rattle.std.proofs.Math.Nat.{min-eq_left, max-zero, add-zero}
+use Rattle.std.proofs.Math.Nat.{min-eq_left, add-zero}
 use Rattle.md_base.specs.declared.event.Event.{Event}
-use Rattle.md_html.specs.Work.{is_definition, before_definition}
+use Rattle.md_html.specs.Work.{is_read, covered_from, is_definition, before_definition}
 use Rattle.md_html.specs.Counting.{capped}
+
+-- the way on through the document, of the nodes that are read
+abbrev pub read_from : ℕ → ℕ → List Event → ℕ
+read_from index depth events = covered_from is_read index depth events
 
 -- what is counted is all
 pub all-added : (counted later whole : ℕ) → counted ≤ 2 ^ 128 - 1 → later ≡ 0 →
@@ -14,12 +18,6 @@ pub all-added : (counted later whole : ℕ) → counted ≤ 2 ^ 128 - 1 → late
 all-added counted later whole fits none before =
     sym (min-eq_left fits)
     ∙ ap capped (sym (add-zero counted) ∙ ap (λ n. counted + n) (sym none)) ∙ before
-
-pub all-compared : (counted later whole : ℕ) → counted ≤ 2 ^ 128 - 1 → later ≡ 0 →
-    capped (max counted later) ≡ capped whole → counted ≡ capped whole
-all-compared counted later whole fits none before =
-    sym (min-eq_left fits)
-    ∙ ap capped (sym (max-zero counted) ∙ ap (λ n. max counted n) (sym none)) ∙ before
 
 -- nothing stands before the next event of a definition
 pub none-before : (event : Event) (following rest : List Event) → rest ≡ event ∷ following →

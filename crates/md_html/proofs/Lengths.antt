@@ -8,8 +8,9 @@ use Rattle.std.proofs.Math.Nat.{sub_self}
 use Rattle.std.proofs.lemmas.List.{append-nil}
 use Rattle.md_base.specs.declared.event.Event.{Event}
 use Rattle.md_base.specs.Tree.{Forest, Empty, Node, flatten, exiting}
-use Rattle.md_html.specs.Work.{is_read, read_from, read_length}
+use Rattle.md_html.specs.Work.{is_read, read_length}
 use Rattle.md_html.specs.Lengths.{lengths, GoesForward}
+use Rattle.md_html.proofs.Counting.{read_from}
 
 -- where the last event of nodes stands, or what is before them
 abbrev last_index : ℕ → Forest → ℕ

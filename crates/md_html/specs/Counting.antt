@@ -1,11 +1,18 @@
 -- What the work is counted in. No public contract speaks of this.
-use Rattle.std.specs.Prelude.{ℕ, ◌-◌, ◌^◌, min, Bool, ◌||◌}
+use Rattle.std.specs.Prelude.{ℕ, ◌-◌, ◌^◌, min, suc, Bool, ◌||◌, if◌then◌else◌}
+use Rattle.md_base.specs.declared.event.Kind.{Kind}
+use Rattle.md_base.specs.declared.event.Kind.TheVariants.{Enter, Exit}
 use Rattle.md_pattern.specs.declared.kinds.Standing.{Standing}
 use Rattle.md_tree.specs.Texts.{has_reading, is_text, is_identifier}
 
 -- a number, or the most that a `u128` holds
 abbrev pub capped : ℕ → ℕ
 capped n = min n (2 ^ 128 - 1)
+
+-- how many nodes that count are open after an event of one that does or doesn't
+abbrev pub moved : ℕ → Kind → Bool → ℕ
+moved depth kind counts =
+    if counts then (elim kind [ Enter ↦ suc depth | Exit ↦ depth - 1 ]) else depth
 
 -- a node that stands so is read
 abbrev pub is_read_standing : Standing → Bool

@@ -1,13 +1,13 @@
 -- Why there is no text within limits.
-use Rattle.std.specs.Prelude.{◌≡◌, ◌≤◌, ◌<◌, ℕ, List, length, codes}
-use Rattle.md_base.specs.declared.event.Event.{Event}
+use Rattle.std.specs.Prelude.{◌≡◌, ◌⊎◌, ◌≤◌, ◌<◌, ℕ, List, length, codes}
 use Rattle.md_base.specs.Tree.{Forest, flatten}
 use Rattle.md_text.specs.declared.options.CompileOptions.{CompileOptions}
-use Rattle.md_tree.specs.Grammar.{Handed}
+use Rattle.md_tree.specs.Grammar.{Handed, IsChecked}
 use Rattle.md_tree.specs.Names.{message_of}
 use Rattle.md_tree.specs.declared.rule.CompileError.{CompileError}
 use Rattle.md_meaning.specs.Meaning.{meaning}
 use Rattle.md_html.specs.Work.{work}
+use Rattle.md_html.specs.Reuse.{reuse}
 use Rattle.md_html.specs.declared.within.WithinError.{WithinError}
 use Rattle.md_html.specs.declared.within.WithinError.TheVariants.{TooLong, TooMuch, Compile}
 
@@ -23,11 +23,27 @@ OfTooLong claim TooLong = claim
 OfTooLong claim TooMuch = Unit {0}
 OfTooLong claim (Compile cause) = Unit {0}
 
--- there is more work than this exactly where that is the cause
-abbrev pub IsTooMuchFor : List Event → ℕ → WithinError → Type 0
-IsTooMuchFor events limit TooMuch = limit < work events
-IsTooMuchFor events limit TooLong = work events ≤ limit
-IsTooMuchFor events limit (Compile cause) = work events ≤ limit
+-- the document that the events flatten uses no more again than this
+abbrev pub IsReuseWithin : CompileOptions → Handed → ℕ → Type 0
+IsReuseWithin options given limit =
+    (document : Forest) → flatten document ≡ given.events →
+    reuse options given.bytes document ≤ limit
+
+-- there is more to read and to print than this, or it is a document of the grammar that uses
+-- more again
+abbrev pub IsOver : CompileOptions → Handed → ℕ → Type 0
+IsOver options given limit =
+    (limit < work given.events)
+    ⊎ (IsChecked given × ((document : Forest) → flatten document ≡ given.events →
+    limit < reuse options given.bytes document))
+
+-- one of the two is more than this exactly where that is the cause; only the first is
+-- looked at before the compiler refuses
+abbrev pub IsTooMuchFor : CompileOptions → Handed → ℕ → WithinError → Type 0
+IsTooMuchFor options given limit TooMuch = IsOver options given limit
+IsTooMuchFor options given limit TooLong =
+    (work given.events ≤ limit) × IsReuseWithin options given limit
+IsTooMuchFor options given limit (Compile cause) = work given.events ≤ limit
 
 -- a claim about the refusal of a compiler, where it is one
 abbrev pub OfWithin : (CompileError → Type 0) → WithinError → Type 0

@@ -1,11 +1,11 @@
 -- How much a list of events gives to read and to print, told of the events alone: they
 -- may be no document.
-use Rattle.std.specs.Prelude.{ℕ, ◌+◌, ◌-◌, ◌*◌, max, suc, Bool, true, false, ◌||◌, if◌then◌else◌}
+use Rattle.std.specs.Prelude.{ℕ, ◌+◌, ◌-◌, ◌*◌, suc, Bool, true, false, ◌||◌, if◌then◌else◌}
 use Rattle.std.specs.Prelude.{List, [], ◌∷◌}
 use Rattle.md_base.specs.declared.event.Event.{Event}
 use Rattle.md_base.specs.declared.event.Kind.TheVariants.{Enter, Exit}
 use Rattle.md_base.specs.declared.event.Name.{Name}
-use Rattle.md_base.specs.declared.event.Name.TheVariants.{Definition, Image, Link, Resource}
+use Rattle.md_base.specs.declared.event.Name.TheVariants.{Definition}
 use Rattle.md_base.specs.declared.event.Name.TheVariants.{GfmTable, GfmTableDelimiterCellValue}
 use Rattle.md_base.specs.declared.event.Name.TheVariants.{GfmTableRow}
 use Rattle.md_tree.specs.Texts.{is_text_name, is_identifier_name}
@@ -21,22 +21,26 @@ enters is event = elim event.kind [ Enter ↦ is event.name | Exit ↦ false ]
 abbrev pub exits : (Name → Bool) → Event → Bool
 exits is event = elim event.kind [ Enter ↦ false | Exit ↦ is event.name ]
 
--- how many nodes that are read are open after an event
-abbrev pub depth_after : ℕ → Event → ℕ
-depth_after depth event =
-    if enters is_read event then suc depth else if exits is_read event then depth - 1 else depth
+-- how many nodes whose names pass a test are open after an event
+abbrev pub depth_after : (Name → Bool) → ℕ → Event → ℕ
+depth_after is depth event =
+    if is event.name then (elim event.kind [ Enter ↦ suc depth | Exit ↦ depth - 1 ]) else depth
 
 -- the way on through the document from an index, each byte of it counted for every open
--- node that is read
-abbrev pub read_from : ℕ → ℕ → List Event → ℕ
-read_from index depth [] = 0
-read_from index depth (event ∷ events) =
+-- node whose name passes a test
+abbrev pub covered_from : (Name → Bool) → ℕ → ℕ → List Event → ℕ
+covered_from is index depth [] = 0
+covered_from is index depth (event ∷ events) =
     depth * (event.point.index - index)
-    + read_from event.point.index (depth_after depth event) events
+    + covered_from is event.point.index (depth_after is depth event) events
 
--- the lengths of the nodes that are read, added up: more where indices go back
+-- the lengths of the nodes whose names pass a test, added up: more where indices go back
+abbrev pub covered : (Name → Bool) → List Event → ℕ
+covered is events = covered_from is 0 0 events
+
+-- the lengths of the nodes that are read, added up
 abbrev pub read_length : List Event → ℕ
-read_length events = read_from 0 0 events
+read_length events = covered is_read events
 
 abbrev pub is_definition : Name → Bool
 is_definition name = elim name [ Definition ↦ true | _ ↦ false ]
@@ -46,28 +50,6 @@ abbrev pub before_definition : List Event → List Event
 before_definition [] = []
 before_definition (event ∷ events) =
     if is_definition event.name then [] else event ∷ before_definition events
-
--- what is read in one definition, at most
-abbrev pub longest_definition : List Event → ℕ
-longest_definition [] = 0
-longest_definition (event ∷ events) =
-    max (if enters is_definition event then read_length (before_definition events) else 0)
-    (longest_definition events)
-
--- how many events enter a node whose name passes a test
-abbrev pub entries : (Name → Bool) → List Event → ℕ
-entries is [] = 0
-entries is (event ∷ events) = (if enters is event then 1 else 0) + entries is events
-
-abbrev pub is_media : Name → Bool
-is_media name = elim name [ Link ↦ true | Image ↦ true | _ ↦ false ]
-
-abbrev pub is_resource : Name → Bool
-is_resource name = elim name [ Resource ↦ true | _ ↦ false ]
-
--- links and images without a resource, which lead to a definition
-abbrev pub references : List Event → ℕ
-references events = entries is_media events - entries is_resource events
 
 abbrev pub is_table : Name → Bool
 is_table name = elim name [ GfmTable ↦ true | _ ↦ false ]
@@ -83,13 +65,12 @@ abbrev pub columns_after : ℕ → Event → ℕ
 columns_after columns event =
     if enters is_table event then 0 else if enters is_column event then suc columns else columns
 
--- the cells of all rows, each with as many as its table has columns
+-- five for each cell of all rows, each with as many as its table has columns
 abbrev pub cells : ℕ → List Event → ℕ
 cells columns [] = 0
 cells columns (event ∷ events) =
-    (if exits is_row event then columns else 0) + cells (columns_after columns event) events
+    (if exits is_row event then 5 * columns else 0) + cells (columns_after columns event) events
 
--- what is read; the longest definition for each reference, since what it leads to is printed
--- there; and the cells
+-- what is read, and the cells
 abbrev pub work : List Event → ℕ
-work events = read_length events + references events * longest_definition events + cells 0 events
+work events = read_length events + cells 0 events

@@ -2,11 +2,13 @@
 #![tactic(auto)]
 
 mod compiler;
+mod covered;
 mod definitions;
 mod ending;
 pub mod laws;
 mod rendering;
 mod rendering_within;
+mod reuse;
 mod running;
 mod safe_html;
 mod unnested;
@@ -25,6 +27,7 @@ pub use md_text::{
 pub use md_tree::{
     Checked, CompileError, Rule, check, gfm_table_align, list_item_loose, list_loose,
 };
+pub use reuse::reuse_of;
 pub use safe_html::{SafeError, SafeHtml, compile_safe};
 pub use unnested::{UnnestedError, compile_unnested, has_nested_link};
 pub use within::{Limits, SafeWithinError, WithinError, compile_safe_within, compile_within};

@@ -17,10 +17,11 @@ ghost use Rattle.md_safe.specs.Links.{has_nested_link};
 ghost use Rattle.md_safe.specs.Built.{IsBuiltAsRead};
 ghost use Rattle.md_safe.specs.Options.{KeepsGrammar, KeepsLinks, KeepsImages, KeepsIds};
 ghost use Rattle.md_html.specs.Work.{work};
-ghost use Rattle.md_html.specs.Within.{IsLonger, OfTooLong, IsTooMuchFor, OfWithin};
+ghost use Rattle.md_html.specs.Within.{IsLonger, IsReuseWithin, OfTooLong, IsTooMuchFor, OfWithin};
 ghost use Rattle.md_html.specs.SafeWithin.{IsUnsafeFor, OfLimits};
 
 use crate::rendering_within::render_within;
+use crate::reuse::is_reuse_over;
 use crate::safe_html::{SafeHtml, are_safe};
 use crate::work::is_over;
 use md_base::Event;
@@ -35,10 +36,11 @@ use thiserror::Error;
 pub struct Limits {
     /// How many bytes the text may have.
     pub text: usize,
-    /// How much there may be to read and to print, as [`work_of`](crate::work_of) counts it: the
-    /// lengths of texts and of labels (of a parser's events the document's length, and that of
-    /// labels again), the longest definition for each link or image that leads to one, and for each
-    /// row of a table its columns.
+    /// How much there may be to read and to print, as [`work_of`](crate::work_of) counts it (the
+    /// lengths of texts and of labels, of a parser's events the document's length and that of
+    /// labels again, and five for each cell of a table), and how much may be used again, as
+    /// [`reuse_of`](crate::reuse_of) counts it (for each link or image that leads to a definition
+    /// the length of that one, and what footnote calls print).
     pub work: usize,
 }
 
@@ -100,9 +102,10 @@ impl From<AllocError> for WithinError {
 ///
 /// # Errors
 ///
-/// [`WithinError::TooMuch`] exactly where there is more work than `limits.work`, before anything
-/// else is looked at; [`WithinError::TooLong`] only where the events are a document's whose text
-/// has more than `limits.text` bytes; else the refusal of [`compile`](crate::compile).
+/// [`WithinError::TooMuch`] where there is more work than `limits.work`, before anything else is
+/// looked at, and where the events are a document's that uses more again than that;
+/// [`WithinError::TooLong`] only where they are a document's whose text has more than
+/// `limits.text` bytes; else the refusal of [`compile`](crate::compile).
 ///
 /// # Examples
 ///
@@ -120,6 +123,8 @@ pub fn compile_within(
 ) -> Result<String, WithinError>
     ensures within { IfOk result (λ text. length (string_bytes text) ≤ limits.text) }
     ensures work { OnOk result (work events.now ≤ limits.work) }
+    ensures reuse { OnOk result (IsReuseWithin options.now
+        (handed events.now bytes.now names.now) limits.work) }
     ensures grammatical { OnOk result (IsChecked (handed events.now bytes.now names.now)) }
     ensures meaning { IfOk result (λ text. (document : Forest) → flatten document ≡ events.now →
         string_bytes text ≡ meaning options.now (name_table names.now) bytes.now document) }
@@ -143,7 +148,8 @@ pub fn compile_within(
     ensures distinct_ids { IfOk result
         (λ text. KeepsIds options.now → HasDistinctIds (string_bytes text)) }
 
-    ensures too_much { IfErr result (IsTooMuchFor events.now limits.work) }
+    ensures too_much { IfErr result (IsTooMuchFor options.now
+        (handed events.now bytes.now names.now) limits.work) }
     ensures too_long { IfErr result
         (OfTooLong (IsLonger options.now (handed events.now bytes.now names.now) limits.text)) }
     ensures long_grammatical { IfErr result
@@ -158,6 +164,9 @@ pub fn compile_within(
         return Err(WithinError::TooMuch);
     }
     let checked = check(alloc, events, bytes, names)?;
+    if is_reuse_over(alloc, &checked, options, limits.work)? {
+        return Err(WithinError::TooMuch);
+    }
     match render_within(alloc, &checked, options, limits.text)? {
         Some(text) => Ok(text),
         None => Err(WithinError::TooLong),
@@ -222,6 +231,8 @@ pub fn compile_safe_within(
 ) -> Result<SafeHtml, SafeWithinError>
     ensures within { IfOk result (λ html. length html ≤ limits.text) }
     ensures work { OnOk result (work events.now ≤ limits.work) }
+    ensures reuse { OnOk result (IsReuseWithin options.now
+        (handed events.now bytes.now names.now) limits.work) }
     ensures safe { OnOk result (KeepsImages options.now) }
     ensures options { IfErr result (IsUnsafeFor options.now) }
     ensures grammatical { OnOk result (IsChecked (handed events.now bytes.now names.now)) }
@@ -234,7 +245,8 @@ pub fn compile_safe_within(
     ensures distinct_ids { IfOk result
         (λ html. options.now.gfm_footnote_number_ids ≡ true → HasDistinctIds html) }
 
-    ensures too_much { IfErr result (OfLimits (IsTooMuchFor events.now limits.work)) }
+    ensures too_much { IfErr result (OfLimits (IsTooMuchFor options.now
+        (handed events.now bytes.now names.now) limits.work)) }
     ensures too_long { IfErr result (OfLimits (OfTooLong (IsLonger options.now
         (handed events.now bytes.now names.now) limits.text))) }
     ensures long_grammatical { IfErr result (OfLimits (OfTooLong (IsChecked

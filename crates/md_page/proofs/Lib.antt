@@ -20,4 +20,5 @@ pub mod HeadingTexts
 pub mod Listing
 pub mod HeadingTurns
 pub mod Distinct
+pub mod Apart
 pub mod Paging

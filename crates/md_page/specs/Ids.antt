@@ -1,8 +1,11 @@
 -- The ids among tokens.
 use Rattle.std.specs.Str.{bytes_eq}
-use Rattle.std.specs.Prelude.{ℕ, Bool, not, if◌then◌else◌, nat_eq, List, [], ◌∷◌, ◌++◌, codes}
+use Rattle.std.specs.Prelude.{◌≡◌, ℕ, Bool, true, not, if◌then◌else◌, nat_eq, List, [], ◌∷◌, ◌++◌}
+use Rattle.std.specs.Prelude.{codes}
 use Rattle.std.specs.List.{list_all, starts_with}
+use Rattle.md_shape.specs.Built.{is_digit}
 use Rattle.md_safe.specs.Token.{Token, TokenAttribute, StartTag}
+use Rattle.md_page.specs.Added.{shown}
 
 -- the values of the `id`s of some attributes
 abbrev pub ids_in : List TokenAttribute → List (List ℕ)
@@ -21,3 +24,15 @@ ids_among (t ∷ more) = ids_at t ++ ids_among more
 -- none of some ids begins so
 abbrev pub none_begins : List ℕ → List (List ℕ) → Bool
 none_begins prefix ids = list_all (λ id. not (starts_with nat_eq id prefix)) ids
+
+-- ---- ids of headings in two documents
+
+-- no text is another one with digits behind it, or the same
+abbrev pub IsPastDigits : List ℕ → List ℕ → Type 0
+IsPastDigits one other =
+    (digits : List ℕ) → list_all is_digit digits ≡ true → other ≡ one ++ digits → ⊥
+
+-- neither of two prefixes, as they are read, is the other one with digits behind it, or the same
+abbrev pub AreApart : List ℕ → List ℕ → Type 0
+AreApart one other =
+    IsPastDigits (shown one) (shown other) × IsPastDigits (shown other) (shown one)

@@ -5,6 +5,7 @@ mod around;
 mod headings;
 mod html;
 mod ids;
+pub mod laws;
 mod rel;
 mod scan;
 

@@ -24,13 +24,13 @@ refusal_within given (within.Compile cause) order mdx of_node lost outside =
     record { order = order; mdx = mdx; of_node = of_node; lost = lost; outside = outside }
 
 explained : (events : List Event) (bytes : List ℕ) (options : CompileOptions) (limits : Limits)
-    (why : WithinError) → IsTooMuchFor events limits.work why →
+    (why : WithinError) → IsTooMuchFor options (document_of events bytes) limits.work why →
     OfTooLong (IsLonger options (document_of events bytes) limits.text) why →
     OfTooLong (IsChecked (document_of events bytes)) why →
     OfWithin (IsRefusal (document_of events bytes)) why →
     ExplainsEventsWithin events bytes options limits (run_within_error_of why)
 explained events bytes options limits within.TooLong much longer checked refusal =
-    record { grammatical = checked; longer = longer; bounded = much }
+    record { grammatical = checked; longer = longer; bounded = much.0; reused = much.1 }
 explained events bytes options limits within.TooMuch much longer checked refusal = much
 explained events bytes options limits (within.Compile cause) much longer checked refusal =
     (much, refused events bytes cause refusal)
@@ -39,7 +39,7 @@ explained events bytes options limits (within.Compile cause) much longer checked
 pub told_within : {T : Type 0} (r : Result T RunWithinError) (why : WithinError)
     (given events : List Event) (bytes : List ℕ) (options : CompileOptions) (limits : Limits) →
     given ≡ events → IsErrAnd r (λ made. made ≡ run_within_error_of why) →
-    IsTooMuchFor given limits.work why →
+    IsTooMuchFor options (document_of given bytes) limits.work why →
     OfTooLong (IsLonger options (document_of given bytes) limits.text) why →
     OfTooLong (IsChecked (document_of given bytes)) why →
     OfWithin (IsRefusal (document_of given bytes)) why →

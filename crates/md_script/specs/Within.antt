@@ -1,5 +1,5 @@
 -- What `run_within` answers: a text within limits, or why there is none.
-use Rattle.std.specs.Prelude.{ℕ, ◌≤◌, ◌<◌, List, length, codes}
+use Rattle.std.specs.Prelude.{ℕ, ◌≤◌, List, length, codes}
 use Rattle.md_base.specs.declared.event.Event.{Event}
 use Rattle.md_tree.specs.declared.rule.Rule.{Rule}
 use Rattle.md_tree.specs.declared.rule.CompileError.TheVariants as refusal
@@ -7,7 +7,7 @@ use Rattle.md_tree.specs.Grammar.{IsChecked}
 use Rattle.md_tree.specs.Refusal.{IsRefusal}
 use Rattle.md_text.specs.declared.options.CompileOptions.{CompileOptions}
 use Rattle.md_html.specs.Work.{work}
-use Rattle.md_html.specs.Within.{IsLonger}
+use Rattle.md_html.specs.Within.{IsLonger, IsReuseWithin, IsOver}
 use Rattle.md_html.specs.declared.within.Limits.{Limits}
 use Rattle.md_html.specs.declared.within.WithinError.{WithinError}
 use Rattle.md_html.specs.declared.within.WithinError.TheVariants as within
@@ -37,12 +37,14 @@ run_within_error_of within.TooLong = TooLong
 run_within_error_of within.TooMuch = TooMuch
 run_within_error_of (within.Compile cause) = Run (run_error_of cause)
 
--- the text is that of the events and has no more bytes than it may; nor is there more work
+-- the text is that of the events and has no more bytes than it may; nor is there more work, nor is
+-- more used again
 pub record IsCompiledWithin (events : List Event) (bytes : List ℕ) (options : CompileOptions)
     (limits : Limits) (text : List ℕ) : Type 0 where
   pub compiled : IsCompiled events bytes options text
   pub fits : length text ≤ limits.text
   pub bounded : work events ≤ limits.work
+  pub reused : IsReuseWithin options (document_of events bytes) limits.work
 
 -- the events are of the grammar, and the meaning of their document has more bytes than it may
 pub record IsTooLong (events : List Event) (bytes : List ℕ) (options : CompileOptions)
@@ -50,12 +52,15 @@ pub record IsTooLong (events : List Event) (bytes : List ℕ) (options : Compile
   pub grammatical : IsChecked (document_of events bytes)
   pub longer : IsLonger options (document_of events bytes) limits.text
   pub bounded : work events ≤ limits.work
+  pub reused : IsReuseWithin options (document_of events bytes) limits.work
 
--- why events give no text within limits: too much work exactly where there is more than may be
+-- why events give no text within limits: too much where there is more work than may be, or more is
+-- used again
 abbrev pub ExplainsEventsWithin : List Event → List ℕ → CompileOptions → Limits →
     RunWithinError → Type 0
 ExplainsEventsWithin events bytes options limits TooLong = IsTooLong events bytes options limits
-ExplainsEventsWithin events bytes options limits TooMuch = limits.work < work events
+ExplainsEventsWithin events bytes options limits TooMuch =
+    IsOver options (document_of events bytes) limits.work
 ExplainsEventsWithin events bytes options limits (Run cause) =
     (work events ≤ limits.work) × ExplainsEvents events bytes cause
 
@@ -75,13 +80,13 @@ pub record IsTooLongFor (input : List ℕ) (limits : Limits) : Type 0 where
   pub stands : StandsFor input events bytes options
   pub too_long : IsTooLong events bytes options limits
 
--- the events of what the input stands for give too much work
+-- the events of what the input stands for give too much work, or use too much again
 pub record IsTooMuchFor (input : List ℕ) (limits : Limits) : Type 0 where
   pub events : List Event
   pub bytes : List ℕ
   pub options : CompileOptions
   pub stands : StandsFor input events bytes options
-  pub too_much : limits.work < work events
+  pub too_much : IsOver options (document_of events bytes) limits.work
 
 -- an event of what the input stands for is refused, and there is no more work than there may be
 pub record IsRefusedWithin (input : List ℕ) (limits : Limits) (index : ℕ) (rule : Rule)

@@ -93,9 +93,9 @@ impl From<WithinError> for RunWithinError {
 ///
 /// # Errors
 ///
-/// `RunWithinError::TooMuch` exactly where the script can be read and gives more work than
-/// `limits.work`, but for want of memory; `RunWithinError::TooLong` only where its text has more
-/// bytes than `limits.text`; else as [`run`](crate::run).
+/// `RunWithinError::TooMuch` where the script can be read and gives more work than `limits.work`,
+/// or is a document's that uses more again than that; `RunWithinError::TooLong` only where its text
+/// has more bytes than `limits.text`; else as [`run`](crate::run).
 ///
 /// # Examples
 ///

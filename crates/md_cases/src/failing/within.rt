@@ -4,16 +4,16 @@ use super::documents::{is_refusal, is_text};
 use super::log::{Log, again};
 use super::rows::{Row, Wanted, documents};
 use md_html::{
-    CompileError, CompileOptions, Limits, SafeHtml, SafeWithinError, WithinError,
-    compile_safe_within, compile_within, work_of,
+    CompileError, CompileOptions, Limits, SafeHtml, SafeWithinError, WithinError, check,
+    compile_safe_within, compile_within, reuse_of, work_of,
 };
 use std::alloc::Global;
 
 /// No limit.
 const NONE: usize = usize::MAX;
 
-/// Makes these calls over each document: at its exact length and work, at one less of each, and at
-/// the least and the greatest limits.
+/// Makes these calls over each document: at its exact length and work, or what it uses again if
+/// that is more; at one less of each; and at the least and the greatest limits.
 pub fn ask_each(alloc: Global, log: &mut Log) {
     for rows in documents() {
         ask_rows(alloc, log, rows);
@@ -30,6 +30,8 @@ fn ask_rows(alloc: Global, log: &mut Log, rows: &[Row]) {
 /// Makes them over a document.
 fn ask_row(alloc: Global, log: &mut Log, row: &Row) {
     let (length, work) = (length_of(&row.wanted), work_of(row.events));
+    let reuse = reused(alloc, log, row);
+    let work = work.max(reuse);
     let limits = [
         (length, work),
         (length.saturating_sub(1), work),
@@ -42,55 +44,81 @@ fn ask_row(alloc: Global, log: &mut Log, row: &Row) {
             text: *text,
             work: *work,
         };
-        ask_limits(alloc, log, row, limits);
+        ask_limits(alloc, log, &Asked { row, reuse }, limits);
     }
 }
 
+/// A document, and how much it uses again.
+#[derive(Clone, Copy)]
+struct Asked<'a> {
+    row: &'a Row,
+    reuse: usize,
+}
+
+/// How much a document uses again; nothing where the events are none.
+fn reused(alloc: Global, log: &mut Log, row: &Row) -> usize {
+    match again!(log, Err(CompileError::Memory), reuse_of_row(alloc, row)) {
+        Ok(reuse) => reuse,
+        Err(_) => 0,
+    }
+}
+
+/// The answer of `reuse_of`.
+fn reuse_of_row(alloc: Global, row: &Row) -> Result<usize, CompileError> {
+    let checked = check(alloc, row.events, row.document.as_bytes(), &[])?;
+    reuse_of(alloc, &checked, &CompileOptions::default()).map_err(CompileError::from)
+}
+
 /// Makes both calls over a document, with these limits.
-fn ask_limits(alloc: Global, log: &mut Log, row: &Row, limits: Limits) {
-    let is_right = compiles_within(alloc, log, row, limits);
-    log.tell(is_right, "compile_within", row.name);
-    let is_right = compiles_safe_within(alloc, log, row, limits);
-    log.tell(is_right, "compile_safe_within", row.name);
+fn ask_limits(alloc: Global, log: &mut Log, asked: &Asked, limits: Limits) {
+    let is_right = compiles_within(alloc, log, asked, limits);
+    log.tell(is_right, "compile_within", asked.row.name);
+    let is_right = compiles_safe_within(alloc, log, asked, limits);
+    log.tell(is_right, "compile_safe_within", asked.row.name);
 }
 
 /// Whether `compile_within` answers what is wanted.
-fn compiles_within(alloc: Global, log: &mut Log, row: &Row, limits: Limits) -> bool {
+fn compiles_within(alloc: Global, log: &mut Log, asked: &Asked, limits: Limits) -> bool {
     match again!(
         log,
         Err(WithinError::Compile(CompileError::Memory)),
-        compiled(alloc, row, limits)
+        compiled(alloc, asked.row, limits)
     ) {
-        Ok(text) => is_kept(text.as_str(), row, limits),
-        Err(error) => is_right(&error, row, limits),
+        Ok(text) => is_kept(text.as_str(), asked, limits),
+        Err(error) => is_right(&error, asked, limits),
     }
 }
 
 /// Whether `compile_safe_within` answers what is wanted.
-fn compiles_safe_within(alloc: Global, log: &mut Log, row: &Row, limits: Limits) -> bool {
+fn compiles_safe_within(alloc: Global, log: &mut Log, asked: &Asked, limits: Limits) -> bool {
     match again!(
         log,
         Err(SafeWithinError::Within(WithinError::Compile(CompileError::Memory))),
-        compiled_safe(alloc, row, limits)
+        compiled_safe(alloc, asked.row, limits)
     ) {
-        Ok(html) => is_kept(html.as_str(), row, limits),
-        Err(SafeWithinError::Within(error)) => is_right(&error, row, limits),
+        Ok(html) => is_kept(html.as_str(), asked, limits),
+        Err(SafeWithinError::Within(error)) => is_right(&error, asked, limits),
         Err(SafeWithinError::Options) => false,
     }
 }
 
 /// Whether a text is wanted within limits.
-fn is_kept(text: &str, row: &Row, limits: Limits) -> bool {
-    is_text(text, &row.wanted) && text.len() <= limits.text && work_of(row.events) <= limits.work
+fn is_kept(text: &str, asked: &Asked, limits: Limits) -> bool {
+    is_text(text, &asked.row.wanted)
+        && text.len() <= limits.text
+        && work_of(asked.row.events) <= limits.work
+        && asked.reuse <= limits.work
 }
 
 /// Whether an error is wanted within limits.
-fn is_right(error: &WithinError, row: &Row, limits: Limits) -> bool {
-    let is_over = work_of(row.events) > limits.work;
+fn is_right(error: &WithinError, asked: &Asked, limits: Limits) -> bool {
+    let wanted = &asked.row.wanted;
+    let is_over = work_of(asked.row.events) > limits.work;
+    let is_reused = asked.reuse > limits.work;
     match error {
-        WithinError::TooMuch => is_over,
-        WithinError::TooLong => !is_over && length_of(&row.wanted) > limits.text,
-        WithinError::Compile(cause) => !is_over && is_refusal(cause, &row.wanted),
+        WithinError::TooMuch => is_over || is_reused,
+        WithinError::TooLong => !is_over && !is_reused && length_of(wanted) > limits.text,
+        WithinError::Compile(cause) => !is_over && is_refusal(cause, wanted),
     }
 }
 

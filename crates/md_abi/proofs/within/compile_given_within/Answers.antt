@@ -14,7 +14,7 @@ returns-clause-ok c =
     c.as_slice.ensures.value c.as_slice-2.ensures.value c.in_ok-events.ensures.ok
     c.in_ok-options.ensures.ok c.in_ok-names.ensures.ok in
     text_within _ given.bytes.now _ _ _ _ _ c.args.limits.now _ read string_bytes
-    c.compile_read_within.result refl c.compile_read_within.ensures.ok
+    c.compile_read_within.result refl refl c.compile_read_within.ensures.ok
 
 pub returns-clause-bounded : goal.returns-clause-bounded
 returns-clause-bounded c =

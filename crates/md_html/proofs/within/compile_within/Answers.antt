@@ -1,11 +1,15 @@
 -- The events that were checked are those handed in, so a text is what their document means, and
 -- what holds of each meaning holds of it.
-use Rattle.std.proofs.Common.{rules, ◌≡◌, ◌<◌, ◌^◌, length, string_bytes, subst, arith}
+use Rattle.std.proofs.Common.{rules, ◌≡◌, ◌<◌, ◌^◌, inr, length, string_bytes, subst, arith}
+use Rattle.std.proofs.Common.{sym, ◌∙◌}
+use Rattle.std.proofs.lemmas.Bool.{ltb-true, ltb-false}
 use Rattle.std.specs.Prelude.{Option, Some, IfSome}
 use Rattle.md_base.specs.Tree.{Forest, flatten}
 use Rattle.md_tree.specs.Grammar.{Handed, IsChecked, handed}
 use Rattle.md_meaning.specs.Meaning.{meaning}
-use Rattle.md_html.specs.Within.{IsLonger}
+use Rattle.md_html.specs.Work.{work}
+use Rattle.md_html.specs.Reuse.{reuse}
+use Rattle.md_html.specs.Within.{IsLonger, IsReuseWithin}
 use Rattle.md_html.proofs.Promises.{promises}
 use Rattle.md_html.proofs.within.compile_within.Goals as goal
 
@@ -28,6 +32,9 @@ returns-in-Some c =
       within =
           some-at _ c.in_ok-text.field-0 c.in-Some.text c.in-Some.is c.in_ok-text.ensures.within;
       work = search rules;
+      reuse = subst (λ (given : Handed). IsReuseWithin c.args.options.now given c.args.limits.work)
+          c.in_ok-checked.ensures.ok (λ document flat. ltb-false _ _
+          (sym (c.in_ok-is_reuse_over.ensures document flat) ∙ c.if-branch.false));
       grammatical = read;
       meaning = meant;
       one_reading = kept.one_reading;
@@ -48,6 +55,24 @@ returns-in-Some c =
       of_node = search rules;
       lost = search rules;
     }
+
+pub returns-then-branch-clause-too_much : goal.returns-then-branch-clause-too_much
+returns-then-branch-clause-too_much c =
+    let more : Handed → Type 0 = λ given.
+    (document : Forest) → flatten document ≡ given.events →
+    c.args.limits.work < reuse c.args.options.now given.bytes document in
+    inr (c.in_ok-checked.ensures.grammatical,
+    subst more c.in_ok-checked.ensures.ok (λ document flat. ltb-true _ _
+    (sym (c.in_ok-is_reuse_over.ensures document flat) ∙ c.if-branch.true)))
+
+pub returns-clause-too_much : goal.returns-clause-too_much
+returns-clause-too_much c = (
+    ltb-false c.args.limits.work (work c.args.events.now)
+        (sym c.is_over.ensures ∙ c.if-is_over.false),
+    subst (λ (given : Handed). IsReuseWithin c.args.options.now given c.args.limits.work)
+        c.in_ok-checked.ensures.ok (λ document flat. ltb-false _ _
+        (sym (c.in_ok-is_reuse_over.ensures document flat) ∙ c.if-branch.false)),
+)
 
 pub returns-clause-too_long : goal.returns-clause-too_long
 returns-clause-too_long c =

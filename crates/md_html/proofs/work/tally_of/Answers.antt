@@ -1,8 +1,8 @@
 -- Nothing is still to come.
 use Rattle.std.proofs.Common.{ap}
 use Rattle.std.proofs.lemmas.List.{nil_from_length}
-use Rattle.md_html.specs.Work.{read_from, read_length, longest_definition, cells}
-use Rattle.md_html.proofs.Counting.{all-added, all-compared}
+use Rattle.md_html.specs.Work.{read_length, cells}
+use Rattle.md_html.proofs.Counting.{all-added, read_from}
 use Rattle.md_html.proofs.work.tally_of.Goals as goal
 
 pub returns-clause-read : goal.returns-clause-read
@@ -12,13 +12,6 @@ returns-clause-read c =
     all-added at.progress.length (read_from at.progress.index at.progress.depth at.rest.now)
     (read_length c.args.events.now) at.invariant.read_fits
     (ap (λ events. read_from at.progress.index at.progress.depth events) none) at.invariant.read
-
-pub returns-clause-longest : goal.returns-clause-longest
-returns-clause-longest c =
-    let at = c.loop-event in
-    let none = nil_from_length at.rest.now c.in_default.ensures.cases in
-    all-compared at.longest (longest_definition at.rest.now) (longest_definition c.args.events.now)
-    at.invariant.longest_fits (ap longest_definition none) at.invariant.longest
 
 pub returns-clause-cells : goal.returns-clause-cells
 returns-clause-cells c =

@@ -1,25 +1,18 @@
 -- At each turn: what is counted and what is still to come are what is counted of all; no count
 -- passes the events gone over.
-use Rattle.std.proofs.Common.{◌≡◌, ◌+◌, ◌-◌, ◌^◌, ◌≤◌, max, length}
-use Rattle.md_html.specs.Work.{is_media, is_resource, entries, read_from, read_length}
-use Rattle.md_html.specs.Work.{longest_definition, cells}
+use Rattle.std.proofs.Common.{◌≡◌, ◌+◌, ◌-◌, ◌^◌, ◌≤◌, length}
+use Rattle.md_html.specs.Work.{read_length, cells}
 use Rattle.md_html.specs.Counting.{capped}
+use Rattle.md_html.proofs.Counting.{read_from}
 use Rattle.md_html.proofs.work.tally_of.Given as goal
 
 abbrev pub invariant-loop-event : goal.invariant-loop-event
 invariant-loop-event l = record {
   read : capped (l.progress.length + read_from l.progress.index l.progress.depth l.rest)
       ≡ capped (read_length l.events);
-  longest :
-      capped (max l.longest (longest_definition l.rest)) ≡ capped (longest_definition l.events);
-  media : l.media + entries is_media l.rest ≡ entries is_media l.events;
-  resources : l.resources + entries is_resource l.rest ≡ entries is_resource l.events;
   cells : capped (l.cells + cells l.columns l.rest) ≡ capped (cells 0 l.events);
   few_open : l.progress.depth + length l.rest ≤ length l.events;
-  few_media : l.media + length l.rest ≤ length l.events;
-  few_resources : l.resources + length l.rest ≤ length l.events;
   read_fits : l.progress.length ≤ 2 ^ 128 - 1;
-  longest_fits : l.longest ≤ 2 ^ 128 - 1;
   cells_fit : l.cells ≤ 2 ^ 128 - 1;
   few_columns : l.columns + length l.rest ≤ length l.events;
 }

@@ -1,0 +1,11 @@
+-- What is read in the first of the definitions.
+use Rattle.std.proofs.Common.{◌≡◌, take}
+use Rattle.std.specs.Prelude.{map}
+use Rattle.md_html.specs.Reuse.{definition_length}
+use Rattle.md_html.specs.Counting.{capped}
+use Rattle.md_html.proofs.reuse.lengths_of.Given as goal
+
+abbrev pub invariant-loop-entry : goal.invariant-loop-entry
+invariant-loop-entry l =
+    l.lengths.items
+    ≡ map (λ entry. capped (definition_length l.events entry)) (take l.entry-index l.entry-items)

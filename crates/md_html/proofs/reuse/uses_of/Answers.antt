@@ -1,0 +1,66 @@
+-- One event further, and one mention; at the end nothing is still to come.
+use Rattle.std.proofs.Common.{◌≡◌, ◌+◌, length, rules, ap, sym, ◌∙◌, arith, add-one}
+use Rattle.std.specs.Prelude.{drop}
+use Rattle.std.proofs.lemmas.List.{nil_from_length}
+use Rattle.md_tree.specs.Mentions.{mentions_of}
+use Rattle.md_tree.specs.Numbers.{definition_for}
+use Rattle.md_html.specs.Reuse.{definition_lengths, led_lengths, length_at, referred}
+use Rattle.md_html.specs.Counting.{capped}
+use Rattle.md_html.proofs.Counting.{all-added}
+use Rattle.md_html.proofs.Reusing.{first-there, others-there, mention-at, led-step, capped-more}
+use Rattle.md_html.proofs.Reusing.{led-all}
+use Rattle.md_html.proofs.reuse.uses_of.Goals as goal
+
+pub referred_at-requires-clause-there : goal.referred_at-requires-clause-there
+referred_at-requires-clause-there c =
+    first-there c.args.checked.now.events c.loop-event.index c.in-Some.event.now
+    c.in-Some.following.now (c.loop-event.invariant.left ∙ c.in-Some.ensures.cases.0)
+
+pub loop-event-preserved : goal.loop-event-preserved
+loop-event-preserved c =
+    let at = c.loop-event in
+    let given = c.args.checked.now in
+    let event = c.in-Some.event.now in
+    let following = c.in-Some.following.now in
+    let split = at.invariant.left ∙ c.in-Some.ensures.cases.0 in
+    let next = add-one at.index in
+    record {
+      left = ap (λ n. drop n given.events) next
+          ∙ sym (others-there given.events at.index event following split);
+      referred = λ document flat.
+          let mentions = mentions_of document in
+          let lengths = definition_lengths document in
+          let leads = definition_for given.bytes mentions in
+          let there = first-there given.events at.index event following split in
+          let (mention, here) = mention-at document given.events at.index event flat there in
+          let more = length_at lengths (leads mention) in
+          let later = led_lengths lengths leads (drop (at.index + 1) mentions) in
+          ap (λ n. capped (n + later)) (c.saturating_add-referred.ensures
+          ∙ ap (λ n. capped (at.referred + n)) (c.referred_at.ensures document mention flat here))
+          ∙ capped-more at.referred more later
+          ∙ ap (λ n. capped (at.referred + (more + led_lengths lengths leads (drop n mentions))))
+          next
+          ∙ ap (λ n. capped (at.referred + n))
+          (sym (led-step lengths leads mentions at.index mention here))
+          ∙ at.invariant.referred document flat;
+      calls = search rules;
+      called = search rules;
+      referred_fits = search rules;
+      called_fits = search rules;
+      few_calls = search rules;
+      few_open = search rules;
+      gone = search rules;
+    }
+
+pub returns-clause-referred : goal.returns-clause-referred
+returns-clause-referred c = λ document flat.
+    let at = c.loop-event in
+    let none = nil_from_length at.rest.now c.in_default.ensures.cases in
+    let given = c.args.checked.now in
+    let whole = referred given.bytes document in
+    let end : at.index ≡ length given.events = omega (arith, at.invariant.gone, ap length none) in
+    all-added at.referred (led_lengths (definition_lengths document)
+    (definition_for given.bytes (mentions_of document)) (drop at.index (mentions_of document)))
+    whole at.invariant.referred_fits (led-all (definition_lengths document)
+    (definition_for given.bytes (mentions_of document)) document given.events at.index flat end)
+    (at.invariant.referred document flat)

@@ -1,0 +1,73 @@
+//! Going over events, and adding up the lengths of their nodes.
+
+ghost use Rattle.std.specs.Prelude.{◌≡◌, ◌+◌, ◌-◌, ◌*◌, ◌^◌, ◌<◌};
+ghost use Rattle.md_html.specs.Counting.{capped, moved};
+
+use md_base::{Event, Kind};
+
+/// How far events are gone over.
+#[derive(Clone, Copy)]
+pub(crate) struct Progress {
+    /// Where the last one stands.
+    pub(crate) index: usize,
+    /// How many nodes that count are open there.
+    pub(crate) depth: usize,
+    /// Their lengths so far.
+    pub(crate) length: u128,
+}
+
+impl Progress {
+    /// Before any event.
+    pub(crate) fn new() -> Progress
+        ensures index { result.index ≡ 0 }
+        ensures depth { result.depth ≡ 0 }
+        ensures length { result.length ≡ 0 }
+    {
+        Progress {
+            index: 0,
+            depth: 0,
+            length: 0,
+        }
+    }
+
+    /// After one more event, of a node that counts or doesn't.
+    #[inline(always)]
+    pub(crate) fn after(self, event: &Event, counts: bool) -> Progress
+        requires { self.depth < 2 ^ 63 }
+        ensures index { result.index ≡ event.now.point.index }
+        ensures depth { result.depth ≡ moved self.depth event.now.kind counts }
+        ensures length { result.length
+            ≡ capped (self.length + self.depth * (event.now.point.index - self.index)) }
+    {
+        let step = event.point.index.saturating_sub(self.index);
+        let passed = product(self.depth, step);
+        Progress {
+            index: event.point.index,
+            depth: moved(self.depth, event.kind, counts),
+            length: self.length.saturating_add(passed),
+        }
+    }
+}
+
+/// A product that always fits.
+#[inline(always)]
+fn product(a: usize, b: usize) -> u128
+    ensures { result ≡ a * b }
+{
+    a as u128 * b as u128
+}
+
+/// How many nodes that count are open after an event of one that does or doesn't.
+#[inline(always)]
+fn moved(depth: usize, kind: Kind, counts: bool) -> usize
+    requires { depth < 2 ^ 63 }
+    ensures { result ≡ moved depth kind counts }
+{
+    if !counts {
+        return depth;
+    }
+    match kind {
+        Kind::Enter => depth + 1,
+        Kind::Exit => depth.saturating_sub(1),
+    }
+}

@@ -1,0 +1,238 @@
+//! How much a document uses again: definitions where they are referred to, and in footnote calls
+//! their labels and the texts of options.
+
+ghost use Rattle.std.specs.Prelude.{◌≡◌, ◌<◌, ◌^◌, ◌-◌, IfOk, map, min, nat_lt, length};
+ghost use Rattle.std.specs.Prelude.{slice_get, Some, if◌then◌else◌, ◌+◌};
+ghost use Rattle.md_base.specs.Tree.{Forest, flatten};
+ghost use Rattle.md_tree.specs.declared.mention.Mention.{Mention};
+ghost use Rattle.md_tree.specs.Mentions.{mentions_of};
+ghost use Rattle.md_tree.specs.Numbers.{definition_for};
+ghost use Rattle.md_html.specs.Work.{before_definition, read_length, covered, enters};
+ghost use Rattle.md_html.specs.Reuse.{reuse, definition_length, definition_lengths, length_at};
+ghost use Rattle.md_html.specs.Reuse.{referred, is_media, is_call, entries, call_texts};
+ghost use Rattle.md_html.specs.Reuse.{option_length};
+ghost use Rattle.md_html.specs.Counting.{capped};
+
+use crate::covered::Progress;
+use crate::work::is_read;
+use md_base::name_tests::is_link_definition;
+use md_base::{Event, Kind, Name};
+use md_text::CompileOptions;
+use md_tree::Checked;
+use std::alloc::{AllocError, Global};
+
+/// How much a document uses again when it is printed, or `usize::MAX` where it is more.
+///
+/// Counted are, for each link and image that leads to a definition, what is read in that
+/// definition; and for each footnote call five times its length, four times the length of
+/// `gfm_footnote_clobber_prefix` and that of `gfm_footnote_back_label`.
+///
+/// # Errors
+///
+/// `AllocError`, only where memory runs out.
+///
+/// # Examples
+///
+/// ```
+/// let checked = check(alloc, &events, bytes, names)?;
+/// let work = work_of(&events).max(reuse_of(alloc, &checked, &options)?);
+/// let limits = Limits { text: 1 << 20, work };
+/// ```
+pub fn reuse_of(
+    alloc: Global,
+    checked: &Checked,
+    options: &CompileOptions,
+) -> Result<usize, AllocError>
+    ensures { IfOk result (λ used. (document : Forest) → flatten document ≡ checked.now.events
+        → used ≡ min (reuse options.now checked.now.bytes document) (2 ^ 64 - 1)) }
+{
+    let used = measure(alloc, checked, options)?;
+    Ok(used.min(usize::MAX as u128) as usize)
+}
+
+/// Whether a document uses more again than a limit.
+///
+/// # Errors
+///
+/// `AllocError`, only where memory runs out.
+pub(crate) fn is_reuse_over(
+    alloc: Global,
+    checked: &Checked,
+    options: &CompileOptions,
+    limit: usize,
+) -> Result<bool, AllocError>
+    ensures { IfOk result (λ over. (document : Forest) → flatten document ≡ checked.now.events
+        → over ≡ nat_lt limit (reuse options.now checked.now.bytes document)) }
+{
+    let used = measure(alloc, checked, options)?;
+    Ok(used > limit as u128)
+}
+
+/// What is used again, or the greatest number where it is more.
+fn measure(
+    alloc: Global,
+    checked: &Checked,
+    options: &CompileOptions,
+) -> Result<u128, AllocError>
+    ensures { IfOk result (λ used. (document : Forest) → flatten document ≡ checked.now.events
+        → used ≡ capped (reuse options.now checked.now.bytes document)) }
+{
+    let lengths = lengths_of(alloc, checked)?;
+    let uses = uses_of(checked, lengths.as_slice());
+    drop(lengths);
+    let texts = (uses.calls as u128).saturating_mul(call_texts(options));
+    Ok(uses
+        .referred
+        .saturating_add(texts)
+        .saturating_add(uses.called.saturating_mul(5)))
+}
+
+/// What is read in each definition, in the order of their exits.
+fn lengths_of(alloc: Global, checked: &Checked) -> Result<Vec<u128>, AllocError>
+    ensures { IfOk result (λ lengths. (document : Forest) → flatten document ≡ checked.now.events
+        → lengths.items ≡ map capped (definition_lengths document)) }
+{
+    let events = checked.events();
+    let mut lengths = Vec::new(alloc);
+    for entry in checked.definitions() {
+        lengths.push(length_behind(events, *entry))?;
+    }
+    Ok(lengths)
+}
+
+/// What is read in the definition that the event at an index enters.
+fn length_behind(events: &[Event], entry: usize) -> u128
+    requires { entry < length events.now }
+    ensures { result ≡ capped (definition_length events.now entry) }
+{
+    definition_length(&events[entry + 1..])
+}
+
+/// What is read before the next event of a definition.
+fn definition_length(events: &[Event]) -> u128
+    ensures { result ≡ capped (read_length (before_definition events.now)) }
+{
+    let mut progress = Progress::new();
+    let mut rest = events;
+    while let Some((event, following)) = rest.split_first() {
+        if is_link_definition(event.name) {
+            return progress.length;
+        }
+        progress = progress.after(event, is_read(event.name));
+        rest = following;
+    }
+    progress.length
+}
+
+/// What is counted of a document that is used again.
+#[derive(Clone, Copy)]
+struct Uses {
+    /// What is read in the definitions to which links and images lead.
+    referred: u128,
+    /// The footnote calls.
+    calls: usize,
+    /// Their lengths.
+    called: u128,
+}
+
+/// Counts what is used again.
+fn uses_of(checked: &Checked, lengths: &[u128]) -> Uses
+    requires { (document : Forest) → flatten document ≡ checked.now.events
+        → lengths.now ≡ map capped (definition_lengths document) }
+    ensures referred { (document : Forest) → flatten document ≡ checked.now.events
+        → result.referred ≡ capped (referred checked.now.bytes document) }
+    ensures calls { result.calls ≡ entries is_call checked.now.events }
+    ensures called { result.called ≡ capped (covered is_call checked.now.events) }
+{
+    let mut referred: u128 = 0;
+    let mut calls = 0;
+    let mut progress = Progress::new();
+    let mut index = 0;
+    let mut rest = checked.events();
+    while let Some((event, following)) = rest.split_first() {
+        referred = referred.saturating_add(referred_at(checked, lengths, index, event));
+        calls += calls_entered(event);
+        progress = progress.after(event, is_call(event.name));
+        index += 1;
+        rest = following;
+    }
+    Uses {
+        referred,
+        calls,
+        called: progress.length,
+    }
+}
+
+/// What is read in the definition to which the link or the image leads that an event exits, if it
+/// exits one.
+#[inline(always)]
+fn referred_at(checked: &Checked, lengths: &[u128], index: usize, event: &Event) -> u128
+    requires there { slice_get checked.now.events index ≡ Some event.now }
+    requires lengths { (document : Forest) → flatten document ≡ checked.now.events
+        → lengths.now ≡ map capped (definition_lengths document) }
+    ensures { (document : Forest) (mention : Mention) → flatten document ≡ checked.now.events
+        → slice_get (mentions_of document) index ≡ Some mention
+        → result ≡ capped (length_at (definition_lengths document)
+        (definition_for checked.now.bytes (mentions_of document) mention)) }
+{
+    match event.kind {
+        Kind::Exit if is_media(event.name) => {
+            let led = checked.definition_of(index);
+            length_of(lengths, led)
+        }
+        _ => 0,
+    }
+}
+
+/// The length at a place, and 0 where there is none.
+fn length_of(lengths: &[u128], place: Option<usize>) -> u128
+    ensures { result ≡ length_at lengths.now place }
+{
+    match place {
+        Some(place) => lengths.get(place).copied().unwrap_or(0),
+        None => 0,
+    }
+}
+
+/// Whether a name is that of a link or an image.
+#[inline(always)]
+fn is_media(name: Name) -> bool
+    ensures { result ≡ is_media name }
+{
+    matches!(name, Name::Link | Name::Image)
+}
+
+/// Whether a name is that of a footnote call.
+#[inline(always)]
+fn is_call(name: Name) -> bool
+    ensures { result ≡ is_call name }
+{
+    matches!(name, Name::GfmFootnoteCall)
+}
+
+/// One where an event enters a footnote call.
+#[inline(always)]
+fn calls_entered(event: &Event) -> usize
+    ensures { result ≡ (if enters is_call event.now then 1 else 0) }
+{
+    match event.kind {
+        Kind::Enter => is_call(event.name) as usize,
+        Kind::Exit => 0,
+    }
+}
+
+/// The lengths of the texts of options that a footnote call prints.
+fn call_texts(options: &CompileOptions) -> u128
+    ensures { result ≡ call_texts options.now }
+{
+    let prefix = option_length(&options.gfm_footnote_clobber_prefix);
+    let label = option_length(&options.gfm_footnote_back_label);
+    4 * prefix as u128 + label as u128
+}
+
+/// The length of an option's text, 0 where it is unset.
+fn option_length(text: &Option<String>) -> usize
+    ensures { result ≡ option_length text.now }
+{
+    text.as_ref().map_or(0, |text| text.len())
+}
