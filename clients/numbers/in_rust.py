@@ -72,7 +72,8 @@ def arm_of_rule(entry):
     """The arm that tells what a rule means, as the formatter lays it out."""
     line = f"            Rule::{entry.name} => \"{told(entry)}\",\n"
     if len(line) > WIDTH + 1:
-        line = line.replace(" => ", " => {\n" + 16 * " ").replace("\",\n", "\"\n" + 12 * " " + "}\n")
+        line = line.replace(" => ", " => {\n" + 16 * " ")
+        line = line.replace("\",\n", "\"\n" + 12 * " " + "}\n")
     return line
 
 

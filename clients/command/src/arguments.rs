@@ -105,8 +105,8 @@ pub struct Arguments {
     #[arg(long, value_name = "BYTES")]
     pub max_output: Option<usize>,
 
-    /// How much there may be to read and to print in what the parser makes of a document, in bytes;
-    /// 2^20, and 64 for each of its bytes. 6 is the status where one has more.
+    /// How much there may be to read and to print in what the parser makes of a document, in bytes,
+    /// instead of 2^20 and 64 for each of its bytes; 6 is the status where there is more.
     #[arg(long, value_name = "BYTES")]
     pub max_work: Option<usize>,
 
@@ -204,8 +204,8 @@ impl Arguments {
         }
     }
 
-    /// The limits of the text and of the work, for the events of cmark-gfm's parser of a document of
-    /// so many bytes.
+    /// The limits of the text and of the work, for the events of cmark-gfm's parser of a document
+    /// of so many bytes.
     pub fn limits(&self, length: usize) -> Limits {
         Limits {
             text: self.max_output.unwrap_or(usize::MAX),

@@ -54,8 +54,8 @@ pub enum Error {
         limit: usize,
     },
     /// The parser failed: it, or what makes events of its own, came to a panic. It is a fault that
-    /// should be reported, but in a debug build: there the parser asserts more than is so. Nothing is
-    /// printed of it.
+    /// should be reported, but in a debug build: there the parser asserts more than is so. Nothing
+    /// is printed of it.
     Parser,
     /// The library answered what this crate doesn't know: it is of another version.
     Unknown,

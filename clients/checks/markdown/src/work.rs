@@ -4,9 +4,9 @@ use bivdrazo::{default_work, markdown_to_html, Error, MarkdownOptions};
 use std::fs;
 use std::io::{self, BufRead};
 
-/// Prints how many files were measured of those that standard input names, one a line; the one whose
-/// work is the greatest part of the default limit; and the one with most work for each byte. What
-/// can't be read or is no UTF-8 is passed over.
+/// Prints how many files were measured of those that standard input names, one a line; the one
+/// whose work is the greatest part of the default limit; and the one with most work for each byte.
+/// What can't be read or is no UTF-8 is passed over.
 pub fn measure() -> Result<(), Box<dyn std::error::Error>> {
     let (mut count, mut bytes) = (0, 0);
     let (mut of_limit, mut of_bytes) = Default::default();

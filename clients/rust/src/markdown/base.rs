@@ -95,7 +95,8 @@ fn merge(base: Parts, path: &str) -> String {
     }
 }
 
-/// A path without its parts `.` and `..` (5.2.4). One that isn't absolute stays so, and isn't empty.
+/// A path without its parts `.` and `..` (5.2.4). One that isn't absolute stays so, and isn't
+/// empty.
 fn without_dots(path: &str) -> String {
     let mut kept: Vec<&str> = Vec::new();
     let mut parts = path.split('/').peekable();

@@ -1,9 +1,10 @@
 //! Definitions that the parser would copy for each link that leads to them.
 //!
-//! It does so where a destination or a title has a character reference or an escaped character: what
-//! it makes of these stands nowhere in the document. Where that could be much, the document gets a
-//! definition of the same label before its first line, which leads to a number, and which the parser
-//! takes as it stands; in the parser's events what the number stands for takes its place.
+//! It does so where a destination or a title has a character reference or an escaped character:
+//! what it makes of these stands nowhere in the document. Where that could be much, the document
+//! gets a definition of the same label before its first line. The first one counts. It leads to a
+//! number, which the parser takes as it stands; in its events what the number stands for takes that
+//! place.
 
 use super::counts::count;
 use pulldown_cmark::{CowStr, Event, LinkDef, Options, Parser, Tag};

@@ -69,8 +69,8 @@ impl Document {
         Ok(Rendered { html, headings })
     }
 
-    /// The same with attributes. What can't be more work than a limit, and is likely to be no longer
-    /// than one, isn't made within them first, but measured when it is made.
+    /// The same with attributes. What can't be more work than a limit, and is likely to be no
+    /// longer than one, isn't made within them first, but measured when it is made.
     fn into_attributed(
         self,
         options: &Options,

@@ -145,9 +145,9 @@ impl MarkdownOptions {
 /// # Errors
 ///
 /// [`Error::InputTooLong`], [`Error::OutputTooLong`] and [`Error::TooMuchWork`] where a bound of
-/// the options is passed, [`Error::Memory`] where the library finds no memory. [`Error::Parser`] and
-/// [`Error::Refused`] would be a fault of this crate or of the parser: no document is known that
-/// gets one of them.
+/// the options is passed, [`Error::Memory`] where the library finds no memory. [`Error::Parser`]
+/// and [`Error::Refused`] would be a fault of this crate or of the parser: no document is known that
+/// gets one of them, but in a debug build.
 ///
 /// ```
 /// use bivdrazo::{markdown_to_html, MarkdownOptions};

@@ -1,7 +1,7 @@
 //! Each option by itself.
 
 use super::*;
-use crate::markdown::autolinks::bare_links;
+use crate::markdown::autolinks::{bare_links, Bare};
 use crate::markdown::comments::without_comments;
 
 #[test]
@@ -93,14 +93,14 @@ fn attributes() {
     assert_eq!(told, Err(Error::OutputTooLong { limit }));
 }
 
+/// The URLs of the bare links of a text.
+fn urls(text: &str) -> Vec<String> {
+    let url = |bare: Bare| format!("{}{}", bare.before, &text[bare.range]);
+    bare_links(text).into_iter().map(url).collect()
+}
+
 #[test]
 fn bare() {
-    let links = |text: &str| -> Vec<String> {
-        bare_links(text)
-            .into_iter()
-            .map(|bare| format!("{}{}", bare.before, &text[bare.range]))
-            .collect()
-    };
     for (text, wanted) in [
         ("www.a.org", vec!["http://www.a.org"]),
         (
@@ -118,6 +118,19 @@ fn bare() {
             vec!["http://a.org", "HTTPS://d.org"],
         ),
         (
+            "a.org awww.a.org \"www.a.org :www.a.org irc://a.org javascript://a.org a@b",
+            vec![],
+        ),
+        ("ftp://b.org/c FTP://www.b.org", vec![]),
+    ] {
+        assert_eq!(urls(text), wanted, "{text:?}");
+    }
+}
+
+#[test]
+fn bare_addresses() {
+    for (text, wanted) in [
+        (
             "a@b.org, mailto:c@d.org MailTo:e@f.org",
             vec!["mailto:a@b.org", "mailto:c@d.org", "MailTo:e@f.org"],
         ),
@@ -126,16 +139,11 @@ fn bare() {
             vec!["xmpp:a@b.org", "Xmpp:c@d.org"],
         ),
         (
-            "a.org awww.a.org \"www.a.org :www.a.org irc://a.org javascript://a.org a@b",
-            vec![],
-        ),
-        ("ftp://b.org/c FTP://www.b.org", vec![]),
-        (
             "a@b.mailto:c@d.ee",
             vec!["mailto:a@b.mailto", "mailto:c@d.ee"],
         ),
     ] {
-        assert_eq!(links(text), wanted, "{text:?}");
+        assert_eq!(urls(text), wanted, "{text:?}");
     }
 }
 
