@@ -77,7 +77,7 @@ impl Document {
         attributes: &Attributes,
         limits: Limits,
     ) -> Result<Rendered, Error> {
-        let work = work::at_most(&self.events);
+        let work = work::at_most(&self.events, options);
         let is_small =
             work <= limits.work && ffi::first_size(self.events.len(), work) <= limits.text;
         let first = if is_small { Limits::default() } else { limits };

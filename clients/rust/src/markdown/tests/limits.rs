@@ -39,7 +39,8 @@ fn bounds() {
     );
 }
 
-/// Work: four letters, two line endings, and four cells of two rows, of which nobody wrote two.
+/// Work: four letters, two line endings, and five for each of four cells of two rows, of which
+/// nobody wrote two.
 #[test]
 fn work() {
     let table = "| a | b |\n|---|---|\n| c |\n| d |\n";
@@ -51,12 +52,12 @@ fn work() {
                 options.max_output = output;
             })
         };
-        assert_eq!(with(10, None), Ok(html(table)));
-        assert_eq!(with(10, Some(html(table).len())), Ok(html(table)));
-        assert_eq!(with(9, None), Err(Error::TooMuchWork { limit: 9 }));
+        assert_eq!(with(26, None), Ok(html(table)));
+        assert_eq!(with(26, Some(html(table).len())), Ok(html(table)));
+        assert_eq!(with(25, None), Err(Error::TooMuchWork { limit: 25 }));
         assert_eq!(with(0, Some(0)), Err(Error::TooMuchWork { limit: 0 }));
         let limit = html(table).len() - 1;
-        assert_eq!(with(10, Some(limit)), Err(Error::OutputTooLong { limit }));
+        assert_eq!(with(26, Some(limit)), Err(Error::OutputTooLong { limit }));
     }
 }
 
@@ -94,7 +95,7 @@ fn most_work() {
         &nested,
     ] {
         let document = document_of(text, &MarkdownOptions::default());
-        let most = work::at_most(&document.events);
+        let most = work::at_most(&document.events, &Options::default());
         let with = |work| {
             let limits = Limits {
                 work,
