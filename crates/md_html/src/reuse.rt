@@ -69,11 +69,7 @@ pub(crate) fn is_reuse_over(
 }
 
 /// What is used again, or the greatest number where it is more.
-fn measure(
-    alloc: Global,
-    checked: &Checked,
-    options: &CompileOptions,
-) -> Result<u128, AllocError>
+fn measure(alloc: Global, checked: &Checked, options: &CompileOptions) -> Result<u128, AllocError>
     ensures { IfOk result (λ used. (document : Forest) → flatten document ≡ checked.now.events
         → used ≡ capped (reuse options.now checked.now.bytes document)) }
 {
@@ -81,10 +77,11 @@ fn measure(
     let uses = uses_of(checked, lengths.as_slice());
     drop(lengths);
     let texts = (uses.calls as u128).saturating_mul(call_texts(options));
-    Ok(uses
-        .referred
-        .saturating_add(texts)
-        .saturating_add(uses.called.saturating_mul(5)))
+    Ok(
+        uses.referred
+            .saturating_add(texts)
+            .saturating_add(uses.called.saturating_mul(5)),
+    )
 }
 
 /// What is read in each definition, in the order of their exits.

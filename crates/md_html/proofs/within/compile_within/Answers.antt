@@ -61,17 +61,19 @@ returns-then-branch-clause-too_much c =
     let more : Handed → Type 0 = λ given.
     (document : Forest) → flatten document ≡ given.events →
     c.args.limits.work < reuse c.args.options.now given.bytes document in
-    inr (c.in_ok-checked.ensures.grammatical,
-    subst more c.in_ok-checked.ensures.ok (λ document flat. ltb-true _ _
-    (sym (c.in_ok-is_reuse_over.ensures document flat) ∙ c.if-branch.true)))
+    inr (
+      c.in_ok-checked.ensures.grammatical,
+      subst more c.in_ok-checked.ensures.ok (λ document flat. ltb-true _ _
+          (sym (c.in_ok-is_reuse_over.ensures document flat) ∙ c.if-branch.true)),
+    )
 
 pub returns-clause-too_much : goal.returns-clause-too_much
 returns-clause-too_much c = (
-    ltb-false c.args.limits.work (work c.args.events.now)
-        (sym c.is_over.ensures ∙ c.if-is_over.false),
-    subst (λ (given : Handed). IsReuseWithin c.args.options.now given c.args.limits.work)
-        c.in_ok-checked.ensures.ok (λ document flat. ltb-false _ _
-        (sym (c.in_ok-is_reuse_over.ensures document flat) ∙ c.if-branch.false)),
+  ltb-false c.args.limits.work (work c.args.events.now)
+      (sym c.is_over.ensures ∙ c.if-is_over.false),
+  subst (λ (given : Handed). IsReuseWithin c.args.options.now given c.args.limits.work)
+      c.in_ok-checked.ensures.ok (λ document flat. ltb-false _ _
+      (sym (c.in_ok-is_reuse_over.ensures document flat) ∙ c.if-branch.false)),
 )
 
 pub returns-clause-too_long : goal.returns-clause-too_long
