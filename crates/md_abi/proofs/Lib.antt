@@ -7,3 +7,4 @@ pub mod StandingLemmas
 pub mod AttributedLemmas
 pub mod ListAnswerLemmas
 pub mod WithinLemmas
+pub mod WithinAnswers

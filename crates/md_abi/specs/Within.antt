@@ -17,8 +17,8 @@ use Rattle.md_abi.specs.declared.reference.CReference.{CReference}
 use Rattle.md_abi.specs.declared.option.COptions.{COptions}
 use Rattle.md_abi.specs.declared.within.CLimits.{CLimits}
 
--- the text is that of what was handed in, and has at most as many bytes as it may; its document uses
--- no more again than there may be of work
+-- the text is that of what was handed in, and has at most as many bytes as it may; its document
+-- uses no more again than there may be of work
 pub record IsRenderedWithin (events : List CEvent) (bytes : List ℕ) (options : COptions)
     (names : List CReference) (limits : CLimits) (text : List ℕ)
     : Type 0 where

@@ -1,5 +1,6 @@
--- What a safe text is, and which options are refused; how much work events are and how much a document
--- uses again, and why there is no text within limits; and what only contracts of private functions speak of.
+-- What a safe text is, and which options are refused; how much work events are and how much a
+-- document uses again, and why there is no text within limits; and what only contracts of private
+-- functions speak of.
 pub mod Safe
 pub mod SafeHtml
 pub mod Nesting

@@ -46,7 +46,7 @@ pub fn reuse_of(
     ensures { IfOk result (λ used. (document : Forest) → flatten document ≡ checked.now.events
         → used ≡ min (reuse options.now checked.now.bytes document) (2 ^ 64 - 1)) }
 {
-    let used = measure(alloc, checked, options)?;
+    let used = count_reuse(alloc, checked, options)?;
     Ok(used.min(usize::MAX as u128) as usize)
 }
 
@@ -64,12 +64,16 @@ pub(crate) fn is_reuse_over(
     ensures { IfOk result (λ over. (document : Forest) → flatten document ≡ checked.now.events
         → over ≡ nat_lt limit (reuse options.now checked.now.bytes document)) }
 {
-    let used = measure(alloc, checked, options)?;
+    let used = count_reuse(alloc, checked, options)?;
     Ok(used > limit as u128)
 }
 
 /// What is used again, or the greatest number where it is more.
-fn measure(alloc: Global, checked: &Checked, options: &CompileOptions) -> Result<u128, AllocError>
+fn count_reuse(
+    alloc: Global,
+    checked: &Checked,
+    options: &CompileOptions,
+) -> Result<u128, AllocError>
     ensures { IfOk result (λ used. (document : Forest) → flatten document ≡ checked.now.events
         → used ≡ capped (reuse options.now checked.now.bytes document)) }
 {
@@ -175,14 +179,14 @@ fn referred_at(checked: &Checked, lengths: &[u128], index: usize, event: &Event)
     match event.kind {
         Kind::Exit if is_media(event.name) => {
             let led = checked.definition_of(index);
-            length_of(lengths, led)
+            length_in(lengths, led)
         }
         _ => 0,
     }
 }
 
 /// The length at a place, and 0 where there is none.
-fn length_of(lengths: &[u128], place: Option<usize>) -> u128
+fn length_in(lengths: &[u128], place: Option<usize>) -> u128
     ensures { result ≡ length_at lengths.now place }
 {
     match place {

@@ -1,10 +1,10 @@
 -- What an answer says of a text within limits, and of a failure, clause by clause.
--- By itself the search doesn't go through the statuses of an answer: `WithinLemmas` does.
+-- By itself the search doesn't go through the statuses of an answer: `WithinAnswers` does.
 use Rattle.std.proofs.Common.{subst, sym}
 use Rattle.md_abi.specs.Within.{IsRenderedWithin}
 use Rattle.md_abi.proofs.AnswerLemmas.{handed_over, text_status}
-use Rattle.md_abi.proofs.WithinLemmas.{text_fields, text_says_within}
-use Rattle.md_abi.proofs.WithinLemmas.{within_hands_over, within_fields, within_says}
+use Rattle.md_abi.proofs.WithinAnswers.{text_fields, text_says_within}
+use Rattle.md_abi.proofs.WithinAnswers.{within_hands_over, within_fields, within_says}
 use Rattle.md_ffi.proofs.export.bivdrazo_compile_within.Goals as goal
 
 pub returns-in-Ok-clause-text : goal.returns-in-Ok-clause-text
