@@ -67,10 +67,12 @@ bivdrazo_answer bivdrazo_compile(const bivdrazo_event *events, size_t events_len
                                  size_t names_length, uint8_t *buffer, size_t buffer_length);
 
 /*
- * As bivdrazo_compile(), within limits. Where there is more work than `limits->work` the status is
- * BIVDRAZO_TOO_MUCH, whether or not the events are a document; where they are one whose text has
- * more than `limits->text` bytes it is BIVDRAZO_TOO_LONG. Under BIVDRAZO_TOO_SHORT `length` isn't
- * more than `limits->text`: a buffer of as many bytes is never too short.
+ * As bivdrazo_compile(), within limits. What can't be read, an event, a name or an option, is
+ * reported first. Then the status is BIVDRAZO_TOO_MUCH where there is more to read and to print
+ * than `limits->work`, whether or not the events are a document, or where they are one that uses
+ * more again; else BIVDRAZO_TOO_LONG where they are one whose text has more than `limits->text`
+ * bytes. Under BIVDRAZO_TOO_SHORT `length` isn't more than `limits->text`: a buffer of as many
+ * bytes is never too short.
  */
 bivdrazo_answer bivdrazo_compile_within(const bivdrazo_event *events, size_t events_length,
                                         const uint8_t *bytes, size_t bytes_length,

@@ -84,7 +84,7 @@ static void wrap(bivdrazo_event *events, size_t *length, size_t start, uint16_t 
     *length += 2;
 }
 
-/* A row of a table is five times as much work as the table has columns. */
+/* A row of a table's body is five times as much work as the table has columns. */
 static void test_work(void) {
     bivdrazo_limits limits = {SIZE_MAX, 30};
     bivdrazo_event events[64];

@@ -117,14 +117,15 @@ pub struct Attributes {
 
 /// How long a text may be, and how much work it may take. The default has no limits.
 ///
-/// What a call costs is bounded by both, the number of events and the document's length. `work`
+/// What a call costs goes by both, the number of events, the document's length and that of options'
+/// texts and of names, though nothing proves it. `work`
 /// limits two sums, each by itself. What there is to read and to print is counted from the events
-/// alone, before anything is read: the lengths of texts and labels, by the places of the events (of
-/// a parser's events the document's length at most, and that of its labels once more), and for each
-/// row of a table five for each of its columns. What is used again is counted before anything is
-/// printed: for each link and image that leads to a definition what is read in that one; for each
-/// footnote call five times its length, four times that of the prefix of ids, and that of the label
-/// of the way back.
+/// alone, before anything of the document is read: the lengths of texts and labels, by the places
+/// of the events (of a parser's events the document's length at most, and that of its labels once
+/// more), and for each row of a table's body five for each of its columns. What is used again is
+/// counted before anything is printed: for each link and image that leads to a definition what is
+/// read in that one; for each footnote call five times its length, four times that of the prefix of
+/// ids, and that of the label of the way back.
 #[derive(Clone, Copy, Debug, Eq, Hash, PartialEq)]
 pub struct Limits {
     /// How many bytes the text may have.

@@ -22,8 +22,9 @@ none_begins_with prefix ids = option_map_or (λ text. none_begins (shown text) i
 
 -- the bytes before the index are tokenized as these tokens with ids on their headings, where a
 -- prefix is asked for, and keep to what such a text keeps to; they are written as whole tags and
--- texts, so that none is open at their end; those after it are the list of these headings; where no
--- two ids among the tokens are equal, and none begins with the prefix, no two of the text are equal
+-- texts, so that no tag is cut off at their end; those after it are the list of these headings;
+-- where no two ids among the tokens are equal, and none begins with the prefix, no two of the text
+-- are equal
 pub record IsListedAfter (prefix : Option (List ℕ)) (tokens : List Token) (start : ℕ)
     (whole : List ℕ) : Type 0 where
   pub within : start ≤ length whole

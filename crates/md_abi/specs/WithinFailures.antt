@@ -1,5 +1,5 @@
--- Why there is no text within limits, and the answer that tells it. Only contracts of private
--- functions speak of it, but for the two statuses.
+-- Why there is no text within limits, and the answer that tells it. No contract of what C calls
+-- speaks of it.
 use Rattle.std.specs.Prelude.{ℕ, ◌≤◌, List, length}
 use Rattle.md_tree.specs.Grammar.{Handed, IsChecked}
 use Rattle.md_text.specs.declared.options.CompileOptions.{CompileOptions}

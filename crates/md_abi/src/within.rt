@@ -21,7 +21,7 @@ use std::alloc::Global;
 pub struct CLimits {
     /// How many bytes the text may have.
     pub text: usize,
-    /// How much there may be to read and to print.
+    /// How much there may be to read and to print, and to use again.
     pub work: usize,
 }
 
@@ -30,7 +30,7 @@ pub struct CLimits {
 pub enum WithinFailure {
     /// The text is longer than it may be.
     TooLong,
-    /// There is more to read and to print than there may be.
+    /// There is more to read and to print, or to use again, than there may be.
     TooMuch,
     /// There is no text at all.
     Failed(Failure),

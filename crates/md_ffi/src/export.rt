@@ -148,14 +148,14 @@ pub extern "C" fn bivdrazo_compile_attributed(
 }
 
 /// As [`bivdrazo_compile`], where the text has at most as many bytes as `limits` say, there is
-/// at most as much work, and no more is used again than that: so what it costs is bounded. Printing
-/// stops soon after the text is too long.
+/// at most as much work, and no more is used again than that: what it costs goes by these, though
+/// no clause says so. Printing stops soon after the text is too long.
 ///
 /// The work is counted from the events alone: what is read of the bytes, by the places of the
-/// events; for each row of a table, five for each of its columns. What is used again is counted
-/// once the events are known to be a document: for each link and image that leads to a definition,
-/// what is read in that one; for each footnote call, five times its length, four times that of the
-/// prefix of ids, and that of the label of the way back.
+/// events; for each row of a table's body, five for each of its columns. What is used again is
+/// counted once the events are known to be a document: for each link and image that leads to a
+/// definition, what is read in that one; for each footnote call, five times its length, four times
+/// that of the prefix of ids, and that of the label of the way back.
 ///
 /// Its seven parameters are those of C's call, which has ten in the same order: none for `alloc`,
 /// one each for `options` and `limits`, and two for each of the four slices. What a C caller passes

@@ -62,8 +62,8 @@ abbrev pub call_texts : CompileOptions → ℕ
 call_texts options = 4 * option_length options.gfm_footnote_clobber_prefix
     + option_length options.gfm_footnote_back_label
 
--- what definitions are used again for, the texts of options for each call, and five times the
--- lengths of calls, whose labels are printed in each of these places, as URLs
+-- what is read in the definitions to which links and images lead; for each call the texts of
+-- options; and five times the lengths of calls, whose labels are printed four times, as URLs
 abbrev pub reuse : CompileOptions → List ℕ → Forest → ℕ
 reuse options bytes document = referred bytes document
     + entries is_call (flatten document) * call_texts options

@@ -37,8 +37,8 @@ IsOver options given limit =
     ⊎ (IsChecked given × ((document : Forest) → flatten document ≡ given.events →
     limit < reuse options given.bytes document))
 
--- one of the two is more than this exactly where that is the cause; only the first is
--- looked at before the compiler refuses
+-- `TooMuch` says that one of the two is more than this; `TooLong` that neither is; a refusal of
+-- the compiler that the first isn't
 abbrev pub IsTooMuchFor : CompileOptions → Handed → ℕ → WithinError → Type 0
 IsTooMuchFor options given limit TooMuch = IsOver options given limit
 IsTooMuchFor options given limit TooLong =

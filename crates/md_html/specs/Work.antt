@@ -34,7 +34,7 @@ covered_from is index depth (event ∷ events) =
     depth * (event.point.index - index)
     + covered_from is event.point.index (depth_after is depth event) events
 
--- the lengths of the nodes whose names pass a test, added up: more where indices go back
+-- the lengths of the nodes whose names pass a test, added up: no less where indices go back
 abbrev pub covered : (Name → Bool) → List Event → ℕ
 covered is events = covered_from is 0 0 events
 
@@ -65,7 +65,8 @@ abbrev pub columns_after : ℕ → Event → ℕ
 columns_after columns event =
     if enters is_table event then 0 else if enters is_column event then suc columns else columns
 
--- five for each cell of all rows, each with as many as its table has columns
+-- for each row of a table's body five for each of its columns; the row of its head ends before
+-- these are known, and counts nothing
 abbrev pub cells : ℕ → List Event → ℕ
 cells columns [] = 0
 cells columns (event ∷ events) =

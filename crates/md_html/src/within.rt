@@ -38,9 +38,10 @@ pub struct Limits {
     pub text: usize,
     /// How much there may be to read and to print, as [`work_of`](crate::work_of) counts it (the
     /// lengths of texts and of labels, of a parser's events the document's length and that of
-    /// labels again, and five for each cell of a table), and how much may be used again, as
-    /// [`reuse_of`](crate::reuse_of) counts it (for each link or image that leads to a definition
-    /// the length of that one, and what footnote calls print).
+    /// labels again, and for each row of a table's body five for each of its columns); and how much
+    /// may be used again, as [`reuse_of`](crate::reuse_of) counts it (for each link or image that
+    /// leads to a definition the length of that one, and what footnote calls print). The limit
+    /// holds for each of the two by itself.
     pub work: usize,
 }
 
@@ -49,7 +50,7 @@ pub struct Limits {
 pub enum WithinError {
     /// The text is longer than it may be.
     TooLong,
-    /// There is more to read and to print than there may be.
+    /// There is more to read and to print, or to use again, than there may be.
     TooMuch,
     /// The compiler refuses the events, or memory runs out.
     Compile(CompileError),

@@ -13,8 +13,9 @@ use md_pattern::{Reading, Standing, standing_of};
 /// How much a list of events gives to read and to print, or `usize::MAX` where it is more.
 ///
 /// Counted are the lengths of texts and of labels: of a parser's events at most the document's
-/// length, and once more that of each label; and for each row of a table five for each of its
-/// columns. What a document uses again is counted by [`reuse_of`](crate::reuse_of).
+/// length, and once more that of each label; and for each row of a table's body five for each of
+/// its columns. The row of its head ends before these are known, and counts nothing. What a
+/// document uses again is counted by [`reuse_of`](crate::reuse_of).
 ///
 /// # Examples
 ///

@@ -7,7 +7,7 @@ use Rattle.std.proofs.lemmas.Bool.{and_parts, and_from}
 use Rattle.md_shape.specs.Built.{is_digit}
 use Rattle.md_safe.proofs.NumberedIds.{decimal-digits}
 use Rattle.md_page.specs.Added.{shown}
-use Rattle.md_page.specs.Ids.{IsPastDigits, AreApart}
+use Rattle.md_page.specs.Ids.{HasNoDigitsPast, AreApart}
 
 -- one text is the other with more behind it, which what follows the other begins with
 record Past (one other first second : List ℕ) : Type 0 where
@@ -47,7 +47,7 @@ first-digits (b ∷ more) rest all =
     and_from (is_digit b) (list_all is_digit more) parts.0 (first-digits more rest parts.1)
 
 never : (one other first second : List ℕ) → list_all is_digit first ≡ true →
-    IsPastDigits one other → Past one other first second → ⊥
+    HasNoDigitsPast one other → Past one other first second → ⊥
 never one other first second digits apart past =
     apart past.more (first-digits past.more second
     (subst (λ text. list_all is_digit text ≡ true) past.begins digits)) past.longer

@@ -27,12 +27,12 @@ none_begins prefix ids = list_all (λ id. not (starts_with nat_eq id prefix)) id
 
 -- ---- ids of headings in two documents
 
--- no text is another one with digits behind it, or the same
-abbrev pub IsPastDigits : List ℕ → List ℕ → Type 0
-IsPastDigits one other =
+-- the second text isn't the first one with digits behind it, nor the first one itself
+abbrev pub HasNoDigitsPast : List ℕ → List ℕ → Type 0
+HasNoDigitsPast one other =
     (digits : List ℕ) → list_all is_digit digits ≡ true → other ≡ one ++ digits → ⊥
 
 -- neither of two prefixes, as they are read, is the other one with digits behind it, or the same
 abbrev pub AreApart : List ℕ → List ℕ → Type 0
 AreApart one other =
-    IsPastDigits (shown one) (shown other) × IsPastDigits (shown other) (shown one)
+    HasNoDigitsPast (shown one) (shown other) × HasNoDigitsPast (shown other) (shown one)

@@ -1,5 +1,5 @@
 -- How such a text is written, piece by piece: what its type keeps. Of public contracts the clause
--- `written` of the trait `Html` alone cites it.
+-- `written` of the trait `Html` cites it, and what C is promised of a text with attributes.
 use Rattle.std.specs.Str.{bytes_eq}
 use Rattle.std.specs.Prelude.{◌≡◌, ℕ, ◌==◌, Bool, true, false, not, IsTrue, ◌&&◌, ◌||◌, List, []}
 use Rattle.std.specs.Prelude.{◌∷◌, ◌++◌, map, codes}

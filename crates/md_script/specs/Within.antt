@@ -80,7 +80,8 @@ pub record IsTooLongFor (input : List ℕ) (limits : Limits) : Type 0 where
   pub stands : StandsFor input events bytes options
   pub too_long : IsTooLong events bytes options limits
 
--- the events of what the input stands for give too much work, or use too much again
+-- the events of what the input stands for give too much work, or are a document's that uses too
+-- much again
 pub record IsTooMuchFor (input : List ℕ) (limits : Limits) : Type 0 where
   pub events : List Event
   pub bytes : List ℕ

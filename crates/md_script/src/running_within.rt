@@ -17,7 +17,7 @@ use thiserror::Error;
 pub enum RunWithinError {
     /// The text is longer than it may be.
     TooLong,
-    /// There is more to read and to print than there may be.
+    /// There is more to read and to print, or to use again, than there may be.
     TooMuch,
     /// The script gives no text.
     Run(RunError),

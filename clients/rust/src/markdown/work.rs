@@ -24,7 +24,7 @@ pub(super) fn at_most(events: &[Event], options: &Options) -> usize {
 }
 
 /// No more than this is read and printed: the length of each node that isn't known to hold no more
-/// than other nodes, and for each row of a table five for each of its columns.
+/// than other nodes, and for each row of a table's body five for each of its columns.
 fn read_at_most(events: &[Event]) -> usize {
     let (mut work, mut open, mut index, mut columns) = (0_usize, 0_usize, 0, 0);
     for event in events {
