@@ -138,8 +138,18 @@ mod tests {
             assert_eq!(title_in(line, true).as_deref(), Some(title), "{line}");
         }
         for line in [
-            "title:", "title: ", "title:a", "title: \"a", "title: 'a", "title: >", "title: ''",
-            " title: a", "titles: a", "title = a", "Title: a", "title: # a",
+            "title:",
+            "title: ",
+            "title:a",
+            "title: \"a",
+            "title: 'a",
+            "title: >",
+            "title: ''",
+            " title: a",
+            "titles: a",
+            "title = a",
+            "Title: a",
+            "title: # a",
         ] {
             assert_eq!(title_in(&format!("{line}\n"), true), None, "{line}");
         }

@@ -83,7 +83,11 @@ fn decoded(part: &str) -> Vec<u8> {
     let mut found = Vec::with_capacity(bytes.len());
     let mut at = 0;
     while at < bytes.len() {
-        match (bytes[at], digit(bytes.get(at + 1)), digit(bytes.get(at + 2))) {
+        match (
+            bytes[at],
+            digit(bytes.get(at + 1)),
+            digit(bytes.get(at + 2)),
+        ) {
             (b'%', Some(high), Some(low)) => {
                 found.push((high * 16 + low) as u8);
                 at += 3;

@@ -45,9 +45,7 @@ impl Page {
                 pieces_of(&template, &lang, &style_of(arguments)?)
                     .map_err(|error| format!("{}: {error}", path.display()))?
             }
-            None if arguments.wants_page() => {
-                pieces_of(&own(&lang), &lang, &style_of(arguments)?)?
-            }
+            None if arguments.wants_page() => pieces_of(&own(&lang), &lang, &style_of(arguments)?)?,
             None => vec![Piece::Content],
         };
         let has_title = pieces.contains(&Piece::Title);
@@ -140,7 +138,11 @@ mod tests {
 
     #[test]
     fn templates() {
-        let pieces = pieces_of("{{lang}}a{{ title }}{{content}}{{style}}{{title}}", "l", "s");
+        let pieces = pieces_of(
+            "{{lang}}a{{ title }}{{content}}{{style}}{{title}}",
+            "l",
+            "s",
+        );
         let page = Page {
             pieces: pieces.unwrap(),
             has_title: true,

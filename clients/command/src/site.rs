@@ -44,7 +44,10 @@ pub fn make(
     let told_of = |error| -> Failure { format!("{}: {error}", folder.display()).into() };
     let (tree, failed) = Tree::of(folder, site).map_err(told_of)?;
     let newest = [&arguments.page_template, &arguments.css];
-    let newest = newest.into_iter().flatten().filter_map(|path| written(path));
+    let newest = newest
+        .into_iter()
+        .flatten()
+        .filter_map(|path| written(path));
     let site = Site {
         arguments,
         page,
@@ -65,9 +68,10 @@ pub fn make(
     Ok(outcome)
 }
 
-/// When a file was written.
+/// When a file was written, where one is there.
 fn written(path: &Path) -> Option<SystemTime> {
-    fs::metadata(path).and_then(|found| found.modified()).ok()
+    let found = fs::metadata(path).ok().filter(|found| found.is_file());
+    found.and_then(|found| found.modified().ok())
 }
 
 impl Site<'_> {
@@ -196,8 +200,7 @@ impl Site<'_> {
             return Ok(Done::Kept);
         }
         make_folder_of(&target)?;
-        files::copy(&source, &target)
-            .map_err(|error| format!("{}: {error}", target.display()))?;
+        files::copy(&source, &target).map_err(|error| format!("{}: {error}", target.display()))?;
         Ok(Done::Copied)
     }
 

@@ -12,8 +12,8 @@ use std::path::{Path, PathBuf};
 pub const SOURCE_ENDING: &str = "md";
 pub const PAGE_ENDING: &str = "html";
 
-/// The files of a folder and of those in it, by their paths from it. What is hidden isn't there, nor
-/// what a link to a folder leads to.
+/// The files of a folder and of those in it, by their paths from it. What is hidden isn't there,
+/// nor what a link to a folder leads to.
 #[derive(Debug, Default)]
 pub struct Tree {
     /// What is rendered.
@@ -39,7 +39,9 @@ impl Tree {
         let mut failed = Vec::new();
         let mut left = vec![PathBuf::new()];
         while let Some(at) = left.pop() {
-            let is_site = site.as_ref().map_or(false, |site| *site == tree.root.join(&at));
+            let is_site = site
+                .as_ref()
+                .map_or(false, |site| *site == tree.root.join(&at));
             if is_site {
                 continue;
             }

@@ -5,7 +5,15 @@ use bivdrazo::{markdown_document, MarkdownOptions};
 
 fn tree() -> Tree {
     let mut tree = Tree::default();
-    let pages = ["index.md", "a.md", "a b.md", "a?#.md", "c/index.md", "c/d.md", "e/f.md"];
+    let pages = [
+        "index.md",
+        "a.md",
+        "a b.md",
+        "a?#.md",
+        "c/index.md",
+        "c/d.md",
+        "e/f.md",
+    ];
     tree.pages.extend(pages.map(PathBuf::from));
     let odd = OsStr::from_bytes(b"n\xff.md");
     tree.pages.insert(PathBuf::from(odd));
@@ -64,19 +72,57 @@ fn pages() {
 #[test]
 fn others() {
     for url in [
-        "", "#a", "?b", "/a.md", "//a.md", "http://a.md", "mailto:a.md", "x:a.md", "a.html",
-        "a%20b.html", "c", "c/", ".", "./", "c/d.html?b", "c/..",
+        "",
+        "#a",
+        "?b",
+        "/a.md",
+        "//a.md",
+        "http://a.md",
+        "mailto:a.md",
+        "x:a.md",
+        "a.html",
+        "a%20b.html",
+        "c",
+        "c/",
+        ".",
+        "./",
+        "c/d.html?b",
+        "c/..",
     ] {
         lead_to("a.md", &[(url, Target::Other)]);
     }
     for url in [
-        "b.md", "A.md", "a.md/", "a.md/.", "..", "../a.md", "c%2Fd.md", "%2Fa.md", "e", "e/",
-        "g.md", "x.png", "i.png/", "a", "a%", "a%2", "a.md%00", "c/../../a.md", "-:a.md", "a%3A",
+        "b.md",
+        "A.md",
+        "a.md/",
+        "a.md/.",
+        "..",
+        "../a.md",
+        "c%2Fd.md",
+        "%2Fa.md",
+        "e",
+        "e/",
+        "g.md",
+        "x.png",
+        "i.png/",
+        "a",
+        "a%",
+        "a%2",
+        "a.md%00",
+        "c/../../a.md",
+        "-:a.md",
+        "a%3A",
     ] {
         lead_to("a.md", &[(url, Target::Nowhere)]);
     }
-    lead_to("a.md", &[("i.png", file("i.png")), ("g.html#a", file("g.html"))]);
-    lead_to("c/d.md", &[("i.png?b", file("c/i.png")), ("../i.png", file("i.png"))]);
+    lead_to(
+        "a.md",
+        &[("i.png", file("i.png")), ("g.html#a", file("g.html"))],
+    );
+    lead_to(
+        "c/d.md",
+        &[("i.png?b", file("c/i.png")), ("../i.png", file("i.png"))],
+    );
 }
 
 fn document(text: &str) -> Document {
@@ -93,7 +139,10 @@ fn changes() {
         urls.push(url.to_string());
         (url == "b" || url == "d").then(|| format!("{url}/<>\""))
     });
-    assert_eq!(urls, ["b", "d", "b", "mailto:g@h.i", "http://www.j.org", ""]);
+    assert_eq!(
+        urls,
+        ["b", "d", "b", "mailto:g@h.i", "http://www.j.org", ""]
+    );
     let html = document.compile(&bivdrazo::Options::default()).unwrap();
     assert_eq!(
         html,
