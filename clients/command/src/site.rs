@@ -15,6 +15,9 @@ use std::fs;
 use std::path::{Path, PathBuf};
 use std::time::SystemTime;
 
+/// How many characters of a URL are told.
+const MOST_TOLD: usize = 200;
+
 /// A folder, and where its pages go.
 struct Site<'a> {
     arguments: &'a Arguments,
@@ -114,6 +117,7 @@ impl Site<'_> {
                     found.files.insert(path);
                 }
                 Target::Nowhere => {
+                    let url: String = url.chars().take(MOST_TOLD).collect();
                     found.lost.insert(url.replace(char::is_control, "\u{fffd}"));
                 }
                 Target::Other => {}

@@ -85,15 +85,24 @@ impl Tree {
     fn leads_to_file(&self, path: &Path, is_source: bool) -> bool {
         match fs::canonicalize(self.root.join(path)) {
             Ok(end) if end.is_dir() => false,
-            Ok(end) => is_source || (end.starts_with(&self.root) && end.is_file()),
+            Ok(end) => is_source || self.may_be_read(&end),
             Err(_) => is_source,
         }
     }
 
-    /// Whether that source is a link which leads out of the folder, or to what is no file.
+    /// Whether that source is a link which leads out of the folder, or to what is hidden or no
+    /// file.
     pub fn leads_out(&self, source: &Path) -> io::Result<bool> {
         let end = fs::canonicalize(self.root.join(source))?;
-        Ok(!(end.starts_with(&self.root) && end.is_file()))
+        Ok(!self.may_be_read(&end))
+    }
+
+    /// Whether a path without links is that of a file in the folder, and nothing in it is hidden.
+    fn may_be_read(&self, end: &Path) -> bool {
+        let is_inside = end.strip_prefix(&self.root).map_or(false, |path| {
+            path.iter().all(|name| !name.as_bytes().starts_with(b"."))
+        });
+        is_inside && end.is_file()
     }
 
     /// Whether a path is that of a file of the tree, which is there.
