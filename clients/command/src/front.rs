@@ -48,7 +48,7 @@ fn title_in(line: &str, is_yaml: bool) -> Option<String> {
         _ => value.split(" #").next()?.to_string(),
     };
     let title = title.split_whitespace().collect::<Vec<_>>().join(" ");
-    (!title.is_empty()).then(|| title)
+    (!title.is_empty()).then_some(title)
 }
 
 /// What stands before the quotation mark; a backslash before that or before another backslash goes.

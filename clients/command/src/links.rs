@@ -178,7 +178,7 @@ pub fn heading(document: &Document) -> Option<String> {
     }
     let text = String::from_utf8_lossy(&text);
     let text = text.split_whitespace().collect::<Vec<_>>().join(" ");
-    (!text.is_empty()).then(|| text)
+    (!text.is_empty()).then_some(text)
 }
 
 #[cfg(test)]

@@ -181,7 +181,7 @@ impl Site<'_> {
             done
         }));
         bar.finish_and_clear();
-        outcome.several = self.tree.pages.len() + copied.len() > 1;
+        outcome.several = self.tree.pages.len() + copied.len() != 1;
         done.into_iter().for_each(|one| outcome.add(one));
     }
 

@@ -23,7 +23,7 @@ pub struct Outcome {
     pub failed: Vec<Failed>,
     /// Which links lead nowhere.
     pub lost: Vec<String>,
-    /// Whether there are several files.
+    /// Whether there are several files, or none.
     pub several: bool,
 }
 
