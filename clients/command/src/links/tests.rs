@@ -91,6 +91,10 @@ fn others() {
     ] {
         lead_to("a.md", &[(url, Target::Other)]);
     }
+}
+
+#[test]
+fn nowhere() {
     for url in [
         "b.md",
         "A.md",
@@ -115,6 +119,10 @@ fn others() {
     ] {
         lead_to("a.md", &[(url, Target::Nowhere)]);
     }
+}
+
+#[test]
+fn files() {
     lead_to(
         "a.md",
         &[("i.png", file("i.png")), ("g.html#a", file("g.html"))],
