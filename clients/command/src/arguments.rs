@@ -18,7 +18,8 @@ use std::process;
 #[derive(Debug, Parser)]
 #[command(name = "bivdrazo-render", version = bivdrazo::VERSION_TEXT)]
 pub struct Arguments {
-    /// The files to render; - or none: standard input. Several ones need --out-dir.
+    /// The files to render; - or none: standard input. Several ones need --out-dir, and so does a
+    /// folder, of which a site is made: its *.md as pages, and the files that these lead to.
     #[arg(value_name = "FILE", value_hint = ValueHint::FilePath)]
     pub files: Vec<PathBuf>,
 
@@ -31,16 +32,28 @@ pub struct Arguments {
     #[arg(long, value_name = "DIR", value_hint = ValueHint::DirPath, requires = "files")]
     pub out_dir: Option<PathBuf>,
 
-    /// Write a whole page with this title.
+    /// Of a folder, render what isn't newer than its page too.
+    #[arg(long, requires = "out_dir")]
+    pub all: bool,
+
+    /// Write a whole page with this title, where its front matter has none.
     #[arg(long, value_name = "TITLE")]
     pub page: Option<String>,
 
+    /// Write a whole page like this one, with {{title}}, {{content}}, {{lang}} and {{style}}.
+    #[arg(long, value_name = "FILE", value_hint = ValueHint::FilePath)]
+    pub page_template: Option<PathBuf>,
+
+    /// Leave out front matter, and take its title, as of the files of a folder.
+    #[arg(long)]
+    pub front_matter: bool,
+
     /// The page's language, such as en.
-    #[arg(long, value_name = "LANG", requires = "page")]
+    #[arg(long, value_name = "LANG")]
     pub lang: Option<String>,
 
     /// The page's style: a file, or none; else a small one of its own.
-    #[arg(long, value_name = "FILE|none", value_hint = ValueHint::FilePath, requires = "page")]
+    #[arg(long, value_name = "FILE|none", value_hint = ValueHint::FilePath)]
     pub css: Option<PathBuf>,
 
     /// What the ids of footnotes begin with, instead of user-content-.
@@ -144,11 +157,37 @@ impl Arguments {
             let told = "several files need --out-dir <DIR>";
             end(&Arguments::command().error(ErrorKind::MissingRequiredArgument, told));
         }
+        if (arguments.lang.is_some() || arguments.css.is_some()) && !arguments.wants_page() {
+            let told = "--lang and --css need --page, --page-template or a folder";
+            end(&Arguments::command().error(ErrorKind::MissingRequiredArgument, told));
+        }
         if let Some(option) = arguments.of_another_parser() {
             let told = format!("{option} isn't there with this --parser");
             end(&Arguments::command().error(ErrorKind::ArgumentConflict, told));
         }
+        if arguments.base.is_some() && arguments.folder().is_some() {
+            let told = "--base isn't there with a folder, whose links lead to its own pages";
+            end(&Arguments::command().error(ErrorKind::ArgumentConflict, told));
+        }
         arguments
+    }
+
+    /// The folder of which a site is made, where that is wanted.
+    pub fn folder(&self) -> Option<&Path> {
+        match (&self.files[..], &self.out_dir) {
+            ([folder], Some(_)) if folder.is_dir() => Some(folder),
+            _ => None,
+        }
+    }
+
+    /// Whether a text is written in a page.
+    pub fn wants_page(&self) -> bool {
+        self.page.is_some() || self.page_template.is_some() || self.folder().is_some()
+    }
+
+    /// Whether front matter is left out.
+    pub fn has_front_matter(&self) -> bool {
+        self.front_matter || self.folder().is_some()
     }
 
     /// What makes a shell complete the arguments.
@@ -185,7 +224,7 @@ impl Arguments {
         }
     }
 
-    /// The library's options, for the events of cmark-gfm's parser; they are safe.
+    /// The library's options for a parser's events; they are safe.
     pub fn library_options(&self) -> Options {
         Options {
             gfm_footnote_clobber_prefix: self.footnote_prefix.clone(),
@@ -196,7 +235,7 @@ impl Arguments {
         }
     }
 
-    /// What is added to the tags of a text, for the events of cmark-gfm's parser.
+    /// What is added to the tags of a text.
     pub fn attributes(&self) -> Attributes {
         Attributes {
             rel: self.rel.clone(),
@@ -204,8 +243,7 @@ impl Arguments {
         }
     }
 
-    /// The limits of the text and of the work, for the events of cmark-gfm's parser of a document
-    /// of so many bytes.
+    /// The limits of the text and of the work, for a document of so many bytes.
     pub fn limits(&self, length: usize) -> Limits {
         Limits {
             text: self.max_output.unwrap_or(usize::MAX),
@@ -218,13 +256,9 @@ impl Arguments {
         self.files.first().map_or(Path::new("-"), PathBuf::as_path)
     }
 
-    /// The options for rendering.
+    /// The options for reading by pulldown-cmark.
     pub fn options(&self) -> MarkdownOptions {
         let mut options = MarkdownOptions::default();
-        options.footnote_prefix = self.footnote_prefix.clone();
-        options.footnote_label = self.footnote_label.clone();
-        options.footnote_back_label = self.footnote_back_label.clone();
-        options.number_ids = self.number_ids;
         options.hard_breaks = self.hard_breaks;
         options.bare_links = !self.no_bare_links;
         options.html = match self.html {
@@ -233,11 +267,7 @@ impl Arguments {
             Html::WithoutComments => DocumentHtml::WithoutComments,
         };
         options.base = self.base.clone();
-        options.rel = self.rel.clone();
-        options.heading_ids = self.heading_ids.clone();
         options.max_input = self.max_input;
-        options.max_output = self.max_output;
-        options.max_work = self.max_work;
         options
     }
 }

@@ -1,6 +1,6 @@
 //! Reading and writing.
 
-use crate::Failure;
+use crate::failures::Failure;
 use std::collections::HashMap;
 use std::fs::{self, File, OpenOptions};
 use std::io::{self, Read, Write};
@@ -87,13 +87,24 @@ pub fn is_same(source: &Path, target: &Path) -> bool {
 /// Writes texts to a file: beside it, and then under its name, so that it is never there by half.
 /// What is there and is no file, such as a device, is written to as it is.
 pub fn write(path: &Path, texts: &[&str]) -> io::Result<()> {
+    fill(path, |file| write_all(file, texts))
+}
+
+/// Copies a file in the same way.
+pub fn copy(source: &Path, target: &Path) -> io::Result<()> {
+    let mut source = File::open(source)?;
+    fill(target, |file| io::copy(&mut source, file).map(drop))
+}
+
+fn fill(path: &Path, put: impl FnOnce(&mut File) -> io::Result<()>) -> io::Result<()> {
     let path = fs::canonicalize(path).unwrap_or_else(|_| path.to_path_buf());
     let found = fs::metadata(&path);
     if matches!(&found, Ok(found) if !found.is_file()) {
-        return write_all(&mut OpenOptions::new().write(true).open(&path)?, texts);
+        return put(&mut OpenOptions::new().write(true).open(&path)?);
     }
-    let (beside, file) = new_beside(&path)?;
-    let written = write_whole(file, texts)
+    let (beside, mut file) = new_beside(&path)?;
+    let written = put(&mut file)
+        .and_then(|()| file.sync_all())
         .and_then(|()| {
             found.map_or(Ok(()), |found| {
                 fs::set_permissions(&beside, found.permissions())
@@ -122,9 +133,4 @@ fn new_beside(path: &Path) -> io::Result<(PathBuf, File)> {
             made => return made.map(|file| (beside, file)),
         }
     }
-}
-
-fn write_whole(mut file: File, texts: &[&str]) -> io::Result<()> {
-    write_all(&mut file, texts)?;
-    file.sync_all()
 }

@@ -1,64 +1,113 @@
 //! The page around a text.
 
 use crate::arguments::Arguments;
-use crate::Failure;
+use crate::failures::Failure;
 use bivdrazo::{compile, Event, Name, Options};
 use std::fs;
+use std::path::Path;
 
-/// What a page has where no other style is asked for. What is for screen readers alone isn't seen.
+/// What a page has where no other style is asked for. Its colours are the reader's own, light or
+/// dark.
 const STYLE: &str = "\
+:root { color-scheme: light dark; }
 body { max-width: 45em; margin: 2em auto; padding: 0 1em; font-family: sans-serif; \
 line-height: 1.5; }
 img { max-width: 100%; }
-pre { overflow: auto; padding: 0.5em; background: #f4f4f4; }
-blockquote { margin-left: 0; padding-left: 1em; border-left: 0.2em solid #ccc; }
+pre { overflow: auto; padding: 0.5em; background: #8882; }
+blockquote { margin-left: 0; padding-left: 1em; border-left: 0.2em solid #8886; }
 table { border-collapse: collapse; }
-th, td { padding: 0.2em 0.5em; border: 1px solid #ccc; }
-.sr-only { position: absolute; width: 1px; height: 1px; overflow: hidden; clip-path: inset(50%); \
-white-space: nowrap; }
+th, td { padding: 0.2em 0.5em; border: 1px solid #8888; }
+.footnotes { margin-top: 2em; border-top: 1px solid #8888; }
 ";
 
-/// What stands before a text and after it.
+/// A page, piece by piece.
 pub struct Page {
-    before: String,
-    after: &'static str,
+    pieces: Vec<Piece>,
+    /// Whether it has a title.
+    pub has_title: bool,
+}
+
+/// A piece of a page: a text that each page has, or what is a document's own.
+#[derive(Clone, Debug, Eq, PartialEq)]
+enum Piece {
+    Text(String),
+    Title,
+    Content,
 }
 
 impl Page {
-    /// The page that the arguments ask for; nothing, where they ask for none.
+    /// The page that the arguments ask for; nothing around the text, where they ask for none.
     pub fn of(arguments: &Arguments) -> Result<Page, Failure> {
-        let title = match &arguments.page {
-            Some(title) => escaped(title)?,
-            None => {
-                return Ok(Page {
-                    before: String::new(),
-                    after: "",
-                })
+        let lang = escaped(arguments.lang.as_deref().unwrap_or(""))?;
+        let pieces = match &arguments.page_template {
+            Some(path) => {
+                let template = read(path)?;
+                pieces_of(&template, &lang, &style_of(arguments)?)
+                    .map_err(|error| format!("{}: {error}", path.display()))?
             }
+            None if arguments.wants_page() => pieces_of(&own(&lang), &lang, &style_of(arguments)?)?,
+            None => vec![Piece::Content],
         };
-        let lang = match &arguments.lang {
-            Some(lang) => format!(" lang=\"{}\"", escaped(lang)?),
-            None => String::new(),
-        };
-        let style = style_of(arguments)?;
-        let before = format!(
-            "<!doctype html>\n<html{lang}><head><meta charset=\"utf-8\" />\
-             <title>{title}</title>{style}</head><body>"
-        );
-        Ok(Page {
-            before,
-            after: "</body></html>\n",
-        })
+        let has_title = pieces.contains(&Piece::Title);
+        Ok(Page { pieces, has_title })
     }
 
-    /// A text in the page: what is to be written, one after another.
-    pub fn around<'a>(&'a self, html: &'a str) -> [&'a str; 3] {
-        [&self.before, html, self.after]
+    /// A text in the page with this title, which is escaped: what is to be written, one after
+    /// another.
+    pub fn around<'a>(&'a self, title: &'a str, html: &'a str) -> Vec<&'a str> {
+        let texts = self.pieces.iter().map(|piece| match piece {
+            Piece::Text(text) => text,
+            Piece::Title => title,
+            Piece::Content => html,
+        });
+        texts.collect()
+    }
+}
+
+/// The template where none is given.
+fn own(lang: &str) -> String {
+    let lang = match lang {
+        "" => "",
+        _ => " lang=\"{{lang}}\"",
+    };
+    format!(
+        "<!doctype html>\n<html{lang}><head><meta charset=\"utf-8\" />\
+         <meta name=\"viewport\" content=\"width=device-width, initial-scale=1\" />\
+         <title>{{{{title}}}}</title>{{{{style}}}}</head><body>{{{{content}}}}</body></html>\n"
+    )
+}
+
+/// The pieces of a template, with this language and style.
+fn pieces_of(template: &str, lang: &str, style: &str) -> Result<Vec<Piece>, String> {
+    let mut pieces = Vec::new();
+    let mut rest = template;
+    while let Some((before, after)) = rest.split_once("{{") {
+        let (name, after) = after
+            .split_once("}}")
+            .ok_or("after the last {{ there is no }}")?;
+        pieces.push(Piece::Text(before.to_string()));
+        pieces.push(match name.trim() {
+            "title" => Piece::Title,
+            "content" => Piece::Content,
+            "lang" => Piece::Text(lang.to_string()),
+            "style" => Piece::Text(style.to_string()),
+            other => {
+                let other: String = other.chars().take(40).collect();
+                let other = other.replace(char::is_control, "\u{fffd}");
+                return Err(format!("there is no place {{{{{other}}}}}"));
+            }
+        });
+        rest = after;
+    }
+    pieces.push(Piece::Text(rest.to_string()));
+    match pieces.contains(&Piece::Content) {
+        true => Ok(pieces),
+        false => Err("the place {{content}} is missing".to_string()),
     }
 }
 
 /// A text as that of an element or an attribute, escaped by the library.
-fn escaped(text: &str) -> Result<String, bivdrazo::Error> {
+pub fn escaped(text: &str) -> Result<String, bivdrazo::Error> {
     let events = [
         Event::enter(Name::Data, 0),
         Event::exit(Name::Data, text.len()),
@@ -71,12 +120,44 @@ fn style_of(arguments: &Arguments) -> Result<String, Failure> {
     let style = match &arguments.css {
         None => STYLE.to_string(),
         Some(path) if path.as_os_str() == "none" => return Ok(String::new()),
-        Some(path) => {
-            fs::read_to_string(path).map_err(|error| format!("{}: {error}", path.display()))?
-        }
+        Some(path) => read(path)?,
     };
     if style.to_ascii_lowercase().contains("</style") {
         return Err("a style can't hold </style".into());
     }
     Ok(format!("<style>\n{style}</style>"))
+}
+
+fn read(path: &Path) -> Result<String, Failure> {
+    fs::read_to_string(path).map_err(|error| format!("{}: {error}", path.display()).into())
+}
+
+#[cfg(test)]
+mod tests {
+    use super::*;
+
+    #[test]
+    fn templates() {
+        let pieces = pieces_of(
+            "{{lang}}a{{ title }}{{content}}{{style}}{{title}}",
+            "l",
+            "s",
+        );
+        let page = Page {
+            pieces: pieces.unwrap(),
+            has_title: true,
+        };
+        let text = page.around("{{content}}", "{{title}} {{none}}").concat();
+        assert_eq!(text, "la{{content}}{{title}} {{none}}s{{content}}");
+        for (template, told) in [
+            ("", "the place {{content}} is missing"),
+            ("{{title}} {content}", "the place {{content}} is missing"),
+            ("{{content}} {{a\nb}}", "there is no place {{a\u{fffd}b}}"),
+            ("{{content}} {{}}", "there is no place {{}}"),
+            ("{{content}} {{{title}}}", "there is no place {{{title}}"),
+            ("{{content}} {{title}", "after the last {{ there is no }}"),
+        ] {
+            assert_eq!(pieces_of(template, "", "").unwrap_err(), told, "{template}");
+        }
+    }
 }

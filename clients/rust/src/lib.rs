@@ -55,6 +55,9 @@ pub use markdown::{
 
 pub use errors::Error;
 pub use numbers::{Name, Rule, VERSION, VERSION_TEXT};
+#[cfg(feature = "markdown")]
+#[doc(hidden)]
+pub use markdown::markdown_document;
 #[doc(hidden)]
 pub use quiet::quietly;
 pub use references::REFERENCES;

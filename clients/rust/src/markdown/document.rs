@@ -55,7 +55,12 @@ impl Document {
 
     /// As [`compile_attributed`](Document::compile_attributed), of a document that
     /// nobody needs any more.
-    pub(super) fn into_rendered(
+    ///
+    /// # Errors
+    ///
+    /// The same.
+    #[doc(hidden)]
+    pub fn into_rendered(
         self,
         options: &Options,
         attributes: &Attributes,

@@ -179,16 +179,25 @@ pub fn markdown_to_html(text: &str, options: &MarkdownOptions) -> Result<String,
 /// # Ok::<(), bivdrazo::Error>(())
 /// ```
 pub fn markdown_with_headings(text: &str, options: &MarkdownOptions) -> Result<Rendered, Error> {
-    if let Some(limit) = options.max_input.filter(|&limit| text.len() > limit) {
-        let length = text.len();
-        return Err(Error::InputTooLong { length, limit });
-    }
-    let document = quietly(|| document_of(text, options)).ok_or(Error::Parser)?;
-    document.into_rendered(
+    markdown_document(text, options)?.into_rendered(
         &options.for_library(),
         &options.attributes(),
         options.limits(text.len()),
     )
+}
+
+/// What [`markdown_to_html`] hands to the library, for a program that reads or changes it before.
+///
+/// # Errors
+///
+/// [`Error::InputTooLong`] and [`Error::Parser`].
+#[doc(hidden)]
+pub fn markdown_document(text: &str, options: &MarkdownOptions) -> Result<Document, Error> {
+    if let Some(limit) = options.max_input.filter(|&limit| text.len() > limit) {
+        let length = text.len();
+        return Err(Error::InputTooLong { length, limit });
+    }
+    quietly(|| document_of(text, options)).ok_or(Error::Parser)
 }
 
 /// What the parser finds in a text.

@@ -1,0 +1,185 @@
+//! Links between the files of a folder, and the title of a document: both are read in its events.
+
+use crate::tree::{Tree, PAGE_ENDING, SOURCE_ENDING};
+use bivdrazo::{Document, Event, Kind, Name};
+use std::collections::HashMap;
+use std::ffi::OsStr;
+use std::os::unix::ffi::OsStrExt;
+use std::path::{Path, PathBuf};
+use std::str;
+
+/// What a URL of a page leads to.
+#[derive(Clone, Debug, Eq, PartialEq)]
+pub enum Target {
+    /// What isn't in the folder anyway, a page by its own name, or a folder that has one.
+    Other,
+    /// The source of a page; the URL of the page.
+    Page(String),
+    /// A file that isn't rendered.
+    File(PathBuf),
+    /// Nothing.
+    Nowhere,
+}
+
+/// What a URL leads to from the page of that source.
+pub fn target(url: &str, source: &Path, tree: &Tree) -> Target {
+    let end = url.find(&['?', '#'][..]).unwrap_or(url.len());
+    let (path, rest) = url.split_at(end);
+    if path.is_empty() || path.starts_with('/') || has_scheme(path) {
+        return Target::Other;
+    }
+    let found = match read_from(source.parent().unwrap_or_else(|| Path::new("")), path) {
+        Some(found) => found,
+        None => return Target::Nowhere,
+    };
+    let last = path.rsplit('/').next().unwrap_or("");
+    let is_folder = matches!(last, "" | "." | "..");
+    if !is_folder && tree.pages.contains(&found) {
+        return Target::Page(format!("{}.{PAGE_ENDING}{rest}", without_ending(path)));
+    }
+    if !is_folder && tree.files.contains(&found) {
+        return Target::File(found);
+    }
+    let is_page = !is_folder
+        && found.extension() == Some(OsStr::new(PAGE_ENDING))
+        && tree.pages.contains(&found.with_extension(SOURCE_ENDING));
+    match is_page || tree.pages.contains(&found.join("index.md")) {
+        true => Target::Other,
+        false => Target::Nowhere,
+    }
+}
+
+/// Whether a path begins with a scheme (RFC 3986, 3.1).
+fn has_scheme(path: &str) -> bool {
+    let is_part = |each: char| each.is_ascii_alphanumeric() || "+-.".contains(each);
+    path.split_once(':').map_or(false, |(scheme, _)| {
+        scheme.starts_with(|first: char| first.is_ascii_alphabetic()) && scheme.chars().all(is_part)
+    })
+}
+
+/// The path of a URL, read from a folder; nothing where it leads out of the tree.
+fn read_from(folder: &Path, path: &str) -> Option<PathBuf> {
+    let mut found = folder.to_path_buf();
+    for part in path.split('/') {
+        let name = decoded(part);
+        match &name[..] {
+            b"" | b"." => {}
+            b".." => {
+                if !found.pop() {
+                    return None;
+                }
+            }
+            name if name.contains(&b'/') => return None,
+            name => found.push(OsStr::from_bytes(name)),
+        }
+    }
+    Some(found)
+}
+
+/// The bytes of a part of a path, where `%` and two digits stand for one.
+fn decoded(part: &str) -> Vec<u8> {
+    let digit = |byte: Option<&u8>| byte.and_then(|&byte| char::from(byte).to_digit(16));
+    let bytes = part.as_bytes();
+    let mut found = Vec::with_capacity(bytes.len());
+    let mut at = 0;
+    while at < bytes.len() {
+        match (
+            bytes[at],
+            digit(bytes.get(at + 1)),
+            digit(bytes.get(at + 2)),
+        ) {
+            (b'%', Some(high), Some(low)) => {
+                found.push((high * 16 + low) as u8);
+                at += 3;
+            }
+            (byte, ..) => {
+                found.push(byte);
+                at += 1;
+            }
+        }
+    }
+    found
+}
+
+/// The path of a source, without `.md`; an ending that isn't written as it is goes with its name.
+fn without_ending(path: &str) -> String {
+    if let Some(stem) = path.strip_suffix(".md") {
+        return stem.to_string();
+    }
+    let start = path.rfind('/').map_or(0, |last| last + 1);
+    let name = decoded(&path[start..]);
+    let stem = &name[..name.len().saturating_sub(".md".len())];
+    let encoded = stem.iter().map(|byte| format!("%{byte:02X}"));
+    format!("{}{}", &path[..start], encoded.collect::<String>())
+}
+
+/// Hands the URL of each link and image to `made`, and puts what it answers in its place. URLs
+/// that stand in one place of the bytes do so still.
+pub fn change(document: &mut Document, mut made: impl FnMut(&str) -> Option<String>) {
+    let mut known = HashMap::new();
+    for at in 3..document.events.len() {
+        let found = &document.events[at - 3..=at];
+        if !is_destination(found) {
+            continue;
+        }
+        let place = (found[1].index, found[2].index);
+        let new = *known.entry(place).or_insert_with(|| {
+            let url = str::from_utf8(document.bytes.get(place.0..place.1)?).ok()?;
+            let url = made(url)?;
+            let start = document.bytes.len();
+            document.bytes.extend_from_slice(url.as_bytes());
+            Some((start, document.bytes.len()))
+        });
+        if let Some((start, end)) = new {
+            let indices = [start, start, end, end];
+            let events = &mut document.events[at - 3..=at];
+            events
+                .iter_mut()
+                .zip(indices)
+                .for_each(|(event, index)| event.index = index);
+        }
+    }
+}
+
+/// Whether four events are those of a destination that is one text.
+fn is_destination(events: &[Event]) -> bool {
+    let names = [
+        (Kind::Enter, Name::ResourceDestinationString),
+        (Kind::Enter, Name::Data),
+        (Kind::Exit, Name::Data),
+        (Kind::Exit, Name::ResourceDestinationString),
+    ];
+    let found = events.iter().map(|event| (event.kind, event.name));
+    found.eq(names)
+}
+
+/// The text of the first heading, where it has one.
+pub fn heading(document: &Document) -> Option<String> {
+    let is_heading = |event: &&Event| event.name == Name::HeadingAtx;
+    let first = document.events.iter().find(is_heading)?;
+    let rest = document.events.iter().skip_while(|event| *event != first);
+    let events: Vec<&Event> = rest
+        .take_while(|event| event.kind == Kind::Enter || event.name != first.name)
+        .collect();
+    let mut text = Vec::new();
+    let mut hidden = 0_usize;
+    for pair in events.windows(2) {
+        match (pair[0].kind, pair[0].name) {
+            (Kind::Enter, Name::Resource | Name::GfmFootnoteCall) => hidden += 1,
+            (Kind::Exit, Name::Resource | Name::GfmFootnoteCall) => {
+                hidden = hidden.saturating_sub(1);
+            }
+            (Kind::Enter, Name::Data | Name::CodeTextData | Name::HtmlTextData) if hidden == 0 => {
+                let bytes = document.bytes.get(pair[0].index..pair[1].index);
+                text.extend_from_slice(bytes.unwrap_or(b""));
+            }
+            _ => {}
+        }
+    }
+    let text = String::from_utf8_lossy(&text);
+    let text = text.split_whitespace().collect::<Vec<_>>().join(" ");
+    (!text.is_empty()).then_some(text)
+}
+
+#[cfg(test)]
+mod tests;

@@ -1,0 +1,195 @@
+//! What URLs lead to, and what is read in events.
+
+use super::*;
+use bivdrazo::{markdown_document, MarkdownOptions};
+
+fn tree() -> Tree {
+    let mut tree = Tree::default();
+    let pages = [
+        "index.md",
+        "a.md",
+        "a b.md",
+        "a?#.md",
+        "c/index.md",
+        "c/d.md",
+        "e/f.md",
+    ];
+    tree.pages.extend(pages.map(PathBuf::from));
+    let odd = OsStr::from_bytes(b"n\xff.md");
+    tree.pages.insert(PathBuf::from(odd));
+    let files = ["i.png", "c/i.png", "g.html"];
+    tree.files.extend(files.map(PathBuf::from));
+    tree
+}
+
+/// What URLs of a source lead to.
+fn lead_to(source: &str, wanted: &[(&str, Target)]) {
+    for (url, target) in wanted {
+        let found = super::target(url, Path::new(source), &tree());
+        assert_eq!(found, *target, "{source}: {url}");
+    }
+}
+
+fn page(url: &str) -> Target {
+    Target::Page(url.to_string())
+}
+
+fn file(path: &str) -> Target {
+    Target::File(PathBuf::from(path))
+}
+
+#[test]
+fn pages() {
+    lead_to(
+        "a.md",
+        &[
+            ("a.md", page("a.html")),
+            ("./a.md#b", page("./a.html#b")),
+            ("c/../a.md?q=.md#b", page("c/../a.html?q=.md#b")),
+            ("c//d.md", page("c//d.html")),
+            ("c/index.md", page("c/index.html")),
+            ("a%20b.md", page("a%20b.html")),
+            ("a b.md", page("a b.html")),
+            ("a%3F%23.md", page("a%3F%23.html")),
+            ("%61%2Emd", page("%61.html")),
+            ("c/d.m%64#e", page("c/%64.html#e")),
+            ("n%FF.md", page("n%FF.html")),
+            ("c/%2e%2e/a.md", page("c/%2e%2e/a.html")),
+        ],
+    );
+    lead_to(
+        "c/d.md",
+        &[
+            ("../a.md", page("../a.html")),
+            ("../e/f.md#g", page("../e/f.html#g")),
+            ("d.md", page("d.html")),
+            ("../../a.md", Target::Nowhere),
+            ("a.md", Target::Nowhere),
+        ],
+    );
+}
+
+#[test]
+fn others() {
+    for url in [
+        "",
+        "#a",
+        "?b",
+        "/a.md",
+        "//a.md",
+        "http://a.md",
+        "mailto:a.md",
+        "x:a.md",
+        "a.html",
+        "a%20b.html",
+        "c",
+        "c/",
+        ".",
+        "./",
+        "c/d.html?b",
+        "c/..",
+    ] {
+        lead_to("a.md", &[(url, Target::Other)]);
+    }
+}
+
+#[test]
+fn nowhere() {
+    for url in [
+        "b.md",
+        "A.md",
+        "a.md/",
+        "a.md/.",
+        "..",
+        "../a.md",
+        "c%2Fd.md",
+        "%2Fa.md",
+        "e",
+        "e/",
+        "g.md",
+        "x.png",
+        "i.png/",
+        "a",
+        "a%",
+        "a%2",
+        "a.md%00",
+        "c/../../a.md",
+        "-:a.md",
+        "a%3A",
+    ] {
+        lead_to("a.md", &[(url, Target::Nowhere)]);
+    }
+}
+
+#[test]
+fn files() {
+    lead_to(
+        "a.md",
+        &[("i.png", file("i.png")), ("g.html#a", file("g.html"))],
+    );
+    lead_to(
+        "c/d.md",
+        &[("i.png?b", file("c/i.png")), ("../i.png", file("i.png"))],
+    );
+}
+
+fn document(text: &str) -> Document {
+    markdown_document(text, &MarkdownOptions::default()).unwrap()
+}
+
+#[test]
+fn changes() {
+    let mut document = document(
+        "[a](b \"t\") ![c](d) [e] [f][e] <g@h.i> `[a](b)` www.j.org [](<>)\n\n[e]: b '&amp;'\n",
+    );
+    let mut urls = Vec::new();
+    change(&mut document, |url| {
+        urls.push(url.to_string());
+        (url == "b" || url == "d").then(|| format!("{url}/<>\""))
+    });
+    assert_eq!(
+        urls,
+        ["b", "d", "b", "mailto:g@h.i", "http://www.j.org", ""]
+    );
+    let html = document.compile(&bivdrazo::Options::default()).unwrap();
+    assert_eq!(
+        html,
+        "<p><a href=\"b/%3C%3E%22\" title=\"t\">a</a> <img src=\"d/%3C%3E%22\" alt=\"c\" /> \
+         <a href=\"b/%3C%3E%22\" title=\"&amp;\">e</a> \
+         <a href=\"b/%3C%3E%22\" title=\"&amp;\">f</a> \
+         <a href=\"mailto:g@h.i\">g@h.i</a> <code>[a](b)</code> \
+         <a href=\"http://www.j.org\">www.j.org</a> <a href=\"\"></a></p>\n"
+    );
+}
+
+#[test]
+fn events_that_are_none() {
+    let mut document = Document::default();
+    let destination = Name::ResourceDestinationString;
+    document.events.extend([
+        Event::enter(destination, 9),
+        Event::enter(Name::Data, 9),
+        Event::exit(Name::Data, 3),
+        Event::exit(destination, 3),
+        Event::enter(Name::HeadingAtx, 7),
+        Event::enter(Name::Data, 7),
+    ]);
+    let before = document.clone();
+    change(&mut document, |_| Some(String::new()));
+    assert_eq!(document, before);
+    assert_eq!(heading(&document), None);
+}
+
+#[test]
+fn headings() {
+    for (text, wanted) in [
+        ("# a *b* `c`\n", Some("a b c")),
+        ("d\n\n## [a](b \"c\") ![e](f)\n# g\n", Some("a e")),
+        ("a  <b>c</b>\n&amp;\n===\n", Some("a <b>c</b> &")),
+        ("> # a[^1]\n\n[^1]: b\n", Some("a")),
+        ("#\n\n# a\n", None),
+        ("a\n", None),
+    ] {
+        assert_eq!(heading(&document(text)).as_deref(), wanted, "{text}");
+    }
+}
