@@ -8,7 +8,7 @@ import os
 import pathlib
 from typing import Any, Literal, NamedTuple
 
-from .calls import text_of
+from .calls import UNSET, text_of
 from .errors import MarkdownError, TooLong, TooMuchWork, error_of, text_of_status
 from .library import CAnswer, CText
 from .numbers import MARKDOWN_OPTIONS, MARKDOWN_VERSION, DocumentHtml, MarkdownStatus, Status
@@ -20,6 +20,8 @@ WORK_BY_LENGTH = MOST - 1
 
 HTML = {"text": DocumentHtml.TEXT, "left-out": DocumentHtml.LEFT_OUT,
         "without-comments": DocumentHtml.WITHOUT_COMMENTS}
+
+TEXTS = "footnote_prefix", "footnote_label", "footnote_back_label", "base", "rel", "heading_ids"
 
 # Of these types values that say that they are equal are so; those of a subclass may say anything.
 PLAIN = frozenset({bool, int, str, type(None)})
@@ -185,48 +187,45 @@ def options_of(
     max_output: int | None = None,
     max_work: int | None = None,
 ) -> CMarkdownOptions:
-    """The options as C has them; C only reads them, so any number of calls may share them."""
-    given = (number_ids, hard_breaks, bare_links, html, footnote_prefix, footnote_label,
-             footnote_back_label, base, rel, heading_ids, max_input, max_output, max_work)
-    return (known_options if PLAIN.issuperset(map(type, given)) else made_options)(*given)
+    """The options as C has them, which only reads them: the texts are set in a copy."""
+    choices = number_ids, hard_breaks, bare_links, html, max_input, max_output, max_work
+    made = (known_choices if PLAIN.issuperset(map(type, choices)) else made_choices)(*choices)
+    if (footnote_prefix is None and footnote_label is None and footnote_back_label is None
+            and base is None and rel is None and heading_ids is None):
+        return made
+    made = CMarkdownOptions.from_buffer_copy(made)
+    texts = footnote_prefix, footnote_label, footnote_back_label, base, rel, heading_ids
+    for name, text in zip(TEXTS, texts):
+        if text is not None:
+            setattr(made, name, text_of(name, text))
+    return made
 
 
-def made_options(
+def made_choices(
     number_ids: bool,
     hard_breaks: bool,
     bare_links: bool,
     html: str,
-    footnote_prefix: str | None,
-    footnote_label: str | None,
-    footnote_back_label: str | None,
-    base: str | None,
-    rel: str | None,
-    heading_ids: str | None,
     max_input: int | None,
     max_output: int | None,
     max_work: int | None,
 ) -> CMarkdownOptions:
-    """The options as C has them."""
+    """The options as C has them, with no text set."""
     return CMarkdownOptions(
         MARKDOWN_VERSION,
         typed("number_ids", number_ids, bool),
         typed("hard_breaks", hard_breaks, bool),
         typed("bare_links", bare_links, bool),
         html_of(html),
-        text_of("footnote_prefix", footnote_prefix),
-        text_of("footnote_label", footnote_label),
-        text_of("footnote_back_label", footnote_back_label),
-        text_of("base", base),
-        text_of("rel", rel),
-        text_of("heading_ids", heading_ids),
+        *(UNSET for _ in TEXTS),
         bound_of("max_input", max_input),
         bound_of("max_output", max_output),
         WORK_BY_LENGTH if max_work is None else bound_of("max_work", max_work, "work"),
     )
 
 
-# The options of the latest calls, by these: made once for equal ones of the same types.
-known_options = functools.lru_cache(maxsize=16, typed=True)(made_options)
+# These of the latest calls, made once for equal ones of the same types.
+known_choices = functools.lru_cache(maxsize=16, typed=True)(made_choices)
 
 
 def rendered(document: bytes, options: CMarkdownOptions) -> str:

@@ -12,7 +12,8 @@ from bivdrazo import markdown_with_headings
 from bivdrazo.calls import text_of
 from bivdrazo.errors import TEXTS, error_of, text_of_status
 from bivdrazo.library import CAnswer
-from bivdrazo.markdown import CMarkdownOptions, known_options, markdown_error_of
+from bivdrazo.markdown import CMarkdownOptions, known_choices, markdown_error_of
+from bivdrazo.markdown import TEXTS as NAMES
 from bivdrazo.markdown import markdown_library, options_of
 from bivdrazo.numbers import MarkdownStatus, Status
 from bivdrazo.values import SHORT, text_at
@@ -101,19 +102,34 @@ class Lies(unittest.TestCase):
 
 @unittest.skipIf(WHY, WHY)
 class Options(unittest.TestCase):
-    """The options are made once for equal ones, and only for these."""
+    """Options without texts are made once for equal ones, and only for these."""
 
     def setUp(self):
-        known_options.cache_clear()
+        known_choices.cache_clear()
 
     def test_once(self):
-        self.assertIs(options_of(rel="c", max_input=3), options_of(max_input=3, rel="c"))
-        self.assertIsNot(options_of(rel="c"), options_of(rel="d"))
-        self.assertIsNot(options_of(rel="c"), options_of(base="c"))
-        self.assertIsNot(options_of(rel=EqualText("c")), options_of(rel="c"))
+        self.assertIs(options_of(html="text", max_input=3), options_of(max_input=3))
+        self.assertIsNot(options_of(max_input=3), options_of(max_output=3))
+        self.assertIsNot(options_of(max_input=3), options_of(max_input=4))
         for number in range(100):
             options_of(max_input=number)
-        self.assertEqual(known_options.cache_info().currsize, 16)
+        self.assertEqual(known_choices.cache_info().currsize, 16)
+
+    def test_texts_in_a_copy(self):
+        for name in NAMES:
+            made = options_of(**{name: "c"}, max_input=3)
+            for each in NAMES:
+                text = getattr(made, each)
+                wanted = (b"c", 1, 1) if each == name else (b"", 0, 0)
+                self.assertEqual((text.bytes, text.length, text.is_set), wanted)
+                self.assertFalse(getattr(options_of(max_input=3), each).is_set)
+            self.assertEqual((made.max_input, made.bare_links, made.html), (3, 1, 0))
+
+    def test_texts_are_kept(self):
+        made = options_of(rel="c" * 1000, base="d" * 1000)
+        taken = [str(number) * 1000 for number in range(1000)]
+        self.assertEqual((made.rel.bytes, made.base.bytes), (b"c" * 1000, b"d" * 1000))
+        self.assertEqual(len(taken), 1000)
 
     def test_equal_values_of_other_types(self):
         for good, bad in [({"number_ids": True}, {"number_ids": 1}),
