@@ -1,4 +1,4 @@
-"""Markdown to safe HTML, by a parser and a library that is proved.
+"""Markdown to safe HTML, by a compiler that is proved, after a parser that isn't.
 
 >>> from bivdrazo import markdown_to_html
 >>> markdown_to_html("**a** <b>")
@@ -35,6 +35,7 @@ from .markdown import Heading, markdown_to_html, markdown_with_headings
 from .numbers import VERSION, Kind, LineEnding, Name, Rule
 from .numbers import VERSION_TEXT as __version__
 from .references import REFERENCES
+from .safe import SafeHtml
 
 __all__ = [
     "REFERENCES",
@@ -49,6 +50,7 @@ __all__ = [
     "Name",
     "Refused",
     "Rule",
+    "SafeHtml",
     "TooLong",
     "TooMuchWork",
     "Unreadable",

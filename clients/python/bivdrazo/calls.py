@@ -12,9 +12,11 @@ from .errors import Invalid, TooLong, TooMuchWork, error_of
 from .library import LIBRARY, CAnswer, CEvent, CLimits, COptions, CReference, CText
 from .numbers import Kind, LineEnding, Name, Status
 from .references import REFERENCES
-from .values import Bytes, bound_of, bytes_of, coded
+from .safe import SafeHtml
+from .values import Bytes, bound_of, bytes_of, coded, text_at
 
 EVENT = struct.Struct("@NHHBB2x")
+UNSET = CText(b"", 0, False)
 
 
 class Event(NamedTuple):
@@ -60,7 +62,8 @@ def compile(
     `names` are the character references by name that a document may use, as `{"amp": "&"}`; of two
     with one name the first counts. HTML's are REFERENCES. The text is safe where allow_any_img_src,
     allow_dangerous_html and allow_dangerous_protocol are off, and gfm_footnote_label_attributes and
-    gfm_footnote_label_tag_name unset, as by default.
+    gfm_footnote_label_tag_name unset, as by default: it is a SafeHtml then, which templates don't
+    escape, and else a plain str.
 
     Raises Refused where the events are refused, Invalid where an event or an option stands for
     none, MemoryError.
@@ -82,13 +85,14 @@ def compile(
     made, length = events_of(events)
     references = references_of(names)
     document = bytes_of("data", data)
-    return answered(
+    text = answered(
         first_size(length, len(document)),
         lambda buffer, room: LIBRARY.bivdrazo_compile(
             made, length, document, len(document), options, references, len(references) - 1, buffer,
             room
         ),
     )
+    return SafeHtml(text) if are_safe(options) else text
 
 
 def compile_within(
@@ -126,7 +130,7 @@ def compile_within(
     made, length = events_of(events)
     references = references_of(names)
     document = bytes_of("data", data)
-    return answered(
+    text = answered(
         min(first_size(length, len(document)), limits.text),
         lambda buffer, room: LIBRARY.bivdrazo_compile_within(
             made, length, document, len(document), given, references, len(references) - 1, limits,
@@ -134,10 +138,12 @@ def compile_within(
         ),
         limits,
     )
+    return SafeHtml(text) if are_safe(given) else text
 
 
 def run(script: Bytes) -> str:
-    """The HTML of an event script: lines of options and events, a line `--`, the document.
+    """The HTML of an event script: lines of options and events, a line `--`, the document. It is a
+    plain str, since a script may set options that aren't safe.
 
     Raises Unreadable where a line can't be read, Refused where the events are refused, MemoryError.
     """
@@ -170,7 +176,7 @@ def answered(
         raise TooMuchWork(limits.work)
     if answer.status != Status.OK:
         raise error_of(answer.status, answer.index, answer.rule)
-    return ctypes.string_at(buffer, answer.length).decode("utf-8")
+    return text_at(ctypes.addressof(buffer), answer.length)
 
 
 def options_of(
@@ -203,6 +209,14 @@ def options_of(
         text_of("gfm_footnote_label_attributes", gfm_footnote_label_attributes),
         text_of("gfm_footnote_label_tag_name", gfm_footnote_label_tag_name),
     )
+
+
+def are_safe(options: COptions) -> bool:
+    """Whether a text under these options is safe."""
+    return not (options.allow_any_img_src or options.allow_dangerous_html
+                or options.allow_dangerous_protocol
+                or options.gfm_footnote_label_attributes.is_set
+                or options.gfm_footnote_label_tag_name.is_set)
 
 
 def events_of(events: Iterable[Event]) -> tuple[ctypes.Array[CEvent], int]:
@@ -244,6 +258,8 @@ def line_ending_of(ending: LineEnding) -> int:
 
 
 def text_of(name: str, text: str | None) -> CText:
-    """A text as C has it, set or unset."""
-    made = b"" if text is None else coded(name, text)
-    return CText(made, len(made), text is not None)
+    """A text as C has it, set or unset; all that are unset are one."""
+    if text is None:
+        return UNSET
+    made = coded(name, text)
+    return CText(made, len(made), True)

@@ -8,17 +8,24 @@ import os
 import pathlib
 from typing import Any, Literal, NamedTuple
 
-from .calls import text_of
+from .calls import UNSET, text_of
 from .errors import MarkdownError, TooLong, TooMuchWork, error_of, text_of_status
 from .library import CAnswer, CText
 from .numbers import MARKDOWN_OPTIONS, MARKDOWN_VERSION, DocumentHtml, MarkdownStatus, Status
-from .values import MOST, bound_of, coded, typed
+from .safe import SafeHtml
+from .values import MOST, bound_of, coded, text_at, typed
 
 # As `max_work` C's name for the bound that goes by the document's length.
 WORK_BY_LENGTH = MOST - 1
 
 HTML = {"text": DocumentHtml.TEXT, "left-out": DocumentHtml.LEFT_OUT,
         "without-comments": DocumentHtml.WITHOUT_COMMENTS}
+
+TEXTS = "footnote_prefix", "footnote_label", "footnote_back_label", "base", "rel", "heading_ids"
+
+# Of these types values that say that they are equal are so; those of a subclass may say anything.
+PLAIN = frozenset({bool, int, str, type(None)})
+OK = int(Status.OK)
 
 
 class Heading(NamedTuple):
@@ -28,7 +35,7 @@ class Heading(NamedTuple):
 
     level: int
     number: int
-    text: str
+    text: SafeHtml
 
 
 class CMarkdownOptions(ctypes.Structure):
@@ -94,14 +101,15 @@ def markdown_to_html(
     max_input: int | None = None,
     max_output: int | None = None,
     max_work: int | None = None,
-) -> str:
+) -> SafeHtml:
     """The HTML of a Markdown document, with tables, strikethrough, tasks, footnotes and bare links.
 
     >>> from bivdrazo import markdown_to_html
     >>> markdown_to_html("**a** <b> [c](javascript:d)")
     '<p><strong>a</strong> &lt;b&gt; <a href="">c</a></p>\\n'
 
-    The text is safe, whatever is chosen:
+    The text is safe, whatever is chosen. It is a SafeHtml: a str that Jinja and Django set into a
+    page as it is.
 
     footnote_prefix: what the ids of footnotes begin with, else `user-content-`; each document of a
     page needs another. number_ids: ids of footnotes are made of their numbers; then no two ids of
@@ -136,25 +144,12 @@ def markdown_to_html(
     is alone, and TypeError for a value of another type. Other threads run during the call.
     """
     document = coded("text", text)
-    given = options_of(
-        number_ids=number_ids,
-        hard_breaks=hard_breaks,
-        bare_links=bare_links,
-        html=html,
-        footnote_prefix=footnote_prefix,
-        footnote_label=footnote_label,
-        footnote_back_label=footnote_back_label,
-        base=base,
-        rel=rel,
-        heading_ids=heading_ids,
-        max_input=max_input,
-        max_output=max_output,
-        max_work=max_work,
-    )
-    return rendered(document, given)[0]
+    given = options_of(number_ids, hard_breaks, bare_links, html, footnote_prefix, footnote_label,
+                       footnote_back_label, base, rel, heading_ids, max_input, max_output, max_work)
+    return SafeHtml(rendered(document, given))
 
 
-def markdown_with_headings(text: str, heading_ids: str, **options: Any) -> tuple[str,
+def markdown_with_headings(text: str, heading_ids: str, **options: Any) -> tuple[SafeHtml,
                                                                                  list[Heading]]:
     """As markdown_to_html, whose other options it takes, with the headings that got an id, for a
     table of contents.
@@ -166,20 +161,18 @@ def markdown_with_headings(text: str, heading_ids: str, **options: Any) -> tuple
     In a heading's text a space stands for each line feed.
     """
     document = coded("text", text)
-    html, lines = rendered(document,
-                           options_of(heading_ids=typed("heading_ids", heading_ids, str),
-                                      **options))
-    return html, [heading_of(line) for line in lines.split("\n")[:-1]]
+    html, lines = rendered_with_headings(
+        document, options_of(heading_ids=typed("heading_ids", heading_ids, str), **options))
+    return SafeHtml(html), [heading_of(line) for line in lines.split("\n")[:-1]]
 
 
 def heading_of(line: str) -> Heading:
     """A heading: its level, a space, its number, a space, and its text."""
     level, number, text = line.split(" ", 2)
-    return Heading(int(level), int(number), text)
+    return Heading(int(level), int(number), SafeHtml(text))
 
 
 def options_of(
-    *,
     number_ids: bool = False,
     hard_breaks: bool = False,
     bare_links: bool = True,
@@ -194,37 +187,71 @@ def options_of(
     max_output: int | None = None,
     max_work: int | None = None,
 ) -> CMarkdownOptions:
-    """The options as C has them."""
+    """The options as C has them, which only reads them: the texts are set in a copy."""
+    choices = number_ids, hard_breaks, bare_links, html, max_input, max_output, max_work
+    made = (known_choices if PLAIN.issuperset(map(type, choices)) else made_choices)(*choices)
+    if (footnote_prefix is None and footnote_label is None and footnote_back_label is None
+            and base is None and rel is None and heading_ids is None):
+        return made
+    made = CMarkdownOptions.from_buffer_copy(made)
+    texts = footnote_prefix, footnote_label, footnote_back_label, base, rel, heading_ids
+    for name, text in zip(TEXTS, texts):
+        if text is not None:
+            setattr(made, name, text_of(name, text))
+    return made
+
+
+def made_choices(
+    number_ids: bool,
+    hard_breaks: bool,
+    bare_links: bool,
+    html: str,
+    max_input: int | None,
+    max_output: int | None,
+    max_work: int | None,
+) -> CMarkdownOptions:
+    """The options as C has them, with no text set."""
     return CMarkdownOptions(
         MARKDOWN_VERSION,
         typed("number_ids", number_ids, bool),
         typed("hard_breaks", hard_breaks, bool),
         typed("bare_links", bare_links, bool),
         html_of(html),
-        text_of("footnote_prefix", footnote_prefix),
-        text_of("footnote_label", footnote_label),
-        text_of("footnote_back_label", footnote_back_label),
-        text_of("base", base),
-        text_of("rel", rel),
-        text_of("heading_ids", heading_ids),
+        *(UNSET for _ in TEXTS),
         bound_of("max_input", max_input),
         bound_of("max_output", max_output),
         WORK_BY_LENGTH if max_work is None else bound_of("max_work", max_work, "work"),
     )
 
 
-def rendered(document: bytes, options: CMarkdownOptions) -> tuple[str, str]:
+# These of the latest calls, made once for equal ones of the same types.
+known_choices = functools.lru_cache(maxsize=16, typed=True)(made_choices)
+
+
+def rendered(document: bytes, options: CMarkdownOptions) -> str:
+    """The text of a document."""
+    library = markdown_library()
+    html = ctypes.c_void_p()
+    answer = library.bivdrazo_markdown(document, len(document), options, ctypes.byref(html))
+    if answer.status != OK:
+        raise markdown_error_of(answer, options)
+    try:
+        return text_at(html.value, answer.length)
+    finally:
+        library.bivdrazo_markdown_free(html)
+
+
+def rendered_with_headings(document: bytes, options: CMarkdownOptions) -> tuple[str, str]:
     """The text of a document, and a line for each of its headings that got an id."""
     library = markdown_library()
     html, headings = ctypes.c_void_p(), ctypes.c_void_p()
-    made = ctypes.byref(html), ctypes.byref(headings)
-    answer = library.bivdrazo_markdown_headings(document, len(document), ctypes.byref(options),
-                                                *made)
-    if answer.status != Status.OK:
+    answer = library.bivdrazo_markdown_headings(document, len(document), options,
+                                                ctypes.byref(html), ctypes.byref(headings))
+    if answer.status != OK:
         raise markdown_error_of(answer, options)
     try:
-        text = str((ctypes.c_char * answer.length).from_address(html.value), "utf-8")
-        return text, str(ctypes.string_at(headings.value), "utf-8")
+        # The list of headings ends with a NUL: C tells no length of it.
+        return text_at(html.value, answer.length), str(ctypes.string_at(headings.value), "utf-8")
     finally:
         library.bivdrazo_markdown_free(html)
         library.bivdrazo_markdown_free(headings)

@@ -7,6 +7,7 @@ from typing import TypeVar, Union
 
 Bytes = Union[bytes, bytearray, memoryview]
 MOST = ctypes.c_size_t(-1).value
+SHORT = 1 << 16  # up to here a second copy costs less than a way around it
 T = TypeVar("T")
 
 
@@ -30,6 +31,13 @@ def bound_of(name: str, bound: int | None, counted: str = "bytes") -> int:
 def coded(name: str, text: str) -> bytes:
     """The bytes of a text. A subclass of `str` has no say in what they are, nor in how many."""
     return str.encode(typed(name, text, str), "utf-8")
+
+
+def text_at(address: int, length: int) -> str:
+    """The text of so many bytes at an address. `string_at` takes no length past a C `int`."""
+    if length <= SHORT:
+        return ctypes.string_at(address, length).decode("utf-8")
+    return str((ctypes.c_char * length).from_address(address), "utf-8")
 
 
 def bytes_of(name: str, data: Bytes) -> bytes:

@@ -1,15 +1,22 @@
-"""Tests of what is handed to C: subclasses that lie about their bytes, and texts of statuses."""
+"""Tests of what is handed to C and read there: subclasses that lie about their bytes, options that
+are made once, and texts of statuses.
+"""
 
 import ctypes
+import threading
 import unittest
+import unittest.mock
 
 from bivdrazo import Event, Name, compile, compile_within, markdown_to_html, run
 from bivdrazo import markdown_with_headings
 from bivdrazo.calls import text_of
 from bivdrazo.errors import TEXTS, error_of, text_of_status
 from bivdrazo.library import CAnswer
-from bivdrazo.markdown import CMarkdownOptions, markdown_error_of, markdown_library
+from bivdrazo.markdown import CMarkdownOptions, known_choices, markdown_error_of
+from bivdrazo.markdown import TEXTS as NAMES
+from bivdrazo.markdown import markdown_library, options_of
 from bivdrazo.numbers import MarkdownStatus, Status
+from bivdrazo.values import SHORT, text_at
 
 try:
     markdown_library()
@@ -36,6 +43,16 @@ class LongText(str):
 
     def encode(self, *_):
         return LongBytes(b"x")
+
+
+class EqualText(str):
+    """A text that says that it is equal to every other one."""
+
+    def __eq__(self, _):
+        return True
+
+    def __hash__(self):
+        return hash("c")
 
 
 class Lies(unittest.TestCase):
@@ -81,6 +98,88 @@ class Lies(unittest.TestCase):
                          '<p><a href="b" rel="c">a</a></p>\n')
         html, headings = markdown_with_headings(LongText("# a"), LongText("p-"))
         self.assertEqual((html, len(headings)), ('<h1 id="p-1">a</h1>\n', 1))
+
+
+@unittest.skipIf(WHY, WHY)
+class Options(unittest.TestCase):
+    """Options without texts are made once for equal ones, and only for these."""
+
+    def setUp(self):
+        known_choices.cache_clear()
+
+    def test_once(self):
+        self.assertIs(options_of(html="text", max_input=3), options_of(max_input=3))
+        self.assertIsNot(options_of(max_input=3), options_of(max_output=3))
+        self.assertIsNot(options_of(max_input=3), options_of(max_input=4))
+        for number in range(100):
+            options_of(max_input=number)
+        self.assertEqual(known_choices.cache_info().currsize, 16)
+
+    def test_texts_in_a_copy(self):
+        for name in NAMES:
+            made = options_of(**{name: "c"}, max_input=3)
+            for each in NAMES:
+                text = getattr(made, each)
+                wanted = (b"c", 1, 1) if each == name else (b"", 0, 0)
+                self.assertEqual((text.bytes, text.length, text.is_set), wanted)
+                self.assertFalse(getattr(options_of(max_input=3), each).is_set)
+            self.assertEqual((made.max_input, made.bare_links, made.html), (3, 1, 0))
+
+    def test_texts_are_kept(self):
+        made = options_of(rel="c" * 1000, base="d" * 1000)
+        taken = [str(number) * 1000 for number in range(1000)]
+        self.assertEqual((made.rel.bytes, made.base.bytes), (b"c" * 1000, b"d" * 1000))
+        self.assertEqual(len(taken), 1000)
+
+    def test_equal_values_of_other_types(self):
+        for good, bad in [({"number_ids": True}, {"number_ids": 1}),
+                          ({"hard_breaks": False}, {"hard_breaks": 0}),
+                          ({"bare_links": True}, {"bare_links": 1.0}),
+                          ({"max_input": 1}, {"max_input": True}),
+                          ({"max_output": 8}, {"max_output": 8.0}),
+                          ({"max_work": 0}, {"max_work": False}), ({}, {"rel": []})]:
+            for _ in range(2):
+                options_of(**good)
+                with self.assertRaisesRegex(TypeError, f"^{next(iter(bad))}: "):
+                    markdown_to_html("", **bad)
+
+    def test_texts_that_say_that_they_are_equal(self):
+        for rel in ("c", EqualText("d"), EqualText("e"), "c"):
+            self.assertEqual(markdown_to_html("[a](b)", rel=rel),
+                             f'<p><a href="b" rel="{str.__str__(rel)}">a</a></p>\n')
+
+    def test_threads(self):
+        wrong = []
+
+        def work(number):
+            for turn in range(300):
+                rel = f"{number}-{turn % 7}"
+                html = markdown_to_html("[a](b)", rel=rel)
+                if html != f'<p><a href="b" rel="{rel}">a</a></p>\n':
+                    wrong.append((rel, html))
+
+        threads = [threading.Thread(target=work, args=(number,)) for number in range(8)]
+        for thread in threads:
+            thread.start()
+        for thread in threads:
+            thread.join()
+        self.assertEqual(wrong, [])
+
+
+class Read(unittest.TestCase):
+    """What is read at an address."""
+
+    def test_lengths(self):
+        for length in (0, 1, SHORT - 1, SHORT, SHORT + 1, 1 << 20):
+            buffer = ctypes.create_string_buffer(b"a" * length)
+            self.assertEqual(text_at(ctypes.addressof(buffer), length), "a" * length)
+        self.assertLess(SHORT, 1 << 31)
+
+    def test_long_texts(self):
+        text = "\u00e9" * SHORT
+        buffer = ctypes.create_string_buffer(text.encode())
+        with unittest.mock.patch("ctypes.string_at", side_effect=AssertionError):
+            self.assertEqual(text_at(ctypes.addressof(buffer), 2 * SHORT), text)
 
 
 class Statuses(unittest.TestCase):

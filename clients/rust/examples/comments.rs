@@ -10,16 +10,16 @@ use std::{env, error, fs};
 
 fn main() -> Result<(), Box<dyn error::Error>> {
     for (number, path) in env::args().skip(1).enumerate() {
-        let mut options = MarkdownOptions::default();
-        options.footnote_prefix = Some(format!("comment-{number}-"));
-        options.number_ids = true;
-        options.rel = Some("nofollow ugc".to_string());
-        options.heading_ids = Some(format!("comment-{number}-part-"));
-        options.hard_breaks = true;
-        options.html = DocumentHtml::LeftOut;
-        options.max_input = Some(10_000);
-        options.max_output = Some(100_000);
-        options.max_work = Some(50_000);
+        let options = MarkdownOptions::default()
+            .with_footnote_prefix(format!("comment-{number}-"))
+            .with_number_ids(true)
+            .with_rel("nofollow ugc")
+            .with_heading_ids(format!("comment-{number}-part-"))
+            .with_hard_breaks(true)
+            .with_html(DocumentHtml::LeftOut)
+            .with_max_input(10_000)
+            .with_max_output(100_000)
+            .with_max_work(50_000);
         match markdown_to_html(&fs::read_to_string(&path)?, &options) {
             Ok(html) => println!("<article id=\"comment-{number}\">\n{html}</article>"),
             Err(error) => eprintln!("{path}: {error}"),

@@ -3,8 +3,8 @@
 //!
 //!     cargo run --example events < MARKDOWN
 
+use bivdrazo::pulldown_cmark::{Options, Parser};
 use bivdrazo::{events_of, Kind, Name};
-use pulldown_cmark::{Options, Parser};
 use std::io::{self, BufWriter, Read, Write};
 
 fn main() -> io::Result<()> {

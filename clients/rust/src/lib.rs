@@ -1,4 +1,4 @@
-//! Markdown to safe HTML, by a parser and a library that is proved.
+//! Markdown to safe HTML, by a compiler that is proved, after a parser that isn't.
 //!
 //! ```
 //! # #[cfg(feature = "markdown")] {
@@ -45,6 +45,7 @@ mod numbers;
 mod options;
 mod quiet;
 mod references;
+mod setters;
 mod values;
 
 #[cfg(feature = "markdown")]
@@ -52,6 +53,10 @@ pub use markdown::{
     default_work, events_of, markdown_to_html, markdown_with_headings, Document, DocumentHtml,
     MarkdownOptions,
 };
+
+/// The parser, of the version that [`events_of`] takes the events of.
+#[cfg(feature = "markdown")]
+pub use pulldown_cmark;
 
 pub use errors::Error;
 pub use numbers::{Name, Rule, VERSION, VERSION_TEXT};
@@ -106,7 +111,8 @@ pub fn compile(
 ///     Event::exit(Name::Data, 6),
 /// ];
 /// let within = |text, work| {
-///     compile_within(&events, b"Hi <b>", &Options::default(), &[], Limits { text, work })
+///     let limits = Limits::default().with_text(text).with_work(work);
+///     compile_within(&events, b"Hi <b>", &Options::default(), &[], limits)
 /// };
 /// assert_eq!(within(12, 6)?, "Hi &lt;b&gt;");
 /// assert_eq!(within(11, 6), Err(Error::OutputTooLong { limit: 11 }));
@@ -143,10 +149,7 @@ pub fn compile_within(
 ///     Event::exit(Name::HeadingAtxText, 3),
 ///     Event::exit(Name::HeadingAtx, 3),
 /// ];
-/// let attributes = Attributes {
-///     heading_ids: Some("part-".to_string()),
-///     ..Attributes::default()
-/// };
+/// let attributes = Attributes::default().with_heading_ids("part-");
 /// let made = compile_attributed(&events, b"# a", &Options::default(), &[], &attributes)?;
 /// assert_eq!(made.html, "<h1 id=\"part-1\">a</h1>");
 /// assert_eq!((made.headings[0].level, made.headings[0].text.as_str()), (1, "a"));
@@ -187,6 +190,11 @@ pub fn run(script: &[u8]) -> Result<String, Error> {
 pub fn library_version() -> u32 {
     ffi::version()
 }
+
+/// So that the example of the page is run.
+#[cfg(all(doctest, feature = "markdown"))]
+#[doc = include_str!("../README.md")]
+struct Readme;
 
 #[cfg(test)]
 mod tests;

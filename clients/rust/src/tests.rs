@@ -10,6 +10,7 @@ use std::thread;
 mod errors;
 mod limits;
 mod names;
+pub(crate) mod setters;
 
 /// The events of a node over some bytes, with others in it.
 fn node(name: Name, start: usize, end: usize, children: &[Event]) -> Vec<Event> {

@@ -67,10 +67,7 @@ pub enum LineEnding {
 /// ```
 /// use bivdrazo::{LineEnding, Options};
 ///
-/// let options = Options {
-///     default_line_ending: LineEnding::CarriageReturn,
-///     ..Options::default()
-/// };
+/// let options = Options::default().with_default_line_ending(LineEnding::CarriageReturn);
 /// assert!(!options.allow_dangerous_html);
 /// ```
 #[derive(Clone, Debug, Default, Eq, PartialEq)]

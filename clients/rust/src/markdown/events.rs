@@ -25,8 +25,8 @@ use std::ops::Range;
 /// parser tells no bare links, and none are made of them here.
 ///
 /// ```
+/// use bivdrazo::pulldown_cmark::{Event, Parser};
 /// use bivdrazo::{events_of, Options};
-/// use pulldown_cmark::{Event, Parser};
 ///
 /// let parser = Parser::new("a\nb").into_offset_iter();
 /// let changed = parser.map(|(event, range)| match event {

@@ -13,6 +13,7 @@ mod document;
 mod events;
 mod nests;
 mod pieces;
+mod setters;
 mod tables;
 mod work;
 
@@ -42,8 +43,7 @@ pub enum DocumentHtml {
 /// ```
 /// use bivdrazo::{markdown_to_html, MarkdownOptions};
 ///
-/// let mut options = MarkdownOptions::default();
-/// options.hard_breaks = true;
+/// let options = MarkdownOptions::default().with_hard_breaks(true);
 /// assert_eq!(markdown_to_html("a\nb", &options)?, "<p>a<br />\nb</p>\n");
 /// # Ok::<(), bivdrazo::Error>(())
 /// ```
@@ -170,8 +170,7 @@ pub fn markdown_to_html(text: &str, options: &MarkdownOptions) -> Result<String,
 /// ```
 /// use bivdrazo::{markdown_with_headings, MarkdownOptions};
 ///
-/// let mut options = MarkdownOptions::default();
-/// options.heading_ids = Some("part-".to_string());
+/// let options = MarkdownOptions::default().with_heading_ids("part-");
 /// let made = markdown_with_headings("## a *b*", &options)?;
 /// assert_eq!(made.html, "<h2 id=\"part-1\">a <em>b</em></h2>\n");
 /// let heading = &made.headings[0];

@@ -9,6 +9,7 @@ use pulldown_cmark::{CowStr, Event, Parser, Tag};
 mod bases;
 mod choices;
 mod limits;
+mod setters;
 
 /// The HTML under options that differ from the default ones as told.
 fn html_with(text: &str, change: impl Fn(&mut MarkdownOptions)) -> Result<String, Error> {

@@ -1,0 +1,138 @@
+"""Tests of SafeHtml: what has it, that templates don't escape it, and what is made of it."""
+
+import contextlib
+import copy
+import doctest
+import html
+import io
+import json
+import pathlib
+import pickle
+import re
+import unittest
+
+import bivdrazo
+from bivdrazo import Event, Name, SafeHtml, compile, compile_within, markdown_to_html
+from bivdrazo import markdown_with_headings, run
+from bivdrazo.markdown import markdown_library
+
+try:
+    markdown_library()
+    WHY = None
+except ImportError as error:
+    WHY = str(error)
+try:
+    import jinja2
+    WHY_NO_JINJA = WHY
+except ImportError:
+    WHY_NO_JINJA = "Jinja isn't there"
+PAGE = pathlib.Path(__file__).resolve().parents[3] / "docs" / "CLIENTS.md"
+EVENTS = (Event.enter(Name.DATA, 0), Event.exit(Name.DATA, 6))
+UNSAFE = ({"allow_any_img_src": True}, {"allow_dangerous_html": True},
+          {"allow_dangerous_protocol": True}, {"gfm_footnote_label_attributes": ""},
+          {"gfm_footnote_label_tag_name": "h3"})
+SAFE = ({}, {"gfm_task_list_item_checkable": True}, {"gfm_tagfilter": True},
+        {"gfm_footnote_label": "a"}, {"gfm_footnote_back_label": "b"},
+        {"gfm_footnote_clobber_prefix": ""}, {"gfm_footnote_number_ids": True},
+        {"allow_dangerous_html": False, "gfm_footnote_label_tag_name": None})
+
+
+def escaped(value):
+    """What Django's and MarkupSafe's escaping make of a value that is put into a page."""
+    return value.__html__() if hasattr(value, "__html__") else html.escape(value)
+
+
+class Answers(unittest.TestCase):
+    """Which calls answer it: those whose text is safe."""
+
+    def test_compile(self):
+        for call in (compile, compile_within):
+            for options in SAFE:
+                made = call(EVENTS, b"Hi <b>", **options)
+                self.assertIs(type(made), SafeHtml, options)
+                self.assertEqual(escaped(made), "Hi &lt;b&gt;")
+            for options in UNSAFE:
+                made = call(EVENTS, b"Hi <b>", **options)
+                self.assertIs(type(made), str, options)
+                self.assertEqual(escaped(made), "Hi &amp;lt;b&amp;gt;")
+
+    def test_run(self):
+        self.assertIs(type(run(b"+Data 0\n-Data 1\n--\na")), str)
+
+    @unittest.skipIf(WHY, WHY)
+    def test_markdown(self):
+        for text in ("", "a", "\u00e9" * 100_000):
+            self.assertIs(type(markdown_to_html(text)), SafeHtml)
+        for choice in ("text", "left-out", "without-comments"):
+            made, headings = markdown_with_headings("# a <b>", "p-", html=choice)
+            self.assertIs(type(made), SafeHtml)
+            self.assertIs(type(headings[0].text), SafeHtml)
+            self.assertEqual(escaped(headings[0].text), headings[0].text)
+
+    def test_examples(self):
+        self.assertEqual(doctest.testmod(bivdrazo.calls).failed, 0)
+        if WHY is None:
+            self.assertEqual(doctest.testmod(bivdrazo.safe).failed, 0)
+
+
+class Values(unittest.TestCase):
+    """It is a str, and what is made of it is a plain one."""
+
+    MADE = SafeHtml("<p>a</p>\n")
+
+    def test_as_a_str(self):
+        plain = "<p>a</p>\n"
+        self.assertEqual(self.MADE, plain)
+        self.assertEqual(hash(self.MADE), hash(plain))
+        self.assertEqual({plain: 1}[self.MADE], 1)
+        self.assertLess("<", self.MADE)
+        self.assertEqual(repr(self.MADE), repr(plain))
+        self.assertEqual(json.dumps(self.MADE), json.dumps(plain))
+        self.assertIs(type(self.MADE.__html__()), str)
+        self.assertFalse(hasattr(self.MADE, "__dict__"))
+
+    def test_pickles(self):
+        for protocol in range(pickle.HIGHEST_PROTOCOL + 1):
+            again = pickle.loads(pickle.dumps(self.MADE, protocol))
+            self.assertEqual((type(again), again), (SafeHtml, self.MADE))
+        self.assertIs(type(copy.deepcopy(self.MADE)), SafeHtml)
+
+    def test_what_is_made_of_it(self):
+        made = self.MADE
+        for each in (made[:], made[0:], made[1:], made[0], made + "", "" + made, made + made,
+                     made * 1, 1 * made, made * 2, str(made), f"{made}", format(made), "%s" % made,
+                     "{}".format(made), "".join([made]), made.join(["a"]), made.join(["a", "b"]),
+                     made.strip(), made.strip("!"), made.replace("!", ""), made.lower(),
+                     made.translate({}), made.ljust(0), made.zfill(0), made.expandtabs(),
+                     made.removeprefix("!"), made.split("!")[0], made.splitlines(True)[0],
+                     made.casefold(), made.partition("<")[2], SafeHtml("{}").format("<"),
+                     SafeHtml("%s") % "<"):
+            self.assertIs(type(each), str, each)
+        # These may answer the text itself, where nothing in it changes.
+        for each in (made.format(), made % (), made.partition("!")[0]):
+            self.assertTrue(each is made or type(each) is str)
+
+
+class Templates(unittest.TestCase):
+    """Templates set it into a page as it is."""
+
+    @unittest.skipIf(WHY_NO_JINJA, WHY_NO_JINJA)
+    def test_jinja(self):
+        made = markdown_to_html("**a** <b>")
+        page = jinja2.Environment(autoescape=True).from_string("{{ a }}{{ a[3:] }}{{ a + b }}")
+        self.assertEqual(page.render(a=made, b="<i>"),
+                         made + html.escape(made[3:]) + html.escape(made + "<i>"))
+
+    @unittest.skipIf(WHY_NO_JINJA, WHY_NO_JINJA)
+    def test_example_of_jinja(self):
+        blocks = re.findall(r"```python\n(.*?)```\n", PAGE.read_text("utf-8"), re.DOTALL)
+        code, = (block for block in blocks if "import Environment" in block)
+        printed = io.StringIO()
+        with contextlib.redirect_stdout(printed):
+            exec(code, {})
+        self.assertEqual(printed.getvalue(),
+                         "<h1>&lt;i&gt;</h1><p><strong>a</strong> &lt;b&gt;</p>\n\n")
+
+
+if __name__ == "__main__":
+    unittest.main()
