@@ -226,29 +226,26 @@ impl Arguments {
 
     /// The library's options for a parser's events; they are safe.
     pub fn library_options(&self) -> Options {
-        Options {
-            gfm_footnote_clobber_prefix: self.footnote_prefix.clone(),
-            gfm_footnote_number_ids: self.number_ids,
-            gfm_footnote_label: self.footnote_label.clone(),
-            gfm_footnote_back_label: self.footnote_back_label.clone(),
-            ..Options::default()
-        }
+        let mut options = Options::default().with_gfm_footnote_number_ids(self.number_ids);
+        options.gfm_footnote_clobber_prefix = self.footnote_prefix.clone();
+        options.gfm_footnote_label = self.footnote_label.clone();
+        options.gfm_footnote_back_label = self.footnote_back_label.clone();
+        options
     }
 
     /// What is added to the tags of a text.
     pub fn attributes(&self) -> Attributes {
-        Attributes {
-            rel: self.rel.clone(),
-            heading_ids: self.heading_ids.clone(),
-        }
+        let mut attributes = Attributes::default();
+        attributes.rel = self.rel.clone();
+        attributes.heading_ids = self.heading_ids.clone();
+        attributes
     }
 
     /// The limits of the text and of the work, for a document of so many bytes.
     pub fn limits(&self, length: usize) -> Limits {
-        Limits {
-            text: self.max_output.unwrap_or(usize::MAX),
-            work: self.max_work.unwrap_or_else(|| default_work(length)),
-        }
+        Limits::default()
+            .with_text(self.max_output.unwrap_or(usize::MAX))
+            .with_work(self.max_work.unwrap_or_else(|| default_work(length)))
     }
 
     /// The file to render, where there is one.

@@ -71,6 +71,7 @@ pub enum LineEnding {
 /// assert!(!options.allow_dangerous_html);
 /// ```
 #[derive(Clone, Debug, Default, Eq, PartialEq)]
+#[non_exhaustive]
 pub struct Options {
     /// Let images have any source.
     pub allow_any_img_src: bool,
@@ -105,6 +106,7 @@ pub struct Options {
 /// `gfm_footnote_clobber_prefix` says and `fn`; they are distinct from one another under
 /// `gfm_footnote_number_ids`.
 #[derive(Clone, Debug, Default, Eq, PartialEq)]
+#[non_exhaustive]
 pub struct Attributes {
     /// The `rel` of each link whose URL isn't empty and doesn't begin with `#`.
     pub rel: Option<String>,
@@ -124,6 +126,7 @@ pub struct Attributes {
 /// read in that one; for each footnote call five times its length, four times that of the prefix of
 /// ids, and that of the label of the way back.
 #[derive(Clone, Copy, Debug, Eq, Hash, PartialEq)]
+#[non_exhaustive]
 pub struct Limits {
     /// How many bytes the text may have.
     pub text: usize,
