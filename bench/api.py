@@ -3,8 +3,9 @@
 
     bench/api.py
 
-Of md_base, md_text, md_tree, md_html, md_script and md_page: the names at the root and the methods
-of the types among them are those of the crate's list, and of the table at the end, and no others.
+Of md_base, md_text, md_tree, md_html, md_script, md_page and md_markdown: the names at the root and
+the methods of the types among them are those of the crate's list, and of the table at the end, and
+no others.
 md_html hands on exactly the names of the lists of md_base, md_text and md_tree. The C headers have
 each name of their list, and declare no function but these and those that their own functions call.
 Each other crate's README says that it is internal. The status is 1 where something differs, and it
@@ -16,13 +17,13 @@ import re
 import sys
 
 ROOT = pathlib.Path(__file__).resolve().parents[1]
-CRATES = ["md_base", "md_text", "md_tree", "md_html", "md_script", "md_page"]
+CRATES = ["md_base", "md_text", "md_tree", "md_html", "md_script", "md_page", "md_markdown"]
 BELOW_HTML = ["md_base", "md_text", "md_tree"]
 # Crates whose own list has what they hand on of a crate below.
-HANDED_ON = {"md_script": "md_html"}
-# The C interface, the program and the benchmark, whose folder stays as it is; what the README of
+HANDED_ON = {"md_script": "md_html", "md_markdown": "md_html"}
+# The C interface, the programs and the benchmark, whose folder stays as it is; what the README of
 # each other crate says.
-OTHERS = ["md_ffi", "mdevents", "md_bench"]
+OTHERS = ["md_ffi", "mdevents", "mdhtml", "md_bench"]
 INTERNAL = "Internal: users call nothing of it ([docs/API.md](../../docs/API.md))."
 # What the inline functions of the headers call.
 HELPERS = {"bivdrazo_answer_memory", "bivdrazo_is_too_long", "bivdrazo_first_size", "bivdrazo_grow",
@@ -90,7 +91,7 @@ def told(what, expected, found):
 
 
 def crates_faults(found):
-    """What differs of the six crates."""
+    """What differs of the seven crates."""
     public = {crate: {name for row in found[crate] for name in named(row[0])} for crate in CRATES}
     inner = [(named(row[0]), named(row[1])) for row in found["Exported, and not for users"]]
     faults = []

@@ -104,8 +104,8 @@ typedef struct bivdrazo_attributes {
  * places of the events (of a parser's events the document's length at most, and that of its labels
  * once more), and for each row of a table's body five for each of its columns. What is used again
  * is counted before anything is printed: for each link and image that leads to a definition what is
- * read in that one; for each footnote call five times its length, four times that of the prefix of
- * ids, and that of the label of the way back.
+ * read in that one, and one for each of its events; for each footnote call five times its length,
+ * four times that of the prefix of ids, and that of the label of the way back.
  */
 typedef struct bivdrazo_limits {
     size_t text; /* how many bytes the text may have */

@@ -1,5 +1,5 @@
-"""HTML's names of character references, listed in references.txt, as C, Rust and Python have
-them.
+"""HTML's names of character references, listed in references.txt, as C, Rust, Python and the parser
+have them.
 """
 
 import pathlib
@@ -51,3 +51,50 @@ def python_file():
     for name, stands_for in references():
         text += f'    "{name}": {ascii(stands_for)},\n'
     return text + "}\n"
+
+
+def rattle_file():
+    """The module of the parser: all names in the order of their bytes, as one text, and where each
+    begins in it.
+    """
+    entries = [f"{name};{stands_for}" for name, stands_for in sorted(references())]
+    starts = [0]
+    for entry in entries:
+        starts.append(starts[-1] + len(entry.encode("utf-8")))
+    text = f"//! {COMMENT}\n// {NOTICE}\n\n"
+    text += "/// All names in the order of their bytes, each with `;` and what it stands for.\n"
+    text += '#[rattlefmt::skip]\nstatic TEXT: &str = "\\\n'
+    text += lines_of(map(escaped, entries), "\\\n") + '\\\n";\n\n'
+    text += "/// Where each begins in that text, and where the last one ends.\n"
+    text += f"#[rattlefmt::skip]\nstatic STARTS: [u16; {len(starts)}] = [\n    "
+    text += lines_of([f"{start}, " for start in starts], "\n    ").replace(" \n", "\n").rstrip()
+    text += "\n];\n\n/// How many names there are.\n"
+    text += f"pub(crate) const COUNT: usize = {len(entries)};\n\n"
+    return text + ENTRY
+
+
+ENTRY = """\
+/// A name by its number, then `;`, then what it stands for.
+pub(crate) fn entry(number: usize) -> Option<&'static [u8]> {
+    let from = STARTS.get(number)?;
+    let to = STARTS.get(number.checked_add(1)?)?;
+    TEXT.as_bytes().get(*from as usize..*to as usize)
+}
+"""
+
+
+def escaped(text):
+    """A text as a literal of Rattle has it."""
+    special = {"\n": "\\n", '"': '\\"', "\\": "\\\\"}
+    return "".join(special.get(each) or (each if " " < each < "\x7f" else f"\\u{{{ord(each):x}}}")
+                   for each in text)
+
+
+def lines_of(parts, between):
+    """The parts one after another, in lines of at most 96 characters."""
+    lines = [""]
+    for part in parts:
+        if len(lines[-1]) + len(part) > 94:
+            lines.append("")
+        lines[-1] += part
+    return between.join(lines)

@@ -119,8 +119,9 @@ def compile_within(
     max_work: a limit on two sums, each by itself: how much there is to read and to print (the
     lengths of texts and labels, by the places of the events, and for each row of a table's body
     five for each of its columns), and how much is used again (for each link and image that leads to
-    a definition what is read in that one; for each footnote call five times its length, four times
-    that of the prefix of ids, and that of the label of the way back).
+    a definition what is read in that one, and one for each of its events; for each footnote call
+    five times its length, four times that of the prefix of ids, and that of the label of the way
+    back).
 
     Raises, beside what compile does, TooLong where the text is longer, and TooMuchWork where there
     is more work, whether or not the events are a document, or where a document uses more again.

@@ -189,8 +189,8 @@ class Limits(unittest.TestCase):
         link = over(Name.LINK, 10, 13, over(Name.LABEL, 10, 13, label))
         for links in [0, 1, 2, 10]:
             # A label and a destination, and of each link its label and its text; behind the check
-            # the definition's label and destination for each link.
-            work = max(4 + links * 2, links * 4)
+            # for each link the definition's label and destination, and its six events.
+            work = max(4 + links * 2, links * 10)
             events, data = definition + links * link, b"[a]: bcd\n\n[a]"
             text = compile_within(events, data, max_work=work)
             self.assertEqual(text, links * '<a href="bcd">a</a>')

@@ -7,7 +7,7 @@ use name_variants.{Data, LineEnding, SpaceOrTab, BlockQuotePrefix, Other, BlankL
 use name_variants.{ListItemMarker, ListItemValue, HeadingAtxSequence}
 use Rattle.md_base.specs.Reference.{name_table}
 use Rattle.md_meaning.specs.Meaning.At.{Given, Target}
-use Rattle.md_meaning.specs.Meaning.Media.{target_defined}
+use Rattle.md_shape.specs.Sides.{referred}
 use Rattle.md_shape.specs.State.{State}
 use Rattle.md_shape.specs.Steps.{entered, exited, nowhere}
 use Rattle.md_shape.specs.Run.{Noticed}
@@ -29,7 +29,7 @@ pub record Supplies (code : Supplied) (given : Given) : Type 0 where
   pub finds : (index : ℕ) (one : Noticed) (place : Option ℕ) →
       IsNoticedAt code.checked.now index one →
       IsLedTo code.checked.now index place →
-      target_at code.definitions.now place ≡ target_defined given one.told.identifier
+      target_at code.definitions.now place ≡ referred given one.told
 
 -- a node is entered as the steps do it, or left
 abbrev pub Enters : Supplied → ℕ → Name → State → State → Type 0

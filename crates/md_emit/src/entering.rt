@@ -1,14 +1,8 @@
 //! What is done where a node is entered.
 
-ghost use Rattle.std.specs.Prelude.{◌≡◌, OnOk, None, true, false, ◌<◌};
-ghost use Rattle.md_base.specs.declared.event.Name.TheVariants.{ListOrdered};
-ghost use Rattle.md_meaning.specs.Meaning.At as At;
+ghost use Rattle.std.specs.Prelude.{OnOk};
 ghost use Rattle.md_tree.specs.Texts.{EntersAt};
-ghost use Rattle.md_shape.specs.State as states;
-ghost use Rattle.md_shape.specs.Steps as steps;
 ghost use Rattle.md_emit.specs.Supplies.{Enters};
-ghost use Rattle.md_emit.specs.Parts as parts;
-ghost use Rattle.md_meaning.specs.Meaning.Spans.{marker};
 
 use crate::around::Around;
 use crate::given::Given;
@@ -48,7 +42,43 @@ impl<'a> Printer<'a> {
             | Name::CodeFencedFence
             | Name::GfmFootnoteDefinitionLabelString
             | Name::GfmTableDelimiterCellValue
-            | Name::GfmTableDelimiterMarker => {
+            | Name::GfmTableDelimiterMarker
+            | Name::AutolinkEmail
+            | Name::AutolinkProtocol => {
+                self.enters();
+                Ok(())
+            }
+            Name::GfmAutolinkLiteralEmail
+            | Name::GfmAutolinkLiteralMailto
+            | Name::GfmAutolinkLiteralProtocol
+            | Name::GfmAutolinkLiteralWww
+            | Name::GfmAutolinkLiteralXmpp
+            | Name::BlankLineEnding
+            | Name::ListItemValue
+            | Name::ListItemMarker
+            | Name::CharacterReferenceMarker
+            | Name::CharacterReferenceMarkerNumeric
+            | Name::CharacterReferenceMarkerHexadecimal
+            | Name::CodeFlowChunk
+            | Name::MathFlowFence
+            | Name::MathFlowChunk => {
+                self.enters();
+                Ok(())
+            }
+            Name::HtmlFlowData
+            | Name::HtmlTextData
+            | Name::DefinitionLabelString
+            | Name::HeadingAtxSequence
+            | Name::HeadingSetextUnderlineSequence
+            | Name::GfmTaskListItemValueChecked
+            | Name::HardBreakEscape
+            | Name::HardBreakTrailing
+            | Name::ThematicBreak
+            | Name::MdxEsm
+            | Name::MdxFlowExpression
+            | Name::MdxTextExpression
+            | Name::MdxJsxFlowTag
+            | Name::MdxJsxTextTag => {
                 self.enters();
                 Ok(())
             }
@@ -63,18 +93,6 @@ impl<'a> Printer<'a> {
                 self.ended = None;
                 Ok(())
             }
-            _ => self.enter_block(given, index, name),
-        }
-    }
-
-    /// Enters a block, or another node that isn't common.
-    #[inline(never)]
-    fn enter_block(&mut self, given: &Given<'a>, index: usize, name: Name) -> Result<(), AllocError>
-        requires there { EntersAt given.now.checked.now.events index name }
-        requires rare { parts.is_common_entry name ≡ false }
-        ensures { OnOk result (Enters given.now index name self.old self.new) }
-    {
-        match name {
             Name::BlockQuote => {
                 self.enter_line(given.ending, "<blockquote>")?;
                 self.turn(Around {
@@ -127,23 +145,16 @@ impl<'a> Printer<'a> {
             Name::GfmTaskListItemCheck => {
                 self.enter_task(given.options.gfm_task_list_item_checkable)
             }
-            _ => self.enter_captured(name),
-        }
-    }
-
-    /// Enters a node whose text is captured, or which prints nothing before its children.
-    #[inline(never)]
-    fn enter_captured(&mut self, name: Name) -> Result<(), AllocError>
-        requires common { parts.is_common_entry name ≡ false }
-        requires block { parts.is_block_entry name ≡ false }
-        ensures { OnOk result ((given : At.Given) (told : states.Told)
-            → self.new ≡ steps.entered given told name self.old) }
-    {
-        self.enters();
-        match name {
-            Name::CodeText => self.enter_code("<code>"),
-            Name::MathText => self.enter_code("<code class=\"language-math math-inline\">"),
+            Name::CodeText => {
+                self.enters();
+                self.enter_code("<code>")
+            }
+            Name::MathText => {
+                self.enters();
+                self.enter_code("<code class=\"language-math math-inline\">")
+            }
             Name::Link => {
+                self.enters();
                 self.enter_label()?;
                 self.turn(Around {
                     in_link: true,
@@ -151,24 +162,35 @@ impl<'a> Printer<'a> {
                 })
             }
             Name::Image => {
+                self.enters();
                 self.enter_label()?;
                 self.turn(Around {
                     in_image: true,
                     ..self.around
                 })
             }
-            Name::Resource => self.enter_target(),
+            Name::Resource => {
+                self.enters();
+                self.enter_target()
+            }
             Name::Definition => {
+                self.enters();
                 self.enter_target()?;
                 self.turn(Around {
                     in_definition: true,
                     ..self.around
                 })
             }
-            Name::DefinitionDestinationString | Name::ResourceDestinationString => {
+            Name::DefinitionDestinationString => {
+                self.enters();
+                self.enter_destination()
+            }
+            Name::ResourceDestinationString => {
+                self.enters();
                 self.enter_destination()
             }
             Name::GfmFootnoteDefinition => {
+                self.enters();
                 self.capture()?;
                 self.turn(Around {
                     is_contained: true,
@@ -177,19 +199,46 @@ impl<'a> Printer<'a> {
                 })
             }
             Name::GfmFootnoteCall => {
+                self.enters();
                 self.forget_resource();
                 self.capture()
             }
-            Name::HeadingSetextText
-            | Name::CodeFencedFenceMeta
-            | Name::MathFlowFenceMeta
-            | Name::ReferenceString
-            | Name::DefinitionTitleString
-            | Name::ResourceTitleString
-            | Name::GfmTableDelimiterRow
-            | Name::GfmFootnoteDefinitionPrefix
-            | Name::Frontmatter => self.capture(),
-            _ => Ok(()),
+            Name::HeadingSetextText => {
+                self.enters();
+                self.capture()
+            }
+            Name::CodeFencedFenceMeta => {
+                self.enters();
+                self.capture()
+            }
+            Name::MathFlowFenceMeta => {
+                self.enters();
+                self.capture()
+            }
+            Name::ReferenceString => {
+                self.enters();
+                self.capture()
+            }
+            Name::DefinitionTitleString => {
+                self.enters();
+                self.capture()
+            }
+            Name::ResourceTitleString => {
+                self.enters();
+                self.capture()
+            }
+            Name::GfmTableDelimiterRow => {
+                self.enters();
+                self.capture()
+            }
+            Name::GfmFootnoteDefinitionPrefix => {
+                self.enters();
+                self.capture()
+            }
+            Name::Frontmatter => {
+                self.enters();
+                self.capture()
+            }
         }
     }
 }

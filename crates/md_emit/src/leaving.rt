@@ -1,12 +1,6 @@
 //! What is done where a node is left.
 
-ghost use Rattle.std.specs.Prelude.{◌≡◌, OnOk, Some, false, ◌<◌, ◌^◌};
-ghost use Rattle.md_base.specs.declared.event.Name.TheVariants.{ListOrdered};
-ghost use Rattle.md_meaning.specs.Meaning.At as At;
-ghost use Rattle.md_shape.specs.State as states;
-ghost use Rattle.md_shape.specs.Steps as steps;
-ghost use Rattle.md_emit.specs.Parts as parts;
-ghost use Rattle.md_meaning.specs.Meaning.Spans.{marker};
+ghost use Rattle.std.specs.Prelude.{OnOk, ◌<◌, ◌^◌};
 ghost use Rattle.md_tree.specs.Texts.{ExitsAt};
 ghost use Rattle.md_emit.specs.Supplies.{Leaves};
 
@@ -58,24 +52,21 @@ impl<'a> Printer<'a> {
             | Name::HeadingAtxText
             | Name::GfmFootnoteDefinitionLabelString
             | Name::GfmTableDelimiterCellValue
-            | Name::GfmTableDelimiterMarker => {
+            | Name::GfmTableDelimiterMarker
+            | Name::ListItemValue
+            | Name::ListItemMarker
+            | Name::CharacterReferenceMarker
+            | Name::DefinitionLabelString
+            | Name::HeadingAtxSequence
+            | Name::MdxEsm
+            | Name::MdxFlowExpression
+            | Name::MdxTextExpression
+            | Name::MdxJsxFlowTag
+            | Name::MdxJsxTextTag => {
                 self.ended = Some(name);
                 self.marker = b'&';
                 Ok(())
             }
-            _ => self.exit_block(given, index, name),
-        }
-    }
-
-    /// Leaves a block, or another node that isn't common.
-    #[inline(never)]
-    fn exit_block(&mut self, given: &Given<'a>, index: usize, name: Name) -> Result<(), AllocError>
-        requires there { ExitsAt given.now.checked.now.events index name }
-        requires fences { self.old.fences < 2 ^ 63 }
-        requires rare { parts.is_common_exit name ≡ false }
-        ensures { OnOk result (Leaves given.now index name self.old self.new) }
-    {
-        match name {
             Name::BlankLineEnding => {
                 self.leave_blank(given.ending, is_last_at(given.checked, index))
             }
@@ -108,19 +99,6 @@ impl<'a> Printer<'a> {
                 self.leave_line(given.ending, "</thead>", Name::GfmTableHead)
             }
             Name::GfmTableBody => self.leave_line(given.ending, "</tbody>", Name::GfmTableBody),
-            _ => self.exit_text(given, index, name),
-        }
-    }
-
-    /// Leaves a text's part that isn't common.
-    #[inline(never)]
-    fn exit_text(&mut self, given: &Given<'a>, index: usize, name: Name) -> Result<(), AllocError>
-        requires there { ExitsAt given.now.checked.now.events index name }
-        requires rare { parts.is_common_exit name ≡ false }
-        requires span { parts.is_block_exit name ≡ false }
-        ensures { OnOk result (Leaves given.now index name self.old self.new) }
-    {
-        match name {
             Name::MathTextData => {
                 self.leave_text(text_left_at(given.checked, index), Name::MathTextData)
             }
@@ -154,25 +132,6 @@ impl<'a> Printer<'a> {
             Name::GfmAutolinkLiteralXmpp => {
                 self.leave_literal(given, index, "", Name::GfmAutolinkLiteralXmpp)
             }
-            _ => self.exit_captured(given, index, name),
-        }
-    }
-
-    /// Leaves a node whose text is captured, or which prints nothing after its children.
-    #[inline(never)]
-    fn exit_captured(
-        &mut self,
-        given: &Given<'a>,
-        index: usize,
-        name: Name,
-    ) -> Result<(), AllocError>
-        requires there { ExitsAt given.now.checked.now.events index name }
-        requires rare { parts.is_common_exit name ≡ false }
-        requires span { parts.is_block_exit name ≡ false }
-        requires captured { parts.is_text_exit name ≡ false }
-        ensures { OnOk result (Leaves given.now index name self.old self.new) }
-    {
-        match name {
             Name::Link => self.leave_link(given, index),
             Name::Image => self.leave_image(given, index),
             Name::Label => {
@@ -209,39 +168,46 @@ impl<'a> Printer<'a> {
                 self.ends(Name::HtmlText);
                 Ok(())
             }
-            _ => self.exit_quiet(name),
-        }
-    }
-
-    /// Leaves a node that prints nothing after its children, and of which nothing else is kept.
-    fn exit_quiet(&mut self, name: Name) -> Result<(), AllocError>
-        requires rare { parts.is_common_exit name ≡ false }
-        requires span { parts.is_block_exit name ≡ false }
-        requires captured { parts.is_text_exit name ≡ false }
-        requires quiet { parts.is_captured_exit name ≡ false }
-        ensures { OnOk result ((given : At.Given) (told : states.Told)
-            → self.new ≡ steps.exited given told name self.old) }
-    {
-        self.ended = Some(name);
-        self.marker = b'&';
-        match name {
-            Name::CodeFencedFenceMeta
-            | Name::MathFlowFenceMeta
-            | Name::ReferenceString
-            | Name::GfmTableDelimiterRow
-            | Name::GfmFootnoteDefinitionPrefix => {
+            Name::CodeFencedFenceMeta => {
+                self.ended = Some(Name::CodeFencedFenceMeta);
+                self.marker = b'&';
+                self.discard();
+                Ok(())
+            }
+            Name::MathFlowFenceMeta => {
+                self.ended = Some(Name::MathFlowFenceMeta);
+                self.marker = b'&';
+                self.discard();
+                Ok(())
+            }
+            Name::ReferenceString => {
+                self.ended = Some(Name::ReferenceString);
+                self.marker = b'&';
+                self.discard();
+                Ok(())
+            }
+            Name::GfmTableDelimiterRow => {
+                self.ended = Some(Name::GfmTableDelimiterRow);
+                self.marker = b'&';
+                self.discard();
+                Ok(())
+            }
+            Name::GfmFootnoteDefinitionPrefix => {
+                self.ended = Some(Name::GfmFootnoteDefinitionPrefix);
+                self.marker = b'&';
                 self.discard();
                 Ok(())
             }
             Name::CharacterReferenceMarkerNumeric => {
+                self.ended = Some(Name::CharacterReferenceMarkerNumeric);
                 self.marker = b'#';
                 Ok(())
             }
             Name::CharacterReferenceMarkerHexadecimal => {
+                self.ended = Some(Name::CharacterReferenceMarkerHexadecimal);
                 self.marker = b'x';
                 Ok(())
             }
-            _ => Ok(()),
         }
     }
 }

@@ -79,7 +79,7 @@ impl<'a> Printer<'a> {
             self.output.join();
             return Ok(());
         }
-        let found = self.led(given, index)?;
+        let found = self.led(given, index);
         self.put_link(given.options, found)
     }
 
@@ -114,24 +114,23 @@ impl<'a> Printer<'a> {
             self.output.join();
             return Ok(());
         }
-        let found = self.led(given, index)?;
+        let found = self.led(given, index);
         self.put_picture(given.options, found)
     }
 
     /// Where a link or an image leads by its identifier: it is looked up where there is no
     /// resource.
-    fn led<'b>(&self, given: &Given<'b>, index: usize) -> Result<Option<&'b Target>, AllocError>
+    fn led<'b>(&self, given: &Given<'b>, index: usize) -> Option<&'b Target>
         requires { ExitsOf is_of_definitions given.now.checked.now.events index }
-        ensures { IfOk result (λ found. (all : At.Given) (one : Noticed) → Supplies given.now all
+        ensures { (all : At.Given) (one : Noticed) → Supplies given.now all
             → IsNoticedAt given.now.checked.now index one
-            → unwrap_or self.now.resource (unwrap_or (option_copied found) steps.nowhere)
-            ≡ sides.leads all self.now one.told) }
+            → unwrap_or self.now.resource (unwrap_or (option_copied result) steps.nowhere)
+            ≡ sides.leads all self.now one.told }
     {
         if self.has_resource {
-            return Ok(None);
+            return None;
         }
-        let place = definition_led_at(given.alloc, given.checked, index)?;
-        Ok(target_of(given.definitions, place))
+        target_of(given.definitions, definition_led_at(given.checked, index))
     }
 
     /// Puts what stands around an image's alternative text.

@@ -154,8 +154,9 @@ pub extern "C" fn bivdrazo_compile_attributed(
 /// The work is counted from the events alone: what is read of the bytes, by the places of the
 /// events; for each row of a table's body, five for each of its columns. What is used again is
 /// counted once the events are known to be a document: for each link and image that leads to a
-/// definition, what is read in that one; for each footnote call, five times its length, four times
-/// that of the prefix of ids, and that of the label of the way back.
+/// definition, what is read in that one, and one for each of its events; for each footnote call,
+/// five times its length, four times that of the prefix of ids, and that of the label of the way
+/// back.
 ///
 /// Its seven parameters are those of C's call, which has ten in the same order: none for `alloc`,
 /// one each for `options` and `limits`, and two for each of the four slices. What a C caller passes

@@ -1,5 +1,6 @@
 -- What holds of a text that is what a checked document means: what holds of each meaning.
-use Rattle.std.proofs.Common.{◌≡◌, ℕ, ◌<◌, ◌^◌, false, List, length, ap, sym, ◌∙◌, subst, arith}
+use Rattle.std.proofs.Common.{◌≡◌, ℕ, ◌+◌, ◌*◌, ◌≤◌, ◌<◌, ◌^◌, false, List, length, ap, sym, ◌∙◌}
+use Rattle.std.proofs.Common.{subst, arith}
 use Rattle.md_base.specs.Tree.{Forest, flatten}
 use Rattle.md_base.specs.declared.event.Name.TheVariants.{Paragraph}
 use Rattle.md_base.specs.declared.event.Point.{Point}
@@ -25,6 +26,11 @@ use Rattle.md_safe.specs.SafeTokens.{has_safe_links, has_safe_images}
 use Rattle.md_safe.specs.Tokenized.{HasTokensWith, IsTokenizedAsRead}
 use Rattle.md_safe.proofs.Tokenized.{read-tokenized, link-tokens, image-tokens}
 use Rattle.md_safe.proofs.WholeTrees.{text-built}
+use Rattle.md_length.specs.Bound.{text_bound}
+use Rattle.md_length.proofs.Bounded.{text-bounded, bound-grows}
+use Rattle.md_html.specs.Reuse.{reuse}
+use Rattle.md_html.specs.Within.{IsReuseWithin}
+use Rattle.md_html.specs.Work.{work}
 
 -- what is promised of a text
 pub record Promises (options : CompileOptions) (given : Handed) (text : List ℕ) : Type 0 where
@@ -82,3 +88,28 @@ promises options given text read few meant =
       distinct_ids = λ keeps. subst HasDistinctIds same
           (distinct-ids given.bytes given.names options read.0 built underlined keeps fewer);
     }
+
+-- how long it is, where work and what is used again are within a limit
+pub bounded : (options : CompileOptions) (given : Handed) (text : List ℕ) (limit : ℕ) →
+    IsChecked given → length given.events < 2 ^ 63 →
+    ((document : Forest) → flatten document ≡ given.events →
+    text ≡ meaning options given.names given.bytes document) → work given.events ≤ limit →
+    IsReuseWithin options given limit →
+    length text ≤ text_bound options given.names (length given.events) (2 * limit)
+bounded options given text limit read few meant worked reused =
+    let document : Forest = read.0 in
+    let flat = read.1.flattened in
+    let size : length (flatten document) ≡ length given.events = ap length flat in
+    let fewer : length (flatten document) < 2 ^ 64 = omega (arith, size, few) in
+    let work_same : work (flatten document) ≡ work given.events = ap work flat in
+    let used = reused document flat in
+    let within : work (flatten document) + reuse options given.bytes document ≤ 2 * limit =
+    omega (arith, work_same, worked, used) in
+    omega (
+      arith,
+      ap length (meant document flat),
+      text-bounded options given.names given.bytes document read.1.grammatical fewer,
+      bound-grows options given.names (length (flatten document))
+          (work (flatten document) + reuse options given.bytes document) (2 * limit) within,
+      ap (λ n. text_bound options given.names n (2 * limit)) size,
+    )

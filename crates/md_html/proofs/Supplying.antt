@@ -1,16 +1,16 @@
 -- What the code is supplied with is what the steps are given: before the definitions are
 -- known, and after.
-use Rattle.std.proofs.Common.{◌≡◌, ℕ, zero, suc, Option, Some, None, List, [], refl, sym, ap, ◌∙◌}
-use Rattle.std.specs.Prelude.{slice_get, map, option_map, unwrap_or, option_and_then}
+use Rattle.std.proofs.Common.{◌≡◌, ℕ, zero, suc, Bool, true, false, Option, Some, None, List, [], refl, sym, ap, ◌∙◌}
+use Rattle.std.specs.Prelude.{slice_get, map, option_map, unwrap_or, option_and_then, if◌then◌else◌}
 use Rattle.std.specs.Option.{option_map_or}
 use Rattle.std.proofs.lemmas.Option.{slice_get-map}
 use Rattle.md_base.specs.Reference.{name_table}
 use Rattle.md_base.specs.Tree.{Forest, flatten}
 use Rattle.md_meaning.specs.Meaning.At.{Defined, Given, Target}
-use Rattle.md_meaning.specs.Meaning.Media.{target_defined}
 use Rattle.md_tree.specs.Grammar.{Handed}
 use Rattle.md_text.specs.declared.options.CompileOptions.{CompileOptions}
 use Rattle.md_shape.specs.Run.{Noticed, defined, given_alone}
+use Rattle.md_shape.specs.Sides.{referred}
 use Rattle.md_shape.specs.Steps.{nowhere}
 use Rattle.md_told.specs.Told.{IsNoticedAt}
 use Rattle.md_told.specs.Definitions.{IsLedTo}
@@ -42,7 +42,7 @@ pub known-led : (handed : Handed) (document : Forest) (alone at : Given) (target
     at.definitions ≡ defined alone document →
     targets ≡ map (λ (d : Defined). d.target) (defined alone document) →
     IsNoticedAt handed index one → IsLedTo handed index place →
-    target_at targets place ≡ target_defined at one.told.identifier
+    target_at targets place ≡ referred at one.told
 known-led handed document alone at targets index one place flat same known are there led =
     ap (λ ts. target_at ts place) (are ∙ ap (map (λ (d : Defined). d.target)) (sym known))
     ∙ mapped-led at.definitions place
@@ -65,8 +65,13 @@ module _ (code : Supplied) (options : CompileOptions) (names : List (List ℕ ×
     names = same_names;
     options = same_options;
     ending = same_ending;
-    finds = λ index one place there led. ap (λ ts. target_at ts place) none ∙ none-led place;
+    finds = λ index one place there led. ap (λ ts. target_at ts place) none ∙ none-led place
+        ∙ either-way one.told.resource;
   }
+    where
+      either-way : (b : Bool) → nowhere ≡ (if b then nowhere else nowhere)
+      either-way true = refl
+      either-way false = refl
 
   -- when they are
   pub all-supplied : (document : Forest) → flatten document ≡ code.checked.now.events →

@@ -24,8 +24,9 @@ use std::alloc::{AllocError, Global};
 /// How much a document uses again when it is printed, or `usize::MAX` where it is more.
 ///
 /// Counted are, for each link and image that leads to a definition, what is read in that
-/// definition; and for each footnote call five times its length, four times the length of
-/// `gfm_footnote_clobber_prefix` and that of `gfm_footnote_back_label`.
+/// definition and one for each of its events; and for each footnote call five times its length,
+/// four times the length of `gfm_footnote_clobber_prefix` and that of
+/// `gfm_footnote_back_label`.
 ///
 /// # Errors
 ///
@@ -88,7 +89,7 @@ fn count_reuse(
     )
 }
 
-/// What is read in each definition, in the order of their exits.
+/// What is read in each definition, and its events, in the order of their exits.
 fn lengths_of(alloc: Global, checked: &Checked) -> Result<Vec<u128>, AllocError>
     ensures { IfOk result (λ lengths. (document : Forest) → flatten document ≡ checked.now.events
         → lengths.items ≡ map capped (definition_lengths document)) }
@@ -101,7 +102,7 @@ fn lengths_of(alloc: Global, checked: &Checked) -> Result<Vec<u128>, AllocError>
     Ok(lengths)
 }
 
-/// What is read in the definition that the event at an index enters.
+/// What is read in the definition that the event at an index enters, and its events.
 fn length_behind(events: &[Event], entry: usize) -> u128
     requires { entry < length events.now }
     ensures { result ≡ capped (definition_length events.now entry) }
@@ -109,8 +110,17 @@ fn length_behind(events: &[Event], entry: usize) -> u128
     definition_length(&events[entry + 1..])
 }
 
-/// What is read before the next event of a definition.
+/// What is read before the next event of a definition, and one for each event before it.
 fn definition_length(events: &[Event]) -> u128
+    ensures { result ≡ capped (read_length (before_definition events.now)
+        + length (before_definition events.now)) }
+{
+    let read = read_before_definition(events);
+    read.saturating_add(events_before_definition(events) as u128)
+}
+
+/// What is read before the next event of a definition.
+fn read_before_definition(events: &[Event]) -> u128
     ensures { result ≡ capped (read_length (before_definition events.now)) }
 {
     let mut progress = Progress::new();
@@ -123,6 +133,22 @@ fn definition_length(events: &[Event]) -> u128
         rest = following;
     }
     progress.length
+}
+
+/// How many events come before the next one of a definition.
+fn events_before_definition(events: &[Event]) -> usize
+    ensures { result ≡ length (before_definition events.now) }
+{
+    let mut count = 0;
+    let mut rest = events;
+    while let Some((event, following)) = rest.split_first() {
+        if is_link_definition(event.name) {
+            return count;
+        }
+        count += 1;
+        rest = following;
+    }
+    count
 }
 
 /// What is counted of a document that is used again.

@@ -1,6 +1,6 @@
 //! Texts within limits: how long a text may be, and how much work it may take.
 
-ghost use Rattle.std.specs.Prelude.{◌≡◌, ◌≤◌, ◌<◌, OnOk, IfOk, IfErr, true, false, length};
+ghost use Rattle.std.specs.Prelude.{◌≡◌, ◌*◌, ◌≤◌, ◌<◌, OnOk, IfOk, IfErr, true, false, length};
 ghost use Rattle.std.specs.Prelude.{string_bytes};
 ghost use Rattle.md_base.specs.Reference.{name_table};
 ghost use Rattle.md_base.specs.Tree.{Forest, flatten};
@@ -16,6 +16,7 @@ ghost use Rattle.md_safe.specs.Contents.{IsContained};
 ghost use Rattle.md_safe.specs.Links.{has_nested_link};
 ghost use Rattle.md_safe.specs.Built.{IsBuiltAsRead};
 ghost use Rattle.md_safe.specs.Options.{KeepsGrammar, KeepsLinks, KeepsImages, KeepsIds};
+ghost use Rattle.md_length.specs.Bound.{text_bound};
 ghost use Rattle.md_html.specs.Work.{work};
 ghost use Rattle.md_html.specs.Within.{IsLonger, IsReuseWithin, OfTooLong, IsTooMuchFor, OfWithin};
 ghost use Rattle.md_html.specs.SafeWithin.{IsUnsafeFor, OfLimits};
@@ -126,6 +127,8 @@ pub fn compile_within(
     ensures work { OnOk result (work events.now ≤ limits.work) }
     ensures reuse { OnOk result (IsReuseWithin options.now
         (handed events.now bytes.now names.now) limits.work) }
+    ensures bounded { IfOk result (λ text. length (string_bytes text) ≤ text_bound options.now
+        (name_table names.now) (length events.now) (2 * limits.work)) }
     ensures grammatical { OnOk result (IsChecked (handed events.now bytes.now names.now)) }
     ensures meaning { IfOk result (λ text. (document : Forest) → flatten document ≡ events.now →
         string_bytes text ≡ meaning options.now (name_table names.now) bytes.now document) }
@@ -234,6 +237,8 @@ pub fn compile_safe_within(
     ensures work { OnOk result (work events.now ≤ limits.work) }
     ensures reuse { OnOk result (IsReuseWithin options.now
         (handed events.now bytes.now names.now) limits.work) }
+    ensures bounded { IfOk result (λ html. length html ≤ text_bound options.now
+        (name_table names.now) (length events.now) (2 * limits.work)) }
     ensures safe { OnOk result (KeepsImages options.now) }
     ensures options { IfErr result (IsUnsafeFor options.now) }
     ensures grammatical { OnOk result (IsChecked (handed events.now bytes.now names.now)) }

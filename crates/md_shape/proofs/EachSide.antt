@@ -4,7 +4,7 @@ use Rattle.std.proofs.Common.{◌≡◌, ℕ, ◌+◌, ◌==◌, suc, Bool, true
 use Rattle.std.proofs.Common.{◌∷◌, ◌++◌, Option, Some, None, refl, ap, sym, ◌∙◌, append_assoc}
 use Rattle.std.proofs.Common.{arith, ne_eqb, codes, cond}
 use Rattle.std.proofs.lemmas.List.Sums.{sum_by-cons}
-use Rattle.std.specs.Prelude.{count_by}
+use Rattle.std.specs.Prelude.{count_by, unwrap_or, if◌then◌else◌}
 use Rattle.std.specs.Option.{option_map_or}
 use Rattle.std.specs.List.{list_any}
 use Rattle.std.specs.Fmt.{decimal}
@@ -15,15 +15,19 @@ use Rattle.md_base.specs.Is.{is}
 use Rattle.md_base.specs.Children.{spine_names, last_name}
 use Rattle.md_base.specs.NameTests.{is_transparent, is_fence, is_chunk, is_cell, is_call}
 use Rattle.md_meaning.specs.Meaning.Layout.{Piece, Text, said, when}
-use Rattle.md_meaning.specs.Meaning.At.{Given, At, identifier_of}
+use Rattle.md_meaning.specs.Meaning.At.{Given, At, Target, identifier_of, target_in}
+use Rattle.md_meaning.specs.Meaning.At.{nothing_found}
+use Rattle.md_meaning.specs.Meaning.Media.{leads_to, target_defined}
+use Rattle.md_tree.specs.declared.mention.Referral.TheVariants.{Missing}
+use Rattle.md_tree.specs.Rules.{target_of}
 use Rattle.md_meaning.specs.Meaning.Before.{is_first_fence}
 use Rattle.md_meaning.specs.Meaning.Tables.{cell_of}
 use Rattle.md_meaning.specs.Meaning.Footnotes.{call, call_id, count_of, distinct, id_of}
 use Rattle.md_meaning.specs.Meaning.Footnotes.{place_among}
 use Rattle.md_shape.specs.Underlined.{is_underline}
-use Rattle.md_shape.specs.State.{State, Told, told_of}
+use Rattle.md_shape.specs.State.{State, Told, told_of, is_resource}
 use Rattle.md_shape.specs.Steps.{is_value, is_ending, is_raw, is_row, is_labelled}
-use Rattle.md_shape.specs.Sides.{cell_opening, cell_closing, call_closing}
+use Rattle.md_shape.specs.Sides.{cell_opening, cell_closing, call_closing, referred}
 use Rattle.md_shape.specs.Claim.{seen, mark_after}
 use Rattle.md_shape.proofs.Places.{place-so-far}
 
@@ -52,6 +56,7 @@ pub record Leaves (given : Given) (name : Name) (at : At) (cells : ℕ) (left : 
   pub row : is_row name ≡ true →
       left.cells ≡ count_by (is GfmTableCell) (spine_names at.children)
   pub resource : is_labelled name ≡ true → at.found.resource ≡ left.resource
+  pub referred : at.found.resource ≡ None → is_resource (target_of at.children Missing) ≡ false
   pub calls : is_call name ≡ true → (at.calls ≡ left.calls) × (later : List (List ℕ))
       × (given.calls ≡ (at.calls ++ identifier_of given.bytes at.children ∷ []) ++ later)
 
@@ -107,3 +112,18 @@ call-sides given at left calls later whole =
         (suc (count_of calls (identifier_of given.bytes at.children))))
         ∷ Text (codes "\" data-footnote-ref=\"\" aria-describedby=\"footnote-label\">")
         ∷ Text (decimal number) ∷ Text (codes "</a></sup>") ∷ [])
+
+-- a resource that the meaning found, or the definition to which the node refers
+pub led-sides : (given : Given) (at : At) →
+    (at.found.resource ≡ None → is_resource (target_of at.children Missing) ≡ false) →
+    leads_to given at ≡ unwrap_or at.found.resource (referred given (told_at given at))
+led-sides given at refers =
+    by at.found.resource (is_resource (target_of at.children Missing)) refers
+  where
+    by : (o : Option Target) (b : Bool) → (o ≡ None → b ≡ false) →
+        unwrap_or o (target_defined given (identifier_of given.bytes at.children))
+        ≡ unwrap_or o (if b then target_in nothing_found
+        else target_defined given (identifier_of given.bytes at.children))
+    by None b h = ap (λ t. if t then target_in nothing_found
+        else target_defined given (identifier_of given.bytes at.children)) (sym (h refl))
+    by (Some target) b h = refl

@@ -28,10 +28,11 @@ pub mod Underlines
 -- Lemmas; other crates use those on pieces that are laid in parts.
 mod ContentSymbols
 mod RoleContents
-mod ContentFits
+pub mod ContentFits
 mod Past
 pub mod Laid
 mod Places
+mod ResourceFound
 mod EachSide
 mod Sides
 mod Standing

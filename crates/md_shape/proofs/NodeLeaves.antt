@@ -33,6 +33,8 @@ use Rattle.md_shape.proofs.Past.{past-spine, past-previous, past-calls, or_else-
 use Rattle.md_shape.proofs.EachSide.{Leaves, is_reference}
 use Rattle.md_shape.proofs.Standing.{Facts, is_lines, picked}
 use Rattle.md_shape.proofs.Staying.{stays, childless}
+use Rattle.md_shape.proofs.ResourceFound.{resource-found}
+use Rattle.md_tree.specs.declared.mention.Referral.TheVariants.{Missing}
 
 abbrev pub ChildrenDone : Given → Content → Bool → Surroundings → Before → Bool → Name → Point →
     Point → Forest → State →
@@ -258,6 +260,8 @@ leaves given c waits around before last name start end children state s h facts 
           done.resource in
           sym (kept ∙ ap (λ b. or_else found.resource (if b then None else state.resource)) e
           ∙ or_else-none found.resource);
+      referred = λ lost. resource-found given within first (content_inside c name) children fits
+          lost Missing refl;
       calls = λ e. (
         sym (done.knows.calls ∙ past-calls given within first children),
         later,

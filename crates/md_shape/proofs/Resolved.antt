@@ -205,3 +205,25 @@ leads-somewhere bytes names document grammatical =
     name start end children here (shaped bytes names children _ _ inner))
     document role.Flow None
     (fine bytes names document role.Flow None grammatical.shape.0 grammatical.rules))
+
+-- ---- a link or an image has a target
+abbrev pub HasTarget : Name → Point → Point → Forest → Type 0
+HasTarget Link start end children = broken_by_target (target_of children Missing) ≡ None
+HasTarget Image start end children = broken_by_target (target_of children Missing) ≡ None
+HasTarget _ start end children = Unit {0}
+
+node-targets : (bytes : List ℕ) (names : List (List ℕ × List ℕ)) (around : Role)
+    (before : Option Symbol) (name : Name) (start end : Point) (children : Forest) →
+    IsFine bytes names around before name start end children →
+    HasTarget name start end children
+node-targets bytes names around before Link start end children here = here.1
+node-targets bytes names around before Image start end children here = here.1
+node-targets bytes names around before _ start end children here = tt
+
+pub targets-there : (bytes : List ℕ) (names : List (List ℕ × List ℕ)) (document : Forest) →
+    IsGrammatical bytes names document → Everywhere HasTarget document
+targets-there bytes names document grammatical =
+    everywhere bytes names HasTarget
+    (λ around before name start end children here inner. node-targets bytes names around before name
+    start end children here) document role.Flow None
+    (fine bytes names document role.Flow None grammatical.shape.0 grammatical.rules)

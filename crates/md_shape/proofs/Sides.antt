@@ -8,6 +8,7 @@ use Rattle.md_base.specs.declared.event.AlignKind.{AlignKind}
 use Rattle.md_base.specs.declared.event.Name.{Name}
 use Rattle.md_base.specs.declared.event.Name.TheVariants as name_variants
 use name_variants.{ListOrdered, ListUnordered, Paragraph, GfmTable, GfmTableCell, GfmFootnoteCall}
+use name_variants.{Link, Image}
 use Rattle.md_base.specs.Is.{is}
 use Rattle.md_base.specs.Children.{spine_names, last_name}
 use Rattle.md_base.specs.NameTests.{is_fence, is_chunk, is_cell}
@@ -21,6 +22,7 @@ use Rattle.md_meaning.specs.Meaning.Layout.{Piece, Forced, layout, said, on_own_
 use Rattle.md_meaning.specs.Meaning.At.{Given, At}
 use Rattle.md_meaning.specs.Meaning.Before.{is_first_fence}
 use Rattle.md_meaning.specs.Meaning.Means.{prints}
+use Rattle.md_meaning.specs.Meaning.Media.{anchor, picture}
 use Rattle.md_shape.specs.Underlined.{is_underline}
 use Rattle.md_shape.specs.Content.{Blocks, Lines, Fences, Cells, content_of}
 use Rattle.md_shape.specs.State.{State, turns, turned, captures}
@@ -29,7 +31,7 @@ use Rattle.md_shape.specs.Sides.{opens, closes, list_opening}
 use Rattle.md_shape.specs.Claim.{seen, mark_after}
 use Rattle.md_shape.proofs.Standing.{is_quiet, is_set_aside, picked}
 use Rattle.md_shape.proofs.EachSide.{told_at, is_reference, Leaves, cell_sides}
-use Rattle.md_shape.proofs.EachSide.{list_sides, fence-sides, call-sides}
+use Rattle.md_shape.proofs.EachSide.{list_sides, fence-sides, call-sides, led-sides}
 
 -- ---- what is known of a node where it is left, put into its state
 abbrev informed : Name → At → State → State
@@ -145,6 +147,12 @@ both-sides given at cells left ended inner GfmTableCell k =
 both-sides given at cells left ended inner GfmFootnoteCall k =
     let calls = k.calls refl in
     call-sides given at left calls.0 calls.1 calls.2
+both-sides given at cells left ended inner Link k =
+    ap (λ t. if at.around.in_image then said (layout given.ending inner)
+    else anchor given.options t (layout given.ending inner)) (led-sides given at k.referred)
+both-sides given at cells left ended inner Image k =
+    ap (λ t. if at.around.in_image then said (layout given.ending inner)
+    else picture given.options t (layout given.ending inner)) (led-sides given at k.referred)
 both-sides given at cells left ended inner name k =
     elim at.around.in_image as (λ b. BothSides given
     (record at { around = record at.around { in_image = b } }) cells left ended inner name) [

@@ -28,7 +28,7 @@ use Rattle.md_text.specs.declared.options.CompileOptions.{CompileOptions}
 use Rattle.md_text.specs.Encode.{encoded}
 use Rattle.md_text.specs.Filter.{tag_filtered}
 use Rattle.md_meaning.specs.Meaning.Layout.{Piece, Text, Needed, Forced, said, on_own_line, when}
-use Rattle.md_meaning.specs.Meaning.At.{Target, Given, text_in}
+use Rattle.md_meaning.specs.Meaning.At.{Target, Given, nothing_found, target_in, text_in}
 use Rattle.md_meaning.specs.Meaning.Spans.{is_at, task_start, trimmed, without_escapes}
 use Rattle.md_meaning.specs.Meaning.Blocks.{heading_tag, without_zeros}
 use Rattle.md_meaning.specs.Meaning.Media.{anchor, picture, target_defined}
@@ -113,9 +113,14 @@ abbrev pub html_text : Given → Told → List ℕ
 html_text given told = if given.options.allow_dangerous_html && given.options.gfm_tagfilter
     then tag_filtered (text_in given.bytes told.place) else text_in given.bytes told.place
 
+-- where the definition leads to which a link or an image refers; nowhere where it has a resource
+abbrev pub referred : Given → Told → Target
+referred given told =
+    if told.resource then target_in nothing_found else target_defined given told.identifier
+
 -- where a link or an image leads
 abbrev pub leads : Given → State → Told → Target
-leads given left told = unwrap_or left.resource (target_defined given told.identifier)
+leads given left told = unwrap_or left.resource (referred given told)
 
 abbrev pub autolink_closing : Given → Told → Bool → List ℕ → List Piece
 autolink_closing given told plain prefix =

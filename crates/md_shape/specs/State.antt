@@ -18,7 +18,9 @@ use Rattle.md_base.specs.Children.{last_contributing}
 use Rattle.md_pattern.specs.Looseness.{is_loose}
 use Rattle.md_pattern.specs.Alignments.{alignments}
 use Rattle.md_text.specs.declared.options.CompileOptions.{CompileOptions}
-use Rattle.md_tree.specs.Rules.{place, columns}
+use Rattle.md_tree.specs.declared.mention.Referral.{Referral}
+use Rattle.md_tree.specs.declared.mention.Referral.TheVariants as referral
+use Rattle.md_tree.specs.Rules.{place, columns, target_of}
 use Rattle.md_meaning.specs.Meaning.At.{Target, Footnote, identifier_of}
 use Rattle.md_meaning.specs.Meaning.Finds.{first_named, number_in_list}
 use Rattle.md_base.specs.declared.event.Name.TheVariants.{HeadingAtxSequence}
@@ -61,8 +63,8 @@ pub record State : Type 0 where
 
 -- what the check found of a node, at both of its events: whether it is loose, as a list, and its
 -- number; its columns, as a table; its last child that contributes, as an item; how long its first
--- mark is, as a heading; by what it refers or is referred to; its place; whether nothing follows
--- it in the document
+-- mark is, as a heading; by what it refers or is referred to; whether it has a resource, as a link
+-- or an image; its place; whether nothing follows it in the document
 pub record Told : Type 0 where
   pub loose : Bool
   pub number : Option Position
@@ -70,8 +72,13 @@ pub record Told : Type 0 where
   pub contributing : Option Name
   pub rank : ℕ
   pub identifier : List ℕ
+  pub resource : Bool
   pub place : Position
   pub last : Bool
+
+-- a target is a resource
+abbrev pub is_resource : Referral → Bool
+is_resource target = elim target [ referral.Resource ↦ true | _ ↦ false ]
 
 abbrev pub told_of : List ℕ → Bool → Forest → Point → Point → Told
 told_of bytes last children start end = record {
@@ -82,6 +89,7 @@ told_of bytes last children start end = record {
   rank = option_map_or (λ mark. columns mark.start mark.end)
       (first_named HeadingAtxSequence children) 0;
   identifier = identifier_of bytes children;
+  resource = is_resource (target_of children referral.Missing);
   place = place start end;
   last = last;
 }

@@ -19,10 +19,11 @@ use Rattle.md_meaning.proofs.EmptyIdentifier.{normalized-nothing}
 use Rattle.md_meaning.proofs.Identifiers.{itself}
 use Rattle.md_pattern.specs.declared.kinds.Reading.TheVariants as reading
 use Rattle.md_pattern.specs.Standing.{standing_of}
-use Rattle.md_shape.specs.Labels.{label_in_node, referring_in, defined_label, footnote_label}
+use Rattle.md_shape.specs.Labels.{label_in_node, defined_label, footnote_label}
 use Rattle.md_shape.specs.Leads.{HasResource, IsLabelled, RefersAlike, LeadsSomewhere, LeadsAlike}
-use Rattle.md_shape.specs.Leads.{defined_in, first_of, label_target}
-use Rattle.md_shape.proofs.Resolved.{labels-alike}
+use Rattle.md_shape.specs.Leads.{defined_in, first_of}
+use Rattle.md_shape.proofs.Resolved.{labels-alike, HasTarget}
+use Rattle.md_shape.specs.State.{is_resource}
 use Rattle.md_tree.specs.declared.mention.Referral.{Referral}
 use Rattle.md_tree.specs.declared.mention.Referral.TheVariants.{Missing, Label, Resource}
 use Rattle.md_tree.specs.Entered.{IsEnteredAt}
@@ -31,7 +32,8 @@ use Rattle.md_tree.specs.Mentions.{mention_of, mentions_of}
 use Rattle.md_tree.specs.Mentions.{identifier_at as label_identifier}
 use Rattle.md_tree.specs.Numbers.{definition_for, is_of_definitions}
 use Rattle.md_tree.specs.Reads.{reads}
-use Rattle.md_tree.specs.Rules.{reading_of, target_of}
+use Rattle.md_tree.specs.Rules.{reading_of, target_of, broken_by_target}
+use Rattle.md_tree.specs.declared.rule.Rule.TheVariants as rule
 use Rattle.md_tree.specs.Texts.{EntersAt}
 use Rattle.md_told.specs.Told.{is_labelled}
 use Rattle.md_told.proofs.Noticed.{Known, known, node-everywhere}
@@ -107,48 +109,47 @@ first-there (y ∷ ys) x there =
     others zero h same differ = lie (sym differ ∙ ap (λ z. bytes_eq z x) same ∙ itself x)
     others (suc k) h same differ = (k, less k (length ys) h, same)
 
--- it leads to a definition, or nothing identifies it
+-- it leads to a definition, or it has a resource
 medium :
     (bytes : List ℕ) (document : Forest) (children : Forest) (start end : Point) (name : Name) →
-    HasResource children ⊎ IsLabelled (referring_in children) children →
+    broken_by_target (target_of children Missing) ≡ None →
     HasResource children ⊎ Contains (defined_in bytes document) (identifier_of bytes children) →
     LeadsAlike bytes document name start end children →
     None ≡ definition_for bytes (mentions_of document)
     (mention_of reading.Media (target_of children Missing)) →
-    identifier_of bytes children ≡ []
-medium bytes document children start end name refers leads alike is = elim refers [
-  | inl resource ↦ ap (named bytes) resource
-  | inr label ↦ by (referring_in children) refl label
-]
+    is_resource (target_of children Missing) ≡ true
+medium bytes document children start end name has leads alike is =
+    by (target_of children Missing) refl has
   where
     led : (place : Position) → target_of children Missing ≡ Label place →
         HasResource children ⊎ Contains (defined_in bytes document) (identifier_of bytes children) →
-        identifier_of bytes children ≡ []
-    led place e (inl resource) = clash (sym resource ∙ e)
-      where
-        clash : Resource ≡ Label place → identifier_of bytes children ≡ []
-        clash h = cc
+        is_resource (target_of children Missing) ≡ true
+    led place e (inl resource) = ap is_resource resource
     led place e (inr there) =
         lie (ap (λ o. is_some o) (is
         ∙ ap (λ r. definition_for bytes (mentions_of document) (mention_of reading.Media r)) e
         ∙ (alike place e).0)
         ∙ first-there (defined_in bytes document) (identifier_of bytes children) there)
 
-    by : (r : Option Position) → referring_in children ≡ r → target_of children Missing
-        ≡ label_target (referring_in children) → identifier_of bytes children ≡ []
-    by None e label = ap (named bytes) (label ∙ ap label_target e)
-    by (Some place) e label = led place (label ∙ ap label_target e) leads
+    by : (target : Referral) → target_of children Missing ≡ target →
+        broken_by_target (target_of children Missing) ≡ None → is_resource (target_of children Missing) ≡ true
+    by Missing e h = missing (sym (ap broken_by_target e) ∙ h)
+      where
+        missing : Some rule.Target ≡ None → is_resource (target_of children Missing) ≡ true
+        missing f = cc
+    by Resource e h = ap is_resource e
+    by (Label place) e h = led place e leads
 
 pub media :
     (bytes : List ℕ) (document : Forest) (children : Forest) (start end : Point) (name : Name) →
-    is_of_definitions name ≡ true → RefersAlike name start end children →
+    is_of_definitions name ≡ true → HasTarget name start end children →
     LeadsSomewhere bytes document name start end children →
     LeadsAlike bytes document name start end children →
     None ≡ definition_for bytes (mentions_of document)
     (mention_of (reading_of (standing_of name)) (target_of children Missing)) →
-    identifier_of bytes children ≡ []
-media bytes document children start end Link h refers leads alike is =
-    medium bytes document children start end Link refers leads alike is
-media bytes document children start end Image h refers leads alike is =
-    medium bytes document children start end Image refers leads alike is
-media bytes document children start end _ h refers leads alike is = lie h
+    is_resource (target_of children Missing) ≡ true
+media bytes document children start end Link h has leads alike is =
+    medium bytes document children start end Link has leads alike is
+media bytes document children start end Image h has leads alike is =
+    medium bytes document children start end Image has leads alike is
+media bytes document children start end _ h has leads alike is = lie h

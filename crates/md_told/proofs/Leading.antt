@@ -13,11 +13,11 @@ use Rattle.md_meaning.specs.Meaning.At.{Defined, Given, identifier_of}
 use Rattle.md_meaning.specs.Meaning.Media.{target_defined}
 use Rattle.md_pattern.specs.Standing.{standing_of}
 use Rattle.md_shape.specs.Built.{Blocks}
-use Rattle.md_shape.specs.Leads.{RefersAlike, LeadsSomewhere, LeadsAlike, defined_in, first_of}
+use Rattle.md_shape.specs.Leads.{LeadsSomewhere, LeadsAlike, defined_in, first_of}
 use Rattle.md_shape.specs.Leads.{found_at}
 use Rattle.md_shape.proofs.Alike.{leads-alike, IsFoundByPlace, found-by-place}
 use Rattle.md_shape.proofs.Grammatical.{grammatical-built}
-use Rattle.md_shape.proofs.Resolved.{labels-alike, leads-somewhere}
+use Rattle.md_shape.proofs.Resolved.{leads-somewhere, HasTarget, targets-there}
 use Rattle.md_tree.specs.declared.mention.Referral.{Referral}
 use Rattle.md_tree.specs.declared.mention.Referral.TheVariants.{Missing, Label, Resource}
 use Rattle.md_tree.specs.declared.mention.Mention.TheVariants.{Reference}
@@ -26,9 +26,10 @@ use Rattle.md_tree.specs.Mentions.{mention_of, mentions_of}
 use Rattle.md_tree.specs.Numbers.{definition_for, is_of_definitions, ExitsOf, IsDefinitionFor}
 use Rattle.md_tree.specs.Rules.{reading_of, target_of}
 use Rattle.md_shape.specs.Run.{Noticed}
+use Rattle.md_shape.specs.Sides.{referred}
+use Rattle.md_shape.specs.State.{is_resource}
 use Rattle.md_shape.specs.Steps.{nowhere}
-use Rattle.md_told.specs.Told.{IsNoticedAt}
-use Rattle.md_told.specs.Definitions.{AreKnown}
+use Rattle.md_told.specs.Definitions.{AreKnown, IsLedTo}
 use Rattle.md_told.proofs.FoundLemmas.{grammatical-there}
 use Rattle.md_told.proofs.Labelled.{media}
 use Rattle.md_told.proofs.Nodes.{NodeAt, node-exited}
@@ -139,11 +140,9 @@ led-there given index place exits checked definition supply known =
     ∙ first-got (defined_in given.bytes document) (identifier_of given.bytes here.node.children)
     place (sym (alike here.label here.is).0 ∙ sym here.found))
 
-pub led-target : (given : Handed) (index : ℕ) (place : ℕ)
-    (exits : ExitsOf is_of_definitions given.events index) →
-    IsChecked given → IsDefinitionFor given index (Some place) → (one : Noticed) (supply : Given) →
-    IsNoticedAt given index one → AreKnown given supply → target_defined supply one.told.identifier
-    ≡ option_map_or (λ (d : Defined). d.target) (slice_get supply.definitions place) nowhere
+pub led-target :
+    (given : Handed) (index : ℕ) (place : ℕ) (exits : ExitsOf is_of_definitions given.events index) →
+    IsChecked given → IsDefinitionFor given index (Some place) → IsLedTo given index (Some place)
 led-target given index place exits checked definition one supply there known =
     let seen : Exited given index exits.0 one = exited given index exits.0 one exits.1 there in
     let document : Forest = seen.document in
@@ -155,27 +154,29 @@ led-target given index place exits checked definition one supply there known =
     let by_place = node-everywhere (IsFoundByPlace given.bytes document supply.definitions) given
     document exits.0 seen.entry index node (found-by-place given.bytes given.names document
     supply.definitions grammatical (known-in given document supply checked seen.flat known)) in
-    ap (λ (n : Noticed). target_defined supply n.told.identifier) seen.is
+    ap (λ (n : Noticed). referred supply n.told) seen.is
+    ∙ ap (λ t. if is_resource t then nowhere
+    else target_defined supply (identifier_of given.bytes node.children)) label.1
     ∙ ap (λ o. option_map_or (λ (d : Defined). d.target) o nowhere)
     (by_place label.0 label.1 ∙ ap (found_at supply.definitions) (sym label.2))
 
 pub unled : (given : Handed) (index : ℕ) (exits : ExitsOf is_of_definitions given.events index) →
-    IsChecked given → IsDefinitionFor given index None → (one : Noticed) →
-    IsNoticedAt given index one →
-    one.told.identifier ≡ []
-unled given index exits checked definition one there =
+    IsChecked given → IsDefinitionFor given index None → IsLedTo given index None
+unled given index exits checked definition one supply there known =
     let name : Name = exits.0 in
     let seen : Exited given index name one = exited given index name one exits.1 there in
     let document : Forest = seen.document in
     let node : NodeAt given document name seen.entry index = seen.node in
     let grammatical = grammatical-there given document checked seen.flat in
     let own = mention_of (reading_of (standing_of name)) (target_of node.children Missing) in
-    let refers = node-everywhere RefersAlike given document name seen.entry index node
-    (labels-alike given.bytes given.names document grammatical) in
+    let targets = node-everywhere HasTarget given document name seen.entry index node
+    (targets-there given.bytes given.names document grammatical) in
     let leads = node-everywhere (LeadsSomewhere given.bytes document) given document name seen.entry
     index node (leads-somewhere given.bytes given.names document grammatical) in
     let alike = node-everywhere (LeadsAlike given.bytes document) given document name seen.entry
     index node (leads-alike given.bytes given.names document grammatical) in
-    ap (λ (n : Noticed). n.told.identifier) seen.is
-    ∙ media given.bytes document node.children node.start node.end name exits.2 refers leads alike
-    (definition document own seen.flat node.mentions)
+    ap (λ (n : Noticed). referred supply n.told) seen.is
+    ∙ ap (λ b. if b then nowhere
+    else target_defined supply (identifier_of given.bytes node.children))
+    (media given.bytes document node.children node.start node.end name exits.2 targets leads alike
+    (definition document own seen.flat node.mentions))

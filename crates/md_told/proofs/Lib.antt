@@ -11,4 +11,3 @@ pub mod Leading
 pub mod Running
 pub mod Picked
 pub mod Own
-pub mod Unnamed

@@ -7,9 +7,9 @@ use Rattle.md_base.specs.declared.event.Event.{Event}
 use Rattle.md_base.specs.declared.event.Name.TheVariants.{Definition}
 use Rattle.md_base.specs.Tree.{Forest, flatten}
 use Rattle.md_meaning.specs.Meaning.At.{Defined, Given}
-use Rattle.md_meaning.specs.Meaning.Media.{target_defined}
 use Rattle.md_tree.specs.Grammar.{Handed}
 use Rattle.md_shape.specs.Steps.{entered, beginning, nowhere}
+use Rattle.md_shape.specs.Sides.{referred}
 use Rattle.md_shape.specs.Run.{Noticed, run, defined}
 use Rattle.md_told.specs.Told.{IsNoticedAt}
 
@@ -34,10 +34,9 @@ AreKnown handed given =
     × (alone.bytes ≡ handed.bytes) × (map (λ (d : Defined). d.identifier) given.definitions
     ≡ map (λ (d : Defined). d.identifier) (defined alone document))
 
--- which of the definitions a link or an image leads to by its identifier
+-- which of the definitions a link or an image refers to, if it refers to one
 abbrev pub IsLedTo : Handed → ℕ → Option ℕ → Type 0
 IsLedTo handed index place =
     (one : Noticed) (given : Given) → IsNoticedAt handed index one → AreKnown handed given →
-    target_defined given one.told.identifier
-    ≡ option_map_or (λ (d : Defined). d.target)
+    referred given one.told ≡ option_map_or (λ (d : Defined). d.target)
     (option_and_then (λ there. slice_get given.definitions there) place) nowhere

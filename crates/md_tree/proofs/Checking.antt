@@ -28,8 +28,8 @@ use Rattle.md_tree.proofs.Listing.{listed, resolved-listed, all-resolved, got-li
 use Rattle.md_tree.proofs.Trees.{Runs-append}
 use Rattle.md_base.specs.Tree.{Forest, flatten}
 use Rattle.md_pattern.specs.Facts.{facts_at}
-use Rattle.md_tree.specs.Numbers.{all_numbered, number_for, facts_with}
-use Rattle.md_tree.proofs.NumbersPut.{all_numbered-listed}
+use Rattle.md_tree.specs.Numbers.{numbered, number_for, facts_with}
+use Rattle.md_tree.proofs.NumbersPut.{numbered-listed}
 use Rattle.md_tree.proofs.Endings.{LeaveOpen-undone, outside-undone, IsWalked}
 
 -- ---- one event more
@@ -171,11 +171,11 @@ IsChecked-walked given mentioned walked resolved = (
 
 pub AreNumbered-walked : (given : Handed) (mentioned : List Mentioned) → IsWalked given mentioned →
     (forest : Forest) → flatten forest ≡ given.events →
-    all_numbered given.bytes (mentions_among mentioned) mentioned (facts_at given.events)
+    numbered (number_for given.bytes (mentions_among mentioned)) mentioned (facts_at given.events)
     ≡ facts_with (map (number_for given.bytes (mentions_of forest)) (mentions_of forest))
     (facts_at given.events)
 AreNumbered-walked given mentioned walked forest flattens =
-    ap (λ ms. all_numbered given.bytes (mentions_among ms) ms (facts_at given.events))
+    ap (λ ms. numbered (number_for given.bytes (mentions_among ms)) ms (facts_at given.events))
     (walked.mentions_are ∙ ap (λ f. listed 0 (mentions_of f))
     (flatten_one Data somewhere walked.forest forest (walked.flattened ∙ sym flattens)))
-    ∙ all_numbered-listed given.bytes (mentions_of forest) (facts_at given.events)
+    ∙ numbered-listed given.bytes (mentions_of forest) (facts_at given.events)

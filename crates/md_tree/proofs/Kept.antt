@@ -29,10 +29,10 @@ use Rattle.md_tree.specs.declared.mention.Mention.{Mention}
 use Rattle.md_tree.specs.declared.mention.Referral.{Referral}
 use Rattle.md_tree.specs.Rules.{reading_of}
 use Rattle.md_tree.specs.Numbers.{number_for, with_number, facts_with, AreNumbered, ExitsOf}
-use Rattle.md_tree.specs.Numbers.{is_of_definitions, is_of_footnotes, definition_for, footnote_for}
+use Rattle.md_tree.specs.Numbers.{is_of_definitions, definition_for}
 use Rattle.md_tree.specs.Numbers.{place_of}
 use Rattle.md_tree.proofs.Numbers.{told-at, got-with, ended-with, length-with, kept-number}
-use Rattle.md_tree.proofs.Numbers.{number-definition, number-footnote}
+use Rattle.md_tree.proofs.Numbers.{number-definition}
 use Rattle.md_tree.proofs.Defining.{definitions-entered}
 use Rattle.md_pattern.proofs.Passing.{definitions-flatten}
 use Rattle.md_tree.proofs.Indexed.{HaveText, EndedAt, EndedAt-checked}
@@ -178,18 +178,3 @@ module _ (inside : Inside) (given : Handed) (index : ℕ) (kept : IsKept inside)
       ap place_of (kept_here.0 ∙ ap (number_for given.bytes all) is)
       ∙ number-definition given.bytes all exits.0 kept_here.1.0 exits.2
       ∙ ap (definition_for given.bytes all) (sym is)
-
-  pub footnote-kept : (exits : ExitsOf is_of_footnotes given.events index) (fact : Fact) →
-      slice_get inside.facts index ≡ Some fact → (forest : Forest) (mention : Mention) →
-      flatten forest ≡ given.events → slice_get (mentions_of forest) index ≡ Some mention →
-      place_of fact.read_at ≡ footnote_for given.bytes (mentions_of forest) mention
-  footnote-kept exits fact got forest mention flattens here =
-      let all = mentions_of forest in
-      let kept_here =
-      number-kept exits.1.0 exits.1.1 exits.1.2 fact got forest mention flattens here in
-      let reads = reading_of (standing_of exits.0) in
-      let is : mention ≡ mention_of reads kept_here.1.0 = kept_here.1.1
-      ∙ ap (λ n. mention_of (reading_of (standing_of n)) kept_here.1.0) exits.1.3 in
-      ap place_of (kept_here.0 ∙ ap (number_for given.bytes all) is)
-      ∙ number-footnote given.bytes all exits.0 kept_here.1.0 exits.2
-      ∙ ap (footnote_for given.bytes all) (sym is)

@@ -2,7 +2,7 @@
 use Rattle.std.proofs.Common.{arith, ◌≡◌, ◌⊎◌, ℕ, suc, ◌<◌, true, false, Option, Some, None, List}
 use Rattle.std.proofs.Common.{[], ◌∷◌, length, get_or, inl, inr, true≢false, refl, sym, ap, ◌∙◌}
 use Rattle.std.proofs.Common.{subst}
-use Rattle.std.specs.Prelude.{option_map, if◌then◌else◌, slice_get}
+use Rattle.std.specs.Prelude.{option_map, is_some, if◌then◌else◌, slice_get, Bool, Ok, Err}
 use Rattle.std.specs.List.{Contains}
 use Rattle.std.specs.Option.{ok_or}
 use Rattle.std.proofs.lemmas.List.{get_or-map}
@@ -82,21 +82,31 @@ led-reference bytes mentions label number is =
       | None ↦ λ t. (refl, which_lost (defined bytes mentions) (identifier_at bytes label) t)
     ] refl)
 
-pub led-call : (bytes : List ℕ) (mentions : List Mention) (label : Position) (number : Option ℕ) →
-    number ≡ option_map (λ place. suc place)
-    (which (footnoted bytes mentions) (identifier_at bytes label)) →
-    IsLed bytes mentions (Call label) (ok_or number rule.Footnote)
-led-call bytes mentions label number is =
-    subst (λ n. IsLed bytes mentions (Call label) (ok_or n rule.Footnote)) (sym is)
-    (elim (which (footnoted bytes mentions) (identifier_at bytes label)) as
-    (λ o. which (footnoted bytes mentions) (identifier_at bytes label) ≡ o →
-    IsLed bytes mentions (Call label) (ok_or (option_map (λ place. suc place) o) rule.Footnote)) [
-      | Some place ↦ λ t. (
-        which_there (footnoted bytes mentions) (identifier_at bytes label) place t,
-        sym (ap number_of t),
-      )
-      | None ↦ λ t. (refl, which_lost (footnoted bytes mentions) (identifier_at bytes label) t)
-    ] refl)
+module _ (bytes : List ℕ) (mentions : List Mention) (label : Position) (known : Bool)
+    (is : known ≡ is_some (which (footnoted bytes mentions) (identifier_at bytes label))) where
+  pub led-call : known ≡ true → IsLed bytes mentions (Call label) (Ok 0)
+  led-call there = (
+    there_is (which (footnoted bytes mentions) (identifier_at bytes label))
+        (λ place e. which_there (footnoted bytes mentions) (identifier_at bytes label) place e)
+        (sym is ∙ there),
+    refl,
+  )
+    where
+      there_is : {P : Type 0} (o : Option ℕ) → ((place : ℕ) → o ≡ Some place → P) →
+          is_some o ≡ true → P
+      there_is None get e = cc
+      there_is (Some place) get e = get place refl
+
+  pub lost-call : known ≡ false → IsLed bytes mentions (Call label) (Err rule.Footnote)
+  lost-call lost = (
+    refl,
+    which_lost (footnoted bytes mentions) (identifier_at bytes label)
+        (none_is_there (which (footnoted bytes mentions) (identifier_at bytes label)) (sym is ∙ lost)),
+  )
+    where
+      none_is_there : (o : Option ℕ) → is_some o ≡ false → o ≡ None
+      none_is_there None e = refl
+      none_is_there (Some place) e = cc
 
 -- what is lost leads nowhere
 lost : (bytes : List ℕ) (mentioned : List Mentioned) (mention : Mention)

@@ -14,8 +14,9 @@ use Rattle.md_tree.specs.declared.mention.Mention.TheVariants.{FootnoteDefinitio
 use Rattle.md_tree.specs.declared.mention.Mentioned.{Mentioned}
 use Rattle.md_tree.specs.Mentions.{defined, defined_by, footnoted_by, mentions_among}
 use Rattle.md_tree.specs.Numbers.{is_same, which, with_number, put_number, numbered}
-use Rattle.md_tree.specs.Numbers.{footnote_number, found_in, NumbersBefore, NumbersFrom}
+use Rattle.md_tree.specs.Numbers.{found_in, NumbersFrom, IdentifiersBefore}
 use Rattle.md_tree.proofs.OneMoreIdentifier.{Text, Identifier, identifier_of, text_cmp, Numbered}
+use Rattle.md_tree.proofs.OneMoreIdentifier.{Known}
 use Rattle.md_tree.proofs.OneMoreIdentifier.{compared}
 
 -- ---- definitions from the last on
@@ -85,28 +86,18 @@ defined-last bytes (one ∷ before) last =
     sums : (a b c : ℕ) → a + (b + c) ≡ (a + b) + c
     sums a b c = omega arith
 
--- a loop over mentions numbers what they define, which F gives: at one that defines an
--- identifier, and at another
-module _ (F : List Mentioned → List Identifier) (mentioned : List Mentioned) (i : ℕ)
-    (numbers : Numbered) (next : ℕ)
-    (inside : i < length mentioned)
-    (before : NumbersBefore numbers next (F (drop i mentioned)) (F mentioned)) where
-  pub NumbersBefore-first : (n : Mentioned) (text : Text) (x : Identifier) →
-      F (get_or mentioned i n ∷ drop (i + 1) mentioned) ≡ x ∷ F (drop (i + 1) mentioned) →
-      identifier_of text ≡ x →
-      NumbersBefore numbers next (identifier_of text ∷ F (drop (i + 1) mentioned)) (F mentioned)
-  NumbersBefore-first n text x first is =
-      subst (λ xs. NumbersBefore numbers next xs (F mentioned)) (at_drop_more F mentioned i n inside
-      ∙ first ∙ ap (λ y. y ∷ F (drop (i + 1) mentioned)) (sym is)) before
+-- a loop over mentions knows what they define, which F gives
+pub IdentifiersBefore-at : (F : List Mentioned → List Identifier) (mentioned : List Mentioned)
+    (i : ℕ) (known : Known) → i < length mentioned →
+    IdentifiersBefore known (F (drop i mentioned)) (F mentioned) →
+    (n : Mentioned) (left : List Identifier) →
+    F (get_or mentioned i n ∷ drop (i + 1) mentioned) ≡ left →
+    IdentifiersBefore known left (F mentioned)
+IdentifiersBefore-at F mentioned i known inside before n left is =
+    subst (λ xs. IdentifiersBefore known xs (F mentioned))
+    (at_drop_more F mentioned i n inside ∙ is) before
 
-  pub NumbersBefore-passed : (n : Mentioned) → F (get_or mentioned i n ∷ drop (i + 1) mentioned)
-      ≡ F (drop (i + 1) mentioned) →
-      NumbersBefore numbers next (F (drop (i + 1) mentioned)) (F mentioned)
-  NumbersBefore-passed n first =
-      subst (λ xs. NumbersBefore numbers next xs (F mentioned))
-      (at_drop_more F mentioned i n inside ∙ first) before
-
--- what a mention that defines nothing adds, and its number
+-- what a mention that defines nothing adds
 pub defined_by-other : (bytes : List ℕ) (mention : Mention) (others : List Identifier) →
     ((label : Position) → mention ≡ Definition label → ⊥) → defined_by bytes mention others ≡ others
 defined_by-other bytes (Definition label) others no_such = absurd (no_such label refl)
@@ -117,13 +108,6 @@ pub footnoted_by-other : (bytes : List ℕ) (mention : Mention) (others : List I
     footnoted_by bytes mention others ≡ others
 footnoted_by-other bytes (FootnoteDefinition label) others no_such = absurd (no_such label refl)
 footnoted_by-other bytes _ others no_such = refl
-
-pub footnote_number-other : (bytes : List ℕ) (mentions : List Mention) (mention : Mention) →
-    ((label : Position) → mention ≡ FootnoteDefinition label → ⊥) →
-    footnote_number bytes mentions mention ≡ 0
-footnote_number-other bytes mentions (FootnoteDefinition label) no_such =
-    absurd (no_such label refl)
-footnote_number-other bytes mentions _ no_such = refl
 
 -- ---- facts with a number at an index
 pub put-none : (facts : List Fact) (index number : ℕ) → number ≡ 0 →
@@ -171,11 +155,4 @@ module _ (number : Mention → ℕ) (mentioned : List Mentioned) (i : ℕ) (fact
   numbered-kept n later is same put =
       ap (λ fs. numbered number (drop (i + 1) mentioned) fs) (put
       ∙ ap (λ k. put_number (Mentioned.index (get_or mentioned i n)) k facts) (sym same))
-      ∙ sym (at_drop_more (λ ms. numbered number ms facts) mentioned i n inside) ∙ so_far
-
-  pub numbered-passed : (n : Mentioned) → number (Mentioned.mention (get_or mentioned i n)) ≡ 0 →
-      numbered number (drop (i + 1) mentioned) facts ≡ all
-  numbered-passed n none =
-      ap (λ fs. numbered number (drop (i + 1) mentioned) fs) (sym (put-none facts (Mentioned.index
-      (get_or mentioned i n)) (number (Mentioned.mention (get_or mentioned i n))) none))
       ∙ sym (at_drop_more (λ ms. numbered number ms facts) mentioned i n inside) ∙ so_far

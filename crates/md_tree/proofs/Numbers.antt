@@ -4,8 +4,7 @@ use Rattle.std.proofs.Common.{◌≡◌, ℕ, zero, suc, true, false, Option, So
 use Rattle.std.proofs.Common.{◌++◌, length, refl, sym, ap, ◌∙◌, subst}
 use Rattle.std.specs.Prelude.{map, slice_get, option_map}
 use Rattle.md_base.specs.declared.event.Name.{Name}
-use Rattle.md_base.specs.declared.event.Name.TheVariants.{Link, Image, GfmFootnoteCall}
-use Rattle.md_base.specs.declared.event.Name.TheVariants.{GfmFootnoteDefinition}
+use Rattle.md_base.specs.declared.event.Name.TheVariants.{Link, Image}
 use Rattle.md_base.specs.declared.event.Kind.TheVariants.{Enter, Exit}
 use Rattle.md_base.specs.declared.event.Event.{Event}
 use Rattle.md_pattern.specs.declared.facts.Fact.{Fact}
@@ -18,14 +17,13 @@ use Rattle.md_base.specs.Tree.{Forest, Empty, Node, flatten, entering, exiting}
 use Rattle.md_tree.specs.declared.mention.Referral.{Referral}
 use Rattle.md_tree.specs.declared.mention.Referral.TheVariants.{Missing, Resource, Label}
 use Rattle.md_tree.specs.declared.mention.Mention.{Mention}
-use Rattle.md_tree.specs.declared.mention.Mention.TheVariants.{Nothing, Reference, Call}
-use Rattle.md_tree.specs.declared.mention.Mention.TheVariants.{FootnoteDefinition}
+use Rattle.md_tree.specs.declared.mention.Mention.TheVariants.{Nothing, Reference}
 use Rattle.md_tree.specs.Rules.{reading_of, target_of}
 use Rattle.md_tree.specs.Found.{position_from, partner_event, position_there, position_at}
 use Rattle.md_tree.specs.Found.{position_ended}
 use Rattle.md_tree.specs.Mentions.{mention_of, mentions_of}
 use Rattle.md_tree.specs.Numbers.{number_of, with_number, number_for, facts_with, place_of}
-use Rattle.md_tree.specs.Numbers.{definition_for, footnote_for, is_of_definitions, is_of_footnotes}
+use Rattle.md_tree.specs.Numbers.{definition_for, is_of_definitions}
 
 -- ---- what doesn't change by numbers
 partner_with : (number : ℕ) (fact : Fact) → Fact.partner (with_number number fact) ≡ fact.partner
@@ -193,17 +191,3 @@ number-definition bytes mentions Image Resource is = refl
 number-definition bytes mentions Image (Label label) is =
     place-number (definition_for bytes mentions (Reference label))
 number-definition bytes mentions _ target is = absurd (lie is)
-
-pub number-footnote : (bytes : List ℕ) (mentions : List Mention) (name : Name) (target : Referral) →
-    is_of_footnotes name ≡ true →
-    place_of (number_for bytes mentions (mention_of (reading_of (standing_of name)) target))
-    ≡ footnote_for bytes mentions (mention_of (reading_of (standing_of name)) target)
-number-footnote bytes mentions GfmFootnoteCall Missing is = refl
-number-footnote bytes mentions GfmFootnoteCall Resource is = refl
-number-footnote bytes mentions GfmFootnoteCall (Label label) is =
-    place-number (footnote_for bytes mentions (Call label))
-number-footnote bytes mentions GfmFootnoteDefinition Missing is = refl
-number-footnote bytes mentions GfmFootnoteDefinition Resource is = refl
-number-footnote bytes mentions GfmFootnoteDefinition (Label label) is =
-    place-number (footnote_for bytes mentions (FootnoteDefinition label))
-number-footnote bytes mentions _ target is = absurd (lie is)

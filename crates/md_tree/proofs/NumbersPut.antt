@@ -8,9 +8,9 @@ use Rattle.md_tree.specs.declared.mention.Mention.TheVariants.{Nothing, Referenc
 use Rattle.md_tree.specs.declared.mention.Mention.TheVariants.{FootnoteDefinition}
 use Rattle.md_tree.specs.Mentions.{mentions_among, identifier_at}
 use Rattle.md_tree.specs.Numbers.{which, number_of, with_number, put_number, numbered}
-use Rattle.md_tree.specs.Numbers.{footnote_number, leading_number, all_numbered, number_for}
+use Rattle.md_tree.specs.Numbers.{number_for}
 use Rattle.md_tree.specs.Numbers.{facts_with}
-use Rattle.md_tree.proofs.Listing.{listed, defined_listed, footnoted_listed}
+use Rattle.md_tree.proofs.Listing.{listed, defined_listed}
 use Rattle.md_tree.proofs.Numbering.{put-none, put-past}
 
 -- a mention of nothing puts none
@@ -67,43 +67,29 @@ module _ (number : Mention → ℕ) (none : number Nothing ≡ 0) where
       longer [] x n e = ap suc e
       longer (y ∷ xs) x n e = ap suc (longer xs x (length xs) refl) ∙ ap suc e
 
--- two kinds of numbers, of which a mention has one at most
-module _ (two three all : Mention → ℕ) (joined : (mention : Mention) (fact : Fact) →
-    with_number (three mention) (with_number (two mention) fact)
-    ≡ with_number (all mention) fact) where
-  joined_all : (mentions : List Mention) (facts : List Fact) →
-      facts_with (map three mentions) (facts_with (map two mentions) facts)
-      ≡ facts_with (map all mentions) facts
-  joined_all [] facts = refl
-  joined_all (mention ∷ mentions) [] = refl
-  joined_all (mention ∷ mentions) (fact ∷ facts) =
-      ap (λ f. f ∷ facts_with (map three mentions) (facts_with (map two mentions) facts))
-      (joined mention fact)
-      ∙ ap (λ fs. with_number (all mention) fact ∷ fs) (joined_all mentions facts)
+-- two ways to number that are alike
+module _ (one other : Mention → ℕ) (alike : (mention : Mention) → one mention ≡ other mention) where
+  alike_all : (mentions : List Mention) → map one mentions ≡ map other mentions
+  alike_all [] = refl
+  alike_all (mention ∷ mentions) =
+      ap (λ n. n ∷ map one mentions) (alike mention)
+      ∙ ap (λ ns. other mention ∷ ns) (alike_all mentions)
 
-pub all_numbered-listed : (bytes : List ℕ) (mentions : List Mention) (facts : List Fact) →
-    all_numbered bytes (mentions_among (listed 0 mentions)) (listed 0 mentions) facts
+pub numbered-listed : (bytes : List ℕ) (mentions : List Mention) (facts : List Fact) →
+    numbered (number_for bytes (mentions_among (listed 0 mentions))) (listed 0 mentions) facts
     ≡ facts_with (map (number_for bytes mentions) mentions) facts
-all_numbered-listed bytes mentions facts =
+numbered-listed bytes mentions facts =
     let some = mentions_among (listed 0 mentions) in
-    let two = footnote_number bytes some in
-    let three = leading_number bytes some in
-    ap (λ fs. numbered three (listed 0 mentions) fs) (all_listed two refl mentions 0 [] facts refl)
-    ∙ all_listed three refl mentions 0 [] (facts_with (map two mentions) facts) refl
-    ∙ joined_all two three (number_for bytes mentions) joined mentions facts
+    all_listed (number_for bytes some) refl mentions 0 [] facts refl
+    ∙ ap (λ numbers. facts_with numbers facts)
+    (alike_all (number_for bytes some) (number_for bytes mentions) alike mentions)
   where
-    joined : (mention : Mention) (fact : Fact) →
-        with_number (leading_number bytes (mentions_among (listed 0 mentions)) mention)
-        (with_number (footnote_number bytes (mentions_among (listed 0 mentions)) mention) fact)
-        ≡ with_number (number_for bytes mentions mention) fact
-    joined Nothing fact = refl
-    joined (Reference label) fact =
-        ap (λ ds. with_number (number_of (which ds (identifier_at bytes label))) fact)
+    alike : (mention : Mention) → number_for bytes (mentions_among (listed 0 mentions)) mention
+        ≡ number_for bytes mentions mention
+    alike Nothing = refl
+    alike (Reference label) =
+        ap (λ ds. number_of (which ds (identifier_at bytes label)))
         (defined_listed bytes mentions 0)
-    joined (Definition label) fact = refl
-    joined (Call label) fact =
-        ap (λ ds. with_number (number_of (which ds (identifier_at bytes label))) fact)
-        (footnoted_listed bytes mentions 0)
-    joined (FootnoteDefinition label) fact =
-        ap (λ ds. with_number (number_of (which ds (identifier_at bytes label))) fact)
-        (footnoted_listed bytes mentions 0)
+    alike (Definition label) = refl
+    alike (Call label) = refl
+    alike (FootnoteDefinition label) = refl

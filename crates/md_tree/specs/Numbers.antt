@@ -1,14 +1,15 @@
 -- To which definition a mention leads, and what is kept of it.
 use Rattle.std.specs.Prelude.{◌≡◌, ℕ, zero, suc, ◌+◌, Bool, true, false, if◌then◌else◌, Option}
-use Rattle.std.specs.Prelude.{Some, None, option_map, List, [], ◌∷◌, bytes_eq, string_bytes, String}
+use Rattle.std.specs.Prelude.{Some, None, option_map, is_some, List, [], ◌∷◌, bytes_eq}
+use Rattle.std.specs.Prelude.{string_bytes, String, ◌||◌}
 use Rattle.std.specs.Prelude.{Result, Ok, Err, map, slice_get, IsTrue}
 use Rattle.std.specs.BTreeMap.{BTreeMap, get}
+use Rattle.std.specs.BTreeSet.{BTreeSet, contains}
 use Rattle.std.specs.Option.{option_cmp}
 use Rattle.std.specs.String.{string_cmp}
 use Rattle.std.specs.declared.alloc.Global.{Global}
 use Rattle.md_base.specs.declared.event.Name.{Name}
-use Rattle.md_base.specs.declared.event.Name.TheVariants.{Link, Image, GfmFootnoteCall}
-use Rattle.md_base.specs.declared.event.Name.TheVariants.{GfmFootnoteDefinition}
+use Rattle.md_base.specs.declared.event.Name.TheVariants.{Link, Image}
 use Rattle.md_base.specs.declared.event.Event.{Event}
 use Rattle.md_base.specs.Tree.{Forest, flatten}
 use Rattle.md_pattern.specs.Facts.{facts_at}
@@ -16,7 +17,7 @@ use Rattle.md_tree.specs.Grammar.{Handed}
 use Rattle.md_tree.specs.Texts.{ExitsAt}
 use Rattle.md_pattern.specs.declared.facts.Fact.{Fact}
 use Rattle.md_tree.specs.declared.mention.Mention.{Mention}
-use Rattle.md_tree.specs.declared.mention.Mention.TheVariants.{Reference, Call, FootnoteDefinition}
+use Rattle.md_tree.specs.declared.mention.Mention.TheVariants.{Reference, Call}
 use Rattle.md_tree.specs.declared.mention.Mentioned.{Mentioned}
 use Rattle.md_tree.specs.declared.rule.Rule.{Rule}
 use Rattle.md_tree.specs.declared.rule.Rule.TheVariants as rule
@@ -41,15 +42,13 @@ definition_for bytes mentions (Reference label) =
     which (defined bytes mentions) (identifier_at bytes label)
 definition_for bytes mentions _ = None
 
--- the same of the footnote definitions, for a call or a footnote definition
+-- the same of the footnote definitions, for a call
 abbrev pub footnote_for : List ℕ → List Mention → Mention → Option ℕ
 footnote_for bytes mentions (Call label) =
     which (footnoted bytes mentions) (identifier_at bytes label)
-footnote_for bytes mentions (FootnoteDefinition label) =
-    which (footnoted bytes mentions) (identifier_at bytes label)
 footnote_for bytes mentions _ = None
 
--- the same two of the node that the event at an index exits, in the document that
+-- the first of the two for the node that the event at an index exits, in the document that
 -- the events flatten
 abbrev pub IsDefinitionFor : Handed → ℕ → Option ℕ → Type 0
 IsDefinitionFor given index found =
@@ -57,43 +56,22 @@ IsDefinitionFor given index found =
     slice_get (mentions_of forest) index ≡ Some mention →
     found ≡ definition_for given.bytes (mentions_of forest) mention
 
-abbrev pub IsFootnoteFor : Handed → ℕ → Option ℕ → Type 0
-IsFootnoteFor given index found =
-    (forest : Forest) (mention : Mention) → flatten forest ≡ given.events →
-    slice_get (mentions_of forest) index ≡ Some mention →
-    found ≡ footnote_for given.bytes (mentions_of forest) mention
-
--- the event at an index exits a link or an image, or a footnote call or a footnote definition
+-- the event at an index exits a link or an image
 abbrev pub is_of_definitions : Name → Bool
 is_of_definitions name = elim name [ Link ↦ true | Image ↦ true | _ ↦ false ]
-
-abbrev pub is_of_footnotes : Name → Bool
-is_of_footnotes name =
-    elim name [ GfmFootnoteCall ↦ true | GfmFootnoteDefinition ↦ true | _ ↦ false ]
 
 abbrev pub ExitsOf : (Name → Bool) → List Event → ℕ → Type 0
 ExitsOf is events index = (name : Name) × ExitsAt events index name × IsTrue (is name)
 
 -- ---- what is kept: only contracts of private functions speak of it
 
--- by the identifiers of the definitions and of the footnote definitions, the number of a
--- footnote definition and of what leads to a definition of either kind: one more than which it
--- is; 0 for another mention
+-- the number that is kept of a mention: one more than which definition it leads to, 0 where to none
 abbrev pub number_of : Option ℕ → ℕ
 number_of None = 0
 number_of (Some place) = suc place
 
-abbrev pub footnote_number : List ℕ → List Mention → Mention → ℕ
-footnote_number bytes mentions (FootnoteDefinition label) =
-    number_of (which (footnoted bytes mentions) (identifier_at bytes label))
-footnote_number bytes mentions _ = 0
-
-abbrev pub leading_number : List ℕ → List Mention → Mention → ℕ
-leading_number bytes mentions (Reference label) =
-    number_of (which (defined bytes mentions) (identifier_at bytes label))
-leading_number bytes mentions (Call label) =
-    number_of (which (footnoted bytes mentions) (identifier_at bytes label))
-leading_number bytes mentions _ = 0
+abbrev pub number_for : List ℕ → List Mention → Mention → ℕ
+number_for bytes mentions mention = number_of (definition_for bytes mentions mention)
 
 -- a fact with a number, unless that is 0
 abbrev pub with_number : ℕ → Fact → Fact
@@ -116,19 +94,6 @@ numbered number (one ∷ others) facts =
 abbrev pub found_in : BTreeMap (Option (String Global)) ℕ → Option (String Global) → Option ℕ
 found_in numbers wanted = get (option_cmp string_cmp) numbers wanted
 
--- what was found, else what is found later, counted on
-abbrev pub found_or : Option ℕ → ℕ → Option ℕ → Option ℕ
-found_or (Some number) next later = Some number
-found_or None next later = option_map (λ place. next + place) later
-
--- a map has the number of each of these identifiers that is not first found among those that are
--- left, of which the first is to get the next number
-abbrev pub NumbersBefore : BTreeMap (Option (String Global)) ℕ → ℕ → List (Option (List ℕ)) →
-    List (Option (List ℕ)) → Type 0
-NumbersBefore numbers next left all = (wanted : Option (String Global)) →
-    option_map (λ place. suc place) (which all (option_map string_bytes wanted))
-    ≡ found_or (found_in numbers wanted) next (which left (option_map string_bytes wanted))
-
 -- a map has the numbers of these identifiers, of which the first has the number after so many
 abbrev pub NumbersFrom : BTreeMap (Option (String Global)) ℕ → ℕ → List (Option (List ℕ)) → Type 0
 NumbersFrom numbers before all = (wanted : Option (String Global)) → found_in numbers wanted
@@ -138,6 +103,20 @@ NumbersFrom numbers before all = (wanted : Option (String Global)) → found_in 
 abbrev pub Numbers : BTreeMap (Option (String Global)) ℕ → List (Option (List ℕ)) → Type 0
 Numbers numbers all = (wanted : Option (String Global)) → found_in numbers wanted
     ≡ option_map (λ place. suc place) (which all (option_map string_bytes wanted))
+
+-- a set has each of these identifiers and no other
+abbrev pub Identifiers : BTreeSet (Option (String Global)) → List (Option (List ℕ)) → Type 0
+Identifiers known all = (wanted : Option (String Global)) →
+    contains (option_cmp string_cmp) known wanted
+    ≡ is_some (which all (option_map string_bytes wanted))
+
+-- it has each one that isn't among those that are left
+abbrev pub IdentifiersBefore : BTreeSet (Option (String Global)) → List (Option (List ℕ)) →
+    List (Option (List ℕ)) → Type 0
+IdentifiersBefore known left all = (wanted : Option (String Global)) →
+    (contains (option_cmp string_cmp) known wanted
+    || is_some (which left (option_map string_bytes wanted)))
+    ≡ is_some (which all (option_map string_bytes wanted))
 
 -- what is said of a mention by these: its number, where what it leads to is there, else the
 -- rule that it breaks
@@ -150,23 +129,8 @@ IsNowhere bytes mentions _ broken = ⊥
 
 abbrev pub IsLed : List ℕ → List Mention → Mention → Result ℕ Rule → Type 0
 IsLed bytes mentions mention (Ok number) =
-    IsResolved bytes mentions mention × (number ≡ leading_number bytes mentions mention)
+    IsResolved bytes mentions mention × (number ≡ number_for bytes mentions mention)
 IsLed bytes mentions mention (Err broken) = IsNowhere bytes mentions mention broken
-
--- facts with the numbers of all mentions
-abbrev pub all_numbered : List ℕ → List Mention → List Mentioned → List Fact → List Fact
-all_numbered bytes mentions mentioned facts =
-    numbered (leading_number bytes mentions) mentioned
-    (numbered (footnote_number bytes mentions) mentioned facts)
-
--- the number that is kept of a mention
-abbrev pub number_for : List ℕ → List Mention → Mention → ℕ
-number_for bytes mentions (Reference label) =
-    number_of (definition_for bytes mentions (Reference label))
-number_for bytes mentions (Call label) = number_of (footnote_for bytes mentions (Call label))
-number_for bytes mentions (FootnoteDefinition label) =
-    number_of (footnote_for bytes mentions (FootnoteDefinition label))
-number_for bytes mentions _ = 0
 
 -- facts with as many numbers
 abbrev pub facts_with : List ℕ → List Fact → List Fact

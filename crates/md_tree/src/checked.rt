@@ -60,7 +60,7 @@ impl<'a> Checked<'a> {
     ghost use Rattle.md_tree.specs.Entered.{IsEnteredAt, EntersNode};
     ghost use Rattle.md_tree.specs.Found.{EntersSome, IsFactAt};
     ghost use Rattle.md_tree.specs.Numbers.{AreNumbered, ExitsOf, is_of_definitions};
-    ghost use Rattle.md_tree.specs.Numbers.{is_of_footnotes, IsDefinitionFor, IsFootnoteFor};
+    ghost use Rattle.md_tree.specs.Numbers.{IsDefinitionFor};
     ghost use Rattle.md_base.specs.declared.event.Name.TheVariants as name;
 
     /// What has passed a check, with what is found at its events.
@@ -199,25 +199,6 @@ impl<'a> Checked<'a> {
     pub fn definition_of(&self, index: usize) -> Option<usize>
         requires { ExitsOf is_of_definitions self.now.events index }
         ensures { IsDefinitionFor self.now index result }
-    {
-        place_of(fact_at(&self.facts, index).read_at)
-    }
-
-    /// Which of the footnote definitions, counted from 0 in the order of their exits, is the
-    /// first with the identifier of the footnote call or the footnote definition that the event
-    /// at the index exits.
-    ///
-    /// # Examples
-    ///
-    /// ```
-    /// // Of a document whose only footnote definition is exited at 9, and called by a call that
-    /// // is exited at 20:
-    /// assert_eq!(checked.footnote_of(9), Some(0));
-    /// assert_eq!(checked.footnote_of(20), Some(0));
-    /// ```
-    pub fn footnote_of(&self, index: usize) -> Option<usize>
-        requires { ExitsOf is_of_footnotes self.now.events index }
-        ensures { IsFootnoteFor self.now index result }
     {
         place_of(fact_at(&self.facts, index).read_at)
     }

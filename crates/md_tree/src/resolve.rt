@@ -1,6 +1,6 @@
 //! Whether the definitions are there to which links, images and footnote calls lead.
 
-ghost use Rattle.std.specs.Prelude.{◌≡◌, ◌∷◌, ◌<◌, ◌^◌, suc, length, List, Option, ℕ, option_map};
+ghost use Rattle.std.specs.Prelude.{◌≡◌, suc, length, List, Option, ℕ, option_map, is_some};
 ghost use Rattle.std.specs.Prelude.{string_bytes, IfOk, OnOk, IfErr};
 ghost use Rattle.std.specs.List.{All};
 ghost use Rattle.md_tree.specs.Mentions.{identifier_at, defined, footnoted, mentions_among};
@@ -15,11 +15,14 @@ use crate::texts::Texts;
 use md_base::{Position, normalize_identifier};
 use md_pattern::{Fact, FactList};
 use std::alloc::{AllocError, Global};
-use std::collections::BTreeMap;
+use std::collections::{BTreeMap, BTreeSet};
 
 /// The number of each identifier: which of the definitions is the first that has it, counted from
 /// 1. They are in their order, so that one is found in few steps, whoever chose them.
 type Numbers = BTreeMap<Option<String>, usize>;
+
+/// The identifiers of the footnote definitions, found as the numbers are.
+type Identifiers = BTreeSet<Option<String>>;
 
 /// The identifier at a label's place, where it is a text.
 fn identifier(alloc: Global, bytes: &Texts, label: Position) -> Result<Option<String>, AllocError>
@@ -82,50 +85,23 @@ fn definitions(alloc: Global, bytes: &Texts, mentions: &[Mentioned]) -> Result<N
     Ok(numbers)
 }
 
-/// The number of an identifier: the next one where it has none yet.
-fn number(
-    numbers: &mut Numbers,
-    identifier: Option<String>,
-    next: usize,
-) -> Result<usize, AllocError>
-    ensures number { IfOk result (λ number. (left all : List (Option (List ℕ)))
-        → spec.NumbersBefore numbers.old next (option_map string_bytes identifier ∷ left) all
-        → number ≡ spec.number_of (spec.which all (option_map string_bytes identifier))) }
-    ensures numbers { OnOk result ((left all : List (Option (List ℕ)))
-        → spec.NumbersBefore numbers.old next (option_map string_bytes identifier ∷ left) all
-        → spec.NumbersBefore numbers.new (suc next) left all) }
-{
-    if let Some(number) = numbers.get(&identifier) {
-        return Ok(*number);
-    }
-    numbers.insert(identifier, next)?;
-    Ok(next)
-}
-
-/// The numbers of the footnote definitions, each kept at its exit as well.
+/// The identifiers of the footnote definitions.
 fn footnotes(
     alloc: Global,
     bytes: &Texts,
     mentions: &[Mentioned],
-    facts: &mut FactList,
-) -> Result<Numbers, AllocError>
-    ensures found { IfOk result
-        (λ numbers. spec.Numbers numbers (footnoted bytes.now (mentions_among mentions.now))) }
-    ensures kept { OnOk result (facts.new
-        ≡ spec.numbered (spec.footnote_number bytes.now (mentions_among mentions.now))
-        mentions.now facts.old) }
+) -> Result<Identifiers, AllocError>
+    ensures { IfOk result (λ identifiers. spec.Identifiers identifiers
+        (footnoted bytes.now (mentions_among mentions.now))) }
 {
-    let mut numbers = BTreeMap::new(alloc);
-    let mut next = 1;
+    let mut identifiers = BTreeSet::new(alloc);
     for mentioned in mentions {
         if let Mention::FootnoteDefinition(label) = mentioned.mention {
             let identifier = identifier(alloc, bytes, label)?;
-            let number = number(&mut numbers, identifier, next)?;
-            keep_number(facts, mentioned.index, number)?;
-            next += 1;
+            identifiers.insert(identifier)?;
         }
     }
-    Ok(numbers)
+    Ok(identifiers)
 }
 
 /// The number of the identifier at a label's place, if it has one.
@@ -142,18 +118,33 @@ fn number_of_label(
     Ok(numbers.get(&wanted).copied())
 }
 
-/// The number of the definition or the footnote definition to which a mention leads, 0 where it is
-/// no such mention, or the rule that it breaks.
+/// Whether a footnote definition has the identifier at a label's place.
+fn is_footnote(
+    alloc: Global,
+    bytes: &Texts,
+    label: Position,
+    footnotes: &Identifiers,
+) -> Result<bool, AllocError>
+    ensures { IfOk result (λ known. (all : List (Option (List ℕ)))
+        → spec.Identifiers footnotes.now all
+        → known ≡ is_some (spec.which all (identifier_at bytes.now label))) }
+{
+    let wanted = identifier(alloc, bytes, label)?;
+    Ok(footnotes.contains(&wanted))
+}
+
+/// The number of the definition to which a mention leads, 0 where it leads to none, or the rule
+/// that it breaks.
 fn lead(
     alloc: Global,
     bytes: &Texts,
     mention: Mention,
     definitions: &Numbers,
-    footnotes: &Numbers,
+    footnotes: &Identifiers,
 ) -> Result<Result<usize, Rule>, AllocError>
     ensures { IfOk result (λ led. (mentions : List Mention)
         → spec.Numbers definitions.now (defined bytes.now mentions)
-        → spec.Numbers footnotes.now (footnoted bytes.now mentions)
+        → spec.Identifiers footnotes.now (footnoted bytes.now mentions)
         → spec.IsLed bytes.now mentions mention led) }
 {
     match mention {
@@ -162,16 +153,16 @@ fn lead(
             Ok(number.ok_or(Rule::Definition))
         }
         Mention::Call(label) => {
-            let number = number_of_label(alloc, bytes, label, footnotes)?;
-            Ok(number.ok_or(Rule::Footnote))
+            let is_known = is_footnote(alloc, bytes, label, footnotes)?;
+            Ok(if is_known { Ok(0) } else { Err(Rule::Footnote) })
         }
         _ => Ok(Ok(0)),
     }
 }
 
-/// Numbers definitions, and footnote definitions, each by the first one with its identifier,
-/// counted from 1. The number of a footnote definition, and of what leads to one of either kind, is
-/// kept in the fact of its exit. Refuses what leads to one that isn't there.
+/// Numbers definitions, each by the first one with its identifier, counted from 1. The number of
+/// the one to which a link or an image leads is kept in the fact of its exit. Refuses what leads to
+/// a definition or a footnote definition that isn't there.
 ///
 /// # Errors
 ///
@@ -187,11 +178,12 @@ pub fn resolve(
     ensures ok { OnOk result
         (All (IsResolved bytes.now (mentions_among mentions.now)) (mentions_among mentions.now)) }
     ensures numbered { OnOk result (facts.new
-        ≡ spec.all_numbered bytes.now (mentions_among mentions.now) mentions.now facts.old) }
+        ≡ spec.numbered (spec.number_for bytes.now (mentions_among mentions.now)) mentions.now
+        facts.old) }
     ensures refused { IfErr result (IsUnresolved bytes.now mentions.now) }
 {
     let definitions = definitions(alloc, bytes, mentions)?;
-    let footnotes = footnotes(alloc, bytes, mentions, facts)?;
+    let footnotes = footnotes(alloc, bytes, mentions)?;
     for mentioned in mentions {
         let index = mentioned.index;
         match lead(alloc, bytes, mentioned.mention, &definitions, &footnotes)? {

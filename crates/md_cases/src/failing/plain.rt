@@ -65,7 +65,6 @@ fn inner_slice_answers() -> bool {
 pub fn ask_of_checked(log: &mut Log, row: &Row, checked: &Checked) {
     ask_of_each(log, row, checked);
     ask_of_link(log, row, checked);
-    ask_of_footnote(log, row, checked);
 }
 
 /// Makes those that each document has.
@@ -89,22 +88,6 @@ fn ask_of_link(log: &mut Log, row: &Row, checked: &Checked) {
     {
         log.tell(link_answers(checked), "the calls of a link", row.name);
     }
-}
-
-/// Makes the call of a footnote's call and of its definition, where they are the second node and
-/// one that ends later.
-fn ask_of_footnote(log: &mut Log, row: &Row, checked: &Checked) {
-    if checked.exits(6, Name::GfmFootnoteCall) && checked.exits(23, Name::GfmFootnoteDefinition) {
-        log.tell(footnote_answers(checked), "footnote_of", row.name);
-    }
-}
-
-/// Whether both are of the first footnote.
-fn footnote_answers(checked: &Checked) -> bool
-    requires call { ExitsAt checked.now.events 6 name.GfmFootnoteCall }
-    requires definition { ExitsAt checked.now.events 23 name.GfmFootnoteDefinition }
-{
-    checked.footnote_of(6) == Some(0) && checked.footnote_of(23) == Some(0)
 }
 
 /// Whether the events and the bytes are kept, with one visit of each event.

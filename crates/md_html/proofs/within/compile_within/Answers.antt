@@ -1,6 +1,6 @@
 -- The events that were checked are those handed in, so a text is what their document means, and
 -- what holds of each meaning holds of it.
-use Rattle.std.proofs.Common.{rules, ◌≡◌, ◌<◌, ◌^◌, inr, length, string_bytes, subst, arith}
+use Rattle.std.proofs.Common.{rules, ◌≡◌, ◌≤◌, ◌<◌, ◌^◌, inr, length, string_bytes, subst, arith}
 use Rattle.std.proofs.Common.{sym, ◌∙◌}
 use Rattle.std.proofs.lemmas.Bool.{ltb-true, ltb-false}
 use Rattle.std.specs.Prelude.{Option, Some, IfSome}
@@ -10,7 +10,7 @@ use Rattle.md_meaning.specs.Meaning.{meaning}
 use Rattle.md_html.specs.Work.{work}
 use Rattle.md_html.specs.Reuse.{reuse}
 use Rattle.md_html.specs.Within.{IsLonger, IsReuseWithin}
-use Rattle.md_html.proofs.Promises.{promises}
+use Rattle.md_html.proofs.Promises.{promises, bounded}
 use Rattle.md_html.proofs.within.compile_within.Goals as goal
 
 some-at : {X : Type 0} (P : X → Type 0) (o : Option X) (x : X) → o ≡ Some x → IfSome o P → P x
@@ -28,13 +28,20 @@ returns-in-Some c =
     let few : length given.events < 2 ^ 63 = omega arith in
     let read : IsChecked given = c.in_ok-checked.ensures.grammatical in
     let kept = promises c.args.options.now given text read few meant in
+    let worked : work given.events ≤ c.args.limits.work =
+    ltb-false c.args.limits.work (work c.args.events.now)
+    (sym c.is_over.ensures ∙ c.if-is_over.false) in
+    let reused : IsReuseWithin c.args.options.now given c.args.limits.work =
+    subst (λ (given : Handed). IsReuseWithin c.args.options.now given c.args.limits.work)
+    c.in_ok-checked.ensures.ok (λ document flat. ltb-false _ _
+    (sym (c.in_ok-is_reuse_over.ensures document flat) ∙ c.if-branch.false)) in
     record {
       within =
           some-at _ c.in_ok-text.field-0 c.in-Some.text c.in-Some.is c.in_ok-text.ensures.within;
       work = search rules;
-      reuse = subst (λ (given : Handed). IsReuseWithin c.args.options.now given c.args.limits.work)
-          c.in_ok-checked.ensures.ok (λ document flat. ltb-false _ _
-          (sym (c.in_ok-is_reuse_over.ensures document flat) ∙ c.if-branch.false));
+      reuse = reused;
+      bounded =
+          bounded c.args.options.now given text c.args.limits.work read few meant worked reused;
       grammatical = read;
       meaning = meant;
       one_reading = kept.one_reading;

@@ -1,13 +1,31 @@
--- The definition that the check says, else the first whose identifier is empty.
-use Rattle.std.proofs.Common.{ap, ◌∙◌}
-use Rattle.md_meaning.specs.Meaning.Media.{target_defined}
-use Rattle.std.proofs.lemmas.Result.{IfOk-weaker}
-use Rattle.md_told.proofs.Unnamed.{led-unnamed}
+-- What the check says leads to the definition that is found by its identifier; where it says none,
+-- the link has a resource.
+use Rattle.std.proofs.Common.{ℕ, Option, Some, None}
+use Rattle.std.specs.Prelude.{IfSome}
+use Rattle.md_tree.specs.Numbers.{IsDefinitionFor}
+use Rattle.md_told.specs.Definitions.{IsLedTo}
+use Rattle.md_told.proofs.Leading.{led-there, led-target, unled}
 use Rattle.md_told.proofs.definitions.definition_led_at.Goals as goal
 
-pub returns-in-None : goal.returns-in-None
-returns-in-None c =
-    IfOk-weaker c.first_unnamed.result _ _ (λ place is one supply there known.
-    ap (target_defined supply) (c.in-None.ensures.resource one there)
-    ∙ led-unnamed c.args.checked.now place c.grammatical.ensures is supply known)
-    c.first_unnamed.ensures
+if-some : (Is : Option ℕ → Type 0) (P : ℕ → Type 0) → ((place : ℕ) → Is (Some place) → P place) →
+    (o : Option ℕ) →
+    Is o → IfSome o P
+if-some Is P f None is = tt
+if-some Is P f (Some place) is = f place is
+
+pub returns-clause-led : goal.returns-clause-led
+returns-clause-led c =
+    by c.definition_of.result c.definition_of.ensures
+  where
+    by : (o : Option ℕ) → IsDefinitionFor c.args.checked.now c.args.index o →
+        IsLedTo c.args.checked.now c.args.index o
+    by None is = unled c.args.checked.now c.args.index c.requires c.grammatical.ensures is
+    by (Some place) is =
+        led-target c.args.checked.now c.args.index place c.requires c.grammatical.ensures is
+
+pub returns-clause-there : goal.returns-clause-there
+returns-clause-there c =
+    let given = c.args.checked.now in
+    if-some (IsDefinitionFor given c.args.index) _
+    (λ place is. led-there given c.args.index place c.requires c.grammatical.ensures is)
+    c.definition_of.result c.definition_of.ensures

@@ -10,7 +10,7 @@ use Rattle.md_tree.specs.declared.open_nodes.Aim.{Aim}
 use Rattle.md_tree.specs.declared.open_nodes.Open.{Open}
 use Rattle.md_tree.specs.Mentions.{mentions_among, IsResolved}
 use Rattle.md_tree.specs.Resolve.{IsUnresolved}
-use Rattle.md_tree.specs.Numbers.{all_numbered}
+use Rattle.md_tree.specs.Numbers.{numbered, number_for}
 use Rattle.md_tree.specs.Grammar.{handed}
 use Rattle.md_tree.specs.Walk.{opens_at, opens_seen, course_of}
 use Rattle.md_tree.proofs.Endings.{IsWalked, IsWalked-done}
@@ -84,8 +84,9 @@ returns-clause-facts c = λ forest flattens.
     (ap (λ opens. opens_seen c.args.events.now (reverse c.in_ok-read.read.walk.targets.items) opens)
     done.0) done.1 in
     rw (c.with_front_alone-texts.ensures, c.in_ok-texts.ensures) at c.in_ok-resolve.ensures.numbered
-    ∙ ap (λ ms. all_numbered given.bytes (mentions_among ms) ms c.in_ok-read.read.found.facts)
+    ∙ ap (λ ms. numbered (number_for given.bytes (mentions_among ms)) ms
+    c.in_ok-read.read.found.facts)
     c.deref.ensures.value
-    ∙ ap (λ fs. all_numbered given.bytes (mentions_among mentions) mentions fs)
+    ∙ ap (λ fs. numbered (number_for given.bytes (mentions_among mentions)) mentions fs)
     c.in_ok-read.ensures.facts
     ∙ AreNumbered-walked given mentions walked forest flattens

@@ -1,6 +1,6 @@
 -- What has a number is there, and what has none leads nowhere. The search does no induction over
 -- the identifiers.
-use Rattle.md_tree.proofs.MentionsLed.{led-reference, led-call}
+use Rattle.md_tree.proofs.MentionsLed.{led-reference, led-call, lost-call}
 use Rattle.md_tree.specs.Mentions.{defined, footnoted}
 use Rattle.md_tree.proofs.resolve.lead.Goals as goal
 
@@ -10,8 +10,14 @@ returns-in_ok-number-in-Reference c = λ mentions d f.
     (led-reference c.args.bytes.now mentions c.in-Reference.label c.in_ok-number-in-Reference.number
     (c.in_ok-number-in-Reference.ensures (defined c.args.bytes.now mentions) d))
 
-pub returns-in_ok-number-in-Call : goal.returns-in_ok-number-in-Call
-returns-in_ok-number-in-Call c = λ mentions d f.
-    rw (c.in-Call.is, c.ok_or-in-Call.ensures.value)
-    (led-call c.args.bytes.now mentions c.in-Call.label c.in_ok-number-in-Call.number
-    (c.in_ok-number-in-Call.ensures (footnoted c.args.bytes.now mentions) f))
+pub returns-then-is_known : goal.returns-then-is_known
+returns-then-is_known c = λ mentions d f.
+    rw c.in-Call.is (led-call c.args.bytes.now mentions c.in-Call.label
+    c.in_ok-is_known-in-Call.is_known
+    (c.in_ok-is_known-in-Call.ensures (footnoted c.args.bytes.now mentions) f) c.if-is_known.true)
+
+pub returns-else-is_known : goal.returns-else-is_known
+returns-else-is_known c = λ mentions d f.
+    rw c.in-Call.is (lost-call c.args.bytes.now mentions c.in-Call.label
+    c.in_ok-is_known-in-Call.is_known
+    (c.in_ok-is_known-in-Call.ensures (footnoted c.args.bytes.now mentions) f) c.if-is_known.false)

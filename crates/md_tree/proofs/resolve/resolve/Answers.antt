@@ -2,7 +2,7 @@
 -- numbered. The search doesn't go from the numbers to what the mentions define: `Numbering` does.
 use Rattle.std.proofs.Common.{below_more, get_or, sym}
 use Rattle.md_tree.specs.Mentions.{mentions_among, IsResolved}
-use Rattle.md_tree.specs.Numbers.{leading_number}
+use Rattle.md_tree.specs.Numbers.{number_for}
 use Rattle.md_tree.proofs.Numbering.{numbered-kept}
 use Rattle.md_tree.proofs.MentionsLed.{IsResolved-at, IsUnresolvedBy-at}
 use Rattle.md_tree.proofs.resolve.resolve.Goals as goal
@@ -12,7 +12,7 @@ returns-in-Err-clause-refused c =
     IsUnresolvedBy-at c.args.bytes.now c.args.mentions.now c.loop-mentioned.mentioned-index _
     c.in-Err.rule c.loop-mentioned-test.true (rw c.in-Err.is at
     (c.in_ok-number.ensures (mentions_among c.args.mentions.now) c.in_ok-definitions.ensures
-    c.in_ok-footnotes.ensures.found))
+    c.in_ok-footnotes.ensures))
 
 pub loop-mentioned-preserved : goal.loop-mentioned-preserved
 loop-mentioned-preserved c =
@@ -21,12 +21,12 @@ loop-mentioned-preserved c =
     let index = c.loop-mentioned.mentioned-index in
     let led =
     rw c.in-Ok.is at (c.in_ok-number.ensures (mentions_among mentions) c.in_ok-definitions.ensures
-    c.in_ok-footnotes.ensures.found) in (
+    c.in_ok-footnotes.ensures) in (
       λ k d below.
           below_more (λ i. IsResolved bytes (mentions_among mentions)
           (get_or (mentions_among mentions) i d)) index (λ i h. c.loop-mentioned.invariant.0 i d h)
           (IsResolved-at bytes mentions index _ d c.loop-mentioned-test.true led.0) k below,
-      numbered-kept (leading_number bytes (mentions_among mentions)) mentions index
+      numbered-kept (number_for bytes (mentions_among mentions)) mentions index
           c.loop-mentioned.facts _
           c.loop-mentioned-test.true c.loop-mentioned.invariant.1 _ _ c.in-Ok.number (sym led.1)
           c.in_ok-keep_number-in-Ok.ensures,

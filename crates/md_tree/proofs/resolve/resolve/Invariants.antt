@@ -3,13 +3,13 @@
 use Rattle.std.proofs.Common.{◌≡◌, ℕ, ◌<◌, get_or, drop}
 use Rattle.md_tree.specs.declared.mention.Mention.{Mention}
 use Rattle.md_tree.specs.Mentions.{mentions_among, IsResolved}
-use Rattle.md_tree.specs.Numbers.{numbered, leading_number, all_numbered}
+use Rattle.md_tree.specs.Numbers.{numbered, number_for}
 use Rattle.md_tree.proofs.resolve.resolve.Given as goal
 
 abbrev pub invariant-loop-mentioned : goal.invariant-loop-mentioned
 invariant-loop-mentioned l =
     ((k : ℕ) (d : Mention) → k < l.mentioned-index → IsResolved l.bytes (mentions_among l.mentions)
     (get_or (mentions_among l.mentions) k d))
-    × (numbered (leading_number l.bytes (mentions_among l.mentions))
+    × (numbered (number_for l.bytes (mentions_among l.mentions))
     (drop l.mentioned-index l.mentions) l.facts
-    ≡ all_numbered l.bytes (mentions_among l.mentions) l.mentions l.fn.facts)
+    ≡ numbered (number_for l.bytes (mentions_among l.mentions)) l.mentions l.fn.facts)

@@ -46,7 +46,7 @@ returns c =
     let target = sides.leads given left one.told in
     let pieces = anchor given.options target old.text in
     e ∙ ap (λ t. printed c.ends.new.self code.options.now t)
-    (c.in_ok-found.ensures given one supplies there)
+    (c.led-found.ensures given one supplies there)
     ∙ ap (λ s. printed s code.options.now (sides.leads given s one.told)) came
     ∙ ap (λ o. printed left o target) (sym supplies.options)
     ∙ ap laid (sym (anchor-laid code.ending.now under given.options target old.text))

@@ -6,4 +6,5 @@ use Rattle.md_emit.proofs.printer.Printer.led.Goals as goal
 pub returns : goal.returns
 returns c = λ all one supplies there.
     ap (λ t. unwrap_or c.args.self.now.resource t) (c.target_of.ensures
-    ∙ supplies.finds c.args.index one c.in_ok-place.place there c.in_ok-place.ensures)
+    ∙ supplies.finds c.args.index one c.definition_led_at.result there
+    c.definition_led_at.ensures.led)

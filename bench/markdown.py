@@ -1,0 +1,215 @@
+#!/usr/bin/env python3
+"""Tests the Markdown parser of our own, by the program `mdhtml`.
+
+    bench/markdown.py [PROGRAM]
+
+PROGRAM is crates/mdhtml/out/mdhtml if it isn't given, which `rt ci` builds. Three parts:
+- the examples of the GFM specification: each text is what cmark-gfm makes of it with the
+  differences that are permitted (clients/checks/judge.py), but for those that KNOWN tells;
+- the cases of docs/MARKDOWN.md, here and by cmark-gfm;
+- documents that make parsers slow: four times as long a one takes at most GROWTH times the
+  processor time, and at most MEMORY bytes for each of its bytes beyond MEGABYTES.
+The first part needs Debian's cmark-gfm and its extensions, the second cmark-gfm: where they are
+missing, the part is left out, and that is told. The status is 1 where something is wrong.
+"""
+
+import pathlib
+import re
+import resource
+import shutil
+import subprocess
+import sys
+import tempfile
+
+ROOT = pathlib.Path(__file__).resolve().parents[1]
+PROGRAM = ROOT / "crates" / "mdhtml" / "out" / "mdhtml"
+KNOWN = {
+    295: "a line ending in an empty item",
+    614: "an escaped character before an address",
+    628: "a bare link of ftp, which isn't permitted",
+}
+CASE = re.compile(r"`([^`]+)`\s+gives\s+`([^`]+)`,(?:\s+and\s+cmark-gfm\s+`([^`]+)`"
+                  r"|\s+as\s+cmark-gfm)")
+EXTENSIONS = ("footnotes", "table", "strikethrough", "autolink", "tasklist")
+SIZE = 100_000
+GROWTH = 12
+MEMORY = 400
+MEGABYTES = 64
+
+
+def framed(program, documents, *options):
+    """What the program makes of each document."""
+    given = b"".join(b"%d\n%s" % (len(document), document) for document in documents)
+    out = subprocess.run([program, "--frames", *options], input=given, capture_output=True,
+                         check=True).stdout
+    texts, at = [], 0
+    while at < len(out):
+        end = out.index(b"\n", at)
+        status, length = map(int, out[at:end].split())
+        texts.append(None if status else out[end + 1:end + 1 + length])
+        at = end + 1 + length
+    return texts
+
+
+def examples(program):
+    """The faults of the specification's examples; None where there is nothing to judge by."""
+    sys.path.insert(0, str(ROOT / "clients" / "checks"))
+    sys.dont_write_bytecode = True
+    try:
+        import documents
+        import judge
+        given = documents.examples()
+    except OSError:
+        return None
+    texts = framed(program, given)
+    differ = {number for number, (document, text) in enumerate(zip(given, texts), 1)
+              if text != judge.judge(document).wanted}
+    print(f"markdown: of {len(given)} examples {len(given) - len(differ)} give cmark-gfm's text "
+          "with the permitted differences")
+    return [f"example {number}: {given[number - 1]!r}" for number in sorted(differ ^ KNOWN.keys())]
+
+
+def by_gfm(text):
+    """What cmark-gfm makes of a text."""
+    words = [word for name in EXTENSIONS for word in ("-e", name)]
+    return subprocess.run(["cmark-gfm", "--unsafe", *words], input=text, capture_output=True,
+                          check=True).stdout.decode("utf-8")
+
+
+def is_like(pattern, text):
+    """Whether a text is as a case has it: `\\n` stands for a line feed, `..` for any text."""
+    parts = pattern.replace("\\n", "\n").split("..")
+    return re.fullmatch(".*".join(map(re.escape, parts)), text.rstrip("\n"), re.DOTALL) is not None
+
+
+def choices(program):
+    """The faults of the page's cases."""
+    page = (ROOT / "docs" / "MARKDOWN.md").read_text("utf-8")
+    faults, count = [], 0
+    for section in re.split(r"^## ", page, flags=re.MULTILINE):
+        options = re.search(r"Options of these cases: `([^`]+)`", section)
+        for given, own, other in CASE.findall(section):
+            count += 1
+            text = given.replace("\\n", "\n").replace("\\t", "\t").encode("utf-8") + b"\n"
+            html = framed(program, [text], *(options[1].split() if options else ()))[0]
+            ways = [("mdhtml", own, "" if html is None else html.decode("utf-8"))]
+            if shutil.which("cmark-gfm"):
+                ways.append(("cmark-gfm", other or own, by_gfm(text)))
+            faults += [f"{given}: {name} gives {found!r}" for name, pattern, found in ways
+                       if not is_like(pattern, found)]
+    print(f"markdown: {count} cases of docs/MARKDOWN.md")
+    return faults if count else ["docs/MARKDOWN.md has no cases"]
+
+
+def times(length, unit):
+    """As many units as have a length."""
+    return unit * max(1, length // len(unit))
+
+
+SHAPES = {
+    "open brackets": lambda n: times(n, "["),
+    "links in links": lambda n: times(n // 2, "[") + "a" + times(n // 2, "](b)"),
+    "images around links": lambda n: times(n // 2, "![") + times(n // 2, "[a](b)"),
+    "references": lambda n: times(n, "[a][b]"),
+    "destinations without an end": lambda n: times(n, "[a](<b"),
+    "titles without an end": lambda n: times(n, "[a](b \"c 'd (e "),
+    "emphasis that opens": lambda n: times(n, "*a **a "),
+    "emphasis of all marks": lambda n: times(n, "*_a __b **c* d_ ~e ~~f "),
+    "one run of marks": lambda n: "*" * (n // 2) + "a" + "*" * (n // 2),
+    "marks that close": lambda n: times(n // 2, "a_ ") + times(n // 2, "a* "),
+    "runs of backticks": lambda n: "".join("e" + "`" * i for i in range(1, int((2 * n) ** 0.5))),
+    "dollars": lambda n: times(n, "$a "),
+    "deep quotes": lambda n: times(n, ">") + "a",
+    "deep quotes in each line": lambda n: times(n, ">" * 90 + "a\n"),
+    "deep lists": lambda n: times(n, "- ") + "a",
+    "blank lines in deep lists": lambda n: "- " * 90 + "a\n" + "\n" * n,
+    "lazy lines in deep lists": lambda n: "- " * 90 + "a\n" + "b\n" * (n // 2),
+    "lists that go in": lambda n: "".join("  " * i + "- a\n" for i in range(int(n ** 0.5))),
+    "footnotes in footnotes": lambda n: times(n, "[^a]:"),
+    "a wide table": lambda n: times(n // 3, "|a") + "\n" + times(n // 3, "|-") + "\n" + "|\n" * 9,
+    "heads of tables": lambda n: times(n, "|a|\n|-\n"),
+    "rows of delimiters": lambda n: times(n, "a\n|-|-|\n"),
+    "definitions": lambda n: "".join(f"[a{i}]: b\n" for i in range(n // 12)),
+    "definitions that are used": lambda n: "".join(f"[a{i}]: b\n" for i in range(n // 24)) + "\n"
+    + "".join(f"[a{i}] " for i in range(n // 24)),
+    "one definition again": lambda n: times(n, "[a]: b\n"),
+    "definitions without an end": lambda n: times(n, "[a]: b 'c\n"),
+    "labels without an end": lambda n: times(n, "[a\n"),
+    "calls of a footnote": lambda n: times(n, "[^a]") + "\n\n[^a]: b\n",
+    "tags without an end": lambda n: times(n, "<a b='"),
+    "comments without an end": lambda n: times(n, "x <!-- "),
+    "declarations without an end": lambda n: times(n, "x <!A <? <![CDATA["),
+    "less-than signs": lambda n: times(n, "<"),
+    "www": lambda n: times(n, "_www.a_b."),
+    "www in a bracket": lambda n: "[" + times(n, "_www.a_b."),
+    "bare links": lambda n: times(n, "http://a_b.c_d "),
+    "a bare link with parentheses": lambda n: "http://a.b/" + "(" * (n // 2) + ")" * (n // 2 + 9),
+    "a bare link with references": lambda n: "http://a.b/" + times(n, "&a;"),
+    "addresses": lambda n: times(n, "a.b@"),
+    "hosts of addresses": lambda n: times(n, "a@b."),
+    "character references": lambda n: times(n, "&amp;&#1;&x;"),
+    "spaces in lines": lambda n: times(n, " " * 1000 + "\n"),
+    "spaces in a line": lambda n: "a" + " " * n + "b",
+    "tabs": lambda n: times(n, "\t- "),
+    "underlines": lambda n: times(n, "a\n=\n"),
+    "HTML without an end": lambda n: times(n, "<script>\n"),
+    "fences": lambda n: times(n, "```\n~~~\n"),
+    "hard breaks": lambda n: times(n, "a  \n\\\n"),
+    "one paragraph": lambda n: times(n, "a b c d e f\n"),
+}
+
+
+def taken(program, text):
+    """The processor seconds that the program takes for a document, and its memory in bytes."""
+    script = ("import resource, subprocess, sys\n"
+              "subprocess.run([sys.argv[1], '--math'], stdin=open(sys.argv[2], 'rb'), check=True,\n"
+              "    stdout=subprocess.DEVNULL)\n"
+              "used = resource.getrusage(resource.RUSAGE_CHILDREN)\n"
+              "print(used.ru_utime, used.ru_maxrss * 1024)\n")
+    with tempfile.NamedTemporaryFile() as file:
+        file.write(text.encode("utf-8"))
+        file.flush()
+        runs = [subprocess.run([sys.executable, "-c", script, program, file.name], check=True,
+                               capture_output=True, text=True).stdout.split() for _ in range(2)]
+    return min(float(seconds) for seconds, _ in runs), min(int(memory) for _, memory in runs)
+
+
+def hostile(program):
+    """The faults of documents that make parsers slow."""
+    faults = []
+    for name, shape in SHAPES.items():
+        short, long = shape(SIZE), shape(4 * SIZE)
+        before, _ = taken(program, short)
+        seconds, memory = taken(program, long)
+        if seconds > GROWTH * max(before, 0.01):
+            faults.append(f"{name}: {before:.2f} seconds, then {seconds:.2f}")
+        if memory > (MEGABYTES << 20) + MEMORY * len(long):
+            faults.append(f"{name}: {memory >> 20} megabytes for {len(long)} bytes")
+    print(f"markdown: {len(SHAPES)} documents that make parsers slow")
+    return faults
+
+
+def left_out(what, packages):
+    """Tells that a part is left out."""
+    subprocess.run([ROOT / "clients" / "left_out", what, packages], check=True)
+
+
+def main(arguments):
+    """Runs the parts; the status to end with."""
+    resource.setrlimit(resource.RLIMIT_CORE, (0, 0))
+    program = str(pathlib.Path(arguments[0] if arguments else PROGRAM).resolve())
+    faults = choices(program) + hostile(program)
+    judged = examples(program)
+    faults += judged or []
+    if judged is None:
+        left_out("the examples of the GFM specification by mdhtml",
+                 "cmark-gfm libcmark-gfm-extensions-dev")
+    if not shutil.which("cmark-gfm"):
+        left_out("the cases of docs/MARKDOWN.md by cmark-gfm", "cmark-gfm")
+    for fault in faults:
+        print(f"markdown: {fault}")
+    return 1 if faults else 0
+
+
+if __name__ == "__main__":
+    sys.exit(main(sys.argv[1:]))

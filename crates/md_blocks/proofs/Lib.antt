@@ -1,0 +1,2 @@
+-- The lemmas on tapes.
+pub mod TapeLemmas

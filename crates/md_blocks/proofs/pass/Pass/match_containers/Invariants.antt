@@ -1,0 +1,6 @@
+-- As many are matched as were looked at.
+use Rattle.std.proofs.Common.{◌≤◌}
+use Rattle.md_blocks.proofs.pass.Pass.match_containers.Given as goal
+
+abbrev pub invariant-loop-open : goal.invariant-loop-open
+invariant-loop-open l = l.matched ≤ l.open-index

@@ -1,0 +1,6 @@
+-- Each turn goes on in the row.
+use Rattle.std.proofs.Common.{◌-◌, length}
+use Rattle.md_blocks.proofs.table.delimiter_columns.Given as goal
+
+abbrev pub decreases-loop-at : goal.decreases-loop-at
+decreases-loop-at l = length l.row - l.at

@@ -1,0 +1,2 @@
+-- What the contracts of the block pass cite.
+pub mod Tape

@@ -1,0 +1,93 @@
+//! Fences, and the leaves that take any line.
+
+use crate::html::HtmlKind;
+use crate::marker::{is_blank_from, run_end};
+use crate::pass::Pass;
+use crate::position::Position;
+use md_lines::{Span, trim_start};
+use std::alloc::AllocError;
+
+/// The fence that code or math began with.
+#[derive(Clone, Copy, PartialEq, Eq)]
+pub(crate) struct Fence {
+    pub(crate) mark: u8,
+    /// How many marks it has.
+    pub(crate) length: usize,
+    /// How many columns it is indented by, which its lines lose.
+    pub(crate) indent: usize,
+}
+
+impl Fence {
+    /// The fence of at least so many marks at a position, in whose line no such mark comes again if
+    /// `is_last` says so.
+    pub(crate) fn at(
+        position: &Position<'_>,
+        mark: u8,
+        least: usize,
+        is_last: bool,
+    ) -> Option<Self> {
+        let end = run_end(position.line, position.text, mark);
+        let length = end - position.text;
+        if length < least {
+            return None;
+        }
+        if is_last && position.line[end..].contains(&mark) {
+            return None;
+        }
+        Some(Fence {
+            mark,
+            length,
+            indent: position.indent,
+        })
+    }
+
+    /// Whether a line closes what this fence began.
+    fn is_closed_by(self, position: &Position<'_>) -> bool {
+        let end = run_end(position.line, position.text, self.mark);
+        position.indent <= 3
+            && end - position.text >= self.length
+            && is_blank_from(position.line, end)
+    }
+}
+
+/// The first word from an index on.
+pub(crate) fn first_word(line: &[u8], from: usize) -> Span {
+    let start = trim_start(line, from, line.len());
+    let mut end = start;
+    while end < line.len() && line[end] != b' ' && line[end] != b'\t' {
+        end += 1;
+    }
+    Span::new(start, end)
+}
+
+impl<'a> Pass<'a> {
+    /// A line in a leaf behind a fence.
+    pub(crate) fn continue_fenced(
+        &mut self,
+        fence: Fence,
+        position: &mut Position<'_>,
+    ) -> Result<(), AllocError> {
+        if fence.is_closed_by(position) {
+            return self.close_leaf();
+        }
+        position.advance(fence.indent);
+        self.lines.push(position.rest())?;
+        Ok(())
+    }
+
+    /// A line in HTML; whether it belongs to it.
+    pub(crate) fn continue_html(
+        &mut self,
+        kind: HtmlKind,
+        position: &Position<'_>,
+    ) -> Result<bool, AllocError> {
+        if position.is_blank() && kind.ends_at_blank_line() {
+            return Ok(false);
+        }
+        self.lines.push(position.rest())?;
+        if kind.is_ended_by(&position.line[position.at..]) {
+            self.close_leaf()?;
+        }
+        Ok(true)
+    }
+}

@@ -1,0 +1,45 @@
+//! Labels in the form in which they are compared.
+
+use md_base::normalize_identifier;
+use md_lines::{Line, Place};
+use std::alloc::{AllocError, Global};
+
+/// A label in the form in which labels are compared, as the compiler compares identifiers: between
+/// two places in lines, of which the lines' text is read. `None` where it isn't UTF-8.
+pub(crate) fn folded_label(
+    alloc: Global,
+    bytes: &[u8],
+    lines: &[Line],
+    from: Place,
+    to: Place,
+) -> Result<Option<String>, AllocError> {
+    if from.line == to.line {
+        return folded_bytes(alloc, bytes.get(from.at..to.at).unwrap_or(&[]));
+    }
+    let mut label = Vec::new(alloc);
+    for index in from.line..to.line {
+        let Some(line) = lines.get(index) else {
+            return Ok(None);
+        };
+        let start = if index == from.line {
+            from.at
+        } else {
+            line.start
+        };
+        label.extend_from_slice(bytes.get(start..line.end).unwrap_or(&[]))?;
+        label.push(b'\n')?;
+    }
+    let Some(line) = lines.get(to.line) else {
+        return Ok(None);
+    };
+    label.extend_from_slice(bytes.get(line.start..to.at).unwrap_or(&[]))?;
+    folded_bytes(alloc, label.as_slice())
+}
+
+/// A label in the form in which labels are compared; `None` where it isn't UTF-8.
+pub(crate) fn folded_bytes(alloc: Global, label: &[u8]) -> Result<Option<String>, AllocError> {
+    match std::str::from_utf8(label) {
+        Ok(text) => Ok(Some(normalize_identifier(alloc, text)?)),
+        Err(_) => Ok(None),
+    }
+}

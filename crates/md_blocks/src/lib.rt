@@ -1,0 +1,25 @@
+//! The block pass of a Markdown parser: a document's lines become a flat tape of blocks, in the
+//! document's order, with the lines of each leaf and the definitions of links and footnotes.
+#![tactic(auto)]
+
+mod block;
+mod blocks;
+mod code;
+mod containers;
+mod definition;
+mod html;
+mod label;
+mod marker;
+mod nesting;
+mod options;
+mod pass;
+mod position;
+mod starts;
+mod table;
+
+pub use block::{Block, Container, ContainerKind, Exit, Item, Leaf, LineRange, Task};
+pub use blocks::{Blocks, parse_blocks};
+pub use definition::{Definition, Definitions};
+pub use nesting::MAX_DEPTH;
+pub use options::BlockOptions;
+pub use table::next_cell;

@@ -1,0 +1,148 @@
+//! What a line's text begins with: marks, markers and labels.
+
+ghost use Rattle.std.specs.Prelude.{◌≤◌, ◌<◌, ◌+◌, length, IfSome};
+
+use md_lines::{Span, trim_end, trim_start};
+
+/// How many digits an item's number may have.
+const MOST_DIGITS: usize = 9;
+
+/// How long a footnote's label may be.
+const MOST_IN_LABEL: usize = 998;
+
+/// The marker of an item.
+#[derive(Clone, Copy)]
+pub(crate) struct Marker {
+    /// Its last byte.
+    pub(crate) byte: u8,
+    /// How many digits are before that.
+    pub(crate) digits: usize,
+}
+
+/// Where a run of equal bytes ends that may begin at an index.
+#[inline(always)]
+pub(crate) fn run_end(line: &[u8], from: usize, byte: u8) -> usize
+    ensures after { from ≤ result }
+    ensures within { from ≤ length line.now → result ≤ length line.now }
+{
+    let mut at = from;
+    while at < line.len() && line[at] == byte {
+        at += 1;
+    }
+    at
+}
+
+/// Whether only spaces and tabs stand from an index on.
+#[inline(always)]
+pub(crate) fn is_blank_from(line: &[u8], from: usize) -> bool {
+    trim_start(line, from, line.len()) >= line.len()
+}
+
+/// Whether a space, a tab or the line's end is at an index.
+#[inline(always)]
+fn is_space_at(line: &[u8], at: usize) -> bool {
+    matches!(line.get(at), None | Some(b' ' | b'\t'))
+}
+
+/// The number signs of a heading at an index.
+pub(crate) fn heading_marks(line: &[u8], at: usize) -> Option<Span> {
+    let end = run_end(line, at, b'#');
+    if end - at <= 6 && is_space_at(line, end) {
+        Some(Span::new(at, end))
+    } else {
+        None
+    }
+}
+
+/// The text of a heading behind its number signs, without those that close it.
+pub(crate) fn heading_text(line: &[u8], from: usize) -> Span {
+    let start = trim_start(line, from, line.len());
+    let end = trim_end(line, start, line.len());
+    let mut mark = end;
+    while mark > start && line.get(mark - 1) == Some(&b'#') {
+        mark -= 1;
+    }
+    if mark <= start {
+        Span::new(start, start)
+    } else if mark < end && is_space_at(line, mark - 1) {
+        Span::new(start, trim_end(line, start, mark))
+    } else {
+        Span::new(start, end)
+    }
+}
+
+/// The marker of an item that begins at an index. In a paragraph an item must have a text, and a
+/// number must be 1.
+pub(crate) fn item_marker(line: &[u8], at: usize, in_paragraph: bool) -> Option<Marker>
+    ensures within { IfSome result (λ marker. at + marker.digits < length line.now) }
+    ensures short { IfSome result (λ marker. marker.digits ≤ 9) }
+{
+    let end = digits_end(line, at);
+    let digits = end - at;
+    let byte = *line.get(end)?;
+    let is_marker = match byte {
+        b'*' | b'-' | b'+' => digits == 0,
+        b'.' | b')' => digits > 0,
+        _ => false,
+    };
+    if !is_marker || !is_space_at(line, end + 1) {
+        return None;
+    }
+    if in_paragraph {
+        let is_first = digits == 0 || (digits == 1 && line.get(at) == Some(&b'1'));
+        if !is_first || is_blank_from(line, end + 1) {
+            return None;
+        }
+    }
+    Some(Marker { byte, digits })
+}
+
+/// Where the digits end that may begin at an index, of which at most nine are read.
+#[inline(always)]
+fn digits_end(line: &[u8], at: usize) -> usize
+    ensures after { at ≤ result }
+    ensures short { result ≤ at + 9 }
+{
+    let mut end = at;
+    while end < line.len() && end - at < MOST_DIGITS && line[end].is_ascii_digit() {
+        end += 1;
+    }
+    end
+}
+
+/// The label of a footnote's definition that begins at an index, at its `[`: what stands between
+/// `[^` and `]:`.
+pub(crate) fn footnote_label(line: &[u8], at: usize) -> Option<Span>
+    ensures { IfSome result (λ label. (at ≤ label.start) × (label.end + 2 ≤ length line.now)) }
+{
+    if line.get(at..at.saturating_add(2)) != Some(b"[^") {
+        return None;
+    }
+    let start = at + 2;
+    let mut end = start;
+    while end < line.len() && end - start < MOST_IN_LABEL && !ends_label(line[end]) {
+        end += 1;
+    }
+    if end > start && line.get(end..end + 2) == Some(b"]:") {
+        Some(Span::new(start, end))
+    } else {
+        None
+    }
+}
+
+/// Whether a byte is in no footnote's label.
+#[inline(always)]
+fn ends_label(byte: u8) -> bool {
+    byte == b']' || byte == b'[' || byte == b' ' || byte == b'\t' || byte == 0
+}
+
+/// Whether the box of a task is at an index: `Some(true)` where it is checked.
+pub(crate) fn task_box(line: &[u8], at: usize) -> Option<bool>
+    ensures { IfSome result (λ _. at + 3 ≤ length line.now) }
+{
+    match line.get(at..at.saturating_add(4)) {
+        Some([b'[', b' ', b']', b' ' | b'\t']) => Some(false),
+        Some([b'[', b'x' | b'X', b']', b' ' | b'\t']) => Some(true),
+        _ => None,
+    }
+}

@@ -1,0 +1,181 @@
+//! A position in a line, by bytes and by columns.
+
+ghost use Rattle.std.specs.Prelude.{◌≡◌, ◌+◌, ◌≤◌, ◌<◌, length, IsSome};
+
+use md_lines::Line;
+
+/// How many columns a tab stop has.
+const TAB_STOP: usize = 4;
+
+/// A position in a line, and what comes next there: spaces and tabs, and then text.
+#[derive(Drop)]
+pub(crate) struct Position<'a> {
+    /// The document up to the line's end.
+    pub(crate) line: &'a [u8],
+    /// Where the next line begins.
+    pub(crate) next: usize,
+    /// The index of the byte at the position.
+    pub(crate) at: usize,
+    /// The column of the position, counted from the line's beginning, or from where tab stops are.
+    pub(crate) column: usize,
+    /// Whether the position is within the columns of the tab at `at`.
+    pub(crate) is_in_tab: bool,
+    /// Where the first byte is that is neither a space nor a tab; the line's end where none is.
+    pub(crate) text: usize,
+    /// How many columns are before that byte.
+    pub(crate) indent: usize,
+    ghost before_text: { at ≤ text },
+    ghost in_line: { text ≤ length line.now },
+    ghost line_in_order: { length line.now ≤ next },
+}
+
+impl<'a> Position<'a> {
+    /// The position at the beginning of a line, which goes from `at` to the end of `line`.
+    #[inline(always)]
+    pub(crate) fn new(line: &'a [u8], at: usize, next: usize) -> Self
+        requires begins { at ≤ length line.now }
+        requires ends { length line.now ≤ next }
+        ensures at { result.at ≡ at }
+    {
+        let (text, indent) = text_after(line, at, 0);
+        Position {
+            line,
+            next,
+            at,
+            column: 0,
+            is_in_tab: false,
+            text,
+            indent,
+        }
+    }
+
+    /// The first byte of the text; `None` where only spaces and tabs are left.
+    #[inline(always)]
+    pub(crate) fn byte(&self) -> Option<u8>
+        ensures { IsSome result → self.now.text < length self.now.line.now }
+    {
+        if self.text < self.line.len() {
+            Some(self.line[self.text])
+        } else {
+            None
+        }
+    }
+
+    /// Whether only spaces and tabs are left.
+    #[inline(always)]
+    pub(crate) fn is_blank(&self) -> bool {
+        self.text >= self.line.len()
+    }
+
+    /// Goes past so many columns of the spaces and tabs, or past all where fewer are left.
+    pub(crate) fn advance(&mut self, columns: usize)
+        ensures at { self.old.at ≤ self.new.at }
+        ensures line { self.new.line ≡ self.old.line }
+    {
+        let mut left = columns.min(self.indent);
+        self.indent -= left;
+        while left > 0 && self.at < self.text {
+            let width = width_at(self.line, self.at, self.column);
+            self.is_in_tab = width > left;
+            if self.is_in_tab {
+                self.column = self.column.wrapping_add(left);
+                return;
+            }
+            self.column = self.column.wrapping_add(width);
+            self.at += 1;
+            left -= width;
+        }
+    }
+
+    /// Goes past the spaces and tabs, and past so many bytes of the text.
+    pub(crate) fn pass(&mut self, width: usize)
+        requires { self.old.text + width ≤ length self.old.line.now }
+        ensures at { self.new.at ≡ self.old.text + width }
+        ensures line { self.new.line ≡ self.old.line }
+    {
+        let at = self.text + width;
+        let column = self.column.wrapping_add(self.indent).wrapping_add(width);
+        let (text, indent) = text_after(self.line, at, column);
+        self.at = at;
+        self.column = column;
+        self.is_in_tab = false;
+        self.text = text;
+        self.indent = indent;
+    }
+
+    /// Goes past the mark of a quote, and past a column of space behind it.
+    #[inline(always)]
+    pub(crate) fn pass_quote_mark(&mut self)
+        requires { self.old.text < length self.old.line.now }
+        ensures at { self.old.at < self.new.at }
+        ensures line { self.new.line ≡ self.old.line }
+    {
+        self.pass(1);
+        self.advance(1);
+    }
+
+    /// Goes to the line's end.
+    pub(crate) fn finish(&mut self)
+        ensures at { self.old.at ≤ self.new.at }
+        ensures line { self.new.line ≡ self.old.line }
+    {
+        self.text = self.line.len();
+        self.at = self.text;
+        self.indent = 0;
+        self.is_in_tab = false;
+    }
+
+    /// The line from the position on, with the spaces and tabs that are left.
+    #[inline(always)]
+    pub(crate) fn rest(&self) -> Line {
+        let columns = if self.is_in_tab {
+            (self.column % TAB_STOP) as u8
+        } else {
+            0
+        };
+        Line {
+            start: self.at,
+            end: self.line.len(),
+            next: self.next,
+            columns,
+        }
+    }
+
+    /// The line from the text on.
+    #[inline(always)]
+    pub(crate) fn text_line(&self) -> Line {
+        Line {
+            start: self.text,
+            end: self.line.len(),
+            next: self.next,
+            columns: 0,
+        }
+    }
+}
+
+/// How many columns the space or tab at an index takes from a column on.
+#[inline(always)]
+fn width_at(line: &[u8], at: usize, column: usize) -> usize
+    ensures { 1 ≤ result }
+{
+    match line.get(at) {
+        Some(b'\t') => TAB_STOP - column % TAB_STOP,
+        _ => 1,
+    }
+}
+
+/// Where the text begins behind the spaces and tabs at an index, and how many columns these take.
+#[inline(always)]
+fn text_after(line: &[u8], from: usize, column: usize) -> (usize, usize)
+    requires { from ≤ length line.now }
+    ensures after { from ≤ result.0 }
+    ensures within { result.0 ≤ length line.now }
+{
+    let mut at = from;
+    let mut indent: usize = 0;
+    while at < line.len() && (line[at] == b' ' || line[at] == b'\t') {
+        indent = indent.saturating_add(width_at(line, at, column.wrapping_add(indent)));
+        at += 1;
+    }
+    (at, indent)
+}

@@ -1,0 +1,290 @@
+//! What begins with a line: the leaves.
+
+use crate::block::{Leaf, LineRange};
+use crate::code::{Fence, first_word};
+use crate::html::HtmlKind;
+use crate::marker::{heading_marks, heading_text, is_blank_from, run_end};
+use crate::pass::{CODE_INDENT, NoBreak, OpenLeaf, Pass};
+use crate::position::Position;
+use crate::table::{count_cells, delimiter_columns};
+use md_lines::{Class, Line, Span, is, trim_start};
+use std::alloc::AllocError;
+
+/// So many cells may be missing in the rows of all tables: what would be a row is text then.
+const MOST_MISSING: usize = 1 << 19;
+
+impl<'a> Pass<'a> {
+    /// Reads a line behind the prefixes of so many open blocks, where no leaf took it;
+    /// `is_whole` says that these are all.
+    pub(crate) fn begin_blocks(
+        &mut self,
+        position: &mut Position<'_>,
+        matched: usize,
+        is_whole: bool,
+    ) -> Result<(), AllocError> {
+        let mut depth = matched;
+        let mut has_begun = false;
+        'parts: while let Some(byte) = position.byte() {
+            if position.indent >= CODE_INDENT && self.leaf != OpenLeaf::Paragraph {
+                return self.read_indented(position, depth, is_whole);
+            }
+            if position.indent >= CODE_INDENT || is_text(byte) {
+                return self.read_text(position, depth, is_whole);
+            }
+            if self.begin_leaf(byte, position, depth, is_whole)? {
+                self.blank_line = None;
+                return Ok(());
+            }
+            if !self.begin_container(byte, position, depth, is_whole)? {
+                if is_whole && self.leaf == OpenLeaf::Paragraph && self.begin_table(position)? {
+                    return Ok(());
+                }
+                return self.read_text(position, depth, is_whole);
+            }
+            has_begun = true;
+            depth = self.nesting.depth();
+        }
+        if has_begun {
+            Ok(())
+        } else {
+            self.read_blank_line(position, matched, is_whole)
+        }
+    }
+
+    /// Begins a leaf that a byte may begin, or reads the one line that it has; whether one begins.
+    fn begin_leaf(
+        &mut self,
+        byte: u8,
+        position: &Position<'_>,
+        depth: usize,
+        is_whole: bool,
+    ) -> Result<bool, AllocError> {
+        let in_paragraph = is_whole && self.leaf == OpenLeaf::Paragraph;
+        match byte {
+            b'#' => self.begin_heading(position, depth),
+            b'`' | b'~' => self.begin_fenced(byte, position, depth),
+            b'$' if self.options.math => self.begin_math(position, depth),
+            b'<' => self.begin_html(position, depth, in_paragraph),
+            b'=' if in_paragraph => self.begin_underlined(byte, position),
+            b'-' if in_paragraph => {
+                Ok(
+                    self.begin_underlined(byte, position)?
+                        || self.begin_break(byte, position, depth)?,
+                )
+            }
+            b'*' | b'-' | b'_' => self.begin_break(byte, position, depth),
+            _ => Ok(false),
+        }
+    }
+
+    /// A heading behind number signs.
+    fn begin_heading(&mut self, position: &Position<'_>, depth: usize) -> Result<bool, AllocError> {
+        let Some(marks) = heading_marks(position.line, position.text) else {
+            return Ok(false);
+        };
+        self.make_room(depth)?;
+        let text = heading_text(position.line, marks.end);
+        let start = self.lines.len();
+        self.lines.push(Line {
+            start: text.start,
+            end: text.end,
+            next: text.end,
+            columns: 0,
+        })?;
+        let lines = LineRange::new(start, self.lines.len());
+        self.nesting.put(Leaf::AtxHeading { marks, lines })?;
+        Ok(true)
+    }
+
+    /// Code behind a fence.
+    fn begin_fenced(
+        &mut self,
+        mark: u8,
+        position: &Position<'_>,
+        depth: usize,
+    ) -> Result<bool, AllocError> {
+        let Some(fence) = Fence::at(position, mark, 3, mark == b'`') else {
+            return Ok(false);
+        };
+        self.make_room(depth)?;
+        let info = first_word(position.line, run_end(position.line, position.text, mark));
+        self.begin(OpenLeaf::Fenced { fence, info });
+        Ok(true)
+    }
+
+    /// Math behind a line that begins with dollar signs.
+    fn begin_math(&mut self, position: &Position<'_>, depth: usize) -> Result<bool, AllocError> {
+        let Some(fence) = Fence::at(position, b'$', 2, true) else {
+            return Ok(false);
+        };
+        self.make_room(depth)?;
+        self.begin(OpenLeaf::Math {
+            fence,
+            start: position.text,
+        });
+        let end = position.line.len();
+        let start = trim_start(
+            position.line,
+            run_end(position.line, position.text, b'$'),
+            end,
+        );
+        if start < end {
+            self.lines.push(Line {
+                start,
+                end,
+                next: position.next,
+                columns: 0,
+            })?;
+        }
+        Ok(true)
+    }
+
+    /// HTML.
+    fn begin_html(
+        &mut self,
+        position: &Position<'_>,
+        depth: usize,
+        in_paragraph: bool,
+    ) -> Result<bool, AllocError> {
+        let text = &position.line[position.text..];
+        let Some(kind) = HtmlKind::begun_by(text, !in_paragraph) else {
+            return Ok(false);
+        };
+        self.make_room(depth)?;
+        self.begin(OpenLeaf::Html(kind));
+        self.lines.push(position.rest())?;
+        if kind.is_ended_by(text) {
+            self.close_leaf()?;
+        }
+        Ok(true)
+    }
+
+    /// A heading over a line of such bytes, which the open paragraph becomes.
+    fn begin_underlined(&mut self, mark: u8, position: &Position<'_>) -> Result<bool, AllocError> {
+        let end = run_end(position.line, position.text, mark);
+        if !is_blank_from(position.line, end) || !self.take_definitions()? {
+            return Ok(false);
+        }
+        let lines = self.leaf_lines();
+        self.leaf = OpenLeaf::None;
+        let underline = Span::new(position.text, end);
+        self.nesting.put(Leaf::SetextHeading { lines, underline })?;
+        Ok(true)
+    }
+
+    /// A thematic break of such a mark.
+    fn begin_break(
+        &mut self,
+        mark: u8,
+        position: &Position<'_>,
+        depth: usize,
+    ) -> Result<bool, AllocError> {
+        if !self.is_break(mark, position.line, position.text) {
+            return Ok(false);
+        }
+        self.make_room(depth)?;
+        let span = Span::new(position.text, position.line.len());
+        self.nesting.put(Leaf::ThematicBreak(span))?;
+        Ok(true)
+    }
+
+    /// Whether a thematic break begins at an index: three or more such marks, and spaces.
+    fn is_break(&mut self, mark: u8, line: &[u8], from: usize) -> bool {
+        if self.no_break.mark == mark && from < self.no_break.before {
+            return false;
+        }
+        let mut count: usize = 0;
+        for at in from..line.len() {
+            if line[at] == mark {
+                count += 1;
+            } else if !is(line[at], Class::Space) {
+                self.no_break = NoBreak { mark, before: at };
+                return false;
+            }
+        }
+        count >= 3
+    }
+
+    /// A line that is indented as code is, and that no paragraph takes.
+    fn read_indented(
+        &mut self,
+        position: &mut Position<'_>,
+        depth: usize,
+        is_whole: bool,
+    ) -> Result<(), AllocError> {
+        if !is_whole || self.leaf != OpenLeaf::Indented {
+            self.make_room(depth)?;
+            self.begin(OpenLeaf::Indented);
+        }
+        self.blank_line = None;
+        position.advance(CODE_INDENT);
+        self.lines.push(position.rest())?;
+        Ok(())
+    }
+
+    /// A line of text: it goes on in a paragraph, is a row of a table, or begins a paragraph.
+    fn read_text(
+        &mut self,
+        position: &Position<'_>,
+        depth: usize,
+        is_whole: bool,
+    ) -> Result<(), AllocError> {
+        let leaf = self.leaf;
+        match leaf {
+            OpenLeaf::Paragraph => {}
+            OpenLeaf::Table { columns } if is_whole && self.takes_row(columns, position) => {}
+            _ => {
+                self.make_room(depth)?;
+                self.begin(OpenLeaf::Paragraph);
+            }
+        }
+        self.lines.push(position.text_line())?;
+        self.blank_line = None;
+        Ok(())
+    }
+
+    /// Whether a line is a row of the open table. A lone bar is none.
+    fn takes_row(&mut self, columns: usize, position: &Position<'_>) -> bool {
+        let cells = count_cells(position.line, position.text_line());
+        let missing = self
+            .missing_cells
+            .saturating_add(columns.saturating_sub(cells));
+        if cells == 0 || missing > MOST_MISSING {
+            return false;
+        }
+        self.missing_cells = missing;
+        true
+    }
+
+    /// Makes a table of the paragraph's last line, if this line has its delimiters; whether it has.
+    fn begin_table(&mut self, position: &Position<'_>) -> Result<bool, AllocError> {
+        if !self.options.tables {
+            return Ok(false);
+        }
+        let Some(columns) = delimiter_columns(position.line, position.text) else {
+            return Ok(false);
+        };
+        let Some(head) = self.lines.last().copied() else {
+            return Ok(false);
+        };
+        if self.leaf_start >= self.lines.len() || count_cells(self.bytes, head) != columns {
+            return Ok(false);
+        }
+        if self.leaf_start < self.lines.len() - 1 {
+            self.lines.pop();
+            self.close_leaf()?;
+            self.begin(OpenLeaf::None);
+            self.lines.push(head)?;
+        }
+        self.leaf = OpenLeaf::Table { columns };
+        self.lines.push(position.text_line())?;
+        self.blank_line = None;
+        Ok(true)
+    }
+}
+
+/// Whether a byte begins nothing but text.
+#[inline(always)]
+fn is_text(byte: u8) -> bool {
+    byte >= 128 || is(byte, Class::Alphabetic)
+}

@@ -1,7 +1,0 @@
--- The search that proves it, and no other: a wrong body is refused by it in a second, where all
--- that is tried without an answer takes ten.
-use Rattle.std.proofs.Common.{rules}
-use Rattle.md_emit.proofs.printer.Printer.exit_quiet.Goals as goal
-
-pub returns-in-CharacterReferenceMarkerNumeric : goal.returns-in-CharacterReferenceMarkerNumeric
-returns-in-CharacterReferenceMarkerNumeric c = search rules

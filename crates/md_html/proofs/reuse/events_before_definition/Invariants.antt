@@ -1,0 +1,14 @@
+-- At each turn: the events gone over and those still to come before the definition are those before
+-- it of all.
+use Rattle.std.proofs.Common.{◌≡◌, ◌+◌, ◌≤◌, length}
+use Rattle.md_html.specs.Work.{before_definition}
+use Rattle.md_html.proofs.reuse.events_before_definition.Given as goal
+
+abbrev pub invariant-loop-event : goal.invariant-loop-event
+invariant-loop-event l = record {
+  counted : l.count + length (before_definition l.rest) ≡ length (before_definition l.events);
+  few : l.count + length l.rest ≤ length l.events;
+}
+
+abbrev pub decreases-loop-event : goal.decreases-loop-event
+decreases-loop-event l = length l.rest

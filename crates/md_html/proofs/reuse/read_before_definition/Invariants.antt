@@ -1,0 +1,19 @@
+-- At each turn: what is read and what is still to be read before the definition are what is read
+-- before it of all; no more nodes are open than events gone over.
+use Rattle.std.proofs.Common.{◌≡◌, ◌+◌, ◌-◌, ◌^◌, ◌≤◌, length}
+use Rattle.md_html.specs.Work.{before_definition, read_length}
+use Rattle.md_html.specs.Counting.{capped}
+use Rattle.md_html.proofs.Counting.{read_from}
+use Rattle.md_html.proofs.reuse.read_before_definition.Given as goal
+
+abbrev pub invariant-loop-event : goal.invariant-loop-event
+invariant-loop-event l = record {
+  read : capped (l.progress.length
+      + read_from l.progress.index l.progress.depth (before_definition l.rest))
+      ≡ capped (read_length (before_definition l.events));
+  fits : l.progress.length ≤ 2 ^ 128 - 1;
+  few_open : l.progress.depth + length l.rest ≤ length l.events;
+}
+
+abbrev pub decreases-loop-event : goal.decreases-loop-event
+decreases-loop-event l = length l.rest

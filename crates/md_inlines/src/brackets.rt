@@ -1,0 +1,233 @@
+//! Brackets: links, images and calls of footnotes.
+
+use crate::leaf::Leaf;
+use crate::reader::Reader;
+use crate::token::Mark;
+use md_blocks::Definition;
+use md_lines::{Cursor, Place, Span, Title, read_destination, read_label, read_title};
+use std::alloc::AllocError;
+
+/// The most bytes that a label has.
+const MOST_OF_LABEL: usize = 999;
+
+/// A bracket that is open.
+#[derive(Clone, Copy, Debug, PartialEq, Eq)]
+pub(crate) struct Bracket {
+    /// Its token.
+    token: usize,
+    /// How many runs of delimiters are before it.
+    delimiters: usize,
+    /// The place after it.
+    inside: Place,
+    is_image: bool,
+    /// Whether another one stands in it.
+    has_bracket: bool,
+}
+
+/// Where a link or an image leads.
+#[derive(Clone, Copy, Debug, PartialEq, Eq)]
+pub(crate) enum Target {
+    /// To what stands behind it.
+    Resource(Span, Option<Title>),
+    /// To a definition.
+    Definition(Definition),
+}
+
+/// Where a link or an image leads, and the place after it.
+#[derive(Clone, Copy, Debug, PartialEq, Eq)]
+pub(crate) struct Found {
+    target: Target,
+    end: Place,
+}
+
+impl<'a> Reader<'a> {
+    /// A `[`, or the `![` of an image.
+    pub(crate) fn open_bracket(
+        &mut self,
+        here: Place,
+        is_image: bool,
+    ) -> Result<Place, AllocError> {
+        let length = if is_image { 2 } else { 1 };
+        let inside = Place {
+            line: here.line,
+            at: here.at.saturating_add(length),
+        };
+        self.end_text(here.at, inside.at)?;
+        if let Some(outer) = self.brackets.last_mut() {
+            outer.has_bracket = true;
+        }
+        let token = self.tokens.len();
+        self.push(Mark::Text, here.at, inside.at, 0)?;
+        self.brackets.push(Bracket {
+            token,
+            delimiters: self.delimiters.len(),
+            inside,
+            is_image,
+            has_bracket: false,
+        })?;
+        Ok(inside)
+    }
+
+    /// A `]`: the place after the link, the image or the call that it ends.
+    pub(crate) fn read_bracket_end(
+        &mut self,
+        leaf: &Leaf,
+        here: Place,
+    ) -> Result<Place, AllocError> {
+        self.end_text(here.at, here.at)?;
+        let Some(open) = self.brackets.pop() else {
+            return Ok(here);
+        };
+        let is_inactive = !open.is_image && self.brackets.len() < self.inactive;
+        self.inactive = self.inactive.min(self.brackets.len());
+        if is_inactive {
+            return Ok(here);
+        }
+        if self.is_footnote_call(leaf, &open, here)? {
+            return self.put_footnote_call(&open, here);
+        }
+        match self.find_target(leaf, &open, here)? {
+            Some(found) => self.put_link(&open, here, &found),
+            None => Ok(here),
+        }
+    }
+
+    /// Whether a bracket that ends there is a call of a footnote.
+    fn is_footnote_call(
+        &mut self,
+        leaf: &Leaf,
+        open: &Bracket,
+        here: Place,
+    ) -> Result<bool, AllocError> {
+        let text = leaf.bytes.get(open.inside.at..here.at).unwrap_or(b"");
+        let is_label = text.starts_with(b"^") && text.len() <= MOST_OF_LABEL;
+        if !is_label || open.has_bracket || open.inside.line != here.line {
+            return Ok(false);
+        }
+        if !self.options.footnotes {
+            return Ok(false);
+        }
+        let label = Span::new(open.inside.at.saturating_add(1), here.at);
+        self.definitions.has_footnote(self.alloc, leaf.bytes, label)
+    }
+
+    /// Makes a call of a footnote of an open bracket and what stands in it. The `!` before a call
+    /// is text.
+    fn put_footnote_call(&mut self, open: &Bracket, here: Place) -> Result<Place, AllocError> {
+        let start = open.inside.at.saturating_sub(1);
+        let after = here.at.saturating_add(1);
+        self.tokens.truncate(open.token);
+        self.delimiters.truncate(open.delimiters);
+        if open.is_image {
+            self.push(Mark::Text, start.saturating_sub(1), start, 0)?;
+        }
+        self.push(Mark::FootnoteCall, start, after, 0)?;
+        self.from = after;
+        Ok(Place {
+            line: here.line,
+            at: after,
+        })
+    }
+
+    /// Makes a link or an image of an open bracket and what stands in it.
+    fn put_link(
+        &mut self,
+        open: &Bracket,
+        here: Place,
+        found: &Found,
+    ) -> Result<Place, AllocError> {
+        let end = found.end;
+        let index = self.targets.len();
+        self.targets.push(found.target)?;
+        let (start_mark, end_mark) = if open.is_image {
+            (Mark::ImageStart, Mark::ImageEnd)
+        } else {
+            (Mark::LinkStart, Mark::LinkEnd)
+        };
+        if let Some(token) = self.tokens.get_mut(open.token) {
+            token.mark = start_mark;
+        }
+        self.push(end_mark, here.at, end.at, index)?;
+        self.delimiters.resolve(&mut self.tokens, open.delimiters)?;
+        if !open.is_image {
+            self.inactive = self.brackets.len();
+        }
+        self.from = end.at;
+        Ok(end)
+    }
+
+    /// Where a bracket leads that ends there, and the place after that.
+    fn find_target(
+        &mut self,
+        leaf: &Leaf,
+        open: &Bracket,
+        here: Place,
+    ) -> Result<Option<Found>, AllocError> {
+        let after = Place {
+            line: here.line,
+            at: here.at.saturating_add(1),
+        };
+        let resource = read_resource(leaf, after);
+        if resource.is_some() {
+            return Ok(resource);
+        }
+        if self.definitions.is_empty() {
+            return Ok(None);
+        }
+        let mut cursor = Cursor::new(leaf.bytes, leaf.lines, after);
+        if cursor.take(b'[') && !cursor.take(b']') {
+            let from = cursor.place();
+            if read_label(&mut cursor) {
+                let to = cursor.place();
+                cursor.advance();
+                return self.find_definition(leaf, from, to, cursor.place());
+            }
+            cursor = Cursor::new(leaf.bytes, leaf.lines, after);
+        }
+        let length = here.at.saturating_sub(open.inside.at);
+        if open.has_bracket || length > MOST_OF_LABEL {
+            return Ok(None);
+        }
+        self.find_definition(leaf, open.inside, here, cursor.place())
+    }
+
+    /// The definition with a label, for a bracket that ends at a place.
+    fn find_definition(
+        &mut self,
+        leaf: &Leaf,
+        from: Place,
+        to: Place,
+        end: Place,
+    ) -> Result<Option<Found>, AllocError> {
+        let found = self
+            .definitions
+            .find(self.alloc, leaf.bytes, leaf.lines, from, to)?;
+        Ok(found.map(|definition| Found {
+            target: Target::Definition(definition),
+            end,
+        }))
+    }
+}
+
+/// A destination and a title between parentheses at a place, and the place after them.
+fn read_resource(leaf: &Leaf, place: Place) -> Option<Found> {
+    let mut cursor = Cursor::new(leaf.bytes, leaf.lines, place);
+    if !cursor.take(b'(') {
+        return None;
+    }
+    cursor.skip_spaces();
+    let destination = read_destination(&mut cursor)?;
+    let title = if cursor.skip_spaces() {
+        read_title(&mut cursor)
+    } else {
+        None
+    };
+    cursor.skip_spaces();
+    if !cursor.take(b')') {
+        return None;
+    }
+    Some(Found {
+        target: Target::Resource(destination, title),
+        end: cursor.place(),
+    })
+}

@@ -1,0 +1,110 @@
+//! Classes of characters, as the rules of emphasis tell them apart.
+
+ghost use Rattle.std.specs.Prelude.{◌≡◌, []};
+
+use std::str;
+use ucd_category::GeneralCategory;
+
+/// A class of characters.
+#[derive(Clone, Copy, Debug, PartialEq, Eq)]
+pub(crate) enum CharacterClass {
+    /// White space, and where a text begins or ends.
+    Space,
+    /// Punctuation.
+    Punctuation,
+    /// Every other character.
+    Word,
+}
+
+/// The class of the character with which a text ends.
+pub(crate) fn class_before(text: &[u8]) -> CharacterClass
+    ensures { text.now ≡ [] → result ≡ CharacterClass.Space }
+{
+    match text.last() {
+        None => CharacterClass::Space,
+        Some(byte) if *byte < 128 => class_of_byte(*byte),
+        Some(_) => last_character(text).map_or(CharacterClass::Word, class_of),
+    }
+}
+
+/// The class of the character with which a text begins.
+pub(crate) fn class_after(text: &[u8]) -> CharacterClass
+    ensures { text.now ≡ [] → result ≡ CharacterClass.Space }
+{
+    match text.first() {
+        None => CharacterClass::Space,
+        Some(byte) if *byte < 128 => class_of_byte(*byte),
+        Some(_) => first_character(text).map_or(CharacterClass::Word, class_of),
+    }
+}
+
+/// The class of a character of one byte.
+fn class_of_byte(byte: u8) -> CharacterClass {
+    if byte.is_ascii_alphanumeric() {
+        CharacterClass::Word
+    } else if byte.is_ascii_punctuation() {
+        CharacterClass::Punctuation
+    } else if matches!(byte, b' ' | b'\t' | b'\n' | b'\x0c' | b'\r') {
+        CharacterClass::Space
+    } else {
+        CharacterClass::Word
+    }
+}
+
+/// The character of two to four bytes with which a text ends.
+fn last_character(text: &[u8]) -> Option<char> {
+    for length in 2..5 {
+        let start = text.len().checked_sub(length)?;
+        if let Ok(character) = str::from_utf8(text.get(start..)?) {
+            return character.chars().next();
+        }
+    }
+    None
+}
+
+/// The character of two to four bytes with which a text begins.
+fn first_character(text: &[u8]) -> Option<char> {
+    for length in 2..5 {
+        if let Ok(character) = str::from_utf8(text.get(..length)?) {
+            return character.chars().next();
+        }
+    }
+    None
+}
+
+/// The class of a character of more than one byte.
+fn class_of(character: char) -> CharacterClass {
+    match GeneralCategory::for_char(character) {
+        GeneralCategory::SpaceSeparator => CharacterClass::Space,
+        GeneralCategory::ConnectorPunctuation
+        | GeneralCategory::DashPunctuation
+        | GeneralCategory::OpenPunctuation
+        | GeneralCategory::ClosePunctuation
+        | GeneralCategory::InitialPunctuation
+        | GeneralCategory::FinalPunctuation
+        | GeneralCategory::OtherPunctuation => CharacterClass::Punctuation,
+        _ => CharacterClass::Word,
+    }
+}
+
+#[cfg(test)]
+mod tests {
+    use super::*;
+
+    #[test]
+    fn tells_classes_apart(rt: HostRuntime) {
+        assert_eq!(rt; class_before("a\u{a0}".as_bytes()), CharacterClass::Space);
+        assert_eq!(rt; class_before("a\u{20ac}".as_bytes()), CharacterClass::Word);
+        assert_eq!(rt;
+            class_before("a\u{3001}".as_bytes()),
+            CharacterClass::Punctuation
+        );
+        assert_eq!(rt;
+            class_after("\u{10100}a".as_bytes()),
+            CharacterClass::Punctuation
+        );
+        assert_eq!(rt; class_after("\u{fc}a".as_bytes()), CharacterClass::Word);
+        assert_eq!(rt; class_after(b"$"), CharacterClass::Punctuation);
+        assert_eq!(rt; class_after(b"\xff"), CharacterClass::Word);
+    }
+}

@@ -1,0 +1,117 @@
+//! Texts in which only escapes and character references are read.
+
+use crate::references::reference_length;
+use crate::writer::Writer;
+use md_base::Name;
+use md_lines::{Class, is};
+use std::alloc::AllocError;
+
+/// Writes the events of a text of escapes and references.
+pub(crate) fn write_string(
+    writer: &mut Writer,
+    bytes: &[u8],
+    start: usize,
+    end: usize,
+) -> Result<(), AllocError> {
+    write_decoded(writer, bytes, start, end, true)
+}
+
+/// Writes the events of a URL between angle brackets, in which a backslash is one.
+pub(crate) fn write_url(
+    writer: &mut Writer,
+    bytes: &[u8],
+    start: usize,
+    end: usize,
+) -> Result<(), AllocError> {
+    write_decoded(writer, bytes, start, end, false)
+}
+
+/// Writes the events of a text of references, and of escapes where they are read.
+fn write_decoded(
+    writer: &mut Writer,
+    bytes: &[u8],
+    start: usize,
+    end: usize,
+    has_escapes: bool,
+) -> Result<(), AllocError> {
+    let text = bytes.get(..end).unwrap_or(b"");
+    let mut from = start;
+    let mut at = start;
+    while at < text.len() {
+        match text[at] {
+            b'\\' if has_escapes && is_escape(text, at) => {
+                write_data(writer, from, at)?;
+                from = at + 1;
+                at = from.saturating_add(1);
+            }
+            b'&' => {
+                let length = reference_length(&text[at..]).unwrap_or(0);
+                if length > 0 {
+                    write_data(writer, from, at)?;
+                    from = at.saturating_add(length);
+                    write_reference(writer, bytes, at, from)?;
+                }
+                at = at.saturating_add(length.max(1));
+            }
+            _ => at += 1,
+        }
+    }
+    write_data(writer, from, end)
+}
+
+/// Whether the backslash at a place escapes what follows it.
+fn is_escape(text: &[u8], at: usize) -> bool {
+    match text.get(at.saturating_add(1)) {
+        Some(byte) => is(*byte, Class::Punctuation),
+        None => false,
+    }
+}
+
+/// Whether a character reference stands in a text.
+pub(crate) fn has_reference(text: &[u8]) -> bool {
+    for (index, byte) in text.iter().enumerate() {
+        if *byte == b'&' && reference_length(&text[index..]).is_some() {
+            return true;
+        }
+    }
+    false
+}
+
+/// Writes a text as it is, if it has any byte.
+pub(crate) fn write_data(writer: &mut Writer, start: usize, end: usize) -> Result<(), AllocError> {
+    if start < end {
+        writer.leaf(Name::Data, start, end)?;
+    }
+    Ok(())
+}
+
+/// Writes the events of a character reference.
+pub(crate) fn write_reference(
+    writer: &mut Writer,
+    bytes: &[u8],
+    start: usize,
+    end: usize,
+) -> Result<(), AllocError> {
+    let text = bytes.get(start..end).unwrap_or(b"");
+    let after = start.saturating_add(1);
+    writer.leaf(Name::CharacterReferenceMarker, start, after)?;
+    let last = end.saturating_sub(1);
+    match text {
+        [_, b'#', b'x' | b'X', ..] => {
+            let letter = after.saturating_add(1);
+            let digits = letter.saturating_add(1);
+            writer.leaf(Name::CharacterReferenceMarkerNumeric, after, letter)?;
+            writer.leaf(Name::CharacterReferenceMarkerHexadecimal, letter, digits)?;
+            writer.leaf(Name::CharacterReferenceValue, digits, last)
+        }
+        [_, b'#', ..] => {
+            let digits = after.saturating_add(1);
+            writer.leaf(Name::CharacterReferenceMarkerNumeric, after, digits)?;
+            writer.leaf(Name::CharacterReferenceValue, digits, last)
+        }
+        _ => {
+            writer.use_name(bytes.get(after..last).unwrap_or(b""))?;
+            writer.leaf(Name::CharacterReferenceValue, after, last)
+        }
+    }
+}

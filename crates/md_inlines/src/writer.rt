@@ -1,0 +1,144 @@
+//! Events one after another.
+
+ghost use Rattle.std.specs.Prelude.{◌≡◌, ◌++◌, ◌∷◌, [], OnOk};
+ghost use Rattle.md_base.specs.Tree.{entering, exiting};
+ghost use Rattle.md_inlines.specs.Written.{point_at};
+
+use crate::references::UsedNames;
+use md_base::{Event, Kind, Name, Point};
+use std::alloc::{AllocError, Global};
+
+/// The events of a document, as they are written one after another, and what goes with them. Places
+/// are byte indices into the document; of a point only its index and its columns of a tab are set.
+#[derive(Drop)]
+pub struct Writer {
+    /// The events so far.
+    pub events: Vec<Event>,
+    names: UsedNames,
+    /// Of each definition whether something refers to it by its label.
+    are_referred: Vec<bool>,
+}
+
+impl Writer {
+    /// No event yet.
+    pub fn new(alloc: Global) -> Writer
+        ensures { result.events.items ≡ [] }
+    {
+        Writer {
+            events: Vec::new(alloc),
+            names: UsedNames::new(alloc),
+            are_referred: Vec::new(alloc),
+        }
+    }
+
+    /// Makes room for so many more events.
+    ///
+    /// # Errors
+    ///
+    /// Only where memory runs out.
+    pub fn reserve(&mut self, count: usize) -> Result<(), AllocError>
+        ensures { self.new.events.items ≡ self.old.events.items }
+    {
+        self.events.reserve(count)
+    }
+
+    /// The names of the character references so far, each once, with what it stands for.
+    pub fn names(&self) -> &[(&'static str, &'static str)] {
+        self.names.as_slice()
+    }
+
+    /// Notes that a character reference has this name.
+    pub(crate) fn use_name(&mut self, name: &[u8]) -> Result<(), AllocError> {
+        self.names.add(name)
+    }
+
+    /// Notes that something refers to the definition with an index by its label.
+    pub(crate) fn refer_to(&mut self, index: usize) -> Result<(), AllocError> {
+        if self.are_referred.len() <= index {
+            self.are_referred.resize(index.saturating_add(1), false)?;
+        }
+        if let Some(is_referred) = self.are_referred.get_mut(index) {
+            *is_referred = true;
+        }
+        Ok(())
+    }
+
+    /// Whether something refers to the definition with an index by its label.
+    pub(crate) fn is_referred(&self, index: usize) -> bool {
+        self.are_referred.get(index).copied().unwrap_or(false)
+    }
+
+    /// Enters a node.
+    ///
+    /// # Errors
+    ///
+    /// Only where memory runs out.
+    #[inline(always)]
+    pub fn enter(&mut self, name: Name, at: usize) -> Result<(), AllocError>
+        ensures { OnOk result (self.new.events.items
+            ≡ self.old.events.items ++ entering name (point_at at 0) ∷ []) }
+    {
+        self.put(Kind::Enter, name, at, 0)
+    }
+
+    /// Exits a node.
+    ///
+    /// # Errors
+    ///
+    /// Only where memory runs out.
+    #[inline(always)]
+    pub fn exit(&mut self, name: Name, at: usize) -> Result<(), AllocError>
+        ensures { OnOk result (self.new.events.items
+            ≡ self.old.events.items ++ exiting name (point_at at 0) ∷ []) }
+    {
+        self.put(Kind::Exit, name, at, 0)
+    }
+
+    /// Enters and exits a node.
+    ///
+    /// # Errors
+    ///
+    /// Only where memory runs out.
+    #[inline(always)]
+    pub fn leaf(&mut self, name: Name, start: usize, end: usize) -> Result<(), AllocError>
+        ensures { OnOk result (self.new.events.items ≡ self.old.events.items
+            ++ entering name (point_at start 0) ∷ exiting name (point_at end 0) ∷ []) }
+    {
+        self.enter(name, start)?;
+        self.exit(name, end)
+    }
+
+    /// Enters and exits a node that begins so many columns after the beginning of a tab.
+    ///
+    /// # Errors
+    ///
+    /// Only where memory runs out.
+    pub fn leaf_in_tab(
+        &mut self,
+        name: Name,
+        start: usize,
+        columns: u8,
+        end: usize,
+    ) -> Result<(), AllocError>
+        ensures { OnOk result (self.new.events.items ≡ self.old.events.items
+            ++ entering name (point_at start columns) ∷ exiting name (point_at end 0) ∷ []) }
+    {
+        self.put(Kind::Enter, name, start, columns as usize)?;
+        self.exit(name, end)
+    }
+
+    #[inline(always)]
+    fn put(&mut self, kind: Kind, name: Name, index: usize, vs: usize) -> Result<(), AllocError>
+        ensures { OnOk result (self.new.events.items ≡ self.old.events.items
+            ++ record { kind = kind; name = name; point = point_at index vs } ∷ []) }
+    {
+        let point = Point {
+            line: 1,
+            column: 1,
+            index,
+            vs,
+        };
+        self.events.push(Event { kind, name, point })?;
+        Ok(())
+    }
+}

@@ -1,0 +1,119 @@
+-- What is kept of nodes to be printed elsewhere, and where a link or an image leads.
+use Rattle.std.proofs.Common.{◌≡◌, ℕ, ◌+◌, ◌*◌, ◌≤◌, Bool, true, false}
+use Rattle.std.proofs.Common.{◌&&◌, List, [], ◌∷◌, ◌++◌, length, refl}
+use Rattle.std.proofs.Common.{arith, Option, Some, None, unwrap_or, lit≤}
+use Rattle.std.specs.Prelude.{if◌then◌else◌, is_some}
+use Rattle.std.specs.Option.{option_map_or}
+use Rattle.std.proofs.lemmas.List.{length-append}
+use Rattle.md_base.proofs.Lies.{lie}
+use Rattle.md_base.specs.declared.event.Name.TheVariants as name_variants
+use name_variants.{GfmFootnoteCall}
+use Rattle.md_base.specs.Is.{is}
+use Rattle.md_base.specs.Children.{is_empty, or_else}
+use Rattle.md_base.specs.Tree.{Forest, Empty, Node}
+use Rattle.md_tree.specs.declared.mention.Referral.{Referral}
+use Rattle.md_tree.specs.declared.mention.Referral.TheVariants as referral
+use Rattle.md_tree.specs.Rules.{place, target_of}
+use Rattle.md_meaning.specs.declared.context.Surroundings.{Surroundings}
+use Rattle.md_meaning.specs.Meaning.At.{Target, Given, At, Before, Found}
+use Rattle.md_meaning.specs.Meaning.At.{target_in, identifier_of}
+use Rattle.md_meaning.specs.Meaning.Before.{before_children}
+use Rattle.md_meaning.specs.Meaning.Layout.{when}
+use Rattle.md_meaning.specs.Meaning.Media.{target_defined}
+use Rattle.md_meaning.specs.Meaning.Nodes.{Outcome, outcome}
+use Rattle.md_shape.specs.Claim.{inner_of, next_before}
+use Rattle.md_length.specs.Costs.{nodes}
+use Rattle.md_length.specs.Uses.{weight, led}
+use Rattle.md_length.proofs.Strings.{around_in}
+
+-- ---- what is kept of nodes
+abbrev pub title_length : Option (List ℕ) → ℕ
+title_length title = option_map_or (λ text. length text) title 0
+
+-- where something leads, as it is found so far
+abbrev pub kept : Found → ℕ
+kept found = 6 * option_map_or (λ text. length text) found.destination 0
+    + title_length found.title + option_map_or weight found.resource 0
+
+-- the text of a heading that waits for its underline
+abbrev pub held : Bool → List ℕ → ℕ
+held waits heading = if waits then length heading else 0
+
+either-short : {A : Type 0} (f : A → ℕ) (later first : Option A) →
+    option_map_or f (or_else later first) 0 ≤ option_map_or f later 0 + option_map_or f first 0
+either-short f None first = omega arith
+either-short f (Some x) first = omega arith
+
+pub both-kept : (later first : Found) → kept (record {
+  heading = or_else later.heading first.heading;
+  destination = or_else later.destination first.destination;
+  title = or_else later.title first.title;
+  resource = or_else later.resource first.resource;
+}) ≤ kept first + kept later
+both-kept later first =
+    omega (
+      arith,
+      either-short (λ (t : List ℕ). length t) later.destination first.destination,
+      either-short (λ (t : List ℕ). length t) later.title first.title,
+      either-short weight later.resource first.resource,
+    )
+
+pub target-kept : (found : Found) → weight (target_in found) ≤ kept found
+target-kept found = by found.destination
+  where
+    by : (destination : Option (List ℕ)) →
+        6 * length (unwrap_or destination []) + title_length found.title
+        ≤ 6 * option_map_or (λ text. length text) destination 0
+        + title_length found.title + option_map_or weight found.resource 0
+    by None = omega arith
+    by (Some text) = omega arith
+
+-- ---- the calls
+pub calls-few : (given : Given) (around : Surroundings) (before : Before) (forest : Forest) →
+    length (outcome given around before forest).calls ≤ nodes forest
+calls-few given around before Empty = lit≤ tt
+calls-few given around before (Node name start end children rest) =
+    let last : Bool = around.is_outermost && is_empty rest in
+    let inner : Outcome = inner_of given around before name children in
+    let next : Before = next_before given around before last name start end children in
+    let one : List (List ℕ) =
+    when (is GfmFootnoteCall name) (identifier_of given.bytes children ∷ []) in
+    let few : length one ≤ 1 = elim (is GfmFootnoteCall name) as
+    (λ b. length (when b (identifier_of given.bytes children ∷ [])) ≤ 1) [
+      | true ↦ lit≤ tt
+      | false ↦ lit≤ tt
+    ] in
+    omega (
+      arith,
+      calls-few given (around_in given around name children)
+          (before_children name children before) children,
+      calls-few given around next rest,
+      length-append (inner.calls ++ one) (outcome given around next rest).calls,
+      length-append inner.calls one,
+      few,
+    )
+
+-- ---- where a link or an image leads
+pub media-leads : (given : Given) (at : At) (resource : Option Target) →
+    (target_of at.children referral.Missing ≡ referral.Missing → ⊥) →
+    (target_of at.children referral.Missing ≡ referral.Resource → is_some resource ≡ true) →
+    weight (unwrap_or resource (target_defined given (identifier_of given.bytes at.children)))
+    ≤ led given at.children + option_map_or weight resource 0
+media-leads given at (Some target) some found = omega arith
+media-leads given at None some found =
+    by (target_of at.children referral.Missing) some found
+  where
+    target : Target
+    target = target_defined given (identifier_of given.bytes at.children)
+
+    by : (left : Referral) → (left ≡ referral.Missing → ⊥) →
+        (left ≡ referral.Resource → false ≡ true) →
+        weight (target_defined given (identifier_of given.bytes at.children))
+        ≤ (elim left [
+          | referral.Label place ↦
+              weight (target_defined given (identifier_of given.bytes at.children))
+          | _ ↦ 0
+        ]) + 0
+    by referral.Missing some found = absurd (some refl)
+    by referral.Resource some found = lie (found refl)
+    by (referral.Label place) some found = omega arith

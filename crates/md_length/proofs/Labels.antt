@@ -1,0 +1,119 @@
+-- The identifiers of footnote calls are no longer than twelve times their labels, each of which is
+-- read once.
+use Rattle.std.proofs.Common.{ℕ, ◌+◌, ◌*◌, ◌≤◌, Bool, true, false, List, [], length}
+use Rattle.std.proofs.Common.{arith, Option, Some, None, unwrap_or}
+use Rattle.std.specs.Prelude.{if◌then◌else◌, option_map}
+use Rattle.std.proofs.Math.Nat.{suc-mul, zero-mul, add-mul}
+use Rattle.md_base.specs.declared.event.Name.{Name}
+use Rattle.md_base.specs.declared.event.Name.TheVariants as name_variants
+use name_variants.{GfmFootnoteCall, Resource, Label, LabelText, GfmFootnoteDefinitionPrefix}
+use name_variants.{BlockQuotePrefix, Other, DefinitionLabelString, GfmFootnoteDefinitionLabelString}
+use name_variants.{ReferenceString}
+use Rattle.md_base.specs.declared.event.Point.{Point}
+use Rattle.md_base.specs.declared.event.Position.{Position}
+use Rattle.md_base.specs.Identifier.{normalized}
+use Rattle.md_base.specs.Is.{is}
+use Rattle.md_base.specs.Place.{label_between}
+use Rattle.md_base.specs.Tree.{Forest, Empty, Node}
+use Rattle.md_pattern.specs.Standing.{standing_of}
+use Rattle.md_tree.specs.declared.mention.Referral.{Referral}
+use Rattle.md_tree.specs.declared.mention.Referral.TheVariants as referral
+use Rattle.md_tree.specs.Mentions.{identifier_at}
+use Rattle.md_tree.specs.Rules.{place, target_of, target_after}
+use Rattle.md_meaning.specs.Meaning.At.{identifier_of}
+use Rattle.md_length.specs.Costs.{own, span}
+use Rattle.md_length.specs.Lengths.{lengths}
+use Rattle.md_length.specs.Uses.{called}
+use Rattle.md_length.proofs.Places.{label-short}
+use Rattle.md_length.proofs.Texts.{normalized-short}
+
+-- how far the label goes that a spine has left
+abbrev label_span : Referral → ℕ
+label_span left = elim left [ referral.Label at ↦ span at.start at.end | _ ↦ 0 ]
+
+identifier-short : (bytes : List ℕ) (label : Position) →
+    length (unwrap_or (identifier_at bytes label) []) ≤ 12 * span label.start label.end
+identifier-short bytes label =
+    by (label_between bytes label.start label.end) (label-short bytes label.start label.end)
+  where
+    by : (text : Option (List ℕ)) → length (unwrap_or text []) ≤ span label.start label.end →
+        length (unwrap_or (option_map normalized text) []) ≤ 12 * span label.start label.end
+    by None h = omega arith
+    by (Some text) h = omega (arith, normalized-short text, h)
+
+-- by what a call refers
+abbrev left_identifier : List ℕ → Referral → List ℕ
+left_identifier bytes left =
+    elim left [ referral.Label at ↦ unwrap_or (identifier_at bytes at) [] | _ ↦ [] ]
+
+referred-short : (bytes : List ℕ) (left : Referral) →
+    length (left_identifier bytes left) ≤ 12 * label_span left
+referred-short bytes referral.Missing = omega arith
+referred-short bytes referral.Resource = omega arith
+referred-short bytes (referral.Label at) = identifier-short bytes at
+
+-- what a node leaves, of what its children take
+node-left : (bytes : List ℕ) (name : Name) (start end : Point) (children : Forest)
+    (left : Referral) (inside spent : ℕ) →
+    inside + 12 * label_span (target_of children left) ≤ 12 * spent + 12 * label_span left →
+    inside + 12 * label_span (target_of children referral.Missing) ≤ 12 * spent →
+    (if is GfmFootnoteCall name then length (identifier_of bytes children) else 0) + inside
+    + 12 * label_span (target_after (standing_of name) left (target_of children) (place start end))
+    ≤ 12 * own name (place start end) + 12 * spent + 12 * label_span left
+node-left bytes GfmFootnoteCall start end children left inside spent h k =
+    omega (arith, k, referred-short bytes (target_of children referral.Missing))
+node-left bytes Resource start end children left inside spent h k = omega (arith, k)
+node-left bytes Label start end children left inside spent h k = omega (arith, k)
+node-left bytes GfmFootnoteDefinitionPrefix start end children left inside spent h k =
+    omega (arith, k)
+node-left bytes LabelText start end children left inside spent h k = omega (arith, k)
+node-left bytes DefinitionLabelString start end children left inside spent h k = omega (arith, k)
+node-left bytes GfmFootnoteDefinitionLabelString start end children left inside spent h k =
+    omega (arith, k)
+node-left bytes ReferenceString start end children left inside spent h k = omega (arith, k)
+node-left bytes BlockQuotePrefix start end children left inside spent h k = omega (arith, h)
+node-left bytes (Other number) start end children left inside spent h k = omega (arith, h)
+node-left bytes _ start end children left inside spent h k = omega (arith, k)
+
+labels-left : (bytes : List ℕ) (forest : Forest) (left : Referral) →
+    called (λ identifier. length identifier) bytes forest
+    + 12 * label_span (target_of forest left) ≤ 12 * lengths forest + 12 * label_span left
+labels-left bytes Empty left = omega arith
+labels-left bytes (Node name start end children rest) left =
+    let middle : Referral =
+    target_after (standing_of name) left (target_of children) (place start end) in
+    let inside : ℕ = called (λ identifier. length identifier) bytes children in
+    let here = node-left bytes name start end children left inside (lengths children)
+    (labels-left bytes children left)
+    (omega (arith, labels-left bytes children referral.Missing)) in
+    omega (arith, here, labels-left bytes rest middle)
+
+pub labels-short : (bytes : List ℕ) (forest : Forest) →
+    called (λ identifier. length identifier) bytes forest ≤ 12 * lengths forest
+labels-short bytes forest = omega (arith, labels-left bytes forest referral.Missing)
+
+-- ---- what is taken for each call, where that goes by the length of its identifier
+pub called-split : (f : List ℕ → ℕ) (fixed : ℕ) (bytes : List ℕ) (forest : Forest) →
+    ((identifier : List ℕ) → f identifier ≤ fixed + 24 * length identifier) →
+    called f bytes forest
+    ≤ called (λ identifier. 1) bytes forest * fixed
+    + 24 * called (λ identifier. length identifier) bytes forest
+called-split f fixed bytes Empty each = omega (arith, zero-mul fixed)
+called-split f fixed bytes (Node name start end children rest) each =
+    let own : ℕ = if is GfmFootnoteCall name then 1 else 0 in
+    let inner : ℕ = called (λ identifier. 1) bytes children in
+    let later : ℕ = called (λ identifier. 1) bytes rest in
+    omega (
+      arith,
+      own-split (is GfmFootnoteCall name) (f (identifier_of bytes children))
+          (length (identifier_of bytes children)) (each (identifier_of bytes children)),
+      add-mul (own + inner) later fixed,
+      add-mul own inner fixed,
+      called-split f fixed bytes children each,
+      called-split f fixed bytes rest each,
+    )
+  where
+    own-split : (b : Bool) (taken long : ℕ) → taken ≤ fixed + 24 * long →
+        (if b then taken else 0) ≤ (if b then 1 else 0) * fixed + 24 * (if b then long else 0)
+    own-split true taken long h = omega (arith, suc-mul 0 fixed, zero-mul fixed, h)
+    own-split false taken long h = omega arith

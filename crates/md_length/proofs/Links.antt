@@ -1,0 +1,144 @@
+-- What definitions take where links and images lead to them is bounded by what is used again.
+use Rattle.std.proofs.Common.{◌≡◌, ℕ, ◌+◌, ◌*◌, ◌≤◌}
+use Rattle.std.proofs.Common.{List, [], ◌∷◌, ◌++◌, refl, sym, ap}
+use Rattle.std.proofs.Common.{subst, arith, Option}
+use Rattle.std.specs.Prelude.{if◌then◌else◌}
+use Rattle.md_base.specs.declared.event.Name.{Name}
+use Rattle.md_base.specs.declared.event.Name.TheVariants.{Link, Image}
+use Rattle.md_base.specs.declared.event.Point.{Point}
+use Rattle.md_base.specs.declared.event.Position.{Position}
+use Rattle.md_base.specs.Is.{is}
+use Rattle.md_base.specs.Tree.{Forest, Empty, Node}
+use Rattle.md_pattern.specs.Standing.{standing_of}
+use Rattle.md_pattern.specs.declared.kinds.Reading.TheVariants as reading
+use Rattle.md_text.specs.declared.options.CompileOptions.{CompileOptions}
+use Rattle.md_tree.specs.Grammar.{IsGrammatical}
+use Rattle.md_tree.specs.Mentions.{mention_of, mentions_of}
+use Rattle.md_tree.specs.Numbers.{definition_for}
+use Rattle.md_tree.specs.Rules.{target_of, reading_of}
+use Rattle.md_tree.specs.declared.mention.Mention.{Mention}
+use Rattle.md_tree.specs.declared.mention.Mention.TheVariants.{Reference}
+use Rattle.md_tree.specs.declared.mention.Referral.{Referral}
+use Rattle.md_tree.specs.declared.mention.Referral.TheVariants as referral
+use Rattle.md_meaning.specs.Meaning.At.{Given, identifier_of}
+use Rattle.md_meaning.specs.Meaning.Around.{outermost}
+use Rattle.md_meaning.specs.Meaning.Before.{nothing_before}
+use Rattle.md_meaning.specs.Meaning.Media.{target_defined}
+use Rattle.md_shape.specs.Built.{Blocks}
+use Rattle.md_shape.specs.Leads.{Everywhere, LeadsAlike, defined_in, first_of}
+use Rattle.md_shape.proofs.Alike.{leads-alike}
+use Rattle.md_shape.proofs.Grammatical.{grammatical-built}
+use Rattle.md_shape.proofs.Listed.{definitions-listed}
+use Rattle.md_length.specs.Lengths.{lengths}
+use Rattle.md_length.specs.Reuse.{length_at, led_lengths}
+use Rattle.md_length.specs.Reuse.{referred as reused}
+use Rattle.md_length.specs.Uses.{referred, led, weight}
+use Rattle.md_length.specs.Reuse.{is_media}
+use Rattle.md_length.proofs.Definitions.{definition_costs, definitions-below, first-below}
+use Rattle.md_length.proofs.Grammar.{grammatical-ending}
+use Rattle.md_length.proofs.Whole.{called_in, given_in}
+use Rattle.md_length.proofs.DefinitionEvents.{tree_lengths, document-lengths}
+use Rattle.md_length.proofs.DefinitionTimes.{half_unit, costs-times, led-times}
+
+-- ---- links and images
+led-append : (lengths : List ℕ) (leads : Mention → Option ℕ) (xs ys : List Mention) →
+    led_lengths lengths leads (xs ++ ys)
+    ≡ led_lengths lengths leads xs + led_lengths lengths leads ys
+led-append lengths leads [] ys = omega arith
+led-append lengths leads (x ∷ xs) ys = omega (arith, led-append lengths leads xs ys)
+
+-- a link or an image leads to a definition of which this is known
+abbrev IsLed : Given → List ℕ → (Mention → Option ℕ) → Name → Point → Point → Forest → Type 0
+IsLed given costs leads name start end children = led given children
+    ≤ length_at costs (leads (mention_of reading.Media (target_of children referral.Missing)))
+
+links-led : (given : Given) (costs : List ℕ) (leads : Mention → Option ℕ) (forest : Forest) →
+    Everywhere (IsLed given costs leads) forest →
+    referred given forest ≤ led_lengths costs leads (mentions_of forest)
+links-led given costs leads Empty each = omega arith
+links-led given costs leads (Node name start end children rest) each =
+    let mention : Mention =
+    mention_of (reading_of (standing_of name)) (target_of children referral.Missing) in
+    omega (
+      arith,
+      own name each.0,
+      links-led given costs leads children each.1,
+      links-led given costs leads rest each.2,
+      led-append costs leads (mentions_of children) (mention ∷ mentions_of rest),
+    )
+  where
+    own : (name : Name) → IsLed given costs leads name start end children →
+        (if is_media name then led given children else 0) ≤ length_at costs
+        (leads (mention_of (reading_of (standing_of name)) (target_of children referral.Missing)))
+    own Link h = h
+    own Image h = h
+    own _ h = omega arith
+
+-- the check leads them to the definitions that the meaning finds
+target-led : (bytes : List ℕ) (names : List (List ℕ × List ℕ)) (options : CompileOptions)
+    (document : Forest) → IsGrammatical bytes names document →
+    (name : Name) (start end : Point) (children : Forest) →
+    LeadsAlike bytes document name start end children →
+    IsLed (given_in options names bytes document) (definition_costs names document)
+    (definition_for bytes (mentions_of document)) name start end children
+target-led bytes names options document grammatical name start end children alike =
+    by (target_of children referral.Missing) (λ label e. (alike label e).0)
+  where
+    costs : List ℕ
+    costs = definition_costs names document
+
+    called : Given
+    called = called_in options names bytes document
+
+    given : Given
+    given = given_in options names bytes document
+
+    identifier : List ℕ
+    identifier = identifier_of bytes children
+
+    found : weight (target_defined given identifier)
+        ≤ length_at costs (first_of (defined_in bytes document) identifier)
+    found = subst (λ known. weight (target_defined given identifier)
+        ≤ length_at costs (first_of known identifier))
+        (definitions-listed called outermost nothing_before document)
+        (first-below given.definitions costs identifier
+        (definitions-below called outermost nothing_before Blocks document
+        (grammatical-ending options bytes names document grammatical)
+        (grammatical-built bytes names document grammatical)))
+
+    by : (left : Referral) → ((label : Position) → left ≡ referral.Label label →
+        definition_for bytes (mentions_of document) (Reference label)
+        ≡ first_of (defined_in bytes document) identifier) →
+        (elim left [ referral.Label at ↦ weight (target_defined given identifier) | _ ↦ 0 ])
+        ≤ length_at costs
+        (definition_for bytes (mentions_of document) (mention_of reading.Media left))
+    by referral.Missing same = omega arith
+    by referral.Resource same = omega arith
+    by (referral.Label label) same =
+        subst (λ place. weight (target_defined given identifier) ≤ length_at costs place)
+        (sym (same label refl)) found
+
+pub referred-short : (options : CompileOptions) (names : List (List ℕ × List ℕ)) (bytes : List ℕ)
+    (document : Forest) → IsGrammatical bytes names document →
+    referred (given_in options names bytes document) document
+    ≤ half_unit names * reused bytes document
+referred-short options names bytes document is =
+    let leads = definition_for bytes (mentions_of document) in
+    let costs = definition_costs names document in
+    let led_all = links-led (given_in options names bytes document) costs leads document
+    (each document (leads-alike bytes names document is)) in
+    let times = led-times (half_unit names) costs (tree_lengths document) leads
+    (mentions_of document) (costs-times names document) in
+    let same = ap (λ ls. half_unit names * led_lengths ls leads (mentions_of document))
+    (document-lengths bytes names document is) in
+    omega (arith, led_all, times, same)
+  where
+    each : (forest : Forest) → Everywhere (LeadsAlike bytes document) forest →
+        Everywhere (IsLed (given_in options names bytes document) (definition_costs names document)
+        (definition_for bytes (mentions_of document))) forest
+    each Empty alike = tt
+    each (Node name start end children rest) alike = (
+      target-led bytes names options document is name start end children alike.0,
+      each children alike.1,
+      each rest alike.2,
+    )

@@ -1,0 +1,71 @@
+//! Classes of bytes.
+
+/// A class of bytes. A byte may be in several.
+#[derive(Clone, Copy, PartialEq, Eq, Debug)]
+pub enum Class {
+    /// A space or a tab.
+    Space = 1,
+    /// ASCII punctuation.
+    Punctuation = 2,
+    /// An ASCII letter or digit.
+    Alphanumeric = 4,
+    /// An ASCII letter.
+    Alphabetic = 8,
+    /// What may be a mark in a text: an escape, code, a link, emphasis, math, a bare address.
+    Mark = 16,
+    /// What may end a link's destination that has no angle brackets, or counts in it.
+    Destination = 32,
+    /// What the name of a tag's attribute has: a letter, a digit, `_`, `:`, `.` or `-`.
+    Name = 64,
+    /// What an attribute's value has where no quotes are around it.
+    Unquoted = 128,
+}
+
+/// Whether a byte is in a class.
+#[inline(always)]
+pub fn is(byte: u8, class: Class) -> bool {
+    CLASSES[byte as usize] & class as u8 != 0
+}
+
+/// Of each byte the sum of its classes.
+static CLASSES: [u8; 256] = [
+    160, 160, 160, 160, 160, 160, 160, 160, 160, 33, 32, 160, 160, 32, 160, 160, 160, 160, 160,
+    160, 160, 160, 160, 160, 160, 160, 160, 160, 160, 160, 160, 160, 33, 146, 2, 130, 146, 130,
+    146, 2, 162, 162, 146, 130, 130, 194, 210, 130, 196, 196, 196, 196, 196, 196, 196, 196, 196,
+    196, 210, 130, 18, 2, 2, 130, 146, 204, 204, 204, 204, 204, 204, 204, 204, 204, 204, 204, 204,
+    204, 204, 204, 204, 204, 204, 204, 204, 204, 204, 204, 204, 204, 204, 146, 178, 146, 130, 210,
+    18, 204, 204, 204, 204, 204, 204, 204, 204, 204, 204, 204, 204, 204, 204, 204, 204, 204, 204,
+    204, 204, 204, 204, 204, 204, 204, 204, 130, 130, 130, 146, 160, 128, 128, 128, 128, 128, 128,
+    128, 128, 128, 128, 128, 128, 128, 128, 128, 128, 128, 128, 128, 128, 128, 128, 128, 128, 128,
+    128, 128, 128, 128, 128, 128, 128, 128, 128, 128, 128, 128, 128, 128, 128, 128, 128, 128, 128,
+    128, 128, 128, 128, 128, 128, 128, 128, 128, 128, 128, 128, 128, 128, 128, 128, 128, 128, 128,
+    128, 128, 128, 128, 128, 128, 128, 128, 128, 128, 128, 128, 128, 128, 128, 128, 128, 128, 128,
+    128, 128, 128, 128, 128, 128, 128, 128, 128, 128, 128, 128, 128, 128, 128, 128, 128, 128, 128,
+    128, 128, 128, 128, 128, 128, 128, 128, 128, 128, 128, 128, 128, 128, 128, 128, 128, 128, 128,
+    128, 128, 128, 128, 128, 128, 128, 128,
+];
+
+#[cfg(test)]
+mod tests {
+    use super::*;
+
+    #[test]
+    fn has_the_classes_of_each_byte(rt: HostRuntime) {
+        for byte in 0..=u8::MAX {
+            let is_letter = byte.is_ascii_alphabetic();
+            let is_name = byte.is_ascii_alphanumeric() || b"_:.-".contains(&byte);
+            let is_stop = byte <= b' ' || byte == 127 || b"()\\".contains(&byte);
+            assert_eq!(rt; is(byte, Class::Space), byte == b' ' || byte == b'\t');
+            assert_eq!(rt; is(byte, Class::Punctuation), byte.is_ascii_punctuation());
+            assert_eq!(rt; is(byte, Class::Alphanumeric), byte.is_ascii_alphanumeric());
+            assert_eq!(rt; is(byte, Class::Alphabetic), is_letter);
+            assert_eq!(rt; is(byte, Class::Mark), b"\\`&<[]!*_~$@:.".contains(&byte));
+            assert_eq!(rt; is(byte, Class::Destination), is_stop);
+            assert_eq!(rt; is(byte, Class::Name), is_name);
+            assert_eq!(rt;
+                is(byte, Class::Unquoted),
+                !b" \t\n\r\"'=<>`".contains(&byte)
+            );
+        }
+    }
+}

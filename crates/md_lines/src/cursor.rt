@@ -1,0 +1,157 @@
+//! A place in the lines of a leaf, and going on from it.
+
+ghost use Rattle.std.specs.Prelude.{◌≤◌, ◌<◌, length, IsTrue};
+
+use crate::class::{Class, is};
+use crate::line::Line;
+
+/// A place in the lines of a leaf: the index of a line among them, and a byte index into the
+/// document.
+#[derive(Clone, Copy, PartialEq, Eq, Debug)]
+pub struct Place {
+    pub line: usize,
+    pub at: usize,
+}
+
+/// Reads the lines of a leaf, from a place in them on: the text of each line, and between two lines
+/// a line feed.
+#[derive(Clone, Copy)]
+pub struct Cursor<'a> {
+    pub(crate) bytes: &'a [u8],
+    pub(crate) lines: &'a [Line],
+    pub(crate) line: usize,
+    pub(crate) at: usize,
+    /// Where the text of its line ends.
+    pub(crate) end: usize,
+    ghost within: { end ≤ length bytes.now },
+    ghost in_lines: { line ≤ length lines.now },
+}
+
+impl<'a> Cursor<'a> {
+    ghost use Rattle.md_lines.specs.Reading.{left};
+
+    /// A cursor at a place in the lines.
+    #[inline]
+    pub fn new(bytes: &'a [u8], lines: &'a [Line], place: Place) -> Self {
+        let line = place.line.min(lines.len());
+        Cursor {
+            bytes,
+            lines,
+            line,
+            at: place.at,
+            end: end_of(bytes, lines, line),
+        }
+    }
+
+    /// The place that it has reached.
+    #[inline(always)]
+    pub fn place(&self) -> Place {
+        Place {
+            line: self.line,
+            at: self.at,
+        }
+    }
+
+    /// The byte index that it has reached.
+    #[inline(always)]
+    pub fn at(&self) -> usize {
+        self.at
+    }
+
+    /// The next byte, a line feed between two lines; `None` at the end of the last line.
+    #[inline]
+    pub fn peek(&self) -> Option<u8> {
+        if self.at < self.end {
+            Some(self.bytes[self.at])
+        } else if self.line + 1 < self.lines.len() {
+            Some(b'\n')
+        } else {
+            None
+        }
+    }
+
+    /// Whether nothing but the line's end, or that of the last line, is next.
+    #[inline(always)]
+    pub fn is_at_line_end(&self) -> bool {
+        self.at >= self.end
+    }
+
+    /// Goes past the next byte; at the end of the last line it stays.
+    #[inline]
+    pub fn advance(&mut self)
+        ensures { left self.new ≤ left self.old }
+    {
+        if self.at < self.end {
+            self.at += 1;
+        } else {
+            self.next_line();
+        }
+    }
+
+    /// Goes past the next byte if it is this one; whether it is.
+    #[inline]
+    pub fn take(&mut self, byte: u8) -> bool
+        ensures never_back { left self.new ≤ left self.old }
+        ensures goes_on { IsTrue result → left self.new < left self.old }
+    {
+        if self.at < self.end && self.bytes[self.at] == byte {
+            self.at += 1;
+            true
+        } else {
+            false
+        }
+    }
+
+    /// Goes past the bytes of a class that come next in the line; whether there is one.
+    #[inline]
+    pub fn skip(&mut self, class: Class) -> bool
+        ensures never_back { left self.new ≤ left self.old }
+        ensures goes_on { IsTrue result → left self.new < left self.old }
+    {
+        let mut at = self.at;
+        while at < self.end && is(self.bytes[at], class) {
+            at += 1;
+        }
+        let has_any = at > self.at;
+        self.at = at;
+        has_any
+    }
+
+    /// Goes past spaces, tabs and line ends; whether there is one.
+    pub fn skip_spaces(&mut self) -> bool
+        ensures { left self.new ≤ left self.old }
+    {
+        let mut has_any = self.skip(Class::Space);
+        'lines: while self.at >= self.end && self.next_line() {
+            has_any = true;
+            self.skip(Class::Space);
+        }
+        has_any
+    }
+
+    /// Goes to the beginning of the next line; whether there is one.
+    #[inline]
+    pub(crate) fn next_line(&mut self) -> bool
+        ensures never_back { left self.new ≤ left self.old }
+        ensures goes_on { IsTrue result → left self.new < left self.old }
+    {
+        let Some(next) = self.lines.get(self.line + 1) else {
+            return false;
+        };
+        self.line += 1;
+        self.at = next.start;
+        self.end = next.end.min(self.bytes.len());
+        true
+    }
+}
+
+/// Where the text of a line ends.
+#[inline(always)]
+fn end_of(bytes: &[u8], lines: &[Line], line: usize) -> usize
+    ensures { result ≤ length bytes.now }
+{
+    match lines.get(line) {
+        Some(line) => line.end.min(bytes.len()),
+        None => 0,
+    }
+}

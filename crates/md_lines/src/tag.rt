@@ -1,0 +1,137 @@
+//! Tags of HTML.
+
+ghost use Rattle.std.specs.Prelude.{◌≡◌, ◌≤◌, ◌<◌};
+ghost use Rattle.md_lines.specs.Reading.{left};
+
+use crate::class::{Class, is};
+use crate::cursor::{Cursor, Place};
+use crate::line::Line;
+
+/// What is read where an attribute may come.
+#[derive(Clone, Copy, PartialEq, Eq)]
+enum Attribute {
+    /// One was read.
+    Read,
+    /// None comes.
+    Missing,
+    /// What comes is no tag.
+    Malformed,
+}
+
+/// Where an opening or a closing tag ends that begins at a `<`; `None` where none begins there. It
+/// may go over lines.
+pub fn read_tag(bytes: &[u8], lines: &[Line], place: Place) -> Option<Place> {
+    let mut cursor = Cursor::new(bytes, lines, place);
+    cursor.advance();
+    let is_closing = cursor.take(b'/');
+    if !skip_name(&mut cursor) {
+        return None;
+    }
+    if is_closing {
+        cursor.skip_spaces();
+    } else {
+        if !skip_attributes(&mut cursor) {
+            return None;
+        }
+        cursor.take(b'/');
+    }
+    if cursor.take(b'>') {
+        Some(cursor.place())
+    } else {
+        None
+    }
+}
+
+/// Goes past a tag's name; whether there is one.
+fn skip_name(cursor: &mut Cursor<'_>) -> bool {
+    match cursor.peek() {
+        Some(byte) if is(byte, Class::Alphabetic) => {}
+        _ => return false,
+    }
+    cursor.skip(Class::Alphanumeric);
+    'parts: while cursor.take(b'-') {
+        cursor.skip(Class::Alphanumeric);
+    }
+    true
+}
+
+/// Goes past a tag's attributes, and the spaces behind them; whether they are well formed.
+fn skip_attributes(cursor: &mut Cursor<'_>) -> bool {
+    'attributes: loop {
+        match read_attribute(cursor) {
+            Attribute::Read => {}
+            Attribute::Missing => return true,
+            Attribute::Malformed => return false,
+        }
+    }
+}
+
+/// Goes past spaces, and an attribute where one comes.
+fn read_attribute(cursor: &mut Cursor<'_>) -> Attribute
+    ensures { result ≡ Attribute.Read → left cursor.new < left cursor.old }
+{
+    let is_spaced = cursor.skip_spaces();
+    let first = match cursor.peek() {
+        Some(b'/' | b'>') => return Attribute::Missing,
+        Some(byte) => byte,
+        None => return Attribute::Malformed,
+    };
+    if !is_spaced || !(is(first, Class::Alphabetic) || first == b'_' || first == b':') {
+        return Attribute::Malformed;
+    }
+    if !cursor.skip(Class::Name) {
+        return Attribute::Malformed;
+    }
+    let after_name = *cursor;
+    cursor.skip_spaces();
+    if !cursor.take(b'=') {
+        *cursor = after_name;
+        return Attribute::Read;
+    }
+    cursor.skip_spaces();
+    if skip_value(cursor) {
+        Attribute::Read
+    } else {
+        Attribute::Malformed
+    }
+}
+
+/// Goes past an attribute's value; whether there is one.
+fn skip_value(cursor: &mut Cursor<'_>) -> bool
+    ensures { left cursor.new ≤ left cursor.old }
+{
+    if cursor.take(b'"') {
+        skip_quoted(cursor, b'"')
+    } else if cursor.take(b'\'') {
+        skip_quoted(cursor, b'\'')
+    } else {
+        cursor.skip(Class::Unquoted)
+    }
+}
+
+/// Goes past a value up to its closing quote; whether there is one.
+fn skip_quoted(cursor: &mut Cursor<'_>, quote: u8) -> bool
+    ensures { left cursor.new ≤ left cursor.old }
+{
+    'lines: loop {
+        let at = index_of(&cursor.bytes[..cursor.end], cursor.at, quote);
+        if at < cursor.end {
+            cursor.at = at + 1;
+            return true;
+        }
+        if !cursor.next_line() {
+            return false;
+        }
+    }
+}
+
+/// The index of the next such byte in a line, from an index on; past its end where there is none.
+fn index_of(line: &[u8], from: usize, byte: u8) -> usize
+    ensures { from ≤ result }
+{
+    let mut at = from;
+    while at < line.len() && line[at] != byte {
+        at += 1;
+    }
+    at
+}

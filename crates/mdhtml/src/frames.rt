@@ -1,0 +1,87 @@
+//! Documents, alone or one after another.
+
+use md_markdown::{MarkdownError, MarkdownOptions, SafeHtml, markdown};
+use std::alloc::Global;
+use std::io::{self, Error, ErrorKind, Write};
+use std::str;
+
+/// Writes the text of a document.
+///
+/// # Errors
+///
+/// Where it has none, or can't be written.
+pub(crate) fn write_document<W: Write>(
+    alloc: Global,
+    input: &[u8],
+    options: &MarkdownOptions,
+    writer: &mut W,
+) -> io::Result<()> {
+    match text_of(alloc, input, options)? {
+        Some(html) => writer.write_all(html.as_str().as_bytes()),
+        None => Err(Error::from(ErrorKind::InvalidData)),
+    }
+}
+
+/// Writes the texts of documents one after another, each of which stands behind its length.
+///
+/// # Errors
+///
+/// Where a length can't be read, or a text can't be written.
+pub(crate) fn write_frames<W: Write>(
+    alloc: Global,
+    input: &[u8],
+    options: &MarkdownOptions,
+    writer: &mut W,
+) -> io::Result<()> {
+    let mut rest = input;
+    for _ in 0..u64::MAX {
+        let Some((document, others)) = split_frame(rest)? else {
+            break;
+        };
+        rest = others;
+        match text_of(alloc, document, options)? {
+            Some(html) => {
+                let text = html.as_str();
+                writeln!(writer, "0 {}", text.len())?;
+                writer.write_all(text.as_bytes())?;
+            }
+            None => writeln!(writer, "1 0")?,
+        }
+    }
+    Ok(())
+}
+
+/// The first document, and those after it.
+fn split_frame(input: &[u8]) -> io::Result<Option<(&[u8], &[u8])>> {
+    let Some(at) = input.iter().position(|byte| *byte == b'\n') else {
+        return Ok(None);
+    };
+    let (count, rest) = input.split_at(at);
+    let Ok(count) = str::from_utf8(count) else {
+        return Err(Error::from(ErrorKind::InvalidData));
+    };
+    let Ok(count) = count.parse::<u32>() else {
+        return Err(Error::from(ErrorKind::InvalidData));
+    };
+    let end = count as usize + 1;
+    match (rest.get(1..end), rest.get(end..)) {
+        (Some(document), Some(others)) => Ok(Some((document, others))),
+        _ => Err(Error::from(ErrorKind::InvalidData)),
+    }
+}
+
+/// The text of a document, where it has one.
+fn text_of(
+    alloc: Global,
+    document: &[u8],
+    options: &MarkdownOptions,
+) -> io::Result<Option<SafeHtml>> {
+    let Ok(text) = str::from_utf8(document) else {
+        return Ok(None);
+    };
+    match markdown(alloc, text, options) {
+        Ok(html) => Ok(Some(html)),
+        Err(MarkdownError::Refused { .. } | MarkdownError::Nested) => Ok(None),
+        Err(MarkdownError::Memory) => Err(Error::from(ErrorKind::OutOfMemory)),
+    }
+}

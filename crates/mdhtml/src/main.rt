@@ -1,0 +1,45 @@
+//! Compiles Markdown from standard input to HTML on standard output.
+//!
+//!     mdhtml [OPTION ..] < DOCUMENT
+//!
+//! Options: `--math`, `--front-matter`, `--no-footnotes`, `--no-tables`, `--no-bare-links`,
+//! `--hard-breaks`, `--number-ids`, `--footnote-prefix=TEXT`, and `--frames`: standard input is
+//! then documents one after another, each behind how many bytes it has and a line feed, and each
+//! text stands behind `0`, a space, its length and a line feed. A document with no text is told by
+//! `1 0`.
+//!
+//! If there is no HTML, it writes one line to standard error, and ends with status 1.
+#![tactic(auto)]
+
+mod frames;
+mod settings;
+
+use frames::{write_document, write_frames};
+use settings::read_settings;
+use std::io::{self, BufWriter, Read, Write};
+use std::process::ExitCode;
+use std::rt::Env;
+
+fn main(rt: HostRuntime) -> ExitCode {
+    match run(&rt) {
+        Ok(()) => ExitCode::SUCCESS,
+        Err(error) => {
+            let _ = rt.eprintln(error);
+            ExitCode::from(1)
+        }
+    }
+}
+
+/// Reads the arguments and the input, and writes what they ask for.
+fn run<R: Env + Input + Print + AllocGlobal>(rt: &R) -> io::Result<()> {
+    let settings = read_settings(rt)?;
+    let mut input = Vec::new(rt.alloc());
+    rt.reader().read_to_end(&mut input)?;
+    let mut writer = BufWriter::new(rt.alloc(), io::writer(rt))?;
+    if settings.has_frames {
+        write_frames(rt.alloc(), input.as_slice(), &settings.options, &mut writer)?;
+    } else {
+        write_document(rt.alloc(), input.as_slice(), &settings.options, &mut writer)?;
+    }
+    writer.flush()
+}

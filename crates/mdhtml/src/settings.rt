@@ -1,0 +1,50 @@
+//! What the arguments ask for.
+
+use md_markdown::MarkdownOptions;
+use std::env;
+use std::io::{self, Error, ErrorKind};
+use std::rt::Env;
+
+/// What the arguments ask for.
+#[derive(Drop)]
+pub(crate) struct Settings {
+    pub(crate) options: MarkdownOptions,
+    /// Whether the input is documents one after another.
+    pub(crate) has_frames: bool,
+}
+
+/// Reads the arguments.
+///
+/// # Errors
+///
+/// Where one is no option, or memory runs out.
+pub(crate) fn read_settings<R: Env + AllocGlobal>(rt: &R) -> io::Result<Settings> {
+    let mut settings = Settings {
+        options: MarkdownOptions::default(),
+        has_frames: false,
+    };
+    for word in env::args(rt)?.skip(1) {
+        set(rt, &mut settings, word.as_str())?;
+    }
+    Ok(settings)
+}
+
+/// Does what an argument says.
+fn set<R: AllocGlobal>(rt: &R, settings: &mut Settings, word: &str) -> io::Result<()> {
+    match word {
+        "--frames" => settings.has_frames = true,
+        "--math" => settings.options.math = true,
+        "--front-matter" => settings.options.front_matter = true,
+        "--no-footnotes" => settings.options.footnotes = false,
+        "--no-tables" => settings.options.tables = false,
+        "--no-bare-links" => settings.options.bare_links = false,
+        "--hard-breaks" => settings.options.hard_breaks = true,
+        "--number-ids" => settings.options.number_ids = true,
+        _ => {
+            let prefix = word.strip_prefix("--footnote-prefix=");
+            let prefix = prefix.ok_or(Error::from(ErrorKind::InvalidInput))?;
+            settings.options.footnote_prefix = Some(String::from_str(rt.alloc(), prefix)?);
+        }
+    }
+    Ok(())
+}
