@@ -124,24 +124,3 @@ fn is_host(text: &[u8]) -> bool {
     }
     length > 0 && before != b'-'
 }
-
-#[cfg(test)]
-mod tests {
-    use super::*;
-
-    /// How long the link is with which a text begins.
-    fn length(text: &[u8]) -> Option<usize> {
-        autolink_at(text).map(|link| link.length)
-    }
-
-    #[test]
-    fn reads_links(rt: HostRuntime) {
-        assert_eq!(rt; length(b"<a+b:c>d"), Some(7));
-        assert_eq!(rt; length(b"<a:b>"), None);
-        assert_eq!(rt; length(b"<ab:c d>"), None);
-        assert_eq!(rt; length(b"<a!b@c-d.e>"), Some(11));
-        assert_eq!(rt; length(b"<a@-b>"), None);
-        assert_eq!(rt; length(b"<a@b.>"), None);
-        assert_eq!(rt; length(b"<@b>"), None);
-    }
-}

@@ -256,32 +256,3 @@ fn reference_length(link: &[u8], last: usize) -> usize {
         0
     }
 }
-
-#[cfg(test)]
-mod tests {
-    use super::*;
-
-    /// The link of a text whose mark stands there.
-    fn link_at(text: &[u8], at: usize) -> Option<(usize, usize)> {
-        let link = match text.get(at) {
-            Some(b'@') => address(text, 0, at, text.len()),
-            Some(b':') => url(text, 0, at, text.len()),
-            _ => www(text, 0, at, text.len()),
-        };
-        link.map(|link| (link.start, link.end))
-    }
-
-    #[test]
-    fn reads_bare_links(rt: HostRuntime) {
-        assert_eq!(rt; link_at(b"x https://a.b/(c)). d", 7), Some((2, 17)));
-        assert_eq!(rt; link_at(b"ftp://a", 3), None);
-        assert_eq!(rt; link_at(b"irc://a", 3), None);
-        assert_eq!(rt; link_at(b"http://a_b.c", 4), None);
-        assert_eq!(rt; link_at(b"(www.a.b&amp;)", 4), Some((1, 8)));
-        assert_eq!(rt; link_at(b"xwww.a.b", 4), None);
-        assert_eq!(rt; link_at(b"a.b+c@d.e-", 5), None);
-        assert_eq!(rt; link_at(b"a.b+c@d.e.", 5), Some((0, 9)));
-        assert_eq!(rt; link_at(b"mailto:a@b.c", 8), Some((0, 12)));
-        assert_eq!(rt; link_at(b"xmpp:a@b.c/d@e.f/", 6), Some((0, 16)));
-    }
-}

@@ -86,25 +86,3 @@ fn class_of(character: char) -> CharacterClass {
         _ => CharacterClass::Word,
     }
 }
-
-#[cfg(test)]
-mod tests {
-    use super::*;
-
-    #[test]
-    fn tells_classes_apart(rt: HostRuntime) {
-        assert_eq!(rt; class_before("a\u{a0}".as_bytes()), CharacterClass::Space);
-        assert_eq!(rt; class_before("a\u{20ac}".as_bytes()), CharacterClass::Word);
-        assert_eq!(rt;
-            class_before("a\u{3001}".as_bytes()),
-            CharacterClass::Punctuation
-        );
-        assert_eq!(rt;
-            class_after("\u{10100}a".as_bytes()),
-            CharacterClass::Punctuation
-        );
-        assert_eq!(rt; class_after("\u{fc}a".as_bytes()), CharacterClass::Word);
-        assert_eq!(rt; class_after(b"$"), CharacterClass::Punctuation);
-        assert_eq!(rt; class_after(b"\xff"), CharacterClass::Word);
-    }
-}

@@ -63,23 +63,3 @@ fn first_mark_by_bytes(text: &[u8]) -> usize {
     let mark = text.iter().position(|byte| is(*byte, Class::Mark));
     mark.unwrap_or(text.len())
 }
-
-#[cfg(test)]
-mod tests {
-    use super::*;
-
-    #[test]
-    fn finds_each_mark(rt: HostRuntime) {
-        for byte in 0..=u8::MAX {
-            let mut text = [b'a'; 40];
-            text[20] = byte;
-            let found = next_mark(&text, 1, 40);
-            if is(byte, Class::Mark) {
-                assert_eq!(rt; found, 20);
-                assert_eq!(rt; next_mark(&text, 20, 40), 20);
-                assert!(rt; next_mark(&text, 3, 20) >= 20);
-            }
-            assert!(rt; next_mark(&text, 21, 40) >= 40);
-        }
-    }
-}

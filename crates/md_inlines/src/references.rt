@@ -116,32 +116,3 @@ impl UsedNames {
         Ok(())
     }
 }
-
-#[cfg(test)]
-mod tests {
-    use super::*;
-
-    #[test]
-    fn reads_references(rt: HostRuntime) {
-        assert_eq!(rt; reference_length(b"&amp;a"), Some(5));
-        assert_eq!(rt; reference_length(b"&sup;"), Some(5));
-        assert_eq!(rt; reference_length(b"&sup1;"), Some(6));
-        assert_eq!(rt; reference_length(b"&#1234567;"), Some(10));
-        assert_eq!(rt; reference_length(b"&#Xa0F;"), Some(7));
-        assert_eq!(rt; reference_length(b"&amp a"), None);
-        assert_eq!(rt; reference_length(b"&#12345678;"), None);
-        assert_eq!(rt; reference_length(b"&#xabcdef0;"), None);
-        assert_eq!(rt; reference_length(b"&;"), None);
-        assert_eq!(rt; reference_length(b"&nosuch;"), None);
-    }
-
-    #[test]
-    fn finds_each_name(rt: HostRuntime) {
-        for number in 0..COUNT {
-            let Some((name, _)) = split(number) else {
-                panic!(rt; "no name {number}");
-            };
-            assert_eq!(rt; find(name), Some(number));
-        }
-    }
-}
