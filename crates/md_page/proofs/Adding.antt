@@ -133,7 +133,7 @@ none-append p (b ∷ x) a h k =
     let q = or_parts (p b) (list_any p x) h in
     or_from (p b) (list_any p (x ++ (a ∷ []))) q.0 (none-append p x a q.1 k)
 
-plain-more : (x : List Attribute) (a : Attribute) → are_plain x ≡ true → is_name a.name ≡ true →
+pub plain-more : (x : List Attribute) (a : Attribute) → are_plain x ≡ true → is_name a.name ≡ true →
     is_escaped a.value ≡ true → list_any (λ b. bytes_eq a.name b.name) x ≡ false →
     are_plain (x ++ (a ∷ [])) ≡ true
 plain-more [] a h named escaped fresh =

@@ -33,7 +33,7 @@ pieces_of (Void name x rest) more = Single name x ∷ pieces_of rest more
 pieces_of (Element name x children rest) more =
     Opening name x ∷ pieces_of children (Closing name ∷ pieces_of rest more)
 
-pieces-written : (f : Forest) (more : List Piece) →
+pub pieces-written : (f : Forest) (more : List Piece) →
     all_written (pieces_of f more) ≡ forest_before f (all_written more)
 pieces-written Empty more = refl
 pieces-written (Text bytes rest) more = ap (λ y. bytes ++ y) (pieces-written rest more)
@@ -50,7 +50,7 @@ pieces-written (Element name x children rest) more =
     ∙ ap (λ y. 60 ∷ (name ++ y)) (written_attributes-before x (62
     ∷ forest_before children (60 ∷ 47 ∷ (name ++ (62 ∷ forest_before rest (all_written more))))))
 
-pieces-tokens : (f : Forest) (more : List Piece) →
+pub pieces-tokens : (f : Forest) (more : List Piece) →
     all_tokens (pieces_of f more) ≡ tokens f ++ all_tokens more
 pieces-tokens Empty more = refl
 pieces-tokens (Text bytes rest) more =
@@ -66,7 +66,7 @@ pieces-tokens (Element name x children rest) more =
     ∙ sym (append_assoc (tokens children) (EndTag name ∷ tokens rest) (all_tokens more)))
 
 -- no text follows a text
-alone : (f : Forest) (more : List Piece) → not (begins_with_text f) ≡ true →
+pub alone : (f : Forest) (more : List Piece) → not (begins_with_text f) ≡ true →
     not (begins_with_words more) ≡ true →
     not (begins_with_words (pieces_of f more)) ≡ true
 alone Empty more h k = k

@@ -13,6 +13,7 @@ pub mod Finding
 pub mod Passing
 pub mod Nearby
 pub mod Rules
+pub mod Forests
 pub mod LinkRule
 pub mod Numbers
 pub mod HeadingRule
@@ -22,3 +23,4 @@ pub mod HeadingTurns
 pub mod Distinct
 pub mod Apart
 pub mod Paging
+pub mod PagesAround

@@ -76,7 +76,7 @@ after_words (Opening name attributes ∷ more) r h n = refl
 after_words (Single name attributes ∷ more) r h n = refl
 after_words (Closing name ∷ more) r h n = refl
 
-characters-on : (x : List ℕ) (more t : List Token) →
+pub characters-on : (x : List ℕ) (more t : List Token) →
     going_on (map Character x ++ more) t ≡ map Character x ++ going_on more t
 characters-on [] more t = refl
 characters-on (b ∷ x) more t = ap (λ y. Character b ∷ y) (characters-on x more t)

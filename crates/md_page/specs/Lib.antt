@@ -10,3 +10,4 @@ pub mod Scan
 pub mod Headings
 pub mod Ids
 pub mod PageAround
+pub mod Built

@@ -6,6 +6,7 @@ ghost use Rattle.md_safe.specs.PageTokens.{page_text};
 ghost use Rattle.md_safe.specs.Token.{Token};
 ghost use Rattle.md_safe.specs.Tokenizer.{IsTokenized};
 ghost use Rattle.md_page.specs.Added.{shown};
+ghost use Rattle.md_page.specs.Built.{IsBuiltAsWritten, IsBuiltPageAround};
 ghost use Rattle.md_page.specs.PageAround.{page_around, IsSafePage};
 
 use crate::html::Html;
@@ -17,7 +18,8 @@ use std::alloc::{AllocError, Global};
 ///
 /// Whatever tokens the HTML Standard's tokenizer emits of `body`, it emits of the page exactly the
 /// doctype, the head with the title's characters, U+FFFD for each NUL and a line feed for each line
-/// ending in them, and these tokens.
+/// ending in them, and these tokens. Where tree construction builds the body as it is written, it
+/// builds the page's document with that body.
 ///
 /// # Errors
 ///
@@ -34,6 +36,8 @@ pub fn page_around<H: Html>(alloc: Global, title: &str, body: &H) -> Result<Stri
         ≡ page_text (encoded true title.now) (H.text body.now)) }
     ensures tokens { IfOk result (λ text. (x : List Token) → IsTokenized (H.text body.now) x
         → IsSafePage (string_bytes text) (page_around (shown title.now) x)) }
+    ensures tree { IfOk result (λ text. IsBuiltAsWritten (H.text body.now)
+        → IsBuiltPageAround (shown title.now) (H.text body.now) (string_bytes text)) }
 {
     let escaped = encode(alloc, title, true)?;
     let mut text = String::new(alloc);

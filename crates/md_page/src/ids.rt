@@ -5,6 +5,7 @@ ghost use Rattle.md_safe.specs.Token.{Token};
 ghost use Rattle.md_safe.specs.Tokenizer.{IsTokenized};
 ghost use Rattle.md_page.specs.Added.{shown, with_heading_ids, headings_of};
 ghost use Rattle.md_page.specs.Attributed.{IsAttributed};
+ghost use Rattle.md_page.specs.Built.{IsBuiltAsWritten};
 ghost use Rattle.md_page.specs.Headings.{listed};
 ghost use Rattle.md_page.specs.Ids.{ids_among, none_begins};
 ghost use Rattle.std.specs.Prelude.{◌≡◌, ◌++◌, ◌∷◌, [], IfOk, OnOk, string_bytes, codes, true};
@@ -37,7 +38,8 @@ pub struct WithHeadingIds {
 /// characters up to their end tag, escaped.
 ///
 /// Where no two `id`s of the text given are equal, and none begins with `prefix`, no two of the
-/// text returned are.
+/// text returned are. Where tree construction builds the text given as it is written, it builds the
+/// text returned so.
 ///
 /// # Errors
 ///
@@ -64,6 +66,8 @@ pub fn with_heading_ids<H: Html>(
         IsTrue (are_distinct (ids_among x)) → IsTrue (none_begins (shown prefix.now) (ids_among x))
         → IsTrue (are_distinct (ids_among (with_heading_ids prefix.now x)))) }
     ensures attributed { IfOk result (λ after. IsAttributed after.html) }
+    ensures tree { IfOk result
+        (λ after. IsBuiltAsWritten (H.text html.now) → IsBuiltAsWritten after.html) }
 {
     let headings = headings(alloc, html.as_str())?;
     let text = with_ids_of(alloc, html.as_str(), prefix, headings.as_slice())?;

@@ -1,9 +1,10 @@
-//! What holds of the ids that are added to headings, as the contract of a function that does
-//! nothing.
+//! What holds of texts to whose tags attributes are added: contracts of functions that do nothing.
 
 ghost use Rattle.std.specs.Prelude.{◌≡◌, ◌++◌, ℕ, List, suc};
 ghost use Rattle.std.specs.Fmt.{decimal};
+ghost use Rattle.md_safe.specs.Built.{IsBuiltAsRead};
 ghost use Rattle.md_page.specs.Added.{shown};
+ghost use Rattle.md_page.specs.Built.{IsBuiltAsWritten};
 ghost use Rattle.md_page.specs.Ids.{AreApart};
 
 /// Headings of two documents share no id where neither prefix is the other one with digits behind
@@ -12,4 +13,10 @@ ghost use Rattle.md_page.specs.Ids.{AreApart};
 pub fn heading_ids_of_two_documents_are_apart()
     ensures { (one other : List ℕ) (m n : ℕ) → AreApart one other
         → shown one ++ decimal (suc m) ≡ shown other ++ decimal (suc n) → ⊥ }
+{}
+
+/// A safe text that is built as it is read is built as it is written: so, by the clause `tree` of
+/// the calls that add attributes, is what they make of it.
+pub fn text_built_as_read_is_built_as_written()
+    ensures { (text : List ℕ) → IsBuiltAsRead text → IsBuiltAsWritten text }
 {}

@@ -5,6 +5,7 @@ ghost use Rattle.md_safe.specs.Token.{Token};
 ghost use Rattle.md_safe.specs.Tokenizer.{IsTokenized};
 ghost use Rattle.md_page.specs.Added.{with_link_rel};
 ghost use Rattle.md_page.specs.Attributed.{IsAttributed};
+ghost use Rattle.md_page.specs.Built.{IsBuiltAsWritten};
 ghost use Rattle.std.specs.Prelude.{◌≡◌, ◌++◌, ◌∷◌, [], IfOk, OnOk, string_bytes};
 ghost use Rattle.md_text.specs.Html.{written_attributes};
 ghost use Rattle.md_page.specs.Scan.{with_new, new_rel, picks_link};
@@ -19,7 +20,8 @@ use std::alloc::{AllocError, Global};
 /// Each start tag `a` whose `href` isn't empty and doesn't begin with `#`, and which has no `rel`,
 /// gets `rel` with this text, escaped, as its last attribute. Nothing else changes: whatever the
 /// HTML Standard's tokenizer emits of the text given, it emits of the text returned the same tokens
-/// with these attributes added.
+/// with these attributes added. Where tree construction builds the text given as it is written, it
+/// builds the text returned so.
 ///
 /// # Errors
 ///
@@ -41,6 +43,8 @@ pub fn with_link_rel<H: Html>(
     ensures tokens { IfOk result (λ after. (x : List Token) → IsTokenized (H.text html.now) x
         → IsTokenized after (with_link_rel rel.now x)) }
     ensures attributed { IfOk result (λ after. IsAttributed after) }
+    ensures tree { IfOk result
+        (λ after. IsBuiltAsWritten (H.text html.now) → IsBuiltAsWritten after) }
 {
     let text = with_rel(alloc, html.as_str(), rel)?;
     Ok(AttributedHtml::new(text))

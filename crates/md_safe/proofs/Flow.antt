@@ -8,8 +8,7 @@ use Rattle.std.proofs.lemmas.Bool.{and_parts, or_cases}
 use Rattle.std.proofs.lemmas.Slice.Eq.{bytes_eq-Decides}
 use Rattle.md_base.proofs.Lies.{lie}
 use Rattle.md_text.specs.Bytes.{is_one_of}
-use Rattle.md_text.specs.Html.{Attribute, Forest, Empty, Text, Void, Element, is_forest, is_tag}
-use Rattle.md_text.specs.Html.{void_tags}
+use Rattle.md_text.specs.Html.{Attribute, Forest, Empty, Text, Void, Element}
 use Rattle.md_safe.specs.Token.{StartTag, TokenAttribute}
 use Rattle.md_safe.specs.Tokens.{seen, seen_attributes, tokens}
 use Rattle.md_safe.specs.Contents.{Content, Flow, Items, Preformatted, elements_in, held_in}
@@ -21,7 +20,8 @@ use Rattle.md_safe.specs.Stack.{is_named, is_among, has_in_scope}
 use Rattle.md_safe.specs.InBody.{has_item, insert_void}
 use Rattle.md_safe.specs.InTable.{mode_for}
 use Rattle.md_safe.specs.Construction.{step}
-use Rattle.md_safe.specs.Built.{with_characters, put, at, is_body, has_none_active}
+use Rattle.md_safe.specs.Built.{has_whole_texts, with_characters, put, at, is_body}
+use Rattle.md_safe.specs.Built.{has_none_active}
 use Rattle.md_safe.proofs.Lists.{Keeps, keeps-all, later-created, open-under}
 use Rattle.md_safe.proofs.TreeSteps.{after-one, start-in-body}
 use Rattle.md_safe.proofs.PhrasingNames.{Here, Done, Passed, found, is_free, IsVoid}
@@ -108,7 +108,7 @@ kind-passes :
     (content held : Content) (mode : Mode) (node : Open) (others : List Open) (active : List Entry)
     (created : ℕ) (name : List ℕ) (attributes : List Attribute) (inner : Forest) →
     Ruled content name held →
-    There content mode node others active created → is_forest inner ≡ true →
+    There content mode node others active created → has_whole_texts inner ≡ true →
     is_contained false held inner ≡ true →
     Inside mode inner held → Passed mode node others active created name attributes inner
 kind-passes content held mode node others active created name attributes inner
@@ -207,7 +207,7 @@ void-flows mode node others active created name attributes rest (inl e) here non
   later = omega (later.later, arith);
 }
 
-pub flow-done : (f : Forest) (content : Content) → is_flowing content ≡ true → is_forest f ≡ true →
+pub flow-done : (f : Forest) (content : Content) → is_flowing content ≡ true → has_whole_texts f ≡ true →
     is_contained false content f ≡ true →
     (mode : Mode) (node : Open) (others : List Open) (active : List Entry) (created : ℕ) →
     There content mode node others active created → Done mode node others active created f
@@ -232,8 +232,7 @@ flow-done (Void name attributes rest) content is h c mode node others active cre
     void-flows mode node others active created name attributes rest
     (flow-void content name is parts.0) there.here
     there.no_p
-    (flow-done rest content is (and_parts (is_tag void_tags name attributes) (is_forest rest) h).1
-    parts.1 mode (record node { children = next }) others active (suc created) (there-after content
+    (flow-done rest content is h parts.1 mode (record node { children = next }) others active (suc created) (there-after content
     mode node next others active active created (suc created) (keeps-all active)
     (omega arith) there))
 flow-done (Element name attributes inner rest) content is h c mode node others

@@ -18,7 +18,7 @@ use Rattle.md_safe.specs.Construction.{step, run}
 use Rattle.md_safe.specs.Built.{at, open_at, put, with_characters, IsPlace, Builds, IsBuiltAsRead}
 use Rattle.md_safe.specs.Page.{constructed, document_of, page_document}
 use Rattle.md_safe.proofs.TreeSteps.{after-one, is_character}
-use Rattle.md_safe.proofs.WholeTrees.{reading-built}
+use Rattle.md_safe.proofs.WholeTrees.{forest-built, reading-texts}
 
 -- tokens that lead from one parser to another are no doctype and no end of file
 constructed-runs : (doctype : Option (List ℕ)) (p q : Parser) (xs ys : List Token) →
@@ -80,13 +80,13 @@ text-says mode (byte ∷ bytes) node others active created h =
     by false h = refl
 
 -- the body and what is around it, after a title of these characters
-abbrev root_at : List ℕ → Open
+abbrev pub root_at : List ℕ → Open
 root_at title =
     open_at 0 (codes "html")
     (Element (codes "head") [] (Element (codes "meta") (charset ∷ []) NoNode
     (Element (codes "title") [] (with_characters NoNode title) NoNode)) NoNode)
 
-abbrev body_at : Nodes → Open
+abbrev pub body_at : Nodes → Open
 body_at nodes = open_at 4 (codes "body") nodes
 
 pub body-place : (title : List ℕ) → IsPlace InBody (body_at NoNode) (root_at title ∷ []) [] 5
@@ -124,8 +124,8 @@ pub reading-page-built : (title : List ℕ) (body : Forest) → list_all is_char
     is_forest body ≡ true → is_contained false Flow body ≡ true →
     document_of (page_tokens title body) ≡ Some (page_document title body)
 reading-page-built title body h grammar contained =
-    page-built title body h (reading-built body grammar contained InBody (body_at NoNode)
-    (root_at title ∷ []) [] 5 (body-place title))
+    page-built title body h (forest-built body (reading-texts body grammar) contained InBody
+    (body_at NoNode) (root_at title ∷ []) [] 5 (body-place title))
 
 pub text-page-built : (title text : List ℕ) → list_all is_character title ≡ true →
     (built : IsBuiltAsRead text) →

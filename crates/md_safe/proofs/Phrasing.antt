@@ -5,8 +5,8 @@ use Rattle.std.proofs.Common.{refl, ◌∙◌, map, codes, arith}
 use Rattle.std.specs.Option.{option_map_or}
 use Rattle.std.proofs.lemmas.Bool.{and_parts}
 use Rattle.md_text.specs.Bytes.{is_one_of}
-use Rattle.md_text.specs.Html.{Attribute, Forest, Empty, Text, Void, Element, is_forest, is_tag}
-use Rattle.md_text.specs.Html.{begins_with_text, elements, void_tags}
+use Rattle.md_text.specs.Html.{Attribute, Forest, Empty, Text, Void, Element}
+use Rattle.md_text.specs.Html.{begins_with_text}
 use Rattle.md_text.specs.References.{is_escaped}
 use Rattle.md_base.specs.Identifier.{is_nonempty}
 use Rattle.md_safe.specs.Token.{Character, StartTag, TokenAttribute}
@@ -14,7 +14,7 @@ use Rattle.md_safe.specs.Tokens.{seen, seen_attributes, tokens}
 use Rattle.md_safe.specs.Contents.{Content, elements_in, held_in, voids_in, may_say, is_contained}
 use Rattle.md_safe.specs.Node.{Nodes, Open, Entry, Mode, with_element, Empty as NoNode}
 use Rattle.md_safe.specs.Formatting.{push}
-use Rattle.md_safe.specs.Built.{with_characters, put, at}
+use Rattle.md_safe.specs.Built.{has_whole_texts, with_characters, put, at}
 use Rattle.md_safe.proofs.Lists.{Keeps, keeps-all, keeps-twice, keeps-open, keeps-created}
 use Rattle.md_safe.proofs.Lists.{later-created, keeps-none}
 use Rattle.md_safe.proofs.TreeSteps.{after, after-one, characters-run, same-open, seen-characters}
@@ -96,22 +96,20 @@ element-done mode node others active created name attributes inner rest passed l
 }
 
 -- the parts of a text in a forest
-pub text-escaped : (bytes : List ℕ) (rest : Forest) → is_forest (Text bytes rest) ≡ true →
-    (is_escaped bytes ≡ true) × (is_forest rest ≡ true)
+pub text-escaped : (bytes : List ℕ) (rest : Forest) → has_whole_texts (Text bytes rest) ≡ true →
+    (is_escaped bytes ≡ true) × (has_whole_texts rest ≡ true)
 text-escaped bytes rest h =
     let all = and_parts (is_nonempty bytes && is_escaped bytes && not (begins_with_text rest))
-    (is_forest rest) h in
+    (has_whole_texts rest) h in
     let own =
     and_parts (is_nonempty bytes && is_escaped bytes) (not (begins_with_text rest)) all.0 in
     ((and_parts (is_nonempty bytes) (is_escaped bytes) own.0).1, all.1)
 
 -- and those of an element
 pub element-parts : (name : List ℕ) (attributes : List Attribute) (inner rest : Forest) →
-    is_forest (Element name attributes inner rest) ≡ true →
-    (is_forest inner ≡ true) × (is_forest rest ≡ true)
-element-parts name attributes inner rest h =
-    let all = and_parts (is_tag elements name attributes && is_forest inner) (is_forest rest) h in
-    ((and_parts (is_tag elements name attributes) (is_forest inner) all.0).1, all.1)
+    has_whole_texts (Element name attributes inner rest) ≡ true →
+    (has_whole_texts inner ≡ true) × (has_whole_texts rest ≡ true)
+element-parts name attributes inner rest h = and_parts (has_whole_texts inner) (has_whole_texts rest) h
 
 -- an element among spans, by what its children do
 pub span-passes : (mode : Mode) (node : Open) (others : List Open) (active : List Entry)
@@ -138,7 +136,7 @@ span-passes mode node others active created name attributes inner content held r
     ]
 
 pub phrasing-done : (f : Forest) (content : Content) → is_inline content ≡ true →
-    is_forest f ≡ true →
+    has_whole_texts f ≡ true →
     is_contained false content f ≡ true →
     (mode : Mode) (node : Open) (others : List Open) (active : List Entry) (created : ℕ) →
     Here mode node others active created (is_free content) → Done mode node others active created f
@@ -163,8 +161,7 @@ phrasing-done (Void name attributes rest) content is h c mode node others active
     void-done mode node others active created (is_free content) name attributes rest
     (void-in content name is parts.0)
     here
-    (phrasing-done rest content is
-    (and_parts (is_tag void_tags name attributes) (is_forest rest) h).1 parts.1 mode
+    (phrasing-done rest content is h parts.1 mode
     (record node { children = next }) others active (suc created) (here-after mode node next others
     active active created (suc created) (is_free content) (keeps-all active) (omega arith) here))
 phrasing-done (Element name attributes inner rest) content is h c mode node others

@@ -3,13 +3,13 @@ use Rattle.std.proofs.Common.{◌≡◌, ◌⊎◌, inl, inr, ℕ, suc, Bool, tr
 use Rattle.std.proofs.Common.{refl, sym, ap, ◌∙◌, subst, codes, arith}
 use Rattle.std.specs.Prelude.{Some, find, option_map, bytes_eq}
 use Rattle.std.proofs.lemmas.Slice.Eq.{bytes_eq-Decides}
-use Rattle.md_text.specs.Html.{Attribute, Forest, is_forest}
+use Rattle.md_text.specs.Html.{Attribute, Forest}
 use Rattle.md_safe.specs.Token.{EndTag, TokenAttribute}
 use Rattle.md_safe.specs.Tokens.{seen_attributes, tokens}
 use Rattle.md_safe.specs.Contents.{Content, Phrasing, Cells, elements_in, is_contained}
 use Rattle.md_safe.specs.Node.{Nodes, Open, Entry, Marker, InRow, InCell, Empty as NoNode}
 use Rattle.md_safe.specs.Construction.{run}
-use Rattle.md_safe.specs.Built.{put, at, AreCreated}
+use Rattle.md_safe.specs.Built.{has_whole_texts, put, at, AreCreated}
 use Rattle.md_safe.proofs.Lists.{later-created}
 use Rattle.md_safe.proofs.TreeSteps.{after}
 use Rattle.md_safe.proofs.PhrasingNames.{Here, Done}
@@ -25,7 +25,7 @@ cell-here node others active created made =
     record { body = refl; opened = tt; made = made; no_link = λ free. refl }
 
 cell-put : (name : List ℕ) → (name ≡ codes "td") ⊎ (name ≡ codes "th") → (inner : Forest) →
-    is_forest inner ≡ true →
+    has_whole_texts inner ≡ true →
     is_contained false Phrasing inner ≡ true →
     (identity : ℕ) (those : List TokenAttribute) (children : Nodes)
     (others : List Open) (active : List Entry) (created : ℕ) (attributes : List Attribute) →

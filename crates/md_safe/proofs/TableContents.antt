@@ -10,7 +10,7 @@ use Rattle.md_base.specs.Identifier.{is_nonempty}
 use Rattle.md_text.specs.Bytes.{is_one_of}
 use Rattle.md_text.specs.References.{is_escaped, reference_tail, referenced, read_back_after}
 use Rattle.md_text.specs.References.{read_back}
-use Rattle.md_text.specs.Html.{Attribute, Forest, Empty, Text, Void, Element, is_forest}
+use Rattle.md_text.specs.Html.{Attribute, Forest, Empty, Text, Void, Element}
 use Rattle.md_text.specs.Html.{begins_with_text}
 use Rattle.md_safe.specs.Input.{begins_with_line_feed, with_line_feeds}
 use Rattle.md_safe.specs.Token.{Token, Character, StartTag, EndTag, TokenAttribute}
@@ -19,7 +19,8 @@ use Rattle.md_safe.specs.Contents.{Content, Parts, Rows, Cells, is_space, held_i
 use Rattle.md_safe.specs.Contents.{may_say, is_contained}
 use Rattle.md_safe.specs.Node.{Nodes, Open, Entry, Mode, Parser, with_element, Empty as NoNode}
 use Rattle.md_safe.specs.Construction.{run}
-use Rattle.md_safe.specs.Built.{with_characters, put, at, AreCreated}
+use Rattle.md_safe.specs.Built.{has_whole_texts, with_characters, put, at}
+use Rattle.md_safe.specs.Built.{AreCreated}
 use Rattle.md_safe.proofs.Lists.{later-created}
 use Rattle.md_safe.proofs.TreeSteps.{after, seen-characters}
 use Rattle.md_safe.proofs.FormattingElements.{element_of}
@@ -70,7 +71,7 @@ no_void _ name is h = lie is
 -- an element of this name on the stack, whatever its children are
 abbrev pub Putting : Content → Mode → List ℕ → Type 0
 Putting content mode parent =
-    (name : List ℕ) (held : Content) (inner : Forest) → is_forest inner ≡ true →
+    (name : List ℕ) (held : Content) (inner : Forest) → has_whole_texts inner ≡ true →
     held_in false content name ≡ Some held → is_contained false held inner ≡ true → (identity : ℕ)
     (those : List TokenAttribute) (children : Nodes) (others : List Open) (active : List Entry)
     (created : ℕ) (attributes : List Attribute) → AreCreated created active →
@@ -84,10 +85,10 @@ held-some (Some content) inner h = (content, refl, h)
 
 -- two texts don't follow one another
 joined-texts : (bytes more : List ℕ) (rest : Forest) →
-    is_forest (Text bytes (Text more rest)) ≡ true → false ≡ true
+    has_whole_texts (Text bytes (Text more rest)) ≡ true → false ≡ true
 joined-texts bytes more rest h =
     (and_parts (is_nonempty bytes && is_escaped bytes) false
-    (and_parts (is_nonempty bytes && is_escaped bytes && false) (is_forest (Text more rest)) h).0).1
+    (and_parts (is_nonempty bytes && is_escaped bytes && false) (has_whole_texts (Text more rest)) h).0).1
 
 -- something is read of a text
 fed : (x : List ℕ) → begins_with_line_feed x ≡ true → is_nonempty (with_line_feeds x) ≡ true
@@ -111,11 +112,11 @@ read-filled (b ∷ x) h =
     cond_both (b == 38) (referenced x ∷ read_back_after (reference_tail x) x)
     (b ∷ read_back_after 0 x) (λ y. is_nonempty y ≡ true) (λ _. refl) (λ _. refl)
 
-filled : (bytes : List ℕ) (rest : Forest) → is_forest (Text bytes rest) ≡ true →
+filled : (bytes : List ℕ) (rest : Forest) → has_whole_texts (Text bytes rest) ≡ true →
     is_nonempty (seen bytes) ≡ true
 filled bytes rest h =
     let all = and_parts (is_nonempty bytes && is_escaped bytes && not (begins_with_text rest))
-    (is_forest rest) h in
+    (has_whole_texts rest) h in
     let own =
     and_parts (is_nonempty bytes && is_escaped bytes) (not (begins_with_text rest)) all.0 in
     read-filled (with_line_feeds bytes)
@@ -125,7 +126,7 @@ pub set-all : (f : Forest) (content : Content) → is_tabled content ≡ true �
     is_tables mode ≡ true →
     (parent : List ℕ) →
     is_one_of (codes "table" ∷ codes "tbody" ∷ codes "template" ∷ codes "tfoot" ∷ codes "thead"
-    ∷ codes "tr" ∷ []) parent ≡ true → Putting content mode parent → is_forest f ≡ true →
+    ∷ codes "tr" ∷ []) parent ≡ true → Putting content mode parent → has_whole_texts f ≡ true →
     is_contained false content f ≡ true →
     (identity : ℕ) (those : List TokenAttribute) (children : Nodes)
     (others : List Open) (active : List Entry) (created : ℕ) → AreCreated created active →

@@ -2,7 +2,7 @@
 use Rattle.std.proofs.Common.{◌≡◌, ◌⊎◌, inl, inr, ℕ, suc, true, false, List, ◌∷◌, ◌++◌, refl, sym}
 use Rattle.std.proofs.Common.{ap, ◌∙◌, subst, codes, arith}
 use Rattle.std.specs.Prelude.{option_and_then}
-use Rattle.md_text.specs.Html.{Attribute, Forest, is_forest}
+use Rattle.md_text.specs.Html.{Attribute, Forest}
 use Rattle.md_safe.specs.Token.{StartTag, EndTag, TokenAttribute}
 use Rattle.md_safe.specs.Tokens.{seen_attributes, tokens}
 use Rattle.md_safe.specs.Contents.{Parts, Rows, Cells, elements_in, is_contained}
@@ -12,7 +12,7 @@ use Rattle.md_safe.specs.Elements.{button_scope}
 use Rattle.md_safe.specs.Stack.{is_named, has_in_scope}
 use Rattle.md_safe.specs.InTable.{mode_for}
 use Rattle.md_safe.specs.Construction.{run}
-use Rattle.md_safe.specs.Built.{put, at, is_body, AreCreated}
+use Rattle.md_safe.specs.Built.{has_whole_texts, put, at, is_body, AreCreated}
 use Rattle.md_safe.proofs.Lists.{keeps-all, later-created}
 use Rattle.md_safe.proofs.TreeSteps.{past, after, after-one, start-in-body}
 use Rattle.md_safe.proofs.PhrasingNames.{Passed}
@@ -23,7 +23,7 @@ use Rattle.md_safe.proofs.TableCells.{cells-put, which}
 -- ---- rows, and what holds them
 row-put : (parent : List ℕ) → (parent ≡ codes "tbody") ⊎ (parent ≡ codes "thead") →
     (inner : Forest) →
-    is_forest inner ≡ true → is_contained false Cells inner ≡ true →
+    has_whole_texts inner ≡ true → is_contained false Cells inner ≡ true →
     (identity : ℕ) (those : List TokenAttribute) (children : Nodes) (others : List Open)
     (active : List Entry) (created : ℕ) (attributes : List Attribute) →
     AreCreated created active →
@@ -88,7 +88,7 @@ rows-put parent is name held inner h e c identity those children others active
     ]
 
 part-put : (name : List ℕ) → (name ≡ codes "tbody") ⊎ (name ≡ codes "thead") → (inner : Forest) →
-    is_forest inner ≡ true → is_contained false Rows inner ≡ true →
+    has_whole_texts inner ≡ true → is_contained false Rows inner ≡ true →
     (identity : ℕ) (those : List TokenAttribute) (children : Nodes) (others : List Open)
     (active : List Entry) (created : ℕ) (attributes : List Attribute) →
     AreCreated created active →
@@ -158,7 +158,7 @@ pub table-passes : (mode : Mode) (node : Open) (others : List Open) (active : Li
     AreCreated created active →
     has_in_scope button_scope (is_named (codes "p")) (node ∷ others) ≡ false →
     mode_for (node ∷ others) ≡ mode →
-    is_forest inner ≡ true → is_contained false Parts inner ≡ true →
+    has_whole_texts inner ≡ true → is_contained false Parts inner ≡ true →
     Passed mode node others active created (codes "table") attributes inner
 table-passes mode node others active created attributes inner body made none resets h c =
     let those : List TokenAttribute = seen_attributes attributes in

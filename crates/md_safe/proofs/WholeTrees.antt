@@ -1,7 +1,12 @@
 -- A text that is contained without a link in a link is built as it is read.
-use Rattle.std.proofs.Common.{◌≡◌, ℕ, true, false, List, [], ◌∷◌, ◌++◌, codes, refl, ap, ◌∙◌, subst}
+use Rattle.std.proofs.Common.{◌≡◌, ℕ, true, false, not, ◌&&◌, List, [], ◌∷◌, ◌++◌, codes, refl}
+use Rattle.std.proofs.Common.{ap, ◌∙◌, subst}
 use Rattle.std.specs.Prelude.{Some, None}
-use Rattle.md_text.specs.Html.{Forest, is_forest, any_attribute}
+use Rattle.md_text.specs.Html.{Forest, Empty, Text, Void, Element, is_forest, is_tag}
+use Rattle.md_text.specs.Html.{any_attribute, begins_with_text, elements, void_tags}
+use Rattle.md_text.specs.References.{is_escaped}
+use Rattle.md_base.specs.Identifier.{is_nonempty}
+use Rattle.std.proofs.lemmas.Bool.{and_parts, and_from}
 use Rattle.md_text.proofs.HtmlReading.{all-any}
 use Rattle.md_base.proofs.Lies.{lie}
 use Rattle.md_safe.specs.Token.{EndOfFile}
@@ -11,7 +16,8 @@ use Rattle.md_safe.proofs.Tokenized.{read-tokenized}
 use Rattle.md_safe.specs.Contents.{Flow, is_contained, IsUnnested}
 use Rattle.md_safe.specs.Node.{Open, Entry, Marker, Formatting, Mode}
 use Rattle.md_safe.specs.Formatting.{last_active}
-use Rattle.md_safe.specs.Built.{put, at, IsPlace, Builds, IsBuiltAsRead, AreOpen, has_none_active}
+use Rattle.md_safe.specs.Built.{has_whole_texts, put, at, IsPlace, Builds, IsBuiltAsRead}
+use Rattle.md_safe.specs.Built.{AreOpen, has_none_active}
 use Rattle.md_safe.proofs.Flow.{flow-done, kept-none}
 
 none-open : (node : Open) (others : List Open) (active : List Entry) →
@@ -27,11 +33,26 @@ none-linked [] h = refl
 none-linked (Marker ∷ active) h = refl
 none-linked (Formatting identity name attributes ∷ active) h = lie h
 
-pub reading-built : (forest : Forest) → is_forest forest ≡ true →
+-- the texts of a reading
+pub reading-texts : (forest : Forest) → is_forest forest ≡ true → has_whole_texts forest ≡ true
+reading-texts Empty h = refl
+reading-texts (Text bytes rest) h =
+    let own = is_nonempty bytes && is_escaped bytes && not (begins_with_text rest) in
+    let parts = and_parts own (is_forest rest) h in
+    and_from own (has_whole_texts rest) parts.0 (reading-texts rest parts.1)
+reading-texts (Void name attributes rest) h =
+    reading-texts rest (and_parts (is_tag void_tags name attributes) (is_forest rest) h).1
+reading-texts (Element name attributes inner rest) h =
+    let all = and_parts (is_tag elements name attributes && is_forest inner) (is_forest rest) h in
+    and_from (has_whole_texts inner) (has_whole_texts rest)
+    (reading-texts inner (and_parts (is_tag elements name attributes) (is_forest inner) all.0).1)
+    (reading-texts rest all.1)
+
+pub forest-built : (forest : Forest) → has_whole_texts forest ≡ true →
     is_contained false Flow forest ≡ true →
     (mode : Mode) (node : Open) (others : List Open) (active : List Entry) (created : ℕ) →
     IsPlace mode node others active created → Builds mode node others active created forest
-reading-built forest h c mode node others active created place =
+forest-built forest h c mode node others active created place =
     let d = flow-done forest Flow refl h c mode node others active created (record {
       here = record {
         body = place.body;
@@ -62,10 +83,11 @@ text-built text h =
       forest = h.forest;
       reading = h.reading;
       only = h.only;
+      contained = h.contained;
       tokenized = subst (λ forest. IsTokenized text (tokens forest ++ (EndOfFile ∷ [])))
           (h.only read.forest read.reading)
           read.tokenized;
       builds = λ mode node others active created place.
-          reading-built h.forest h.reading.in_grammar h.contained mode node others
-          active created place;
+          forest-built h.forest (reading-texts h.forest h.reading.in_grammar) h.contained mode node
+          others active created place;
     }

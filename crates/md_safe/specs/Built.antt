@@ -1,9 +1,14 @@
 -- What is to be built of a reading, and where.
-use Rattle.std.specs.Prelude.{◌≡◌, ℕ, Bool, true, false, ◌<◌, List, [], ◌∷◌, ◌++◌, Some, codes}
-use Rattle.md_text.specs.Html.{Forest, Empty, Text, Void, Element, IsReading}
+use Rattle.std.specs.Prelude.{◌≡◌, ℕ, Bool, true, false, not, IsTrue, ◌&&◌, ◌<◌, List, []}
+use Rattle.std.specs.Prelude.{◌∷◌, ◌++◌, Some, codes}
+use Rattle.md_base.specs.Identifier.{is_nonempty}
+use Rattle.md_text.specs.References.{is_escaped}
+use Rattle.md_text.specs.Html.{Forest, Empty, Text, Void, Element, begins_with_text}
+use Rattle.md_text.specs.Html.{IsReading}
 use Rattle.md_safe.specs.Token.{EndOfFile}
 use Rattle.md_safe.specs.Tokenizer.{IsTokenized}
 use Rattle.md_safe.specs.Tokens.{seen, seen_attributes, tokens}
+use Rattle.md_safe.specs.Contents.{Flow, is_contained}
 use Rattle.md_safe.specs.Node.{Nodes, with_element, with_character, Open, Entry, Marker, Formatting}
 use Rattle.md_safe.specs.Node.{Mode, InBody, InCell, Parser}
 use Rattle.md_safe.specs.Node.{Empty as NoNode}
@@ -12,6 +17,15 @@ use Rattle.md_safe.specs.Stack.{is_named, is_among, has_in_scope}
 use Rattle.md_safe.specs.Formatting.{is_open}
 use Rattle.md_safe.specs.InTable.{mode_for}
 use Rattle.md_safe.specs.Construction.{run}
+
+-- no text is empty or followed by a text, and all texts are escaped
+abbrev pub has_whole_texts : Forest → Bool
+has_whole_texts Empty = true
+has_whole_texts (Text bytes rest) = is_nonempty bytes && is_escaped bytes
+    && not (begins_with_text rest) && has_whole_texts rest
+has_whole_texts (Void name attributes rest) = has_whole_texts rest
+has_whole_texts (Element name attributes inner rest) =
+    has_whole_texts inner && has_whole_texts rest
 
 -- characters after some nodes
 abbrev pub with_characters : Nodes → List ℕ → Nodes
@@ -84,12 +98,14 @@ Builds mode node others active created forest =
     (more : ℕ) × (run (at mode (node ∷ others) active created) (tokens forest)
     ≡ Some (at mode (record node { children = put node.children forest } ∷ others) active more))
 
--- a text has exactly one reading, the tokenizer emits its tokens, and of these tree construction
--- builds the reading's own tree, wherever flow content may be set
+-- a text has exactly one reading, in which everything stands where it may and no link in a link; the
+-- tokenizer emits its tokens, and of these tree construction builds the reading's own tree, wherever
+-- flow content may be set
 pub record IsBuiltAsRead (text : List ℕ) : Type 0 where
   pub forest : Forest
   pub reading : IsReading text forest
   pub only : (other : Forest) → IsReading text other → other ≡ forest
+  pub contained : IsTrue (is_contained false Flow forest)
   pub tokenized : IsTokenized text (tokens forest ++ (EndOfFile ∷ []))
   pub builds :
       (mode : Mode) (node : Open) (others : List Open) (active : List Entry) (created : ℕ) →

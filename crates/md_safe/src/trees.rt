@@ -11,13 +11,22 @@ ghost use Rattle.md_safe.specs.Contents.{Flow, is_contained, IsUnnested};
 ghost use Rattle.md_safe.specs.Node.{Nodes, Empty, Text, Element, Open, Entry, Marker, Mode};
 ghost use Rattle.md_safe.specs.Node.{InBody, InCell, is_text, Parser};
 ghost use Rattle.md_safe.specs.Construction.{step, run};
-ghost use Rattle.md_safe.specs.Built.{at, open_at, IsPlace, Builds, IsBuiltAsRead};
+ghost use Rattle.md_safe.specs.Built.{has_whole_texts, at, open_at, IsPlace, Builds};
+ghost use Rattle.md_safe.specs.Built.{IsBuiltAsRead};
 ghost use Rattle.md_safe.specs.Page.{has_no_nul, document_of, page_document};
 
 /// Wherever flow content may be set, the tokens of a reading build its own tree there, and leave
 /// the other open elements and the list of active formatting elements as they were.
 pub fn reading_is_built()
     ensures { (forest : Forest) → IsTrue (is_forest forest)
+        → IsTrue (is_contained false Flow forest)
+        → (mode : Mode) (node : Open) (others : List Open) (active : List Entry) (created : ℕ)
+        → IsPlace mode node others active created → Builds mode node others active created forest }
+{}
+
+/// So of a forest whose tags may have any attributes.
+pub fn forest_is_built()
+    ensures { (forest : Forest) → IsTrue (has_whole_texts forest)
         → IsTrue (is_contained false Flow forest)
         → (mode : Mode) (node : Open) (others : List Open) (active : List Entry) (created : ℕ)
         → IsPlace mode node others active created → Builds mode node others active created forest }

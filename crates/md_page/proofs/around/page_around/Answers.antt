@@ -3,8 +3,10 @@ use Rattle.std.proofs.Common.{◌≡◌, ℕ, true, List, ◌++◌, ap, sym, ◌
 use Rattle.std.proofs.lemmas.List.{append_assoc}
 use Rattle.md_text.specs.Encode.{encoded}
 use Rattle.md_page.specs.Added.{shown}
+use Rattle.md_page.specs.Built.{IsBuiltPageAround}
 use Rattle.md_page.specs.PageAround.{page_around, IsSafePage}
 use Rattle.md_page.proofs.Paging.{page-emitted}
+use Rattle.md_page.proofs.PagesAround.{page-around-built}
 use Rattle.md_page.proofs.around.page_around.Goals as goal
 
 abbrev before_title : List ℕ
@@ -45,3 +47,10 @@ returns-clause-tokens g c = λ x h.
     subst (λ t. IsSafePage t (page_around (shown c.args.title.now) x))
     (sym (returns-clause-text g c))
     (page-emitted c.args.title.now (g.H.Html.text c.args.body.now) c.as_str-2.ensures.written x h)
+
+pub returns-clause-tree : goal.returns-clause-tree
+returns-clause-tree g c = λ built.
+    subst (IsBuiltPageAround (shown c.args.title.now) (g.H.Html.text c.args.body.now))
+    (sym (returns-clause-text g c))
+    (page-around-built c.args.title.now (g.H.Html.text c.args.body.now)
+    c.as_str-2.ensures.written built)

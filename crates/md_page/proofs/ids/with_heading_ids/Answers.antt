@@ -6,11 +6,14 @@ use Rattle.md_page.specs.Added.{with_heading_ids, headings_of}
 use Rattle.md_page.specs.Attributed.{IsAttributed}
 use Rattle.md_page.specs.Headings.{listed}
 use Rattle.md_page.specs.Pieces.{IsWritten}
+use Rattle.md_page.specs.Built.{IsBuiltAsWritten}
 use Rattle.md_page.specs.Scan.{with_new, picks_heading, new_id, scanned_headings}
 use Rattle.md_page.proofs.Distinct.{distinct-headings}
 use Rattle.md_page.proofs.Listing.{listed-tokens}
 use Rattle.md_page.proofs.Rules.{attributed}
-use Rattle.md_page.proofs.HeadingRule.{heading-written, heading-tokens}
+use Rattle.md_page.specs.Added.{gets_id}
+use Rattle.md_page.proofs.Forests.{grown-built}
+use Rattle.md_page.proofs.HeadingRule.{heading-rule, heading-written, heading-tokens}
 use Rattle.md_page.proofs.ids.with_heading_ids.Goals as goal
 
 pub new-html-requires : goal.new-html-requires
@@ -57,3 +60,12 @@ returns-clause-distinct g c = λ x h distinct none.
       c.in_ok-headings.headings.ok.0,
     ) in
     distinct-headings c.args.prefix.now x few distinct none)
+
+pub returns-clause-tree : goal.returns-clause-tree
+returns-clause-tree g c = λ built.
+    (let prefix = c.args.prefix.now in
+    let text = g.H.Html.text c.args.html.now in
+    subst IsBuiltAsWritten
+    (sym (c.new-html.ensures ∙ c.in_ok-text.ensures
+    ∙ ap (with_new picks_heading (new_id prefix)) c.as_str-2.ensures.text))
+    (grown-built picks_heading gets_id (new_id prefix) (heading-rule prefix) text built))

@@ -4,9 +4,12 @@ use Rattle.md_safe.specs.Tokenizer.{IsTokenized}
 use Rattle.md_page.specs.Added.{with_link_rel}
 use Rattle.md_page.specs.Attributed.{IsAttributed}
 use Rattle.md_page.specs.Pieces.{IsWritten}
+use Rattle.md_page.specs.Built.{IsBuiltAsWritten}
 use Rattle.md_page.specs.Scan.{with_new, picks_link, new_rel}
 use Rattle.md_page.proofs.Rules.{attributed}
-use Rattle.md_page.proofs.LinkRule.{link-written, link-tokens}
+use Rattle.md_page.specs.Added.{gets_rel}
+use Rattle.md_page.proofs.Forests.{grown-built}
+use Rattle.md_page.proofs.LinkRule.{link-rule, link-written, link-tokens}
 use Rattle.md_page.proofs.rel.with_link_rel.Goals as goal
 
 pub new-requires : goal.new-requires
@@ -35,3 +38,12 @@ returns-clause-attributed g c =
     ∙ ap (with_new picks_link (new_rel rel)) c.as_str.ensures.text))
     (attributed (with_new picks_link (new_rel rel) text)
     (link-written rel text c.as_str.ensures.written))
+
+pub returns-clause-tree : goal.returns-clause-tree
+returns-clause-tree g c = λ built.
+    (let rel = c.args.rel.now in
+    let text = g.H.Html.text c.args.html.now in
+    subst IsBuiltAsWritten
+    (sym (c.new.ensures ∙ c.in_ok-text.ensures
+    ∙ ap (with_new picks_link (new_rel rel)) c.as_str.ensures.text))
+    (grown-built picks_link gets_rel (new_rel rel) (link-rule rel) text built))
