@@ -262,7 +262,8 @@ grown-built picks test new rule text b =
     let after : written g ≡ with_new picks new text =
     sym (append-nil (written g)) ∙ written-before g [] ∙ sym (pieces-written g [])
     ∙ ap all_written (sym (grown-pieces test new 0 f []))
-    ∙ sym (scanned-pieces picks test new 0 pieces rule.picks_by (plain-sound f [] b.plain refl refl))
+    ∙ sym (scanned-pieces picks test new 0 pieces rule.picks_by
+    (plain-sound f [] b.plain refl refl))
     ∙ ap (with_new picks new) same in
     built-so g (with_new picks new text) (grown-plain test new 0 f rule.may_add b.plain) after
     (grown-contained test new 0 false Flow f ∙ b.contained)

@@ -97,6 +97,7 @@ body-place title = record {
   no_paragraph = refl;
   no_heading = refl;
   leads_back = refl;
+  none_apart = refl;
 }
 
 pub page-built : (title : List ℕ) (body : Forest) → list_all is_character title ≡ true →

@@ -1,6 +1,7 @@
 -- What is to be built of a reading, and where.
 use Rattle.std.specs.Prelude.{◌≡◌, ℕ, Bool, true, false, not, IsTrue, ◌&&◌, ◌<◌, List, []}
 use Rattle.std.specs.Prelude.{◌∷◌, ◌++◌, Some, codes}
+use Rattle.std.specs.List.{list_any}
 use Rattle.md_base.specs.Identifier.{is_nonempty}
 use Rattle.md_text.specs.References.{is_escaped}
 use Rattle.md_text.specs.Html.{Forest, Empty, Text, Void, Element, begins_with_text}
@@ -12,7 +13,7 @@ use Rattle.md_safe.specs.Contents.{Flow, is_contained}
 use Rattle.md_safe.specs.Node.{Nodes, with_element, with_character, Open, Entry, Marker, Formatting}
 use Rattle.md_safe.specs.Node.{Mode, InBody, InCell, Parser}
 use Rattle.md_safe.specs.Node.{Empty as NoNode}
-use Rattle.md_safe.specs.Elements.{button_scope, headings}
+use Rattle.md_safe.specs.Elements.{button_scope, headings, apart}
 use Rattle.md_safe.specs.Stack.{is_named, is_among, has_in_scope}
 use Rattle.md_safe.specs.Formatting.{is_open}
 use Rattle.md_safe.specs.InTable.{mode_for}
@@ -81,7 +82,7 @@ open_at identity name nodes =
 
 -- where flow content may be set: in a body or a cell, with no formatting element active since the
 -- last marker; the current node isn't a heading and is in no paragraph that a block would close;
--- the elements that are open lead back to this mode
+-- the elements that are open lead back to this mode, and none is of those with rules of their own
 pub record IsPlace (mode : Mode) (node : Open) (others : List Open) (active : List Entry)
     (created : ℕ) : Type 0 where
   pub body : is_body mode ≡ true
@@ -90,6 +91,7 @@ pub record IsPlace (mode : Mode) (node : Open) (others : List Open) (active : Li
   pub no_paragraph : has_in_scope button_scope (is_named (codes "p")) (node ∷ others) ≡ false
   pub no_heading : is_among headings node ≡ false
   pub leads_back : mode_for (node ∷ others) ≡ mode
+  pub none_apart : list_any (is_among apart) (node ∷ others) ≡ false
 
 -- the tokens of a reading put its nodes after those of the current node, and leave all else as it
 -- was: the mode, the other open elements and the list; but elements were created
@@ -98,9 +100,9 @@ Builds mode node others active created forest =
     (more : ℕ) × (run (at mode (node ∷ others) active created) (tokens forest)
     ≡ Some (at mode (record node { children = put node.children forest } ∷ others) active more))
 
--- a text has exactly one reading, in which everything stands where it may and no link in a link; the
--- tokenizer emits its tokens, and of these tree construction builds the reading's own tree, wherever
--- flow content may be set
+-- a text has exactly one reading, in which everything stands where it may and no link in a link;
+-- the tokenizer emits its tokens, and of these tree construction builds the reading's own tree,
+-- wherever flow content may be set
 pub record IsBuiltAsRead (text : List ℕ) : Type 0 where
   pub forest : Forest
   pub reading : IsReading text forest

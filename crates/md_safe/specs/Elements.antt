@@ -1,20 +1,31 @@
--- Which elements are what to tree construction (HTML Standard, 13.2.4.2 and 13.2.6). Of the special
--- elements only those that the grammar has, and a few around a text; a stack has no others.
+-- Which elements are what to tree construction (HTML Standard, 13.2.4.2 and 13.2.6). Those of
+-- MathML and SVG are not among them: an open element has no namespace here.
 use Rattle.std.specs.Prelude.{List, [], ◌∷◌, ◌++◌, ℕ, codes}
 
+-- the special elements of HTML
 abbrev pub special : List (List ℕ)
-special = codes "address" ∷ codes "article" ∷ codes "blockquote" ∷ codes "body" ∷ codes "br"
-    ∷ codes "div" ∷ codes "h1" ∷ codes "h2" ∷ codes "h3" ∷ codes "h4" ∷ codes "h5" ∷ codes "h6"
-    ∷ codes "hr" ∷ codes "html" ∷ codes "img" ∷ codes "input" ∷ codes "li" ∷ codes "main"
-    ∷ codes "ol" ∷ codes "p" ∷ codes "pre" ∷ codes "section"
-    ∷ codes "table" ∷ codes "tbody" ∷ codes "td" ∷ codes "th" ∷ codes "thead"
-    ∷ codes "tr" ∷ codes "ul" ∷ []
+special = codes "address" ∷ codes "applet" ∷ codes "area" ∷ codes "article" ∷ codes "aside"
+    ∷ codes "base" ∷ codes "basefont" ∷ codes "bgsound" ∷ codes "blockquote" ∷ codes "body"
+    ∷ codes "br" ∷ codes "button" ∷ codes "caption" ∷ codes "center" ∷ codes "col"
+    ∷ codes "colgroup" ∷ codes "dd" ∷ codes "details" ∷ codes "dir" ∷ codes "div" ∷ codes "dl"
+    ∷ codes "dt" ∷ codes "embed" ∷ codes "fieldset" ∷ codes "figcaption" ∷ codes "figure"
+    ∷ codes "footer" ∷ codes "form" ∷ codes "frame" ∷ codes "frameset" ∷ codes "h1" ∷ codes "h2"
+    ∷ codes "h3" ∷ codes "h4" ∷ codes "h5" ∷ codes "h6" ∷ codes "head" ∷ codes "header"
+    ∷ codes "hgroup" ∷ codes "hr" ∷ codes "html" ∷ codes "iframe" ∷ codes "img" ∷ codes "input"
+    ∷ codes "keygen" ∷ codes "li" ∷ codes "link" ∷ codes "listing" ∷ codes "main"
+    ∷ codes "marquee" ∷ codes "menu" ∷ codes "meta" ∷ codes "nav" ∷ codes "noembed"
+    ∷ codes "noframes" ∷ codes "noscript" ∷ codes "object" ∷ codes "ol" ∷ codes "p"
+    ∷ codes "param" ∷ codes "plaintext" ∷ codes "pre" ∷ codes "script" ∷ codes "search"
+    ∷ codes "section" ∷ codes "select" ∷ codes "source" ∷ codes "style" ∷ codes "summary"
+    ∷ codes "table" ∷ codes "tbody" ∷ codes "td" ∷ codes "template" ∷ codes "textarea"
+    ∷ codes "tfoot" ∷ codes "th" ∷ codes "thead" ∷ codes "title" ∷ codes "tr" ∷ codes "track"
+    ∷ codes "ul" ∷ codes "wbr" ∷ codes "xmp" ∷ []
 
 -- where scopes end: that of any element, of a list item, of a button, of a table
 abbrev pub any_scope : List (List ℕ)
 any_scope =
     codes "applet" ∷ codes "caption" ∷ codes "html" ∷ codes "table" ∷ codes "td" ∷ codes "th"
-    ∷ codes "marquee" ∷ codes "object" ∷ codes "template" ∷ []
+    ∷ codes "marquee" ∷ codes "object" ∷ codes "select" ∷ codes "template" ∷ []
 
 abbrev pub list_item_scope : List (List ℕ)
 list_item_scope = codes "ol" ∷ codes "ul" ∷ any_scope
@@ -55,3 +66,7 @@ cells = codes "td" ∷ codes "th" ∷ []
 
 abbrev pub parts : List (List ℕ)
 parts = codes "tr" ∷ (cells ++ sections)
+
+-- elements in which rules hold that aren't written out: foreign content, and what a `select` holds
+abbrev pub apart : List (List ℕ)
+apart = codes "svg" ∷ codes "math" ∷ codes "select" ∷ codes "optgroup" ∷ codes "option" ∷ []
