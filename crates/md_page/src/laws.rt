@@ -1,8 +1,12 @@
 //! What holds of texts to whose tags attributes are added: contracts of functions that do nothing.
 
-ghost use Rattle.std.specs.Prelude.{◌≡◌, ◌++◌, ℕ, List, suc};
+ghost use Rattle.std.specs.Prelude.{◌≡◌, ◌++◌, ℕ, List, [], ◌∷◌, IsTrue, Some, suc};
 ghost use Rattle.std.specs.Fmt.{decimal};
-ghost use Rattle.md_safe.specs.Built.{IsBuiltAsRead};
+ghost use Rattle.md_safe.specs.Token.{EndOfFile};
+ghost use Rattle.md_safe.specs.Tokens.{tokens};
+ghost use Rattle.md_safe.specs.Node.{Empty};
+ghost use Rattle.md_safe.specs.Built.{put, IsBuiltAsRead};
+ghost use Rattle.md_safe.specs.Fragment.{is_flow_context, fragment_of};
 ghost use Rattle.md_page.specs.Added.{shown};
 ghost use Rattle.md_page.specs.Built.{IsBuiltAsWritten};
 ghost use Rattle.md_page.specs.Ids.{AreApart};
@@ -13,6 +17,15 @@ ghost use Rattle.md_page.specs.Ids.{AreApart};
 pub fn heading_ids_of_two_documents_are_apart()
     ensures { (one other : List ℕ) (m n : ℕ) → AreApart one other
         → shown one ++ decimal (suc m) ≡ shown other ++ decimal (suc n) → ⊥ }
+{}
+
+/// What `innerHTML` sets of such a text, also of one whose tags got attributes: exactly the nodes of
+/// its forest, in each element but those in which other rules hold.
+pub fn fragment_is_built()
+    ensures { (context text : List ℕ) → IsTrue (is_flow_context context)
+        → (built : IsBuiltAsWritten text)
+        → fragment_of context (tokens built.forest ++ (EndOfFile ∷ []))
+        ≡ Some (put Empty built.forest) }
 {}
 
 /// A safe text that is built as it is read is built as it is written: so, by the clause `tree` of

@@ -103,4 +103,5 @@ pub mod FlowRules
 pub mod Flow
 pub mod WholeTrees
 pub mod Pages
+pub mod Fragments
 pub mod Switching

@@ -48,7 +48,7 @@ constructed-runs doctype p q (x ∷ xs) ys e =
     by (StartTag name attributes flag) later e = go (step p (StartTag name attributes flag)) later e
     by (EndTag name) later e = go (step p (EndTag name)) later e
 
-constructed-after : (doctype : Option (List ℕ)) (p q : Parser) (xs ys : List Token) →
+pub constructed-after : (doctype : Option (List ℕ)) (p q : Parser) (xs ys : List Token) →
     run p xs ≡ Some q →
     constructed doctype p (xs ++ ys) ≡ constructed doctype q ys
 constructed-after doctype p q xs ys e =

@@ -33,3 +33,4 @@ pub mod AroundBody
 pub mod Construction
 pub mod Built
 pub mod Page
+pub mod Fragment

@@ -1,19 +1,22 @@
 //! What holds of each reading that is contained without a link in a link: contracts of functions
 //! that do nothing.
 
-ghost use Rattle.std.specs.Prelude.{◌≡◌, ℕ, Bool, false, IsTrue, List, [], ◌∷◌, Some, None, codes};
+ghost use Rattle.std.specs.Prelude.{◌≡◌, ℕ, Bool, false, IsTrue, List, [], ◌∷◌, ◌++◌, Some, None};
+ghost use Rattle.std.specs.Prelude.{codes};
 ghost use Rattle.md_text.specs.Html.{Forest, is_forest};
 ghost use Rattle.md_safe.specs.PageTokens.{page_tokens, plain_tag};
 ghost use Rattle.md_safe.specs.Token.{TokenAttribute, Doctype, Character, StartTag, EndTag};
 ghost use Rattle.md_safe.specs.Token.{EndOfFile};
 ghost use Rattle.md_safe.specs.TokenizerStates.{begins_title};
+ghost use Rattle.md_safe.specs.Tokens.{tokens};
 ghost use Rattle.md_safe.specs.Contents.{Flow, is_contained, IsUnnested};
 ghost use Rattle.md_safe.specs.Node.{Nodes, Empty, Text, Element, Open, Entry, Marker, Mode};
 ghost use Rattle.md_safe.specs.Node.{InBody, InCell, is_text, Parser};
 ghost use Rattle.md_safe.specs.Construction.{step, run};
-ghost use Rattle.md_safe.specs.Built.{has_whole_texts, at, open_at, IsPlace, Builds};
+ghost use Rattle.md_safe.specs.Built.{has_whole_texts, at, open_at, put, IsPlace, Builds};
 ghost use Rattle.md_safe.specs.Built.{IsBuiltAsRead};
 ghost use Rattle.md_safe.specs.Page.{has_no_nul, document_of, page_document};
+ghost use Rattle.md_safe.specs.Fragment.{is_flow_context, fragment_of};
 
 /// Wherever flow content may be set, the tokens of a reading build its own tree there, and leave
 /// the other open elements and the list of active formatting elements as they were.
@@ -49,6 +52,15 @@ pub fn page_is_built()
         → document_of (page_tokens title body) ≡ Some (page_document title body) }
     ensures text { (title text : List ℕ) → IsTrue (has_no_nul title) → (built : IsBuiltAsRead text)
         → document_of (page_tokens title built.forest) ≡ Some (page_document title built.forest) }
+{}
+
+/// What `innerHTML` sets into an element: of a text that is known to be built as it is read exactly
+/// the nodes of its reading, whatever the element is, but for those in which other rules hold.
+pub fn fragment_is_built()
+    ensures { (context text : List ℕ) → IsTrue (is_flow_context context)
+        → (built : IsBuiltAsRead text)
+        → fragment_of context (tokens built.forest ++ (EndOfFile ∷ []))
+        ≡ Some (put Empty built.forest) }
 {}
 
 /// A start tag leads to the mode "text" exactly where the tokenizer's definition switches its
