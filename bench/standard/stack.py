@@ -2,9 +2,14 @@
 active formatting elements, as in Stack and Formatting.
 """
 
-SPECIAL = set("address article blockquote body br div h1 h2 h3 h4 h5 h6 hr html img input".split())
-SPECIAL |= set("li main ol p pre section table tbody td th thead tr ul".split())
-ANY_SCOPE = set("applet caption html table td th marquee object template".split())
+SPECIAL = set("address applet area article aside base basefont bgsound blockquote body br".split())
+SPECIAL |= set("button caption center col colgroup dd details dir div dl dt embed fieldset".split())
+SPECIAL |= set("figcaption figure footer form frame frameset h1 h2 h3 h4 h5 h6 head header".split())
+SPECIAL |= set("hgroup hr html iframe img input keygen li link listing main marquee menu".split())
+SPECIAL |= set("meta nav noembed noframes noscript object ol p param plaintext pre script".split())
+SPECIAL |= set("search section select source style summary table tbody td template textarea".split())
+SPECIAL |= set("tfoot th thead title tr track ul wbr xmp".split())
+ANY_SCOPE = set("applet caption html table td th marquee object select template".split())
 LIST_ITEM_SCOPE = ANY_SCOPE | {"ol", "ul"}
 BUTTON_SCOPE = ANY_SCOPE | {"button"}
 TABLE_SCOPE = {"html", "table", "template"}

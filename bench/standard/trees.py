@@ -5,7 +5,9 @@ trees.py COUNT SEED: every second forest keeps to the content model of
 crates/md_safe/specs/Contents.antt without a link in a link, and has to be built as its own tree;
 the others are changed ones, in which elements may stand anywhere. Every fourth stands between two
 pieces of a template that construction.py doesn't know: html5lib has to build what it builds of the
-template alone, with the forest's own tree where the mark stands in that.
+template alone, with the forest's own tree where the mark stands in that. Each forest of the content
+model is also parsed as a fragment, as what `innerHTML` sets into one of CONTEXTS: html5lib has to
+build its own tree. Links have a `rel` now and then, and headings an `id`.
 """
 
 import random
@@ -35,9 +37,9 @@ MODEL = {
 VOIDS = {"flow": ["br", "hr", "img", "input"], "phrasing": ["br", "img", "input"],
          "linked": ["br", "img", "input"]}
 ATTRIBUTES = {
-    **{"a": ["href", "id"], "code": ["class"], "ol": ["start"], "li": ["id"], "th": ["align"],
-       "td": ["align"]},
-    **{"img": ["src", "alt"], "input": ["type", "checked"]},
+    "a": ["href", "id", "rel"], "code": ["class"], "ol": ["start"], "li": ["id"], "th": ["align"],
+    "td": ["align"], "img": ["src", "alt"], "input": ["type", "checked"],
+    **{f"h{rank}": ["id"] for rank in range(1, 7)},
 }
 # Before a text, the elements that are open there, and the insertion mode.
 PLACES = {
@@ -51,6 +53,9 @@ PLACES = {
     "section": ("<!doctype html><body><section id=here>", ["html", "body", "section"], "body"),
 }
 AFTER = "<i id=after></i>"
+# Elements into which `innerHTML` sets a text.
+CONTEXTS = ["div", "li", "section", "article", "td", "th", "blockquote", "details", "main", "dd",
+            "figure", "aside", "body", "p", "h1", "a", "span", "button", "form"]
 # Pieces before and after a text, which is set where flow content may be set.
 TEMPLATES = [
     ("<!doctype html><!-- c --><title>a<b</title><script>if (1 < 2) {}</script><div class=c>",
@@ -187,6 +192,13 @@ def differs(nodes, place, is_own):
     return None
 
 
+def differs_in_fragment(nodes):
+    """None if html5lib builds of a forest, as a fragment, its own tree."""
+    context = random.choice(CONTEXTS)
+    built = parsed_tree(html5lib.parseFragment(written(nodes), container=context))
+    return None if built == own_tree(nodes) else f"{context}: {built} is not {own_tree(nodes)}"
+
+
 def with_forest(tree, own):
     """A tree with another in the place of the mark."""
     out = []
@@ -220,6 +232,8 @@ def main(count, seed):
             place, found = "template", differs_in_template(nodes)
         else:
             found = differs(nodes, place, is_own)
+        if found is None and is_own:
+            found = differs_in_fragment(nodes)
         if found == "stuck" and not is_own:
             stuck += 1
         elif found is not None:
@@ -231,7 +245,8 @@ def main(count, seed):
             between += place == "template"
     print(f"{count} forests: {same} the same, {stuck} stuck; {own} of the content model, "
           "each built as its own tree")
-    print(f"{between} of these between two pieces of a template")
+    print(f"{between} of these between two pieces of a template; "
+          "each of the content model also as a fragment")
     return 0
 
 
