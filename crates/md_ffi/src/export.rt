@@ -23,6 +23,10 @@ use md_abi::{
     answer_to_refusal, answer_to_within, compile_attributed, compile_given, compile_given_within,
     hand_over, hand_over_listed,
 };
+use md_markdown_abi::{
+    CMarkdownOptions, answer_to_front_matter, answer_to_markdown, front_matter_places,
+    markdown_given, read_document,
+};
 use md_script::run;
 use std::alloc::Global;
 
@@ -246,4 +250,38 @@ pub extern "C" fn bivdrazo_version() -> u32
     ensures { result ≡ 2 }
 {
     VERSION
+}
+
+/// The version of what C sees of Markdown.
+const MARKDOWN_VERSION: u32 = 4;
+
+/// The HTML of a Markdown document into a buffer, and after it the headings that got an `id`.
+#[unsafe(no_mangle)]
+pub extern "C" fn bivdrazo_markdown_into(
+    alloc: Global,
+    text: &[u8],
+    options: &CMarkdownOptions,
+    buffer: &mut [u8],
+) -> Answer {
+    match markdown_given(alloc, text, options) {
+        Ok(made) => hand_over_listed(made.whole.as_str(), made.start, buffer),
+        Err(failure) => answer_to_markdown(&failure),
+    }
+}
+
+/// Where the front matter of a document stands.
+#[unsafe(no_mangle)]
+pub extern "C" fn bivdrazo_front_matter(text: &[u8]) -> Answer {
+    match read_document(text, text.len()) {
+        Ok(text) => answer_to_front_matter(front_matter_places(text)),
+        Err(failure) => answer_to_markdown(&failure),
+    }
+}
+
+/// The version of what C sees of Markdown.
+#[unsafe(no_mangle)]
+pub extern "C" fn bivdrazo_markdown_version() -> u32
+    ensures { result ≡ 4 }
+{
+    MARKDOWN_VERSION
 }

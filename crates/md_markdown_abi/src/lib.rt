@@ -1,0 +1,16 @@
+//! Markdown as C hands it in, and what it is answered: layouts, numbers, and what they stand for.
+#![tactic(auto)]
+
+mod answer;
+mod document;
+mod failure;
+mod front;
+mod given;
+mod option;
+
+pub use answer::{answer_to_front_matter, answer_to_markdown};
+pub use document::read_document;
+pub use failure::MarkdownFailure;
+pub use front::front_matter_places;
+pub use given::markdown_given;
+pub use option::CMarkdownOptions;
