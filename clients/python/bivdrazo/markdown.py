@@ -227,21 +227,27 @@ known_choices = functools.lru_cache(maxsize=16, typed=True)(made_choices)
 
 def rendered(document: bytes, options: CMarkdownOptions) -> tuple[str, str]:
     """The text of a document, and the list of its headings that got an id."""
-    room = len(document) + len(document) // 2 + 256
-    buffer = taken(room)
-    answer = LIBRARY.bivdrazo_markdown_into(document, len(document), options, buffer, len(buffer))
+    buffer = taken(len(document) + len(document) // 2 + 256)
+    try:
+        return rendered_into(buffer, document, options)
+    finally:
+        if len(buffer) == KEPT_SIZE:
+            KEPT.buffer = buffer
+
+
+def rendered_into(buffer: ctypes.Array[ctypes.c_char], document: bytes,
+                  options: CMarkdownOptions) -> tuple[str, str]:
+    """The same by a buffer, where it is long enough, and else by another one."""
+    into = LIBRARY.bivdrazo_markdown_into
+    answer = into(document, len(document), options, buffer, len(buffer))
     if answer.status == TOO_SHORT:
         buffer = ctypes.create_string_buffer(answer.length)
-        answer = LIBRARY.bivdrazo_markdown_into(document, len(document), options, buffer,
-                                                len(buffer))
+        answer = into(document, len(document), options, buffer, len(buffer))
     if answer.status != OK:
         raise markdown_error_of(answer, options, len(document))
     start = ctypes.addressof(buffer)
-    made = (text_at(start, answer.index),
-            text_at(start + answer.index, answer.length - answer.index))
-    if len(buffer) == KEPT_SIZE:
-        KEPT.buffer = buffer
-    return made
+    listed = answer.length - answer.index
+    return text_at(start, answer.index), text_at(start + answer.index, listed) if listed else ""
 
 
 def taken(room: int) -> ctypes.Array[ctypes.c_char]:

@@ -3,3 +3,4 @@ pub mod Options
 pub mod Failures
 pub mod Answers
 pub mod Text
+pub mod Front

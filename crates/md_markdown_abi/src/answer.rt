@@ -6,6 +6,9 @@ ghost use Rattle.md_markdown_abi.specs.Failures.{answer_of_markdown, tell};
 use crate::failure::MarkdownFailure;
 use md_abi::{Answer, answer_to};
 
+/// There is what was asked for.
+pub(crate) const OK: u32 = 0;
+
 /// The document has more bytes than it may.
 const INPUT_TOO_LONG: u32 = 32;
 
@@ -13,7 +16,7 @@ const INPUT_TOO_LONG: u32 = 32;
 const OUTPUT_TOO_LONG: u32 = 33;
 
 /// The document isn't UTF-8.
-const NOT_UTF8: u32 = 34;
+pub(crate) const NOT_UTF8: u32 = 34;
 
 /// The options are of another version.
 const NO_VERSION: u32 = 35;
@@ -39,16 +42,8 @@ pub fn answer_to_markdown(failure: &MarkdownFailure) -> Answer
     }
 }
 
-/// The answer that tells where the front matter stands, if there is one.
-pub fn answer_to_front_matter(places: Option<(usize, usize)>) -> Answer {
-    match places {
-        Some((index, length)) => tell(0, index, length),
-        None => tell(0, 0, 0),
-    }
-}
-
 /// The answer that tells no rule.
-fn tell(status: u32, index: usize, length: usize) -> Answer
+pub(crate) fn tell(status: u32, index: usize, length: usize) -> Answer
     ensures { result ≡ tell status index length }
 {
     Answer {

@@ -10,7 +10,7 @@ use crate::failure::MarkdownFailure;
 /// # Errors
 ///
 /// Tells how many bytes it has where these are more, or from which byte on it isn't UTF-8.
-pub fn read_document(bytes: &[u8], most: usize) -> Result<&str, MarkdownFailure>
+pub(crate) fn read_document(bytes: &[u8], most: usize) -> Result<&str, MarkdownFailure>
     ensures ok { IfOk result (λ text. (text.now ≡ bytes.now) × IsUtf8 bytes.now) }
     ensures fits { IfOk result (λ _. length bytes.now ≤ most) }
     ensures err { IfErr result (IsDocumentFault bytes.now most) }

@@ -8,9 +8,8 @@ mod front;
 mod given;
 mod option;
 
-pub use answer::{answer_to_front_matter, answer_to_markdown};
-pub use document::read_document;
+pub use answer::answer_to_markdown;
 pub use failure::MarkdownFailure;
-pub use front::front_matter_places;
+pub use front::answer_to_front_matter;
 pub use given::markdown_given;
 pub use option::CMarkdownOptions;
