@@ -1,5 +1,6 @@
 -- The options of Markdown that C's stand for.
-use Rattle.std.specs.Prelude.{◌≡◌, ℕ, ◌==◌, ◌+◌, ◌*◌, ◌^◌, Bool, false, if◌then◌else◌, List, [], ◌∷◌}
+use Rattle.std.specs.Prelude.{◌≡◌, ℕ, ◌==◌, ◌+◌, ◌-◌, ◌*◌, ◌^◌, min, Bool, false, if◌then◌else◌}
+use Rattle.std.specs.Prelude.{List, [], ◌∷◌}
 use Rattle.std.specs.Prelude.{Option, Some, None, is_some, option_map, slice_get, string_bytes}
 use Rattle.md_abi.specs.Options.{flag_of, text_of}
 use Rattle.md_markdown.specs.declared.options.DocumentHtml.{DocumentHtml}
@@ -58,12 +59,9 @@ abbrev pub StandsForNone : CMarkdownOptions → ℕ → Type 0
 StandsForNone given number = slice_get (readable_fields given) number ≡ Some false
 
 -- how much work a document of so many bytes may be where no bound is set: 2^20, and 64 for each
--- byte, as far as there are numbers
+-- byte, and no more than there are numbers
 abbrev pub work_by_length : ℕ → ℕ
-work_by_length bytes = nat_min (nat_min (64 * bytes) greatest + 2 ^ 20) greatest
-  where
-    greatest : ℕ
-    greatest = 2 ^ 64 - 1
+work_by_length bytes = min (min (bytes * 64) (2 ^ 64 - 1) + 2 ^ 20) (2 ^ 64 - 1)
 
 -- how much work there may be: 2^64 - 2 goes by the document's length
 abbrev pub most_work : ℕ → ℕ → ℕ

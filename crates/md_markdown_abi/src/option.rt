@@ -20,7 +20,7 @@ const VERSION: u32 = 4;
 const BY_LENGTH: usize = 18_446_744_073_709_551_614;
 
 /// The work that any document may be.
-const LEAST_WORK: usize = 1 << 20;
+const LEAST_WORK: usize = 1_048_576;
 
 /// How much more it may be for each byte of the document.
 const WORK_OF_A_BYTE: usize = 64;
