@@ -1,7 +1,7 @@
 // Written by clients/numbers/generate from numbers.txt. Don't edit it.
 
 /// The number of the interface for Markdown: it changes when a layout or a number of it changes.
-pub const MARKDOWN_VERSION: u32 = 3;
+pub const MARKDOWN_VERSION: u32 = 4;
 
 pub const STATUS_OK: u32 = 0;
 pub const STATUS_REFUSED: u32 = 2;
@@ -28,3 +28,7 @@ pub const OPTION_FOOTNOTE_BACK_LABEL: usize = 6;
 pub const OPTION_BASE: usize = 7;
 pub const OPTION_REL: usize = 8;
 pub const OPTION_HEADING_IDS: usize = 9;
+pub const OPTION_MATH: usize = 10;
+pub const OPTION_FRONT_MATTER: usize = 11;
+pub const OPTION_FOOTNOTES: usize = 12;
+pub const OPTION_TABLES: usize = 13;

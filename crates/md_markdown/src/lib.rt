@@ -11,4 +11,4 @@ mod table;
 pub use compiling::{events_of, markdown, markdown_within};
 pub use error::{MarkdownError, MarkdownWithinError};
 pub use md_html::{Limits, SafeHtml};
-pub use options::MarkdownOptions;
+pub use options::{DocumentHtml, MarkdownOptions};

@@ -8,6 +8,17 @@ use md_inlines::InlineOptions;
 use md_text::{CompileOptions, LineEnding};
 use std::alloc::{AllocError, Global};
 
+/// What becomes of HTML in a document. Whatever is chosen, none of it is HTML in the text.
+#[derive(Clone, Copy, Debug, PartialEq, Eq)]
+pub enum DocumentHtml {
+    /// It is printed as text: `<b>` as `&lt;b&gt;`.
+    Text,
+    /// It is left out. What stands between two tags stays.
+    LeftOut,
+    /// Comments are left out, and all else is printed as text.
+    WithoutComments,
+}
+
 /// How Markdown is read, and how its HTML is made. Whatever is chosen, the text is safe.
 #[derive(Debug, Drop)]
 pub struct MarkdownOptions {
@@ -23,6 +34,11 @@ pub struct MarkdownOptions {
     pub bare_links: bool,
     /// Begin a new line where the document does: `<br />` for its soft breaks. Default: off.
     pub hard_breaks: bool,
+    /// What becomes of HTML in the document. Default: it is text.
+    pub html: DocumentHtml,
+    /// The URL against which those of links and images are read, as RFC 3986 has it. An empty URL
+    /// stays as it is, and so does one that begins with `#`.
+    pub base: Option<String>,
     /// What the ids of footnotes begin with; else `user-content-`. Each document of a page needs
     /// another one.
     pub footnote_prefix: Option<String>,
@@ -44,6 +60,8 @@ impl Default for MarkdownOptions {
             tables: true,
             bare_links: true,
             hard_breaks: false,
+            html: DocumentHtml::Text,
+            base: None,
             footnote_prefix: None,
             number_ids: false,
             footnote_label: None,
