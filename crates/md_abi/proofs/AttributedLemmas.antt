@@ -22,7 +22,9 @@ use Rattle.md_html.specs.declared.safe_html.SafeError.TheVariants as wrong
 use Rattle.md_safe.specs.Options as safe
 use Rattle.md_page.specs.Attributed.{IsAttributed}
 use Rattle.md_page.specs.Pieces.{IsWritten}
+use Rattle.md_page.specs.Built.{IsBuiltAsWritten}
 use Rattle.md_page.proofs.Rules.{attributed}
+use Rattle.md_page.proofs.Forests.{read-built}
 use Rattle.md_abi.specs.Options.{flag_of, text_of, HasOptions, KeepsImages}
 use Rattle.md_abi.specs.Attributes.{asked, with_rel}
 use Rattle.md_abi.specs.Attributed.{IsListedAfter, IsAttributedText}
@@ -127,6 +129,16 @@ none-result whole start prefix text given none same written (Ok made) is at = λ
     (at ∙ ap length same) h (attributed given written) written)
 none-result whole start prefix text given none same written (Err why) is at = tt
 
+-- what is built of a text is built of the bytes before a list
+pub built-before : {S E : Type 0} (whole : S → List ℕ) (start : S → ℕ) (given text list : List ℕ)
+    (r : Result S E) →
+    IfOk r (λ made. whole made ≡ text ++ list) → IfOk r (λ made. start made ≡ length text) →
+    (IsBuiltAsWritten given → IsBuiltAsWritten text) →
+    IfOk r (λ made. IsBuiltAsWritten given → IsBuiltAsWritten (take (start made) (whole made)))
+built-before whole start given text list (Ok made) is at built = λ h.
+    subst IsBuiltAsWritten (sym (after text list (whole made) (start made) is at).0) (built h)
+built-before whole start given text list (Err why) is at built = tt
+
 -- what is asked for is what was read
 asked_is : (given : CText) (read : Option (List ℕ)) → text_of given ≡ Some read → asked given ≡ read
 asked_is given read stands = ap (option_and_then (λ text. text)) stands
@@ -139,9 +151,10 @@ pub made_text :
     text_of attributes.rel ≡ Some rel →
     text_of attributes.heading_ids ≡ Some prefix →
     ((x : List Token) → IsTokenized plain x → IsListedAfter prefix (with_rel rel x) start whole) →
+    (IsBuiltAsWritten plain → IsBuiltAsWritten (take start whole)) →
     IsAttributedText events bytes options names attributes start whole
 made_text events bytes options names attributes rel prefix plain whole start given has keeps
-    rendered read rel_read prefix_read listed =
+    rendered read rel_read prefix_read listed built =
     let emitted : List Token = tokens read.forest ++ (EndOfFile ∷ []) in
     record {
       plain = plain;
@@ -153,6 +166,7 @@ made_text events bytes options names attributes rel prefix plain whole start giv
           (sym (asked_is attributes.heading_ids prefix prefix_read))
           (subst (λ r. IsListedAfter prefix (with_rel r emitted) start whole)
           (sym (asked_is attributes.rel rel rel_read)) (listed emitted read.tokenized));
+      tree = λ h. built (read-built plain h);
     }
 
 -- ---- refusals

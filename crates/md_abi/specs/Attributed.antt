@@ -8,6 +8,8 @@ use Rattle.md_page.specs.Added.{shown}
 use Rattle.md_page.specs.Attributed.{IsAttributed}
 use Rattle.md_page.specs.Ids.{ids_among, none_begins}
 use Rattle.md_page.specs.Pieces.{IsWritten}
+use Rattle.md_page.specs.Built.{IsBuiltAsWritten}
+use Rattle.md_safe.specs.Built.{IsBuiltAsRead}
 use Rattle.md_abi.specs.Options.{KeepsImages}
 use Rattle.md_abi.specs.Rendered.{IsRendered}
 use Rattle.md_abi.specs.Attributes.{asked, with_rel, with_ids, headings_with, listing}
@@ -38,7 +40,8 @@ pub record IsListedAfter (prefix : Option (List ℕ)) (tokens : List Token) (sta
 
 -- of what was handed in, with safe options, there is a text with all that is promised of one
 -- without attributes; with the attributes that are asked for its tokens are those of the bytes
--- before the index; the list of the headings that got an id follows
+-- before the index, which are built as they are written where the text is built as it is read; the
+-- list of the headings that got an id follows
 pub record IsAttributedText (events : List CEvent) (bytes : List ℕ) (options : COptions)
     (names : List CReference) (attributes : CAttributes) (start : ℕ) (whole : List ℕ) : Type 0 where
   pub plain : List ℕ
@@ -48,3 +51,4 @@ pub record IsAttributedText (events : List CEvent) (bytes : List ℕ) (options :
   pub tokenized : IsTokenized plain tokens
   pub listed : IsListedAfter (asked attributes.heading_ids)
       (with_rel (asked attributes.rel) tokens) start whole
+  pub tree : IsBuiltAsRead plain → IsBuiltAsWritten (take start whole)

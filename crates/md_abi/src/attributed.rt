@@ -1,12 +1,13 @@
 //! From what C hands in to a text whose tags have attributes, and the headings that got one.
 
 ghost use Rattle.std.specs.Prelude.{◌≡◌, ◌++◌, ◌∷◌, [], ℕ, List, IfOk, IfErr, OnOk, map, length};
-ghost use Rattle.std.specs.Prelude.{option_copied, string_bytes};
+ghost use Rattle.std.specs.Prelude.{option_copied, string_bytes, take};
 ghost use Rattle.std.specs.Fmt.{decimal};
 ghost use Rattle.md_tree.specs.Grammar.{handed};
 ghost use Rattle.md_safe.specs.Options.{KeepsImages};
 ghost use Rattle.md_safe.specs.Token.{Token};
 ghost use Rattle.md_safe.specs.Tokenizer.{IsTokenized};
+ghost use Rattle.md_page.specs.Built.{IsBuiltAsWritten};
 ghost use Rattle.md_page.specs.Headings.{listed};
 ghost use Rattle.md_abi.specs.Compiled.{IsCompiled};
 ghost use Rattle.md_abi.specs.Attributes.{heading_line, listing, with_rel};
@@ -97,9 +98,11 @@ pub fn add_asked(
     rel: Option<&str>,
     prefix: Option<&str>,
 ) -> Result<Attributed, AllocError>
-    ensures { IfOk result (λ made. (x : List Token) → IsTokenized html.now x
+    ensures listed { IfOk result (λ made. (x : List Token) → IsTokenized html.now x
         → IsListedAfter (option_copied prefix.entry) (with_rel (option_copied rel.entry) x)
         made.start (string_bytes made.whole)) }
+    ensures tree { IfOk result (λ made. IsBuiltAsWritten html.now
+        → IsBuiltAsWritten (take made.start (string_bytes made.whole))) }
 {
     match rel {
         Some(rel) => add_ids(alloc, &with_link_rel(alloc, html, rel)?, prefix),
@@ -109,8 +112,10 @@ pub fn add_asked(
 
 /// A text with ids on its headings, where a prefix is given, and after it these headings.
 fn add_ids<H: Html>(alloc: Global, html: &H, prefix: Option<&str>) -> Result<Attributed, AllocError>
-    ensures { IfOk result (λ made. (x : List Token) → IsTokenized (H.text html.now) x
+    ensures listed { IfOk result (λ made. (x : List Token) → IsTokenized (H.text html.now) x
         → IsListedAfter (option_copied prefix.entry) x made.start (string_bytes made.whole)) }
+    ensures tree { IfOk result (λ made. IsBuiltAsWritten (H.text html.now)
+        → IsBuiltAsWritten (take made.start (string_bytes made.whole))) }
 {
     match prefix {
         Some(prefix) => {

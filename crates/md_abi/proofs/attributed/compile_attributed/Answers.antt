@@ -21,4 +21,4 @@ returns-clause-ok c =
     c.in_ok-options.ensures.ok
     keeps (rendered _ given.bytes.now _ _ _ _ _ read c.in_ok-html.html compiled)
     (compiled.tokenized keeps.links.grammar) c.in_ok-rel.ensures.ok c.in_ok-prefix.ensures.ok
-    c.in_ok-made.ensures
+    c.in_ok-made.ensures.listed c.in_ok-made.ensures.tree
