@@ -1,6 +1,6 @@
 -- Why there is no text without a link in a link, and the answer that tells it. No contract of what
 -- C calls speaks of it.
-use Rattle.std.specs.Prelude.{◌×◌, ⊥, ℕ, List}
+use Rattle.std.specs.Prelude.{ℕ, List}
 use Rattle.md_tree.specs.Grammar.{Handed, IsChecked}
 use Rattle.md_text.specs.declared.options.CompileOptions.{CompileOptions}
 use Rattle.md_safe.specs.Options as given
