@@ -27,7 +27,8 @@ OTHERS = ["md_ffi", "mdevents", "mdhtml", "md_bench"]
 INTERNAL = "Internal: users call nothing of it ([docs/API.md](../../docs/API.md))."
 # What the inline functions of the headers call.
 HELPERS = {"bivdrazo_answer_memory", "bivdrazo_is_too_long", "bivdrazo_first_size", "bivdrazo_grow",
-           "bivdrazo_settle"}
+           "bivdrazo_settle", "bivdrazo_markdown_alloc", "bivdrazo_markdown_first_size",
+           "bivdrazo_markdown_lines"}
 
 
 # An item of a list that begins with names, up to the colon before what they are.
@@ -113,7 +114,7 @@ def header_faults(found):
     """What differs of the C headers, and of what the library exports to them."""
     headers = [(ROOT / "clients" / "c" / name).read_text()
                for name in ("bivdrazo.h", "bivdrazo_types.h", "bivdrazo_alloc.h",
-                            "bivdrazo_numbers.h")]
+                            "bivdrazo_numbers.h", "bivdrazo_markdown.h")]
     header = re.sub(r"/\*.*?\*/", "", "\n".join(headers), flags=re.DOTALL)
     expected = {name for row in found["The C interface"] for name in named(row[0])}
     types = set(re.findall(r"^\} (bivdrazo_\w+);", header, re.MULTILINE))
@@ -123,7 +124,7 @@ def header_faults(found):
     made = "".join(text for _, text in sources("md_ffi"))
     given = set(re.findall(r'extern "C" fn (\w+)', made))
     declared = set(re.findall(r"^(?!static)\w[\w ]*?[ *](bivdrazo_\w+)\(", header, re.MULTILINE))
-    return faults + [f"md_ffi and bivdrazo.h differ in {name}" for name in sorted(given ^ declared)]
+    return faults + [f"md_ffi and the C headers differ in {name}" for name in sorted(given ^ declared)]
 
 
 def readme_faults():

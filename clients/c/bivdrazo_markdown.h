@@ -7,23 +7,27 @@
  *         fputs(html, stdout);          (prints <p><strong>a</strong> &lt;b&gt;</p>)
  *     bivdrazo_markdown_free(html);
  *
- * Link with libbivdrazo-markdown, which needs the C library and GCC's beside it. Its parser is
- * pulldown-cmark, in Rust; with it come tables, strikethrough, tasks, footnotes and bare links.
- * Nothing is proved of the parser: whatever events it makes, the library of bivdrazo.h judges them,
- * and what is proved of that holds of the text.
+ * Link with libbivdrazo, which needs the C library alone. Markdown is CommonMark with tables,
+ * strikethrough, tasks, footnotes and bare links, and math and front matter where they are asked
+ * for. It is proved that the parser ends on each document and that the text is safe: it has one
+ * reading as HTML, with links and images of permitted protocols alone, and a browser builds the
+ * tree of that reading. That the parser finds what CommonMark says is tested.
  *
  * What a caller must keep to, since nothing checks it:
- *  - `text` points to `length` bytes, or `length` is 0. No length is past PTRDIFF_MAX.
+ *  - `text` points to `length` bytes. It may be null where `length` is 0, but for
+ *    bivdrazo_markdown_into() and bivdrazo_front_matter(), for which no pointer is null.
  *  - Begin with bivdrazo_markdown_options_default(), or hand in NULL. A text that is set points to
- *    as many bytes as its length says.
+ *    as many bytes as its length says; the pointer of one that is unset isn't null either.
  *  - `html` and `headings` aren't null, and what is written there is given back once, by
  *    bivdrazo_markdown_free().
+ *  - No length is past PTRDIFF_MAX, and nobody writes what is handed in during the call.
  *
- * There is no state between calls: any number of threads may call at once. Where the parser finds
- * no memory, the process ends; BIVDRAZO_MEMORY tells that the library found none.
+ * There is no state between calls: any number of threads may call at once.
  */
 #ifndef BIVDRAZO_MARKDOWN_H
 #define BIVDRAZO_MARKDOWN_H
+
+#include <stdlib.h>
 
 #include "bivdrazo.h"
 #include "bivdrazo_markdown_numbers.h"
@@ -43,12 +47,7 @@ extern "C" {
  * they are distinct from one another where number_ids is 1.
  *
  * Work is bounded by default; the lengths of the Markdown and of the text aren't. Whoever renders
- * what strangers write sets all three bounds. Whatever they are, a document that would take the
- * parser much time or memory is read otherwise: without tables, if these would have more than
- * 524,288 cells that aren't written; without footnotes, if as many as there can be, times its
- * lines, are more than 2^29; with a mark of a quote or an item past 128 bytes of a line's beginning
- * as text, if its longest beginning, times its lines but at least 1,024, is more than 2^26; and
- * without bare links in a word of more than 2,048 bytes.
+ * what strangers write sets all three bounds.
  */
 typedef struct bivdrazo_markdown_options {
     uint32_t version;                  /* BIVDRAZO_MARKDOWN_VERSION */
@@ -58,6 +57,12 @@ typedef struct bivdrazo_markdown_options {
     uint8_t bare_links;                /* 1, the default: bare URLs and addresses are links */
     uint8_t html;                      /* what becomes of HTML in the document:
                                           BIVDRAZO_MARKDOWN_HTML_TEXT, .. */
+    uint8_t math;                      /* 1: `$a$`, and blocks between lines of `$$`, are math */
+    uint8_t front_matter;              /* 1: what stands between lines of `---` at the beginning
+                                          prints nothing; bivdrazo_front_matter() finds it */
+    uint8_t footnotes;                 /* 1, the default: footnotes are read */
+    uint8_t tables;                    /* 1, the default: tables are read */
+    uint8_t unused[4];                 /* 0 */
     bivdrazo_text footnote_prefix;     /* what footnotes' ids begin with; unset: user-content- */
     bivdrazo_text footnote_label;      /* the heading of the footnotes; unset: Footnotes */
     bivdrazo_text footnote_back_label; /* aria-label of a way back; unset: Back to content */
@@ -75,34 +80,35 @@ typedef struct bivdrazo_markdown_options {
                                           BIVDRAZO_MARKDOWN_WORK_BY_LENGTH, the default */
 } bivdrazo_markdown_options;
 
-BIVDRAZO_ASSERT(sizeof(bivdrazo_markdown_options) == 176, "the options' size");
-BIVDRAZO_ASSERT(offsetof(bivdrazo_markdown_options, html) == 7, "the last option by its number");
-BIVDRAZO_ASSERT(offsetof(bivdrazo_markdown_options, heading_ids) == 128, "the last text");
-BIVDRAZO_ASSERT(offsetof(bivdrazo_markdown_options, max_work) == 168, "the last bound");
+BIVDRAZO_ASSERT(sizeof(bivdrazo_markdown_options) == 184, "the options' size");
+BIVDRAZO_ASSERT(offsetof(bivdrazo_markdown_options, html) == 7, "what becomes of HTML");
+BIVDRAZO_ASSERT(offsetof(bivdrazo_markdown_options, tables) == 11, "the last flag");
+BIVDRAZO_ASSERT(offsetof(bivdrazo_markdown_options, footnote_prefix) == 16, "the first text");
+BIVDRAZO_ASSERT(offsetof(bivdrazo_markdown_options, heading_ids) == 136, "the last text");
+BIVDRAZO_ASSERT(offsetof(bivdrazo_markdown_options, max_work) == 176, "the last bound");
 
 /*
- * The HTML of a Markdown document. Under BIVDRAZO_OK `*html` is the text, `length` bytes of
- * which none is NUL, and a NUL that isn't counted; else `*html` is null. Null options are
- * the default ones.
+ * The HTML of a Markdown document, written into the buffer. Under BIVDRAZO_OK it is the buffer's
+ * first `index` bytes, none of which is NUL, and those from there up to `length` are the list of
+ * the headings that got an id, which bivdrazo_next_heading() reads. Under BIVDRAZO_TOO_SHORT
+ * `length` is what both need, and `index` what the HTML has. Any status but BIVDRAZO_OK leaves the
+ * buffer as it was; under BIVDRAZO_OK what lies after the list is as it was.
  *
- * The statuses: BIVDRAZO_OK, BIVDRAZO_NO_OPTION (`index` is BIVDRAZO_MARKDOWN_OPTION_..),
- * BIVDRAZO_MEMORY, and BIVDRAZO_MARKDOWN_..; BIVDRAZO_REFUSED would be a fault of the parser.
+ * The other statuses, the first of them that is true in this order:
+ * BIVDRAZO_MARKDOWN_NO_VERSION, BIVDRAZO_NO_OPTION (`index` is BIVDRAZO_MARKDOWN_OPTION_..),
+ * BIVDRAZO_MARKDOWN_INPUT_TOO_LONG, .._NOT_UTF8, .._TOO_MUCH_WORK, .._OUTPUT_TOO_LONG; and
+ * BIVDRAZO_MEMORY. BIVDRAZO_REFUSED and BIVDRAZO_MARKDOWN_FAILED would be faults of the parser.
  */
-bivdrazo_answer bivdrazo_markdown(const uint8_t *text, size_t length,
-                                  const bivdrazo_markdown_options *options, char **html);
+bivdrazo_answer bivdrazo_markdown_into(const uint8_t *text, size_t text_length,
+                                       const bivdrazo_markdown_options *options, uint8_t *buffer,
+                                       size_t buffer_length);
 
 /*
- * As bivdrazo_markdown(), with the headings that got an id, for a table of contents. `*headings`
- * has a line for each: its level, a space, its number, a space, and its text, without tags and
- * escaped, in which a space stands for each line feed; each line ends with a line feed. It is to be
- * given back as `*html` is, and null where that is null.
+ * The front matter of a Markdown document: what stands between lines of `---` at its beginning,
+ * without these. Under BIVDRAZO_OK it is `length` bytes from the byte `index` of the text on; where
+ * there is none both are 0. The other status is BIVDRAZO_MARKDOWN_NOT_UTF8.
  */
-bivdrazo_answer bivdrazo_markdown_headings(const uint8_t *text, size_t length,
-                                           const bivdrazo_markdown_options *options, char **html,
-                                           char **headings);
-
-/* Gives back a text that bivdrazo_markdown() or bivdrazo_markdown_headings() made, or null. */
-void bivdrazo_markdown_free(char *html);
+bivdrazo_answer bivdrazo_front_matter(const uint8_t *text, size_t text_length);
 
 /* The number of the interface that the library was built with: it is to be
    BIVDRAZO_MARKDOWN_VERSION. */
@@ -115,6 +121,11 @@ static inline bivdrazo_markdown_options bivdrazo_markdown_options_default(void) 
                                          0,
                                          1,
                                          BIVDRAZO_MARKDOWN_HTML_TEXT,
+                                         0,
+                                         0,
+                                         1,
+                                         1,
+                                         {0, 0, 0, 0},
                                          {0, 0, 0},
                                          {0, 0, 0},
                                          {0, 0, 0},
@@ -131,6 +142,93 @@ static inline bivdrazo_markdown_options bivdrazo_markdown_options_default(void) 
     options.rel = bivdrazo_text_unset();
     options.heading_ids = bivdrazo_text_unset();
     return options;
+}
+
+/* A first size for the buffer: most texts fit into as many bytes as the Markdown has, half as many
+   again and some. */
+static inline size_t bivdrazo_markdown_first_size(size_t length) {
+    return length > (size_t)PTRDIFF_MAX / 2 ? (size_t)PTRDIFF_MAX : length + length / 2 + 256;
+}
+
+/* As bivdrazo_markdown_into(), with the buffer in memory of its own: under BIVDRAZO_OK `*made` is
+   what it wrote, and a NUL; else it is null. */
+static inline bivdrazo_answer bivdrazo_markdown_alloc(const uint8_t *text, size_t length,
+                                                      const bivdrazo_markdown_options *options,
+                                                      uint8_t **made) {
+    const bivdrazo_markdown_options defaults = bivdrazo_markdown_options_default();
+    bivdrazo_answer answer = {BIVDRAZO_TOO_SHORT, 0, 0, bivdrazo_markdown_first_size(length)};
+    *made = NULL;
+    for (int turn = 0; turn < 2 && answer.status == BIVDRAZO_TOO_SHORT; turn++) {
+        const size_t room = answer.length;
+        bivdrazo_grow(&answer, made);
+        if (answer.status == BIVDRAZO_TOO_SHORT)
+            answer = bivdrazo_markdown_into(length ? text : (const uint8_t *)"", length,
+                                            options ? options : &defaults, *made, room);
+    }
+    bivdrazo_settle(&answer, made);
+    return answer;
+}
+
+/*
+ * The HTML of a Markdown document. Under BIVDRAZO_OK `*html` is the text, `length` bytes of
+ * which none is NUL, and a NUL that isn't counted; else `*html` is null. Null options are
+ * the default ones. The statuses are those of bivdrazo_markdown_into() but BIVDRAZO_TOO_SHORT.
+ */
+static inline bivdrazo_answer bivdrazo_markdown(const uint8_t *text, size_t length,
+                                                const bivdrazo_markdown_options *options,
+                                                char **html) {
+    uint8_t *made;
+    bivdrazo_answer answer = bivdrazo_markdown_alloc(text, length, options, &made);
+    *html = (char *)made;
+    if (answer.status == BIVDRAZO_OK) {
+        answer.length = answer.index;
+        answer.index = 0;
+    }
+    return answer;
+}
+
+/* A list of headings as lines: null where it is out of memory. */
+static inline char *bivdrazo_markdown_lines(const uint8_t *list, size_t length) {
+    char *lines = (char *)malloc(length + 1);
+    if (lines == NULL)
+        return NULL;
+    for (size_t at = 1; at < length; at++)
+        lines[at - 1] = list[at] == 0 ? '\n' : list[at] == '\n' ? ' ' : (char)list[at];
+    if (length > 0)
+        lines[length - 1] = '\n';
+    lines[length] = 0;
+    return lines;
+}
+
+/*
+ * As bivdrazo_markdown(), with the headings that got an id, for a table of contents. `*headings`
+ * has a line for each: its level, a space, its number, a space, and its text, without tags and
+ * escaped, in which a space stands for each line feed; each line ends with a line feed. It is to be
+ * given back as `*html` is, and null where that is null.
+ */
+static inline bivdrazo_answer bivdrazo_markdown_headings(const uint8_t *text, size_t length,
+                                                         const bivdrazo_markdown_options *options,
+                                                         char **html, char **headings) {
+    uint8_t *made;
+    bivdrazo_answer answer = bivdrazo_markdown_alloc(text, length, options, &made);
+    *html = NULL;
+    *headings = NULL;
+    if (answer.status != BIVDRAZO_OK)
+        return answer;
+    *headings = bivdrazo_markdown_lines(made + answer.index, answer.length - answer.index);
+    if (*headings == NULL) {
+        free(made);
+        return bivdrazo_answer_memory();
+    }
+    *html = (char *)made;
+    answer.length = answer.index;
+    answer.index = 0;
+    return answer;
+}
+
+/* Gives back a text that bivdrazo_markdown() or bivdrazo_markdown_headings() made, or null. */
+static inline void bivdrazo_markdown_free(char *html) {
+    free(html);
 }
 
 /* What a status means, in English. */

@@ -3,7 +3,7 @@
 #define BIVDRAZO_MARKDOWN_NUMBERS_H
 
 /* The number of the interface for Markdown: it changes when a layout or a number of it changes. */
-#define BIVDRAZO_MARKDOWN_VERSION 3
+#define BIVDRAZO_MARKDOWN_VERSION 4
 
 /* What became of a call, beside the statuses of the library. */
 enum {
@@ -15,10 +15,9 @@ enum {
     BIVDRAZO_MARKDOWN_NOT_UTF8 = 34,
     /* The options have a version that the library doesn't know. */
     BIVDRAZO_MARKDOWN_NO_VERSION = 35,
-    /* The parser failed, or the library answered what isn't known: a fault that should be
-     * reported. */
+    /* What was made of the Markdown has a link in a link: a fault that should be reported. */
     BIVDRAZO_MARKDOWN_FAILED = 36,
-    /* There is more to read and to print than there may be: `length` tells how much that is. */
+    /* There is more to read and to print than there may be. */
     BIVDRAZO_MARKDOWN_TOO_MUCH_WORK = 37,
 };
 
@@ -54,6 +53,14 @@ enum {
     BIVDRAZO_MARKDOWN_OPTION_REL = 8,
     /* What the ids of headings begin with; unset: they have none. */
     BIVDRAZO_MARKDOWN_OPTION_HEADING_IDS = 9,
+    /* Read math: `$a$`, and blocks between lines of `$$`. */
+    BIVDRAZO_MARKDOWN_OPTION_MATH = 10,
+    /* Read front matter, which prints nothing. */
+    BIVDRAZO_MARKDOWN_OPTION_FRONT_MATTER = 11,
+    /* Read footnotes. */
+    BIVDRAZO_MARKDOWN_OPTION_FOOTNOTES = 12,
+    /* Read tables. */
+    BIVDRAZO_MARKDOWN_OPTION_TABLES = 13,
 };
 
 #endif

@@ -1,4 +1,5 @@
-/* Tests of bivdrazo_markdown(): each option by itself, each status, and calls from many threads. */
+/* Tests of the calls with Markdown: each option by itself, each status, buffers of each size, and
+   calls from many threads. */
 #include "bivdrazo_markdown.h"
 
 #include <pthread.h>
@@ -46,7 +47,9 @@ static int fails(const void *text, size_t length, const bivdrazo_markdown_option
                  uint32_t status, size_t index) {
     char *html = (char *)&failures;
     const bivdrazo_answer answer = bivdrazo_markdown(text, length, options, &html);
-    return html == NULL && answer.status == status && answer.index == index && answer.rule == 0;
+    const size_t told = status == BIVDRAZO_MARKDOWN_INPUT_TOO_LONG ? length : 0;
+    return html == NULL && answer.status == status && answer.index == index && answer.rule == 0 &&
+           answer.length == told;
 }
 
 static void test_texts(void) {
@@ -83,6 +86,98 @@ static void test_options(void) {
     options = bivdrazo_markdown_options_default();
     options.base = text_of("https://a.b/c/");
     check(renders("[d](e)", &options, "<p><a href=\"https://a.b/c/e\">d</a></p>\n"), "a base");
+}
+
+/* What is read besides CommonMark. */
+static void test_readings(void) {
+    static const char table[] = "|a|\n|-|\n";
+    static const char note[] = "a[^b]\n\n[^b]: c\n";
+    static const char front[] = "---\na: b\n---\nc\n";
+    bivdrazo_markdown_options options = bivdrazo_markdown_options_default();
+    check(renders("$a$", NULL, "<p>$a$</p>\n"), "no math");
+    options.math = 1;
+    check(holds("$a$", &options, "<code class=\"language-math math-inline\">a</code>"), "math");
+    options = bivdrazo_markdown_options_default();
+    check(holds(front, NULL, "<h2>a: b</h2>"), "no front matter");
+    options.front_matter = 1;
+    check(renders(front, &options, "<p>c</p>\n"), "front matter");
+    options = bivdrazo_markdown_options_default();
+    check(holds(table, NULL, "<table>"), "a table");
+    options.tables = 0;
+    check(renders(table, &options, "<p>|a|\n|-|</p>\n"), "no tables");
+    options = bivdrazo_markdown_options_default();
+    options.footnotes = 0;
+    check(renders(note, &options, "<p>a<a href=\"c\">^b</a></p>\n"), "no footnotes");
+}
+
+/* Where front matter stands. */
+static void test_front_matter(void) {
+    const struct {
+        const char *text;
+        size_t index, length;
+    } cases[] = {
+        {"", 0, 0},
+        {"a\n", 0, 0},
+        {"---\na: b\n---\nc\n", 4, 5},
+        {"---\na: b\n", 0, 0},
+        {"---\r\na\r\n---\r\n", 5, 3},
+        {"\xEF\xBB\xBF---\na\n---\n", 7, 2},
+        {"a\n---\nb\n---\n", 0, 0},
+    };
+    for (size_t at = 0; at < sizeof cases / sizeof *cases; at++) {
+        const char *text = cases[at].text;
+        const bivdrazo_answer answer = bivdrazo_front_matter((const uint8_t *)text, strlen(text));
+        check(answer.status == BIVDRAZO_OK && answer.index == cases[at].index &&
+                  answer.length == cases[at].length,
+              text);
+    }
+    const bivdrazo_answer answer = bivdrazo_front_matter((const uint8_t *)"ab\xFF", 3);
+    check(answer.status == BIVDRAZO_MARKDOWN_NOT_UTF8 && answer.index == 2 && answer.length == 0,
+          "front matter that isn't UTF-8");
+}
+
+/* Whether a buffer of that size is handed what it has room for, and else nothing. */
+static int fills(const char *text, const bivdrazo_markdown_options *options, size_t room) {
+    static const char wanted[] = "<h1 id=\"x1\">a &lt;</h1>\n<p>b</p>\n\0"
+                                 "1 1 a &lt;";
+    const size_t length = sizeof wanted - 1;
+    const size_t start = strlen(wanted);
+    uint8_t buffer[100];
+    uint8_t before[100];
+    memset(before, 7, sizeof before);
+    memcpy(buffer, before, sizeof buffer);
+    const bivdrazo_answer answer =
+        bivdrazo_markdown_into((const uint8_t *)text, strlen(text), options, buffer, room);
+    const size_t filled = room < length ? 0 : length;
+    return answer.status == (filled ? BIVDRAZO_OK : BIVDRAZO_TOO_SHORT) && answer.rule == 0 &&
+           answer.index == start && answer.length == length &&
+           memcmp(buffer, wanted, filled) == 0 &&
+           memcmp(buffer + filled, before, sizeof buffer - filled) == 0;
+}
+
+static void test_buffers(void) {
+    bivdrazo_markdown_options options = bivdrazo_markdown_options_default();
+    options.heading_ids = text_of("x");
+    for (size_t room = 0; room <= 100; room++)
+        check(fills("# a <\nb\n", &options, room), "a buffer");
+    const uint8_t *at = (const uint8_t *)"\0"
+                                         "2 12 a\nb\0"
+                                         "3 13 ";
+    const uint8_t *end = at + 15;
+    bivdrazo_heading heading;
+    check(bivdrazo_next_heading(&at, end, &heading) && heading.level == 2 && heading.number == 12 &&
+              heading.text_length == 3,
+          "a heading of a list");
+    check(bivdrazo_next_heading(&at, end, &heading) && heading.level == 3 && heading.number == 13 &&
+              heading.text_length == 0,
+          "its last heading");
+    check(!bivdrazo_next_heading(&at, end, &heading), "the end of a list");
+    uint8_t buffer[4] = {7, 7, 7, 7};
+    options.version = 3;
+    const bivdrazo_answer answer =
+        bivdrazo_markdown_into((const uint8_t *)"a", 1, &options, buffer, 4);
+    check(answer.status == BIVDRAZO_MARKDOWN_NO_VERSION && memcmp(buffer, "\7\7\7\7", 4) == 0,
+          "a buffer without a text");
 }
 
 static void test_attributes(void) {
@@ -145,15 +240,12 @@ static void test_bounds(void) {
 /* Bounds on work: one that is given, none, and the default one. */
 static void test_work(void) {
     bivdrazo_markdown_options options = bivdrazo_markdown_options_default();
-    char *html;
     check(options.max_work == BIVDRAZO_MARKDOWN_WORK_BY_LENGTH, "the default bound on work");
     options.max_work = 4;
     check(renders("abc", &options, "<p>abc</p>\n"), "work within its bound");
     for (size_t work = 0; work < 4; work++) {
         options.max_work = work;
         check(fails("abc", 3, &options, BIVDRAZO_MARKDOWN_TOO_MUCH_WORK, 0), "too much work");
-        check(bivdrazo_markdown((const uint8_t *)"abc", 3, &options, &html).length == work,
-              "how much work there may be");
     }
     options.heading_ids = text_of("a");
     check(fails("abc", 3, &options, BIVDRAZO_MARKDOWN_TOO_MUCH_WORK, 0), "work, with ids");
@@ -172,7 +264,9 @@ static void test_default_work(void) {
     char *html;
     bivdrazo_answer answer = bivdrazo_markdown((const uint8_t *)text, LENGTH, NULL, &html);
     check(answer.status == BIVDRAZO_MARKDOWN_TOO_MUCH_WORK && html == NULL, "a default bound");
-    check(answer.length == ((size_t)1 << 20) + 64 * LENGTH, "how much that bound is");
+    bivdrazo_markdown_options bounded = bivdrazo_markdown_options_default();
+    bounded.max_work = ((size_t)1 << 20) + 64 * LENGTH;
+    check(fails(text, LENGTH, &bounded, BIVDRAZO_MARKDOWN_TOO_MUCH_WORK, 0), "that bound");
     bivdrazo_markdown_options options = bivdrazo_markdown_options_default();
     check(fails(text, LENGTH, &options, BIVDRAZO_MARKDOWN_TOO_MUCH_WORK, 0), "default options");
     options.max_work = SIZE_MAX;
@@ -181,19 +275,41 @@ static void test_default_work(void) {
     bivdrazo_markdown_free(html);
 }
 
+/* Each flag is 0 or 1, and told under its own number. */
+static void test_flags(void) {
+    const struct {
+        size_t offset, number;
+    } flags[] = {
+        {offsetof(bivdrazo_markdown_options, number_ids), BIVDRAZO_MARKDOWN_OPTION_NUMBER_IDS},
+        {offsetof(bivdrazo_markdown_options, hard_breaks), BIVDRAZO_MARKDOWN_OPTION_HARD_BREAKS},
+        {offsetof(bivdrazo_markdown_options, bare_links), BIVDRAZO_MARKDOWN_OPTION_BARE_LINKS},
+        {offsetof(bivdrazo_markdown_options, math), BIVDRAZO_MARKDOWN_OPTION_MATH},
+        {offsetof(bivdrazo_markdown_options, front_matter), BIVDRAZO_MARKDOWN_OPTION_FRONT_MATTER},
+        {offsetof(bivdrazo_markdown_options, footnotes), BIVDRAZO_MARKDOWN_OPTION_FOOTNOTES},
+        {offsetof(bivdrazo_markdown_options, tables), BIVDRAZO_MARKDOWN_OPTION_TABLES},
+    };
+    for (size_t at = 0; at < sizeof flags / sizeof *flags; at++) {
+        bivdrazo_markdown_options options = bivdrazo_markdown_options_default();
+        for (int value = 0; value < 4; value++) {
+            ((uint8_t *)&options)[flags[at].offset] = (uint8_t)value;
+            if (value > 1)
+                check(fails("a", 1, &options, BIVDRAZO_NO_OPTION, flags[at].number), "a flag");
+            else
+                check(renders("a", &options, "<p>a</p>\n"), "a flag that is off or on");
+        }
+    }
+}
+
 static void test_failures(void) {
     bivdrazo_markdown_options options = bivdrazo_markdown_options_default();
     check(fails("ab\xFF", 3, NULL, BIVDRAZO_MARKDOWN_NOT_UTF8, 2), "what isn't UTF-8");
     options.version++;
     check(fails("a", 1, &options, BIVDRAZO_MARKDOWN_NO_VERSION, 0), "another version");
     options = bivdrazo_markdown_options_default();
-    options.hard_breaks = 2;
-    check(fails("a", 1, &options, BIVDRAZO_NO_OPTION, BIVDRAZO_MARKDOWN_OPTION_HARD_BREAKS),
-          "a flag");
-    options = bivdrazo_markdown_options_default();
     options.html = 3;
     check(fails("a", 1, &options, BIVDRAZO_NO_OPTION, BIVDRAZO_MARKDOWN_OPTION_HTML),
           "a number for HTML");
+    test_flags();
     options = bivdrazo_markdown_options_default();
     options.rel = text_of("\xFF");
     check(fails("a", 1, &options, BIVDRAZO_NO_OPTION, BIVDRAZO_MARKDOWN_OPTION_REL),
@@ -227,6 +343,9 @@ static void test_threads(void) {
 int main(void) {
     test_texts();
     test_options();
+    test_readings();
+    test_front_matter();
+    test_buffers();
     test_attributes();
     test_footnotes();
     test_bounds();

@@ -1,10 +1,10 @@
-"""Markdown to safe HTML, by a compiler that is proved, after a parser that isn't.
+"""Markdown to safe HTML, by a parser and a compiler that are proved.
 
 >>> from bivdrazo import markdown_to_html
 >>> markdown_to_html("**a** <b>")
 '<p><strong>a</strong> &lt;b&gt;</p>\\n'
 
-The library compiles the events of a parser, and can be called with those of any other one. A parser
+The compiler takes the events of a parser, and can be called with those of any other one. A parser
 says what it found in a document as a list of events: a paragraph begins at byte 0, a text runs from
 there to byte 6, the paragraph ends. `compile` makes HTML of such a list:
 
@@ -31,7 +31,7 @@ Calls may be made from any number of threads, and run side by side.
 
 from .calls import Event, compile, compile_within, run
 from .errors import Error, Invalid, MarkdownError, Refused, TooLong, TooMuchWork, Unreadable
-from .markdown import Heading, markdown_to_html, markdown_with_headings
+from .markdown import Heading, front_matter_of, markdown_to_html, markdown_with_headings
 from .numbers import VERSION, Kind, LineEnding, Name, Rule
 from .numbers import VERSION_TEXT as __version__
 from .references import REFERENCES
@@ -57,6 +57,7 @@ __all__ = [
     "__version__",
     "compile",
     "compile_within",
+    "front_matter_of",
     "markdown_to_html",
     "markdown_with_headings",
     "run",

@@ -6,7 +6,7 @@ import ctypes
 import os
 import pathlib
 
-from .numbers import OPTIONS, VERSION
+from .numbers import MARKDOWN_VERSION, OPTIONS, VERSION
 
 
 class CAnswer(ctypes.Structure):
@@ -64,6 +64,32 @@ class CLimits(ctypes.Structure):
     _fields_ = [("text", ctypes.c_size_t), ("work", ctypes.c_size_t)]
 
 
+class CMarkdownOptions(ctypes.Structure):
+    """The options for Markdown."""
+
+    _fields_ = [
+        ("version", ctypes.c_uint32),
+        ("number_ids", ctypes.c_uint8),
+        ("hard_breaks", ctypes.c_uint8),
+        ("bare_links", ctypes.c_uint8),
+        ("html", ctypes.c_uint8),
+        ("math", ctypes.c_uint8),
+        ("front_matter", ctypes.c_uint8),
+        ("footnotes", ctypes.c_uint8),
+        ("tables", ctypes.c_uint8),
+        ("unused", ctypes.c_uint8 * 4),
+        ("footnote_prefix", CText),
+        ("footnote_label", CText),
+        ("footnote_back_label", CText),
+        ("base", CText),
+        ("rel", CText),
+        ("heading_ids", CText),
+        ("max_input", ctypes.c_size_t),
+        ("max_output", ctypes.c_size_t),
+        ("max_work", ctypes.c_size_t),
+    ]
+
+
 def load() -> ctypes.CDLL:
     """The shared object that BIVDRAZO_LIBRARY names, or else the one in this package."""
     path = (os.environ.get("BIVDRAZO_LIBRARY")
@@ -83,11 +109,17 @@ def load() -> ctypes.CDLL:
     library.bivdrazo_compile_within.restype = CAnswer
     library.bivdrazo_run.argtypes = [text, size, text, size]
     library.bivdrazo_run.restype = CAnswer
-    library.bivdrazo_version.argtypes = []
-    library.bivdrazo_version.restype = ctypes.c_uint32
-    version = library.bivdrazo_version()
-    if version != VERSION:
-        raise ImportError(f"{path} has the interface {version}, not {VERSION}")
+    library.bivdrazo_markdown_into.argtypes = [text, size, ctypes.POINTER(CMarkdownOptions), text,
+                                               size]
+    library.bivdrazo_markdown_into.restype = CAnswer
+    library.bivdrazo_front_matter.argtypes = [text, size]
+    library.bivdrazo_front_matter.restype = CAnswer
+    for call, wanted in ((library.bivdrazo_version, VERSION),
+                         (library.bivdrazo_markdown_version, MARKDOWN_VERSION)):
+        call.argtypes = []
+        call.restype = ctypes.c_uint32
+        if call() != wanted:
+            raise ImportError(f"{path} has the interface {call()}, not {wanted}")
     return library
 
 

@@ -1,22 +1,23 @@
-"""Markdown in, over the library libbivdrazo-markdown."""
+"""Markdown in."""
 
 from __future__ import annotations
 
 import ctypes
 import functools
-import os
-import pathlib
+import threading
 from typing import Any, Literal, NamedTuple
 
 from .calls import UNSET, text_of
 from .errors import MarkdownError, TooLong, TooMuchWork, error_of, text_of_status
-from .library import CAnswer, CText
+from .library import LIBRARY, CAnswer, CMarkdownOptions
 from .numbers import MARKDOWN_OPTIONS, MARKDOWN_VERSION, DocumentHtml, MarkdownStatus, Status
 from .safe import SafeHtml
 from .values import MOST, bound_of, coded, text_at, typed
 
 # As `max_work` C's name for the bound that goes by the document's length.
 WORK_BY_LENGTH = MOST - 1
+LEAST_WORK = 1 << 20
+WORK_OF_A_BYTE = 64
 
 HTML = {"text": DocumentHtml.TEXT, "left-out": DocumentHtml.LEFT_OUT,
         "without-comments": DocumentHtml.WITHOUT_COMMENTS}
@@ -26,6 +27,7 @@ TEXTS = "footnote_prefix", "footnote_label", "footnote_back_label", "base", "rel
 # Of these types values that say that they are equal are so; those of a subclass may say anything.
 PLAIN = frozenset({bool, int, str, type(None)})
 OK = int(Status.OK)
+TOO_SHORT = int(Status.TOO_SHORT)
 
 
 class Heading(NamedTuple):
@@ -38,51 +40,14 @@ class Heading(NamedTuple):
     text: SafeHtml
 
 
-class CMarkdownOptions(ctypes.Structure):
-    """The options as C has them."""
+class Kept(threading.local):
+    """A buffer that a thread keeps between its calls; none while one of them uses it."""
 
-    _fields_ = [
-        ("version", ctypes.c_uint32),
-        ("number_ids", ctypes.c_uint8),
-        ("hard_breaks", ctypes.c_uint8),
-        ("bare_links", ctypes.c_uint8),
-        ("html", ctypes.c_uint8),
-        ("footnote_prefix", CText),
-        ("footnote_label", CText),
-        ("footnote_back_label", CText),
-        ("base", CText),
-        ("rel", CText),
-        ("heading_ids", CText),
-        ("max_input", ctypes.c_size_t),
-        ("max_output", ctypes.c_size_t),
-        ("max_work", ctypes.c_size_t),
-    ]
+    buffer: ctypes.Array[ctypes.c_char] | None = None
 
 
-@functools.lru_cache(maxsize=None)
-def markdown_library() -> ctypes.CDLL:
-    """The shared object that BIVDRAZO_MARKDOWN_LIBRARY names, or else the one in this package."""
-    own = pathlib.Path(__file__).with_name("out") / "libbivdrazo-markdown.so"
-    path = os.environ.get("BIVDRAZO_MARKDOWN_LIBRARY") or own
-    try:
-        library = ctypes.CDLL(str(path))
-    except OSError as error:
-        raise ImportError(f"{error}; clients/build makes it where cargo finds pulldown-cmark and "
-                          "linkify") from error
-    out = ctypes.POINTER(ctypes.c_void_p)
-    library.bivdrazo_markdown.argtypes = [ctypes.c_char_p, ctypes.c_size_t,
-                                          ctypes.POINTER(CMarkdownOptions), out]
-    library.bivdrazo_markdown.restype = CAnswer
-    library.bivdrazo_markdown_headings.argtypes = [*library.bivdrazo_markdown.argtypes, out]
-    library.bivdrazo_markdown_headings.restype = CAnswer
-    library.bivdrazo_markdown_free.argtypes = [ctypes.c_void_p]
-    library.bivdrazo_markdown_free.restype = None
-    library.bivdrazo_markdown_version.argtypes = []
-    library.bivdrazo_markdown_version.restype = ctypes.c_uint32
-    version = library.bivdrazo_markdown_version()
-    if version != MARKDOWN_VERSION:
-        raise ImportError(f"{path} has the interface {version}, not {MARKDOWN_VERSION}")
-    return library
+KEPT = Kept()
+KEPT_SIZE = 1 << 16
 
 
 def markdown_to_html(
@@ -95,6 +60,10 @@ def markdown_to_html(
     hard_breaks: bool = False,
     bare_links: bool = True,
     html: Literal["text", "left-out", "without-comments"] = "text",
+    math: bool = False,
+    front_matter: bool = False,
+    footnotes: bool = True,
+    tables: bool = True,
     base: str | None = None,
     rel: str | None = None,
     heading_ids: str | None = None,
@@ -117,7 +86,9 @@ def markdown_to_html(
     of a way back. hard_breaks: a soft break is a `<br />`.
     bare_links: bare URLs and addresses are links.
     html: what becomes of HTML in the document: "text", "left-out", or "without-comments", the rest
-    being text. base: the URL against which those of links and images are read.
+    being text. math: `$a$`, and blocks between lines of `$$`, are math. front_matter: what stands
+    between lines of `---` at the beginning prints nothing; front_matter_of gives it. footnotes,
+    tables: these are read. base: the URL against which those of links and images are read.
     rel: the `rel` of each link whose URL isn't empty and doesn't begin with `#`. heading_ids:
     what the ids of headings begin with, their numbers follow; they are distinct from one
     another, and from all others where no other begins so: those of footnotes are
@@ -129,13 +100,6 @@ def markdown_to_html(
     document, as compile_within counts it; else 2^20, and 64 for each byte of the document. A number
     of 2^64 or more is no bound. Whoever renders what strangers write sets all three.
 
-    Whatever they are, a document that would take the parser much time or memory is read otherwise:
-    without tables, if these would have more than 524,288 cells that aren't written; without
-    footnotes, if as many as there can be, times its lines, are more than 2^29; with a mark of a
-    quote or an item past 128 bytes of a line's beginning as text, if its longest beginning, times
-    its lines but at least 1,024, is more than 2^26; and without bare links in a word of more than
-    2,048 bytes.
-
     >>> markdown_to_html("a <b>c</b>\\nd", html="left-out", hard_breaks=True)
     '<p>a c<br />\\nd</p>\\n'
 
@@ -144,9 +108,10 @@ def markdown_to_html(
     is alone, and TypeError for a value of another type. Other threads run during the call.
     """
     document = coded("text", text)
-    given = options_of(number_ids, hard_breaks, bare_links, html, footnote_prefix, footnote_label,
-                       footnote_back_label, base, rel, heading_ids, max_input, max_output, max_work)
-    return SafeHtml(rendered(document, given))
+    given = options_of(number_ids, hard_breaks, bare_links, html, math, front_matter, footnotes,
+                       tables, footnote_prefix, footnote_label, footnote_back_label, base, rel,
+                       heading_ids, max_input, max_output, max_work)
+    return SafeHtml(rendered(document, given)[0])
 
 
 def markdown_with_headings(text: str, heading_ids: str, **options: Any) -> tuple[SafeHtml,
@@ -161,15 +126,33 @@ def markdown_with_headings(text: str, heading_ids: str, **options: Any) -> tuple
     In a heading's text a space stands for each line feed.
     """
     document = coded("text", text)
-    html, lines = rendered_with_headings(
+    html, listed = rendered(
         document, options_of(heading_ids=typed("heading_ids", heading_ids, str), **options))
-    return SafeHtml(html), [heading_of(line) for line in lines.split("\n")[:-1]]
+    return SafeHtml(html), [heading_of(line) for line in listed.split("\0")[1:]]
 
 
 def heading_of(line: str) -> Heading:
     """A heading: its level, a space, its number, a space, and its text."""
     level, number, text = line.split(" ", 2)
-    return Heading(int(level), int(number), SafeHtml(text))
+    return Heading(int(level), int(number), SafeHtml(text.replace("\n", " ")))
+
+
+def front_matter_of(text: str) -> str | None:
+    """What stands between the lines of `---` at the beginning of a document, without these, or
+    None where no front matter is there.
+
+    >>> from bivdrazo import front_matter_of
+    >>> front_matter_of("---\\ntitle: a\\n---\\n# b\\n")
+    'title: a\\n'
+    >>> front_matter_of("# b\\n") is None
+    True
+    """
+    document = coded("text", text)
+    answer = LIBRARY.bivdrazo_front_matter(document, len(document))
+    if answer.status != OK:
+        raise error_of(answer.status, answer.index, answer.rule)
+    end = answer.index + answer.length
+    return document[answer.index:end].decode() if answer.index else None
 
 
 def options_of(
@@ -177,6 +160,10 @@ def options_of(
     hard_breaks: bool = False,
     bare_links: bool = True,
     html: str = "text",
+    math: bool = False,
+    front_matter: bool = False,
+    footnotes: bool = True,
+    tables: bool = True,
     footnote_prefix: str | None = None,
     footnote_label: str | None = None,
     footnote_back_label: str | None = None,
@@ -188,7 +175,8 @@ def options_of(
     max_work: int | None = None,
 ) -> CMarkdownOptions:
     """The options as C has them, which only reads them: the texts are set in a copy."""
-    choices = number_ids, hard_breaks, bare_links, html, max_input, max_output, max_work
+    choices = (number_ids, hard_breaks, bare_links, html, math, front_matter, footnotes, tables,
+               max_input, max_output, max_work)
     made = (known_choices if PLAIN.issuperset(map(type, choices)) else made_choices)(*choices)
     if (footnote_prefix is None and footnote_label is None and footnote_back_label is None
             and base is None and rel is None and heading_ids is None):
@@ -206,6 +194,10 @@ def made_choices(
     hard_breaks: bool,
     bare_links: bool,
     html: str,
+    math: bool,
+    front_matter: bool,
+    footnotes: bool,
+    tables: bool,
     max_input: int | None,
     max_output: int | None,
     max_work: int | None,
@@ -217,6 +209,11 @@ def made_choices(
         typed("hard_breaks", hard_breaks, bool),
         typed("bare_links", bare_links, bool),
         html_of(html),
+        typed("math", math, bool),
+        typed("front_matter", front_matter, bool),
+        typed("footnotes", footnotes, bool),
+        typed("tables", tables, bool),
+        (0, 0, 0, 0),
         *(UNSET for _ in TEXTS),
         bound_of("max_input", max_input),
         bound_of("max_output", max_output),
@@ -228,33 +225,39 @@ def made_choices(
 known_choices = functools.lru_cache(maxsize=16, typed=True)(made_choices)
 
 
-def rendered(document: bytes, options: CMarkdownOptions) -> str:
-    """The text of a document."""
-    library = markdown_library()
-    html = ctypes.c_void_p()
-    answer = library.bivdrazo_markdown(document, len(document), options, ctypes.byref(html))
-    if answer.status != OK:
-        raise markdown_error_of(answer, options)
+def rendered(document: bytes, options: CMarkdownOptions) -> tuple[str, str]:
+    """The text of a document, and the list of its headings that got an id."""
+    buffer = taken(len(document) + len(document) // 2 + 256)
     try:
-        return text_at(html.value, answer.length)
+        return rendered_into(buffer, document, options)
     finally:
-        library.bivdrazo_markdown_free(html)
+        if len(buffer) == KEPT_SIZE:
+            KEPT.buffer = buffer
 
 
-def rendered_with_headings(document: bytes, options: CMarkdownOptions) -> tuple[str, str]:
-    """The text of a document, and a line for each of its headings that got an id."""
-    library = markdown_library()
-    html, headings = ctypes.c_void_p(), ctypes.c_void_p()
-    answer = library.bivdrazo_markdown_headings(document, len(document), options,
-                                                ctypes.byref(html), ctypes.byref(headings))
+def rendered_into(buffer: ctypes.Array[ctypes.c_char], document: bytes,
+                  options: CMarkdownOptions) -> tuple[str, str]:
+    """The same by a buffer, where it is long enough, and else by another one."""
+    into = LIBRARY.bivdrazo_markdown_into
+    answer = into(document, len(document), options, buffer, len(buffer))
+    if answer.status == TOO_SHORT:
+        buffer = ctypes.create_string_buffer(answer.length)
+        answer = into(document, len(document), options, buffer, len(buffer))
     if answer.status != OK:
-        raise markdown_error_of(answer, options)
-    try:
-        # The list of headings ends with a NUL: C tells no length of it.
-        return text_at(html.value, answer.length), str(ctypes.string_at(headings.value), "utf-8")
-    finally:
-        library.bivdrazo_markdown_free(html)
-        library.bivdrazo_markdown_free(headings)
+        raise markdown_error_of(answer, options, len(document))
+    start = ctypes.addressof(buffer)
+    listed = answer.length - answer.index
+    return text_at(start, answer.index), text_at(start + answer.index, listed) if listed else ""
+
+
+def taken(room: int) -> ctypes.Array[ctypes.c_char]:
+    """A buffer of that size at least: the one that this thread keeps, where it is there and long
+    enough. A call that comes in between, as from a handler of signals, finds none.
+    """
+    if room > KEPT_SIZE:
+        return ctypes.create_string_buffer(room)
+    buffer, KEPT.buffer = KEPT.buffer, None
+    return ctypes.create_string_buffer(KEPT_SIZE) if buffer is None else buffer
 
 
 def html_of(html: str) -> int:
@@ -265,14 +268,15 @@ def html_of(html: str) -> int:
     return number
 
 
-def markdown_error_of(answer: CAnswer, options: CMarkdownOptions) -> Exception:
-    """The error that an answer without a text stands for."""
+def markdown_error_of(answer: CAnswer, options: CMarkdownOptions, length: int) -> Exception:
+    """The error that an answer about a document of so many bytes without a text stands for."""
     if answer.status == MarkdownStatus.INPUT_TOO_LONG:
         return TooLong("input", options.max_input)
     if answer.status == MarkdownStatus.OUTPUT_TOO_LONG:
         return TooLong("output", options.max_output)
     if answer.status == MarkdownStatus.TOO_MUCH_WORK:
-        return TooMuchWork(answer.length)
+        is_given = options.max_work != WORK_BY_LENGTH
+        return TooMuchWork(options.max_work if is_given else LEAST_WORK + WORK_OF_A_BYTE * length)
     if answer.status == Status.NO_OPTION:
         return ValueError(f"{MARKDOWN_OPTIONS[answer.index]}: no such value")
     if answer.status == MarkdownStatus.FAILED:

@@ -28,7 +28,7 @@ OPTIONS = (
 )
 
 # The number of the interface for Markdown: it changes when a layout or a number of it changes.
-MARKDOWN_VERSION = 3
+MARKDOWN_VERSION = 4
 
 # The options for Markdown, by their numbers.
 MARKDOWN_OPTIONS = (
@@ -42,6 +42,10 @@ MARKDOWN_OPTIONS = (
     "base",
     "rel",
     "heading_ids",
+    "math",
+    "front_matter",
+    "footnotes",
+    "tables",
 )
 
 
@@ -325,9 +329,9 @@ class MarkdownStatus(enum.IntEnum):
     NOT_UTF8 = 34
     # The options have a version that the library doesn't know.
     NO_VERSION = 35
-    # The parser failed, or the library answered what isn't known: a fault that should be reported.
+    # What was made of the Markdown has a link in a link: a fault that should be reported.
     FAILED = 36
-    # There is more to read and to print than there may be: `length` tells how much that is.
+    # There is more to read and to print than there may be.
     TOO_MUCH_WORK = 37
 
 

@@ -13,20 +13,15 @@ import unittest
 
 import bivdrazo
 from bivdrazo import REFERENCES, Event, Heading, Invalid, Name, Refused, Rule, TooLong
-from bivdrazo import TooMuchWork, Unreadable, compile, markdown_to_html, markdown_with_headings
-from bivdrazo.markdown import CMarkdownOptions, markdown_error_of, markdown_library
-from bivdrazo.library import CAnswer
+from bivdrazo import TooMuchWork, Unreadable, compile, front_matter_of, markdown_to_html
+from bivdrazo import markdown_with_headings
+from bivdrazo.markdown import KEPT, KEPT_SIZE, markdown_error_of, taken
+from bivdrazo.library import CAnswer, CMarkdownOptions
 from bivdrazo.numbers import DocumentHtml
 
-try:
-    markdown_library()
-    WHY = None
-except ImportError as error:
-    WHY = str(error)
 NOTE = "a[^b]\n\n[^b]: c\n"
 
 
-@unittest.skipIf(WHY, WHY)
 class Texts(unittest.TestCase):
     """Where there is a text."""
 
@@ -50,6 +45,43 @@ class Texts(unittest.TestCase):
         self.assertEqual(markdown_to_html("a@b.org", bare_links=False), "<p>a@b.org</p>\n")
         self.assertEqual(markdown_to_html("[a](b)", base="https://c.d"),
                          '<p><a href="https://c.d/b">a</a></p>\n')
+
+    def test_readings(self):
+        table, front = "|a|\n|-|\n", "---\na: b\n---\nc\n"
+        self.assertEqual(markdown_to_html("$a$"), "<p>$a$</p>\n")
+        self.assertIn("math-inline", markdown_to_html("$a$", math=True))
+        self.assertIn("<table>", markdown_to_html(table))
+        self.assertEqual(markdown_to_html(table, tables=False), "<p>|a|\n|-|</p>\n")
+        self.assertEqual(markdown_to_html(NOTE, footnotes=False),
+                         '<p>a<a href="c">^b</a></p>\n')
+        self.assertIn("<h2>a: b</h2>", markdown_to_html(front))
+        self.assertEqual(markdown_to_html(front, front_matter=True), "<p>c</p>\n")
+
+    def test_front_matter(self):
+        for text, wanted in [("", None), ("a", None), ("---\na: \u00e9\n---\nc", "a: \u00e9\n"),
+                             ("---\n---\n", ""), ("\ufeff---\r\na\r\n---\r\n", "a\r\n"),
+                             ("---\na\n", None), ("a\n---\nb\n---\n", None)]:
+            with self.subTest(text=text):
+                self.assertEqual(front_matter_of(text), wanted)
+        with self.assertRaisesRegex(TypeError, "^text: "):
+            front_matter_of(b"")
+
+    def test_buffers(self):
+        for count in (1, 1000, KEPT_SIZE, 4 * KEPT_SIZE, 1):
+            for text, wanted in [("a", "a"), ("<", "&lt;")]:
+                self.assertEqual(markdown_to_html(text * count), f"<p>{wanted * count}</p>\n")
+        kept = KEPT.buffer
+        self.assertEqual(len(kept), KEPT_SIZE)
+        buffer = taken(1)
+        self.assertIs(buffer, kept)
+        self.assertIsNot(taken(1), kept)
+        self.assertEqual(markdown_to_html("a"), "<p>a</p>\n")
+        kept = KEPT.buffer
+        self.assertIsNot(kept, buffer)
+        with self.assertRaises(TooLong):
+            markdown_to_html("a", max_output=1)
+        self.assertEqual(markdown_to_html("&" * 60_000), f"<p>{'&amp;' * 60_000}</p>\n")
+        self.assertIs(KEPT.buffer, kept)
 
     def test_attributes(self):
         link = ('<p><a href="b" rel="&quot;&lt;\ufffd">a</a> <a href="#c">d</a> '
@@ -119,14 +151,13 @@ class Texts(unittest.TestCase):
         self.assertGreater(len(markdown_to_html(text, max_work=1 << 64)), 10_000_000)
 
 
-@unittest.skipIf(WHY, WHY)
 class Errors(unittest.TestCase):
     """What is handed in has another type or value."""
 
     def test_types(self):
         values = {
             "footnote_prefix": b"x", "footnote_label": 1, "footnote_back_label": b"", "base": 2,
-            "number_ids": 1,
+            "number_ids": 1, "math": 1, "front_matter": None, "footnotes": "", "tables": 0,
             "rel": b"", "heading_ids": 3,
             "hard_breaks": None, "bare_links": "yes", "html": 0, "max_input": 1.5,
             "max_output": True, "max_work": "1",
@@ -151,13 +182,15 @@ class Errors(unittest.TestCase):
 
     def test_each_status(self):
         def told(status, index=0, rule=0):
-            return repr(markdown_error_of(CAnswer(status, rule, index, 0), CMarkdownOptions()))
+            answer = CAnswer(status, rule, index, 0)
+            return repr(markdown_error_of(answer, CMarkdownOptions(max_work=6), 3))
 
         self.assertEqual(told(2, 3, 1), "Refused('event 3: ORDER')")
         self.assertEqual(told(5, 7), "ValueError('base: no such value')")
         self.assertEqual(told(7), "MemoryError('out of memory')")
         self.assertEqual(told(36), "MarkdownError('the parser failed')")
         self.assertEqual(told(35), "RuntimeError('the options are of an unknown version')")
+        self.assertEqual(told(37), "TooMuchWork('there is more work than 6')")
 
 
 class Interface(unittest.TestCase):
@@ -188,12 +221,10 @@ class Interface(unittest.TestCase):
             text = compile(events, f"&{name};".encode(), names=REFERENCES)
             self.assertEqual(text, REFERENCES[name].replace("&", "&amp;"))
 
-    @unittest.skipIf(WHY, WHY)
     def test_examples(self):
         self.assertEqual(doctest.testmod(bivdrazo.markdown).failed, 0)
         self.assertEqual(doctest.testmod(bivdrazo).failed, 0)
 
-    @unittest.skipIf(WHY, WHY)
     def test_threads(self):
         wrong = []
 
@@ -208,7 +239,6 @@ class Interface(unittest.TestCase):
             thread.join()
         self.assertEqual(wrong, [])
 
-    @unittest.skipIf(WHY, WHY)
     def test_other_threads_run(self):
         long = "a *b* [c](d) " * 200_000
         thread = threading.Thread(target=markdown_to_html, args=(long,))

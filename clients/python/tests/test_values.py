@@ -11,18 +11,12 @@ from bivdrazo import Event, Name, compile, compile_within, markdown_to_html, run
 from bivdrazo import markdown_with_headings
 from bivdrazo.calls import text_of
 from bivdrazo.errors import TEXTS, error_of, text_of_status
-from bivdrazo.library import CAnswer
-from bivdrazo.markdown import CMarkdownOptions, known_choices, markdown_error_of
+from bivdrazo.library import CAnswer, CMarkdownOptions
+from bivdrazo.markdown import known_choices, markdown_error_of
 from bivdrazo.markdown import TEXTS as NAMES
-from bivdrazo.markdown import markdown_library, options_of
+from bivdrazo.markdown import options_of
 from bivdrazo.numbers import MarkdownStatus, Status
 from bivdrazo.values import SHORT, text_at
-
-try:
-    markdown_library()
-    WHY = None
-except ImportError as error:
-    WHY = str(error)
 
 
 class LongBytes(bytes):
@@ -91,7 +85,6 @@ class Lies(unittest.TestCase):
         with self.assertRaisesRegex(TypeError, "^gfm_footnote_label: str is wanted, not int$"):
             compile([], b"", gfm_footnote_label=1)
 
-    @unittest.skipIf(WHY, WHY)
     def test_markdown(self):
         self.assertEqual(markdown_to_html(LongText("*a*")), "<p><em>a</em></p>\n")
         self.assertEqual(markdown_to_html("[a](b)", rel=LongText("c")),
@@ -100,7 +93,6 @@ class Lies(unittest.TestCase):
         self.assertEqual((html, len(headings)), ('<h1 id="p-1">a</h1>\n', 1))
 
 
-@unittest.skipIf(WHY, WHY)
 class Options(unittest.TestCase):
     """Options without texts are made once for equal ones, and only for these."""
 
@@ -135,6 +127,7 @@ class Options(unittest.TestCase):
         for good, bad in [({"number_ids": True}, {"number_ids": 1}),
                           ({"hard_breaks": False}, {"hard_breaks": 0}),
                           ({"bare_links": True}, {"bare_links": 1.0}),
+                          ({"math": True}, {"math": 1}), ({"tables": False}, {"tables": 0}),
                           ({"max_input": 1}, {"max_input": True}),
                           ({"max_output": 8}, {"max_output": 8.0}),
                           ({"max_work": 0}, {"max_work": False}), ({}, {"rel": []})]:
@@ -192,15 +185,17 @@ class Statuses(unittest.TestCase):
     def test_errors(self):
         for status in [*Status, *MarkdownStatus]:
             answer = CAnswer(status, 1, 0, 0)
-            for error in (error_of(status, 0, 1), markdown_error_of(answer, CMarkdownOptions())):
+            told = markdown_error_of(answer, CMarkdownOptions(), 0)
+            for error in (error_of(status, 0, 1), told):
                 with self.subTest(status=status):
                     self.assertNotRegex(str(error), "status|unknown$")
                     self.assertNotEqual(str(error), "")
-        told = markdown_error_of(CAnswer(MarkdownStatus.NOT_UTF8, 0, 1, 0), CMarkdownOptions())
+        answer = CAnswer(MarkdownStatus.NOT_UTF8, 0, 1, 0)
+        told = markdown_error_of(answer, CMarkdownOptions(), 2)
         self.assertEqual(repr(told), "RuntimeError(\"the Markdown isn't UTF-8\")")
 
     def test_size(self):
-        self.assertEqual(ctypes.sizeof(CMarkdownOptions), 176)
+        self.assertEqual(ctypes.sizeof(CMarkdownOptions), 184)
 
 
 if __name__ == "__main__":

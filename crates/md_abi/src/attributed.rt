@@ -87,7 +87,11 @@ fn compile_read_safely(
 }
 
 /// A text with the attributes that are asked for, and after it the headings that got an `id`.
-fn add_asked(
+///
+/// # Errors
+///
+/// Only where memory runs out.
+pub fn add_asked(
     alloc: Global,
     html: &SafeHtml,
     rel: Option<&str>,

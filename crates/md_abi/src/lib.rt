@@ -17,12 +17,12 @@ mod within;
 pub use answer::{
     Answer, answer_to, answer_to_refusal, answer_to_within, hand_over, hand_over_listed,
 };
-pub use attributed::{Attributed, compile_attributed};
+pub use attributed::{Attributed, add_asked, compile_attributed};
 pub use attributes::CAttributes;
 pub use event::CEvent;
 pub use failure::Failure;
 pub use given::{CDocument, compile_given};
-pub use option::{COptions, CText};
+pub use option::{COptions, CText, borrow_text, read_flag, read_text};
 pub use reference::CReference;
 pub use refusal::Refusal;
 pub use within::{CLimits, WithinFailure, compile_given_within};

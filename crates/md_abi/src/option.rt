@@ -1,6 +1,7 @@
 //! Options as C hands them in.
 
-ghost use Rattle.std.specs.Prelude.{◌≡◌, Some, option_map, string_bytes, IfOk, IfErr};
+ghost use Rattle.std.specs.Prelude.{◌≡◌, Some, option_map, option_copied, string_bytes};
+ghost use Rattle.std.specs.Prelude.{IfOk, IfErr};
 ghost use Rattle.md_abi.specs.Options.{HasOptions, flag_of, ending_of, text_of};
 ghost use Rattle.md_abi.specs.Failures.{IsOptionFault, IsFaultOf};
 
@@ -75,7 +76,11 @@ pub(crate) fn read_options(alloc: Global, given: &COptions) -> Result<CompileOpt
 }
 
 /// Whether a flag is on; `number` is the option's.
-fn read_flag(flag: u8, number: usize) -> Result<bool, Failure>
+///
+/// # Errors
+///
+/// Tells that it stands for none: it is neither 0 nor 1.
+pub fn read_flag(flag: u8, number: usize) -> Result<bool, Failure>
     ensures ok { IfOk result (λ is_on. flag_of flag ≡ Some is_on) }
     ensures err { IfErr result (IsFaultOf number (flag_of flag)) }
 {
@@ -99,8 +104,13 @@ fn read_ending(ending: u8, number: usize) -> Result<LineEnding, Failure>
     }
 }
 
-/// A copy of a text, where it is set.
-fn read_text(alloc: Global, text: &CText, number: usize) -> Result<Option<String>, Failure>
+/// A copy of a text, where it is set; `number` is the option's.
+///
+/// # Errors
+///
+/// Tells that it stands for none: it is neither set nor unset, or no UTF-8; or that it is out of
+/// memory.
+pub fn read_text(alloc: Global, text: &CText, number: usize) -> Result<Option<String>, Failure>
     ensures ok { IfOk result (λ read. text_of text.now ≡ Some (option_map string_bytes read)) }
     ensures err { IfErr result (IsFaultOf number (text_of text.now)) }
 {
@@ -108,6 +118,25 @@ fn read_text(alloc: Global, text: &CText, number: usize) -> Result<Option<String
         0 => Ok(None),
         1 => match read_utf8(text.bytes) {
             Some(value) => Ok(Some(String::from_str(alloc, value)?)),
+            None => Err(Failure::Option(number)),
+        },
+        _ => Err(Failure::Option(number)),
+    }
+}
+
+/// A text, where it is set; `number` is the option's.
+///
+/// # Errors
+///
+/// Tells that it stands for none: it is neither set nor unset, or no UTF-8.
+pub fn borrow_text<'a>(text: &CText<'a>, number: usize) -> Result<Option<&'a str>, Failure>
+    ensures ok { IfOk result (λ read. text_of text.now ≡ Some (option_copied read)) }
+    ensures err { IfErr result (IsFaultOf number (text_of text.now)) }
+{
+    match text.is_set {
+        0 => Ok(None),
+        1 => match read_utf8(text.bytes) {
+            Some(value) => Ok(Some(value)),
             None => Err(Failure::Option(number)),
         },
         _ => Err(Failure::Option(number)),

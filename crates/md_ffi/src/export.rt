@@ -17,11 +17,17 @@ ghost use Rattle.md_abi.specs.Within.{IsRenderedWithin, IsTooLong, IsTooMuch, Is
 ghost use Rattle.md_abi.specs.Buffer.{HandsOver};
 ghost use Rattle.md_abi.specs.Answers.{IsOfCompile, IsOfAttributed, IsOfRun};
 ghost use Rattle.md_abi.specs.Answers.{IsOfWithin, TellsOfEvents};
+ghost use Rattle.md_markdown_abi.specs.Text.{IsMarkdownText};
+ghost use Rattle.md_markdown_abi.specs.Front.{TellsOfFrontMatter};
+ghost use Rattle.md_markdown_abi.specs.Answers.{TellsOfMarkdown, IsOfMarkdown};
 
 use md_abi::{
     Answer, CAttributes, CDocument, CEvent, CLimits, COptions, CReference, Failure, answer_to,
     answer_to_refusal, answer_to_within, compile_attributed, compile_given, compile_given_within,
     hand_over, hand_over_listed,
+};
+use md_markdown_abi::{
+    CMarkdownOptions, answer_to_front_matter, answer_to_markdown, markdown_given,
 };
 use md_script::run;
 use std::alloc::Global;
@@ -246,4 +252,77 @@ pub extern "C" fn bivdrazo_version() -> u32
     ensures { result ≡ 2 }
 {
     VERSION
+}
+
+/// The version of what C sees of Markdown.
+const MARKDOWN_VERSION: u32 = 4;
+
+/// The HTML of a Markdown document, with attributes that are added to its tags where the options
+/// ask for them, into a buffer; and after it the headings that got an `id`.
+///
+/// The attributes and the list of headings are those of [`bivdrazo_compile_attributed`], by the
+/// options `rel` and `heading_ids`.
+///
+/// Its four parameters are those of C's call, which has five in the same order: none for `alloc`,
+/// one for `options`, and two for each of the slices. What a C caller passes is told at
+/// [`bivdrazo_compile`].
+///
+/// # Statuses
+///
+/// - 0: the text is in the buffer's first `index` bytes, and the headings in those from there up to
+///   `length`; what lies after them is as it was.
+/// - 1: the buffer is too short. It is as it was, and `length` is what both need, `index` what the
+///   text has: call again with as much.
+/// - 35: the options are of another version than 4.
+/// - 5: the option with the number `index` isn't valid.
+/// - 32: the document has `length` bytes, more than `max_input`.
+/// - 34: the document isn't UTF-8 from the byte at `index` on.
+/// - 37: there is more work than `max_work`.
+/// - 33: the text is longer than `max_output`.
+/// - 7: there is no more memory.
+/// - 2, 36: what was made of the document is refused, or has a link in a link: a fault of the
+///   parser. No document is known that gets one of them.
+///
+/// Of 35, 5, 32 and 34 the first that is true is told, and none of the others where one is.
+#[unsafe(no_mangle)]
+pub extern "C" fn bivdrazo_markdown_into(
+    alloc: Global,
+    text: &[u8],
+    options: &CMarkdownOptions,
+    buffer: &mut [u8],
+) -> Answer
+    // The text is made of the document, safe, with these attributes; the list of headings follows.
+    ensures text { HandsOver (IsMarkdownText text.now options.now result.index)
+        buffer.old buffer.new result }
+    ensures told { TellsOfMarkdown text.now options.now result }
+    ensures fields { IsOfMarkdown result }
+{
+    match markdown_given(alloc, text, options) {
+        Ok(made) => hand_over_listed(made.whole.as_str(), made.start, buffer),
+        Err(failure) => answer_to_markdown(&failure),
+    }
+}
+
+/// Where the front matter of a Markdown document stands: what is between the two lines of `---` with
+/// which it begins.
+///
+/// A C caller passes for the slice a pointer, which isn't null, and a length.
+///
+/// # Statuses
+///
+/// - 0: it is the `length` bytes from the byte at `index` on; where there is none both are 0.
+/// - 34: the document isn't UTF-8 from the byte at `index` on.
+#[unsafe(no_mangle)]
+pub extern "C" fn bivdrazo_front_matter(text: &[u8]) -> Answer
+    ensures { TellsOfFrontMatter text.now result }
+{
+    answer_to_front_matter(text)
+}
+
+/// The version of what C sees of Markdown.
+#[unsafe(no_mangle)]
+pub extern "C" fn bivdrazo_markdown_version() -> u32
+    ensures { result ≡ 4 }
+{
+    MARKDOWN_VERSION
 }

@@ -1,0 +1,36 @@
+-- What an answer about front matter tells.
+use Rattle.std.proofs.Common.{◌≡◌, ℕ, ◌+◌, ◌≤◌, List, length, refl, sym, subst, inl, inr, arith}
+use Rattle.std.specs.Str.{IsUtf8, IsValidUpTo}
+use Rattle.md_abi.specs.declared.answer.Answer.{Answer}
+use Rattle.md_abi.proofs.AnswerLemmas.{never}
+use Rattle.md_markdown_abi.specs.Failures.{tell}
+use Rattle.md_markdown_abi.specs.Front.{TellsOfFrontMatter, IsPlaceTold}
+
+pub place_told : (bytes : List ℕ) (answer : Answer) → IsPlaceTold bytes answer → IsUtf8 bytes →
+    TellsOfFrontMatter bytes answer
+place_told bytes answer place utf8 = record {
+  known = inl place.told;
+  within = λ _. place.within;
+  utf8 = λ _. utf8;
+  not_utf8 = λ is. absurd (omega (arith, is, place.told));
+  no_length = λ is. absurd (omega (arith, is, place.told));
+  no_rule = place.no_rule;
+}
+
+pub fault_told : (bytes : List ℕ) (index : ℕ) (answer : Answer) → answer ≡ tell 34 index 0 →
+    IsValidUpTo bytes index → TellsOfFrontMatter bytes answer
+fault_told bytes index answer is valid =
+    subst (TellsOfFrontMatter bytes) (sym is)
+    (record {
+      known = inr refl;
+      within = never 34 0 refl;
+      utf8 = never 34 0 refl;
+      not_utf8 = λ _. valid;
+      no_length = λ _. refl;
+      no_rule = refl;
+    })
+
+pub tells_place : (bytes : List ℕ) (start size : ℕ) (answer : Answer) →
+    answer ≡ tell 0 start size → start + size ≤ length bytes → IsPlaceTold bytes answer
+tells_place bytes start size answer is within =
+    subst (IsPlaceTold bytes) (sym is) (record { told = refl; within = within; no_rule = refl })

@@ -1,0 +1,136 @@
+-- From what is promised of a text, and why there is none, to what C is told.
+use Rattle.std.proofs.Common.{◌≡◌, ℕ, ◌≤◌, Bool, true, List, length, Option, Some, Result, Ok, Err}
+use Rattle.std.proofs.Common.{[], ◌∷◌, ◌++◌, IfErr, is_some, refl, sym, ap, ◌∙◌, subst}
+use Rattle.std.specs.Prelude.{IsErrAnd, option_and_then, slice_get}
+use Rattle.md_text.specs.Ids.{HasDistinctIds}
+use Rattle.md_safe.specs.Token.{Token, EndOfFile}
+use Rattle.md_safe.specs.Tokens.{tokens}
+use Rattle.md_safe.specs.Tokenizer.{IsTokenized}
+use Rattle.md_safe.specs.Tokenized.{IsSafelyTokenized}
+use Rattle.md_safe.specs.Contents.{IsContained}
+use Rattle.md_safe.specs.Built.{IsBuiltAsRead}
+use Rattle.md_abi.specs.Options.{flag_of, text_of}
+use Rattle.md_abi.specs.Attributes.{asked, with_rel}
+use Rattle.md_abi.specs.Attributed.{IsListedAfter}
+use Rattle.md_abi.specs.Failures.{IsFaultOf}
+use Rattle.md_abi.specs.declared.option.CText.{CText}
+use Rattle.md_abi.specs.declared.failure.Failure.{Failure}
+use Rattle.md_abi.specs.declared.failure.Failure.TheVariants as failure
+use Rattle.md_markdown.specs.Made.{IsMadeOf}
+use Rattle.md_markdown.specs.declared.options.MarkdownOptions.{MarkdownOptions}
+use Rattle.md_markdown.specs.declared.error.MarkdownError.{MarkdownError}
+use Rattle.md_markdown.specs.declared.error.MarkdownError.TheVariants as markdown
+use Rattle.md_markdown.specs.declared.error.MarkdownWithinError.{MarkdownWithinError}
+use Rattle.md_markdown.specs.declared.error.MarkdownWithinError.TheVariants as within
+use Rattle.md_markdown_abi.specs.Numbers.{markdown_version}
+use Rattle.md_markdown_abi.specs.Options.{HasMarkdownOptions, readable_fields}
+use Rattle.md_markdown_abi.specs.Text.{IsMarkdownText, IsReadable, IsRead}
+use Rattle.md_markdown_abi.specs.Failures.{failure_of_error, failure_within, IsOptionFault}
+use Rattle.md_markdown_abi.specs.Failures.{IsDocumentFault, ExplainsMarkdown}
+use Rattle.md_markdown_abi.specs.declared.option.CMarkdownOptions.{CMarkdownOptions}
+use Rattle.md_markdown_abi.specs.declared.failure.MarkdownFailure.{MarkdownFailure}
+use Rattle.md_markdown_abi.specs.declared.failure.MarkdownFailure.TheVariants as variant
+use variant.{NoVersion, InputTooLong, NotUtf8, OutputTooLong, TooMuchWork, Nested, Failed}
+
+-- ---- a text
+
+-- a flag that is 1 is on
+is_on : (value : Option Bool) (flag : Bool) → value ≡ Some flag → value ≡ Some true → flag ≡ true
+is_on value flag is on = cc
+
+-- what is asked for is what was read
+asked_is : (given : CText) (read : Option (List ℕ)) → text_of given ≡ Some read → asked given ≡ read
+asked_is given read stands = ap (option_and_then (λ text. text)) stands
+
+pub made_text : (bytes text : List ℕ) (given : CMarkdownOptions) (options : MarkdownOptions)
+    (rel prefix : Option (List ℕ)) (plain whole : List ℕ) (start : ℕ) → text ≡ bytes →
+    HasMarkdownOptions given options → IsMadeOf text plain → IsSafelyTokenized plain →
+    IsContained plain → IsBuiltAsRead plain →
+    (options.number_ids ≡ true → HasDistinctIds plain) → text_of given.rel ≡ Some rel →
+    text_of given.heading_ids ≡ Some prefix →
+    ((x : List Token) → IsTokenized plain x → IsListedAfter prefix (with_rel rel x) start whole) →
+    start ≤ given.max_output → IsMarkdownText bytes given start whole
+made_text bytes text given options rel prefix plain whole start same has made safe contained tree
+    distinct rel_read prefix_read listed fits =
+    let read = safe.as_read in
+    let emitted : List Token = tokens read.forest ++ (EndOfFile ∷ []) in
+    record {
+      plain = plain;
+      tokens = emitted;
+      made = subst (λ b. IsMadeOf b plain) same made;
+      safe = safe;
+      contained = contained;
+      tree = tree;
+      distinct_ids = λ one.
+          distinct (is_on (flag_of given.number_ids) options.number_ids has.number_ids
+          (ap flag_of one));
+      tokenized = read.tokenized;
+      listed = subst (λ p. IsListedAfter p (with_rel (asked given.rel) emitted) start whole)
+          (sym (asked_is given.heading_ids prefix prefix_read))
+          (subst (λ r. IsListedAfter prefix (with_rel r emitted) start whole)
+          (sym (asked_is given.rel rel rel_read)) (listed emitted read.tokenized));
+      fits = fits;
+    }
+
+-- ---- failures
+
+-- an option's
+module _ {A : Type 0} (options : CMarkdownOptions) (field : ℕ) (value : Option A)
+    (at : slice_get (readable_fields options) field ≡ Some (is_some value)) where
+  pub fault_of : (why : Failure) → IsFaultOf field value why → IsOptionFault options why
+  fault_of failure.Memory fault = tt
+  fault_of (failure.Option number) fault =
+      ap (slice_get (readable_fields options)) fault.0 ∙ at
+      ∙ ap (λ read. Some (is_some read)) fault.1
+  fault_of (failure.Event index) fault = absurd fault
+  fault_of (failure.Name index) fault = absurd fault
+  fault_of (failure.Line number) fault = absurd fault
+  fault_of (failure.Refused index rule) fault = absurd fault
+
+  -- what `?` makes of it
+  pub fault_told : {T : Type 0} (r : Result T Failure) (why : Failure) →
+      IsErrAnd r (λ made. made ≡ why) →
+      IsFaultOf field value why → IfErr r (IsOptionFault options)
+  fault_told (Ok x) why same fault = tt
+  fault_told (Err made) why same fault =
+      subst (IsOptionFault options) (sym same) (fault_of why fault)
+
+module _ (bytes : List ℕ) (given : CMarkdownOptions) where
+  -- what `?` makes of a failure that is explained
+  pub told : {T : Type 0} (r : Result T MarkdownFailure) (why : MarkdownFailure) →
+      IsErrAnd r (λ made. made ≡ why) → ExplainsMarkdown bytes given why →
+      IfErr r (ExplainsMarkdown bytes given)
+  told (Ok x) why same explained = tt
+  told (Err made) why same explained = subst (ExplainsMarkdown bytes given) (sym same) explained
+
+  pub option_fault : given.version ≡ markdown_version → (why : Failure) → IsOptionFault given why →
+      ExplainsMarkdown bytes given (Failed why)
+  option_fault version failure.Memory fault = version
+  option_fault version (failure.Option number) fault = (version, fault)
+  option_fault version (failure.Event index) fault = absurd fault
+  option_fault version (failure.Name index) fault = absurd fault
+  option_fault version (failure.Line number) fault = absurd fault
+  option_fault version (failure.Refused index rule) fault = absurd fault
+
+  pub document_fault : given.version ≡ markdown_version → (why : MarkdownFailure) →
+      IsDocumentFault bytes given.max_input why → ExplainsMarkdown bytes given why
+  document_fault version NoVersion fault = absurd fault
+  document_fault version (InputTooLong size) fault = (version, fault)
+  document_fault version (NotUtf8 index) fault =
+      (record { version = version; fits = fault.0 }, fault.1)
+  document_fault version OutputTooLong fault = absurd fault
+  document_fault version TooMuchWork fault = absurd fault
+  document_fault version Nested fault = absurd fault
+  document_fault version (Failed cause) fault = absurd fault
+
+  error_told : IsRead bytes given → (why : MarkdownError) →
+      ExplainsMarkdown bytes given (failure_of_error why)
+  error_told read markdown.Memory = read.readable.version
+  error_told read (markdown.Refused index rule) = read
+  error_told read markdown.Nested = read
+
+  pub within_told : IsRead bytes given → (why : MarkdownWithinError) →
+      ExplainsMarkdown bytes given (failure_within why)
+  within_told read within.TooLong = read
+  within_told read within.TooMuch = read
+  within_told read (within.Markdown cause) = error_told read cause

@@ -1,0 +1,77 @@
+-- What a failure says, and the answer that tells it. No contract of what C calls speaks of it.
+use Rattle.std.specs.Prelude.{◌≡◌, ◌≢◌, ◌×◌, ⊥, Unit, ℕ, ◌<◌, ◌≤◌, List, length}
+use Rattle.std.specs.Str.{IsValidUpTo}
+use Rattle.md_abi.specs.Failures.{answer_of}
+use Rattle.md_abi.specs.declared.answer.Answer.{Answer}
+use Rattle.md_abi.specs.declared.failure.Failure.{Failure}
+use Rattle.md_abi.specs.declared.failure.Failure.TheVariants as failure
+use Rattle.md_markdown.specs.declared.error.MarkdownError.{MarkdownError}
+use Rattle.md_markdown.specs.declared.error.MarkdownError.TheVariants as markdown
+use Rattle.md_markdown.specs.declared.error.MarkdownWithinError.{MarkdownWithinError}
+use Rattle.md_markdown.specs.declared.error.MarkdownWithinError.TheVariants as within
+use Rattle.md_markdown_abi.specs.Numbers.{markdown_version, input_too_long, output_too_long}
+use Rattle.md_markdown_abi.specs.Numbers.{not_utf8, no_version, failed, too_much_work}
+use Rattle.md_markdown_abi.specs.Options.{StandsForNone}
+use Rattle.md_markdown_abi.specs.Text.{IsReadable, IsRead}
+use Rattle.md_markdown_abi.specs.declared.option.CMarkdownOptions.{CMarkdownOptions}
+use Rattle.md_markdown_abi.specs.declared.failure.MarkdownFailure.{MarkdownFailure}
+use Rattle.md_markdown_abi.specs.declared.failure.MarkdownFailure.TheVariants as variant
+use variant.{NoVersion, InputTooLong, NotUtf8, OutputTooLong, TooMuchWork, Nested, Failed}
+
+-- the error of a text as a failure
+abbrev pub failure_of_error : MarkdownError → MarkdownFailure
+failure_of_error markdown.Memory = Failed failure.Memory
+failure_of_error (markdown.Refused index rule) = Failed (failure.Refused index rule)
+failure_of_error markdown.Nested = Nested
+
+-- that of a text within limits
+abbrev pub failure_within : MarkdownWithinError → MarkdownFailure
+failure_within within.TooLong = OutputTooLong
+failure_within within.TooMuch = TooMuchWork
+failure_within (within.Markdown cause) = failure_of_error cause
+
+-- a status, an index and a length
+abbrev pub tell : ℕ → ℕ → ℕ → Answer
+tell status index size = record { status = status; rule = 0; index = index; length = size }
+
+-- the answer to a failure
+abbrev pub answer_of_markdown : MarkdownFailure → Answer
+answer_of_markdown NoVersion = tell no_version 0 0
+answer_of_markdown (InputTooLong size) = tell input_too_long 0 size
+answer_of_markdown (NotUtf8 index) = tell not_utf8 index 0
+answer_of_markdown OutputTooLong = tell output_too_long 0 0
+answer_of_markdown TooMuchWork = tell too_much_work 0 0
+answer_of_markdown Nested = tell failed 0 0
+answer_of_markdown (Failed cause) = answer_of cause
+
+-- why there is no text, where an option, memory or the parser is at fault
+abbrev pub ExplainsFault : List ℕ → CMarkdownOptions → Failure → Type 0
+ExplainsFault bytes options failure.Memory = options.version ≡ markdown_version
+ExplainsFault bytes options (failure.Option number) =
+    (options.version ≡ markdown_version) × StandsForNone options number
+ExplainsFault bytes options (failure.Refused index rule) = IsRead bytes options
+ExplainsFault bytes options _ = ⊥
+
+-- why there is no text of a document
+abbrev pub ExplainsMarkdown : List ℕ → CMarkdownOptions → MarkdownFailure → Type 0
+ExplainsMarkdown bytes options NoVersion = options.version ≢ markdown_version
+ExplainsMarkdown bytes options (InputTooLong size) =
+    (options.version ≡ markdown_version) × ((size ≡ length bytes)
+    × (options.max_input < length bytes))
+ExplainsMarkdown bytes options (NotUtf8 index) = IsReadable bytes options × IsValidUpTo bytes index
+ExplainsMarkdown bytes options OutputTooLong = IsRead bytes options
+ExplainsMarkdown bytes options TooMuchWork = IsRead bytes options
+ExplainsMarkdown bytes options Nested = IsRead bytes options
+ExplainsMarkdown bytes options (Failed cause) = ExplainsFault bytes options cause
+
+-- there is no memory, or a field that stands for no option is named
+abbrev pub IsOptionFault : CMarkdownOptions → Failure → Type 0
+IsOptionFault options failure.Memory = Unit {0}
+IsOptionFault options (failure.Option number) = StandsForNone options number
+IsOptionFault options _ = ⊥
+
+-- the document is longer than it may be, or is no UTF-8 from a byte on
+abbrev pub IsDocumentFault : List ℕ → ℕ → MarkdownFailure → Type 0
+IsDocumentFault bytes most (InputTooLong size) = (size ≡ length bytes) × (most < length bytes)
+IsDocumentFault bytes most (NotUtf8 index) = (length bytes ≤ most) × IsValidUpTo bytes index
+IsDocumentFault bytes most _ = ⊥

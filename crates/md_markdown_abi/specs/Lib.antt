@@ -1,0 +1,6 @@
+pub mod Numbers
+pub mod Options
+pub mod Failures
+pub mod Answers
+pub mod Text
+pub mod Front

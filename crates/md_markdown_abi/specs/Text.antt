@@ -1,0 +1,42 @@
+-- What a text is of the Markdown that C hands in, and what is read of that.
+use Rattle.std.specs.Prelude.{◌≡◌, ℕ, ◌≤◌, List, length}
+use Rattle.std.specs.Str.{IsUtf8}
+use Rattle.md_text.specs.Ids.{HasDistinctIds}
+use Rattle.md_safe.specs.Token.{Token}
+use Rattle.md_safe.specs.Tokenizer.{IsTokenized}
+use Rattle.md_safe.specs.Tokenized.{IsSafelyTokenized}
+use Rattle.md_safe.specs.Contents.{IsContained}
+use Rattle.md_safe.specs.Built.{IsBuiltAsRead}
+use Rattle.md_abi.specs.Attributes.{asked, with_rel}
+use Rattle.md_abi.specs.Attributed.{IsListedAfter}
+use Rattle.md_markdown.specs.Made.{IsMadeOf}
+use Rattle.md_markdown_abi.specs.Numbers.{markdown_version}
+use Rattle.md_markdown_abi.specs.declared.option.CMarkdownOptions.{CMarkdownOptions}
+
+-- of the document there is a text, made of it and safe: it is tokenized as it is read, each element
+-- stands where it may, tree construction builds it, and where ids go by number no two are equal;
+-- with the attributes that are asked for its tokens are those of the bytes before the index, which
+-- are no more than they may be; the list of the headings that got an id follows
+pub record IsMarkdownText (bytes : List ℕ) (options : CMarkdownOptions) (start : ℕ)
+    (whole : List ℕ) : Type 0 where
+  pub plain : List ℕ
+  pub tokens : List Token
+  pub made : IsMadeOf bytes plain
+  pub safe : IsSafelyTokenized plain
+  pub contained : IsContained plain
+  pub tree : IsBuiltAsRead plain
+  pub distinct_ids : options.number_ids ≡ 1 → HasDistinctIds plain
+  pub tokenized : IsTokenized plain tokens
+  pub listed : IsListedAfter (asked options.heading_ids)
+      (with_rel (asked options.rel) tokens) start whole
+  pub fits : start ≤ options.max_output
+
+-- the options are laid out as they are read, and the document has no more bytes than it may
+pub record IsReadable (bytes : List ℕ) (options : CMarkdownOptions) : Type 0 where
+  pub version : options.version ≡ markdown_version
+  pub fits : length bytes ≤ options.max_input
+
+-- besides, the document is UTF-8
+pub record IsRead (bytes : List ℕ) (options : CMarkdownOptions) : Type 0 where
+  pub readable : IsReadable bytes options
+  pub utf8 : IsUtf8 bytes

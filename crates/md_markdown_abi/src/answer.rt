@@ -1,0 +1,55 @@
+//! What a call of Markdown answers.
+
+ghost use Rattle.std.specs.Prelude.{◌≡◌};
+ghost use Rattle.md_markdown_abi.specs.Failures.{answer_of_markdown, tell};
+
+use crate::failure::MarkdownFailure;
+use md_abi::{Answer, answer_to};
+
+/// There is what was asked for.
+pub(crate) const OK: u32 = 0;
+
+/// The document has more bytes than it may.
+const INPUT_TOO_LONG: u32 = 32;
+
+/// The text has more bytes than it may.
+const OUTPUT_TOO_LONG: u32 = 33;
+
+/// The document isn't UTF-8.
+pub(crate) const NOT_UTF8: u32 = 34;
+
+/// The options are of another version.
+const NO_VERSION: u32 = 35;
+
+/// What was made of the document can't be printed.
+const FAILED: u32 = 36;
+
+/// There is more work than there may be.
+const TOO_MUCH_WORK: u32 = 37;
+
+/// The answer to a failure.
+pub fn answer_to_markdown(failure: &MarkdownFailure) -> Answer
+    ensures { result ≡ answer_of_markdown failure.now }
+{
+    match failure {
+        MarkdownFailure::NoVersion => tell(NO_VERSION, 0, 0),
+        MarkdownFailure::InputTooLong(length) => tell(INPUT_TOO_LONG, 0, *length),
+        MarkdownFailure::NotUtf8(index) => tell(NOT_UTF8, *index, 0),
+        MarkdownFailure::OutputTooLong => tell(OUTPUT_TOO_LONG, 0, 0),
+        MarkdownFailure::TooMuchWork => tell(TOO_MUCH_WORK, 0, 0),
+        MarkdownFailure::Nested => tell(FAILED, 0, 0),
+        MarkdownFailure::Failed(failure) => answer_to(failure),
+    }
+}
+
+/// The answer that tells no rule.
+pub(crate) fn tell(status: u32, index: usize, length: usize) -> Answer
+    ensures { result ≡ tell status index length }
+{
+    Answer {
+        status,
+        rule: 0,
+        index,
+        length,
+    }
+}

@@ -1,0 +1,79 @@
+//! Why there is no text of a document.
+
+use md_abi::Failure;
+use md_markdown::{MarkdownError, MarkdownWithinError};
+use std::alloc::AllocError;
+
+/// Why a call has no text of a document to hand over.
+#[derive(Drop)]
+pub enum MarkdownFailure {
+    /// The options aren't laid out as they are read.
+    NoVersion,
+    /// The document has this many bytes, which are more than it may have.
+    InputTooLong(usize),
+    /// The document isn't UTF-8 from the byte with this index on.
+    NotUtf8(usize),
+    /// The text is longer than it may be.
+    OutputTooLong,
+    /// There is more to read and to print, or to use again, than there may be.
+    TooMuchWork,
+    /// A link stands in a link: a fault of the parser.
+    Nested,
+    /// Of an option, of memory, or a refusal, which is a fault of the parser.
+    Failed(Failure),
+}
+
+impl From<Failure> for MarkdownFailure {
+    ghost use Rattle.std.specs.Prelude.{◌≡◌};
+    ghost use Rattle.md_markdown_abi.specs.declared.failure.MarkdownFailure.TheVariants.{Failed};
+
+    ghost from_gives = { λ failure made. made ≡ Failed failure };
+
+    fn from(failure: Failure) -> MarkdownFailure {
+        MarkdownFailure::Failed(failure)
+    }
+}
+
+impl From<AllocError> for MarkdownFailure {
+    ghost use Rattle.std.specs.Prelude.{◌≡◌};
+    ghost use Rattle.md_abi.specs.declared.failure.Failure.TheVariants.{Memory};
+    ghost use Rattle.md_markdown_abi.specs.declared.failure.MarkdownFailure.TheVariants.{Failed};
+
+    ghost from_gives = { λ _ made. made ≡ Failed Memory };
+
+    fn from(_error: AllocError) -> MarkdownFailure {
+        MarkdownFailure::Failed(Failure::Memory)
+    }
+}
+
+impl From<MarkdownError> for MarkdownFailure {
+    ghost use Rattle.std.specs.Prelude.{◌≡◌};
+    ghost use Rattle.md_markdown_abi.specs.Failures.{failure_of_error};
+
+    ghost from_gives = { λ error made. made ≡ failure_of_error error };
+
+    fn from(error: MarkdownError) -> MarkdownFailure {
+        match error {
+            MarkdownError::Memory => MarkdownFailure::Failed(Failure::Memory),
+            MarkdownError::Refused { index, rule } => {
+                MarkdownFailure::Failed(Failure::Refused { index, rule })
+            }
+            MarkdownError::Nested => MarkdownFailure::Nested,
+        }
+    }
+}
+
+impl From<MarkdownWithinError> for MarkdownFailure {
+    ghost use Rattle.std.specs.Prelude.{◌≡◌};
+    ghost use Rattle.md_markdown_abi.specs.Failures.{failure_within};
+
+    ghost from_gives = { λ error made. made ≡ failure_within error };
+
+    fn from(error: MarkdownWithinError) -> MarkdownFailure {
+        match error {
+            MarkdownWithinError::TooLong => MarkdownFailure::OutputTooLong,
+            MarkdownWithinError::TooMuch => MarkdownFailure::TooMuchWork,
+            MarkdownWithinError::Markdown(cause) => MarkdownFailure::from(cause),
+        }
+    }
+}

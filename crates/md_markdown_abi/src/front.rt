@@ -1,0 +1,41 @@
+//! Where a document's front matter stands.
+
+ghost use Rattle.std.specs.Prelude.{◌+◌, ◌≤◌, length, IfSome};
+ghost use Rattle.md_markdown_abi.specs.Front.{TellsOfFrontMatter, IsPlaceTold};
+
+use crate::answer::{NOT_UTF8, OK, tell};
+use md_abi::Answer;
+use md_blocks::front_matter;
+
+/// The answer that tells where a document's front matter stands: its index is how many bytes stand
+/// before it, its length how many it has. Both are 0 where there is none.
+pub fn answer_to_front_matter(bytes: &[u8]) -> Answer
+    ensures { TellsOfFrontMatter bytes.now result }
+{
+    match simdutf8::compat::from_utf8(bytes) {
+        Ok(_) => tell_place(bytes),
+        Err(error) => tell(NOT_UTF8, error.valid_up_to(), 0),
+    }
+}
+
+/// The same of a document that is UTF-8.
+fn tell_place(bytes: &[u8]) -> Answer
+    ensures { IsPlaceTold bytes.now result }
+{
+    match front_matter_place(bytes) {
+        Some((start, length)) => tell(OK, start, length),
+        None => tell(OK, 0, 0),
+    }
+}
+
+/// How many bytes stand before the front matter, and how many it has.
+fn front_matter_place(bytes: &[u8]) -> Option<(usize, usize)>
+    ensures { IfSome result (λ place. place.0 + place.1 ≤ length bytes.now) }
+{
+    let found = front_matter(bytes)?;
+    let (start, end) = (found.text.start, found.text.end);
+    if start <= end && end <= bytes.len() {
+        return Some((start, end - start));
+    }
+    None
+}

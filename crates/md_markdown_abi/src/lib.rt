@@ -1,0 +1,15 @@
+//! Markdown as C hands it in, and what it is answered: layouts, numbers, and what they stand for.
+#![tactic(auto)]
+
+mod answer;
+mod document;
+mod failure;
+mod front;
+mod given;
+mod option;
+
+pub use answer::answer_to_markdown;
+pub use failure::MarkdownFailure;
+pub use front::answer_to_front_matter;
+pub use given::markdown_given;
+pub use option::CMarkdownOptions;
