@@ -1,5 +1,5 @@
 -- What an answer about Markdown says, from the text or the failure that it tells.
-use Rattle.std.proofs.Common.{◌≡◌, ◌≢◌, ◌×◌, ℕ, ◌<◌, ◌≤◌, List, length, refl, sym, ap, ◌∙◌, subst}
+use Rattle.std.proofs.Common.{◌≡◌, ◌≢◌, ℕ, ◌<◌, ◌≤◌, List, length, refl, sym, ap, ◌∙◌, subst}
 use Rattle.std.proofs.Common.{inl, inr, arith}
 use Rattle.md_abi.specs.Failures.{answer_of}
 use Rattle.md_abi.specs.Buffer.{HandsOver, IsHandedOver, IsListHandedOver}

@@ -1,5 +1,5 @@
 -- What an answer about Markdown tells, by its status, and which of its fields tell something.
-use Rattle.std.specs.Prelude.{◌≡◌, ◌≢◌, ◌⊎◌, ◌×◌, ⊥, ℕ, ◌<◌, ◌≤◌, List, length}
+use Rattle.std.specs.Prelude.{◌≡◌, ◌≢◌, ◌⊎◌, ℕ, ◌<◌, ◌≤◌, List, length}
 use Rattle.std.specs.Str.{IsUtf8, IsValidUpTo}
 use Rattle.md_abi.specs.Numbers.{too_short, refused, no_option, no_memory}
 use Rattle.md_abi.specs.declared.answer.Answer.{Answer}

@@ -1,6 +1,6 @@
 //! The options of Markdown as C hands them in.
 
-ghost use Rattle.std.specs.Prelude.{◌≡◌, ◌≢◌, ◌×◌, Some, IfOk, IfErr, MatchResult};
+ghost use Rattle.std.specs.Prelude.{◌≡◌, ◌≢◌, Some, IfOk, IfErr, MatchResult};
 ghost use Rattle.md_abi.specs.Failures.{IsFaultOf};
 ghost use Rattle.md_markdown_abi.specs.Numbers.{markdown_version};
 ghost use Rattle.md_markdown_abi.specs.Options.{HasMarkdownOptions, html_of, most_work};
