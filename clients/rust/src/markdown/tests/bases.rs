@@ -99,8 +99,8 @@ fn urls_against_a_base_without_authority() {
         ("", "?a:b", "?a:b"),
         ("", "a#b:c", "a#b:c"),
         ("1a:b", "?c", "./1a:b?c"),
-        ("x:/docs/", "..//evil.com/", "x:/.//evil.com/"),
-        ("x:docs/", "..//evil.com/", "x:.//evil.com/"),
+        ("irc:/docs/", "..//evil.com/", "irc:/.//evil.com/"),
+        ("irc:docs/", "..//evil.com/", "irc:.//evil.com/"),
         ("http://a/b/", "..//evil.com/", "http://a//evil.com/"),
         ("http://a/b/", "./c:d", "http://a/b/c:d"),
     ] {

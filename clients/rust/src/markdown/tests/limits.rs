@@ -110,7 +110,8 @@ fn long_destinations_with_references() {
     let link = format!("<a href=\"{url}\" title=\"c*d\">A</a> ");
     let image = format!("<img src=\"{url}\" alt=\"b\" title=\"c*d\" /> ");
     for uses in [1, 50] {
-        let wanted = format!("<p>{}</p>\n", (link.clone() + &image).repeat(uses));
+        let links = (link.clone() + &image).repeat(uses);
+        let wanted = format!("<p>{}</p>\n", links.trim_end());
         assert!(html(&text(uses, 20_000)) == wanted, "{uses}");
     }
 }
@@ -145,7 +146,7 @@ fn wide_tables() {
     assert!(((1 << 19) - 2000..=1 << 19).contains(&cells), "{cells}");
 }
 
-/// A mark of a quote or an item in which so many others are open is text.
+/// A mark in which so many quotes, lists and items are open is text.
 #[test]
 fn nests() {
     let deep = html(&("> ".repeat(40_000) + "a"));
@@ -153,5 +154,5 @@ fn nests() {
     assert_eq!(quotes, 96);
     assert!(deep.contains("<p>&gt; &gt; ") && deep.contains("&gt; a</p>"));
     let items = format!("{}a\n{}\\b", "- ".repeat(1000), "\n".repeat(100_000));
-    assert_eq!(html(&items).matches("<li>").count(), 96);
+    assert_eq!(html(&items).matches("<li>").count(), 48);
 }
