@@ -16,7 +16,6 @@ static HOOK: Once = Once::new();
 ///
 /// The first call sets a hook for panics, which calls the one that was there for each panic outside
 /// of such work. A hook that the program sets later is called for all of them.
-#[doc(hidden)]
 pub fn quietly<T>(work: impl FnOnce() -> T) -> Option<T> {
     if !thread::panicking() {
         HOOK.call_once(set_hook);

@@ -1,22 +1,18 @@
 //! Emphasis, links and images.
 
 use super::Walk;
-use crate::markdown::base;
 use crate::Name;
 use pulldown_cmark::{CowStr, LinkType, Tag};
 use std::borrow::Cow;
 use std::mem;
 
-impl Walk<'_, '_> {
+impl Walk<'_> {
     pub(super) fn start_span(&mut self, tag: &Tag) {
         self.before_phrasing();
         match tag {
             Tag::Emphasis => self.document.enter(Name::Emphasis),
             Tag::Strong => self.document.enter(Name::Strong),
-            Tag::Link(..) => {
-                self.links += 1;
-                self.start_media(Name::Link);
-            }
+            Tag::Link(..) => self.start_media(Name::Link),
             Tag::Image(..) => {
                 self.images += 1;
                 self.start_media(Name::Image);
@@ -29,10 +25,7 @@ impl Walk<'_, '_> {
         match tag {
             Tag::Emphasis => self.document.exit(Name::Emphasis),
             Tag::Strong => self.document.exit(Name::Strong),
-            Tag::Link(kind, url, title) => {
-                self.links -= 1;
-                self.end_media(Name::Link, *kind, url, title);
-            }
+            Tag::Link(kind, url, title) => self.end_media(Name::Link, *kind, url, title),
             Tag::Image(kind, url, title) => {
                 self.images -= 1;
                 self.end_media(Name::Image, *kind, url, title);
@@ -51,13 +44,13 @@ impl Walk<'_, '_> {
         self.spans = spans;
     }
 
-    pub(super) fn start_media(&mut self, name: Name) {
+    fn start_media(&mut self, name: Name) {
         self.document.enter(name);
         self.document.enter(Name::Label);
         self.document.enter(Name::LabelText);
     }
 
-    pub(super) fn end_media(&mut self, name: Name, kind: LinkType, url: &CowStr, title: &CowStr) {
+    fn end_media(&mut self, name: Name, kind: LinkType, url: &CowStr, title: &CowStr) {
         self.document.exit(Name::LabelText);
         self.document.exit(Name::Label);
         self.document.enter(Name::Resource);
@@ -70,17 +63,11 @@ impl Walk<'_, '_> {
     }
 
     fn destination(&mut self, kind: LinkType, url: &CowStr) {
-        let base = self.options.base.as_deref();
-        self.string(
-            Name::ResourceDestinationString,
-            kind,
-            url,
-            |url| match base {
-                _ if kind == LinkType::Email => format!("mailto:{url}").into(),
-                Some(base) => base::resolved(base, url).into(),
-                None => url.into(),
-            },
-        );
+        let name = Name::ResourceDestinationString;
+        self.string(name, kind, url, |url| match kind {
+            LinkType::Email => format!("mailto:{url}").into(),
+            _ => url.into(),
+        });
     }
 
     /// A destination or a title. The parser hands out the same text for each link that uses a

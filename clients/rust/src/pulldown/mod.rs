@@ -1,19 +1,22 @@
 //! pulldown-cmark's events as the library has them.
+//!
+//! Nothing is proved of that parser or of this way from its events to ours. What the library
+//! promises it promises of any events.
 
 mod blocks;
+mod building;
 mod footnotes;
 mod html;
 mod lists;
 mod open;
+mod pieces;
 mod spans;
 mod table;
 mod texts;
 
-use super::document::Document;
-use super::pieces::{whole_html, whole_text};
-use super::MarkdownOptions;
-use crate::Name;
+use crate::{Document, Name};
 use open::{Open, Span};
+use pieces::{whole_html, whole_text};
 use pulldown_cmark::{Alignment, Event, Tag};
 use std::collections::{HashMap, HashSet};
 use std::iter::Peekable;
@@ -41,32 +44,19 @@ pub fn events_of<'a, P>(parser: P) -> Document
 where
     P: IntoIterator<Item = (Event<'a>, Range<usize>)>,
 {
-    let options = MarkdownOptions {
-        bare_links: false,
-        ..MarkdownOptions::default()
-    };
-    document_of(parser, &options)
-}
-
-/// As [`events_of`], under options.
-pub(super) fn document_of<'a, P>(parser: P, options: &MarkdownOptions) -> Document
-where
-    P: IntoIterator<Item = (Event<'a>, Range<usize>)>,
-{
-    let mut walk = Walk::new(options);
+    let mut walk = Walk::default();
     walk.all(parser);
     walk.document
 }
 
 /// The way through a parser's events. What it does of each kind of node stands in a
 /// module of its own.
-struct Walk<'o, 'a> {
-    options: &'o MarkdownOptions,
+#[derive(Default)]
+struct Walk<'a> {
     document: Document,
     open: Vec<Open>,
     spans: Vec<Span<'a>>,
-    /// How many links and images are open.
-    links: usize,
+    /// How many images are open.
     images: usize,
     alignments: Vec<Alignment>,
     footnotes: HashSet<String>,
@@ -77,22 +67,7 @@ struct Walk<'o, 'a> {
     shared: HashMap<(usize, usize), Range<usize>>,
 }
 
-impl<'o, 'a> Walk<'o, 'a> {
-    fn new(options: &'o MarkdownOptions) -> Walk<'o, 'a> {
-        Walk {
-            options,
-            document: Document::default(),
-            open: Vec::new(),
-            spans: Vec::new(),
-            links: 0,
-            images: 0,
-            alignments: Vec::new(),
-            footnotes: HashSet::new(),
-            calls: Vec::new(),
-            shared: HashMap::new(),
-        }
-    }
-
+impl<'a> Walk<'a> {
     /// Goes through all events.
     fn all<P>(&mut self, parser: P)
     where
@@ -124,7 +99,7 @@ impl<'o, 'a> Walk<'o, 'a> {
             }
             Event::Html(html) => self.text_html(&html),
             Event::FootnoteReference(label) => self.call(&label),
-            Event::SoftBreak => self.line_break(self.options.hard_breaks),
+            Event::SoftBreak => self.line_break(false),
             Event::HardBreak => self.line_break(true),
             Event::Rule => {
                 self.before_block();
@@ -193,3 +168,6 @@ impl<'o, 'a> Walk<'o, 'a> {
         }
     }
 }
+
+#[cfg(test)]
+mod tests;

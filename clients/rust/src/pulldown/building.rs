@@ -1,99 +1,10 @@
-//! A document as the library takes it.
+//! How a document is made, node by node.
 
-use super::work;
-use crate::{
-    compile, compile_within, ffi, Attributes, Error, Event, Kind, Limits, Name, Options, Rendered,
-};
+use crate::{Document, Event, Kind, Name};
 use std::borrow::Cow;
 use std::ops::Range;
 
-/// Events, and the bytes that they are over: not those of the Markdown, but the texts that
-/// were found in it.
-#[derive(Clone, Debug, Default, Eq, PartialEq)]
-#[non_exhaustive]
-pub struct Document {
-    /// The bytes.
-    pub bytes: Vec<u8>,
-    /// The events over them.
-    pub events: Vec<Event>,
-}
-
 impl Document {
-    /// The document's HTML.
-    ///
-    /// # Errors
-    ///
-    /// As [`compile`](crate::compile).
-    pub fn compile(&self, options: &Options) -> Result<String, Error> {
-        compile(&self.events, &self.bytes, options, &[])
-    }
-
-    /// The document's HTML, if it is within limits.
-    ///
-    /// # Errors
-    ///
-    /// As [`compile_within`](crate::compile_within).
-    pub fn compile_within(&self, options: &Options, limits: Limits) -> Result<String, Error> {
-        compile_within(&self.events, &self.bytes, options, &[], limits)
-    }
-
-    /// The document's HTML with attributes, if that is within limits, and the headings that got an
-    /// `id`. The headings' own texts are beside these limits.
-    ///
-    /// # Errors
-    ///
-    /// As [`compile_attributed`](crate::compile_attributed), [`Error::OutputTooLong`] and
-    /// [`Error::TooMuchWork`].
-    pub fn compile_attributed(
-        &self,
-        options: &Options,
-        attributes: &Attributes,
-        limits: Limits,
-    ) -> Result<Rendered, Error> {
-        ffi::compile_attributed(&self.events, &self.bytes, options, &[], attributes, limits)
-    }
-
-    /// As [`compile_attributed`](Document::compile_attributed), of a document that
-    /// nobody needs any more.
-    ///
-    /// # Errors
-    ///
-    /// The same.
-    #[doc(hidden)]
-    pub fn into_rendered(
-        self,
-        options: &Options,
-        attributes: &Attributes,
-        limits: Limits,
-    ) -> Result<Rendered, Error> {
-        if *attributes != Attributes::default() {
-            return self.into_attributed(options, attributes, limits);
-        }
-        let html = ffi::compile_owned(self.events, &self.bytes, options, limits)?;
-        let headings = Vec::new();
-        Ok(Rendered { html, headings })
-    }
-
-    /// The same with attributes. What can't be more work than a limit, and is likely to be no
-    /// longer than one, isn't made within them first, but measured when it is made.
-    fn into_attributed(
-        self,
-        options: &Options,
-        attributes: &Attributes,
-        limits: Limits,
-    ) -> Result<Rendered, Error> {
-        let work = work::at_most(&self.events, options);
-        let is_small =
-            work <= limits.work && ffi::first_size(self.events.len(), work) <= limits.text;
-        let first = if is_small { Limits::default() } else { limits };
-        let (events, bytes) = (self.events, &self.bytes);
-        let made = ffi::compile_attributed_owned(events, bytes, options, attributes, first)?;
-        match made.html.len() > limits.text {
-            true => Err(Error::OutputTooLong { limit: limits.text }),
-            false => Ok(made),
-        }
-    }
-
     /// Begins a node after the bytes so far.
     pub(super) fn enter(&mut self, name: Name) {
         self.events.push(Event::enter(name, self.bytes.len()));

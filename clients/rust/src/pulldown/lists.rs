@@ -4,7 +4,7 @@ use super::open::{Item, List, Open};
 use super::Walk;
 use crate::Name;
 
-impl Walk<'_, '_> {
+impl Walk<'_> {
     pub(super) fn start_list(&mut self, start: Option<u64>) -> Open {
         let name = match start {
             Some(_) => Name::ListOrdered,

@@ -5,7 +5,7 @@ use super::Walk;
 use crate::Name;
 use pulldown_cmark::{Alignment, Tag};
 
-impl Walk<'_, '_> {
+impl Walk<'_> {
     pub(super) fn start_table(&mut self, tag: &Tag) {
         match tag {
             Tag::Table(alignments) => {

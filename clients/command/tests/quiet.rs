@@ -1,6 +1,9 @@
 //! Panics that are caught. The hook for panics is the whole process's: this one has no other tests.
 
-use bivdrazo::quietly;
+#[path = "../src/quiet.rs"]
+mod quiet;
+
+use quiet::quietly;
 use std::panic;
 use std::sync::atomic::{AtomicUsize, Ordering};
 use std::thread;

@@ -3,7 +3,7 @@
 use super::Walk;
 use crate::Name;
 
-impl Walk<'_, '_> {
+impl Walk<'_> {
     pub(super) fn start_footnote(&mut self, label: &str) {
         self.footnotes.insert(folded(label));
         self.document.enter(Name::GfmFootnoteDefinition);

@@ -5,7 +5,7 @@ use super::Walk;
 use crate::Name;
 use pulldown_cmark::{CodeBlockKind, Tag};
 
-impl Walk<'_, '_> {
+impl Walk<'_> {
     pub(super) fn start_block(&mut self, tag: &Tag) {
         let open = match tag {
             Tag::Paragraph => {

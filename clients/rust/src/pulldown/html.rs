@@ -1,15 +1,13 @@
 //! HTML in the document.
 
 use super::open::Open;
+use super::pieces::is_spaces;
 use super::Walk;
-use crate::markdown::comments::without_comments;
-use crate::markdown::pieces::is_spaces;
-use crate::markdown::DocumentHtml;
 use crate::Name;
 use pulldown_cmark::Event;
 use std::ops::Range;
 
-impl Walk<'_, '_> {
+impl Walk<'_> {
     /// Whether HTML is a block here. In a tight list's item the parser doesn't tell; but there a
     /// block ends its line, by itself or in the next event.
     pub(super) fn is_in_flow(&self, html: &str, next: Option<&(Event, Range<usize>)>) -> bool {
@@ -41,29 +39,15 @@ impl Walk<'_, '_> {
     }
 
     pub(super) fn flow_html(&mut self, html: &str) {
-        let html = match self.options.html {
-            DocumentHtml::Text => html.to_string(),
-            DocumentHtml::LeftOut => String::new(),
-            DocumentHtml::WithoutComments => without_comments(html),
-        };
         let html = html.trim_end_matches(|each| each == '\n' || each == '\r');
-        if self.options.html == DocumentHtml::Text || !html.trim().is_empty() {
-            self.before_block();
-            self.document
-                .within(Name::HtmlFlow, Name::HtmlFlowData, html);
-        }
+        self.before_block();
+        self.document
+            .within(Name::HtmlFlow, Name::HtmlFlowData, html);
     }
 
     pub(super) fn text_html(&mut self, html: &str) {
-        let is_left_out = match self.options.html {
-            DocumentHtml::Text => false,
-            DocumentHtml::LeftOut => true,
-            DocumentHtml::WithoutComments => html.starts_with("<!--"),
-        };
-        if !is_left_out {
-            self.before_phrasing();
-            self.document
-                .within(Name::HtmlText, Name::HtmlTextData, html);
-        }
+        self.before_phrasing();
+        self.document
+            .within(Name::HtmlText, Name::HtmlTextData, html);
     }
 }
