@@ -16,8 +16,11 @@ mod names;
 mod options;
 mod reader;
 mod references;
+mod source;
 mod strings;
+mod targets;
 mod token;
+mod urls;
 mod writer;
 
 pub use inlines::Inlines;

@@ -1,5 +1,5 @@
 -- What a failure says, and the answer that tells it. No contract of what C calls speaks of it.
-use Rattle.std.specs.Prelude.{◌≡◌, ◌≢◌, ◌×◌, ⊥, Unit, ℕ, ◌<◌, ◌≤◌, List, length}
+use Rattle.std.specs.Prelude.{◌≡◌, ◌≢◌, ℕ, ◌<◌, ◌≤◌, List, length}
 use Rattle.std.specs.Str.{IsValidUpTo}
 use Rattle.md_abi.specs.Failures.{answer_of}
 use Rattle.md_abi.specs.declared.answer.Answer.{Answer}

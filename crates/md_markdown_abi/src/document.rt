@@ -1,6 +1,6 @@
 //! A document's bytes as a text.
 
-ghost use Rattle.std.specs.Prelude.{◌≡◌, ◌≤◌, ◌×◌, length, IfOk, IfErr, IsUtf8};
+ghost use Rattle.std.specs.Prelude.{◌≡◌, ◌≤◌, length, IfOk, IfErr, IsUtf8};
 ghost use Rattle.md_markdown_abi.specs.Failures.{IsDocumentFault};
 
 use crate::failure::MarkdownFailure;

@@ -1,0 +1,2 @@
+-- Parts behind a text.
+pub mod UrlLemmas
