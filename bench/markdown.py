@@ -189,7 +189,8 @@ SHAPES = {
     "comments without an end": lambda n: times(n, "x <!-- "),
     "comments in HTML": lambda n: "<div>" + times(n, "<!-->-") + "\n",
     "comments over lines in HTML": lambda n: "<div>\n" + times(n, "a<!--\n-->"),
-    "a long URL by a definition": lambda n: times(n // 2, "[a] ") + "\n\n[a]: " + "b/" * (n // 4),
+    "a long URL by a definition": lambda n: "![" + times(n // 2, "[a] ") + "](b)\n\n[a]: "
+    + times(n // 2, "b/") + "\n",
     "dots in a URL": lambda n: "[a](" + times(n // 2, "b/") + times(n // 2, "../") + ")",
     "declarations without an end": lambda n: times(n, "x <!A <? <![CDATA["),
     "less-than signs": lambda n: times(n, "<"),

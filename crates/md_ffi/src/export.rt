@@ -353,8 +353,8 @@ pub extern "C" fn bivdrazo_markdown_into(
     }
 }
 
-/// Where the front matter of a Markdown document stands: what is between the two lines of `---` with
-/// which it begins.
+/// Where the front matter of a Markdown document stands: what is between the two lines of `---`
+/// with which it begins.
 ///
 /// A C caller passes for the slice a pointer, which isn't null, and a length.
 ///

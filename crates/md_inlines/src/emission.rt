@@ -5,28 +5,28 @@ ghost use Rattle.std.specs.Prelude.{◌≡◌, OnOk, false};
 use crate::bare_links::{BareLink, address, is_www, url, www};
 use crate::brackets::Target;
 use crate::leaf::Leaf;
+use crate::links::write_label_start;
 use crate::options::InlineOptions;
 use crate::reader::Reader;
 use crate::source::Source;
-use crate::strings::{has_reference, write_data, write_reference, write_url};
-use crate::targets::{Destination, write_destination, write_title};
+use crate::strings::{write_data, write_reference};
 use crate::token::{Mark, Token};
 use crate::writer::Writer;
 use md_base::Name;
-use md_lines::{Class, Line, Title, is};
+use md_lines::{Class, is};
 use std::alloc::AllocError;
 
 /// What stands around a token.
 #[derive(Drop)]
-struct Around<'e> {
-    leaf: Leaf<'e>,
-    source: &'e Source<'e>,
+pub(crate) struct Around<'e> {
+    pub(crate) leaf: Leaf<'e>,
+    pub(crate) source: &'e Source<'e>,
     options: InlineOptions,
-    targets: &'e [Target],
+    pub(crate) targets: &'e [Target],
     /// Whether texts may hold bare links that aren't tokens.
     has_late_links: bool,
     /// How many links are open.
-    links: usize,
+    pub(crate) links: usize,
     /// How many images are open.
     images: usize,
 }
@@ -211,125 +211,6 @@ impl<'e> Around<'e> {
         }
         writer.exit(outer, token.end)
     }
-
-    /// Writes a link that is written out as such; in a link it is text.
-    fn write_link(
-        &self,
-        writer: &mut Writer,
-        name: Name,
-        start: usize,
-        end: usize,
-    ) -> Result<(), AllocError> {
-        let name = if self.links > 0 { Name::Data } else { name };
-        writer.leaf(name, start, end)
-    }
-
-    /// Writes a link to a URL between angle brackets. Where that has character references, they
-    /// are read in its text and in its destination.
-    fn write_url_link(
-        &self,
-        writer: &mut Writer,
-        start: usize,
-        end: usize,
-    ) -> Result<(), AllocError> {
-        let bytes = self.leaf.bytes;
-        if !has_reference(bytes.get(start..end).unwrap_or(b"")) {
-            return self.write_link(writer, Name::AutolinkProtocol, start, end);
-        }
-        if self.links > 0 {
-            return write_url(writer, bytes, start, end);
-        }
-        write_label_start(writer, Name::Link, start, start)?;
-        write_url(writer, bytes, start, end)?;
-        writer.exit(Name::LabelText, end)?;
-        writer.exit(Name::Label, end)?;
-        writer.enter(Name::Resource, start)?;
-        writer.enter(Name::ResourceDestinationString, start)?;
-        write_url(writer, bytes, start, end)?;
-        writer.exit(Name::ResourceDestinationString, end)?;
-        writer.exit(Name::Resource, end)?;
-        writer.exit(Name::Link, end)
-    }
-
-    /// Writes a call of a footnote; in a link it is text.
-    fn write_call(&self, writer: &mut Writer, start: usize, end: usize) -> Result<(), AllocError> {
-        if self.links > 0 {
-            return writer.leaf(Name::Data, start, end);
-        }
-        writer.enter(Name::GfmFootnoteCall, start)?;
-        writer.enter(Name::Label, start)?;
-        writer.leaf(
-            Name::LabelText,
-            start.saturating_add(2),
-            end.saturating_sub(1),
-        )?;
-        writer.exit(Name::Label, end)?;
-        writer.exit(Name::GfmFootnoteCall, end)
-    }
-
-    /// Writes the end of a link's or an image's label, and where it leads.
-    fn write_link_end(
-        &self,
-        writer: &mut Writer,
-        name: Name,
-        token: &Token,
-    ) -> Result<(), AllocError> {
-        let after = token.start.saturating_add(1);
-        writer.exit(Name::LabelText, token.start)?;
-        writer.exit(Name::Label, after)?;
-        match self.targets.get(token.index) {
-            Some(Target::Resource(destination, title)) => {
-                writer.enter(Name::Resource, after)?;
-                let destination = Destination::inline(*destination);
-                self.write_resource(writer, destination, *title, self.leaf.lines)?;
-                writer.exit(Name::Resource, token.end)?;
-            }
-            Some(Target::Definition(definition)) if definition.is_long => {
-                writer.refer_to(definition.index)?;
-                let label = definition.label;
-                writer.leaf(Name::ReferenceString, label.start, label.end)?;
-            }
-            Some(Target::Definition(definition)) => {
-                writer.enter(Name::Resource, after)?;
-                let destination = Destination::defined(definition);
-                self.write_resource(writer, destination, definition.title, self.source.lines)?;
-                writer.exit(Name::Resource, token.end)?;
-            }
-            None => {}
-        }
-        writer.exit(name, token.end)
-    }
-
-    /// Writes a destination and a title, which stands in such lines.
-    fn write_resource(
-        &self,
-        writer: &mut Writer,
-        destination: Destination,
-        title: Option<Title>,
-        lines: &[Line],
-    ) -> Result<(), AllocError> {
-        let name = Name::ResourceDestinationString;
-        write_destination(writer, self.source, name, destination)?;
-        match title {
-            Some(title) => {
-                let name = Name::ResourceTitleString;
-                write_title(writer, self.source.bytes, name, title, lines)
-            }
-            None => Ok(()),
-        }
-    }
-}
-
-/// Writes the beginning of a link or an image, up to the text of its label.
-fn write_label_start(
-    writer: &mut Writer,
-    name: Name,
-    start: usize,
-    inside: usize,
-) -> Result<(), AllocError> {
-    writer.enter(name, start)?;
-    writer.enter(Name::Label, start)?;
-    writer.enter(Name::LabelText, inside)
 }
 
 /// The bare link whose mark stands at a place, which begins at `low` or later and ends with the

@@ -11,6 +11,7 @@ mod emission;
 mod html;
 mod inlines;
 mod leaf;
+mod links;
 mod marks;
 mod names;
 mod options;

@@ -6,7 +6,7 @@ ghost use Rattle.md_base.specs.declared.event.Name.TheVariants.{BlankLineEnding}
 
 use md_base::Name;
 use md_inlines::Writer;
-use md_lines::{after_ending, line_end};
+use md_lines::{Span, after_ending, line_end};
 use std::alloc::AllocError;
 
 /// Writes a line ending at the end of a document, so that its text ends with one: the document's
@@ -15,27 +15,32 @@ pub(crate) fn write_last_ending(writer: &mut Writer, bytes: &[u8]) -> Result<(),
     ensures { OnOk result
         (IsLeafBehind BlankLineEnding writer.old.events.items writer.new.events.items) }
 {
-    let (start, end) = match last_or_first(bytes) {
-        Some(ending) => ending,
-        None => {
-            let added = writer.add(b"\n")?;
-            (added.start, added.end)
-        }
-    };
-    writer.leaf(Name::BlankLineEnding, start, end)
+    let ending = last_ending(writer, bytes)?;
+    writer.leaf(Name::BlankLineEnding, ending.start, ending.end)
+}
+
+/// Where a line ending stands: that at the document's end, or else its first, or else one that is
+/// added behind it.
+fn last_ending(writer: &mut Writer, bytes: &[u8]) -> Result<Span, AllocError>
+    ensures { writer.new.events.items ≡ writer.old.events.items }
+{
+    match last_or_first(bytes) {
+        Some(ending) => Ok(ending),
+        None => writer.add(b"\n"),
+    }
 }
 
 /// The line ending with which a document ends, or else its first.
-fn last_or_first(bytes: &[u8]) -> Option<(usize, usize)> {
+fn last_or_first(bytes: &[u8]) -> Option<Span> {
     let end = bytes.len();
     match bytes {
-        [.., b'\r', b'\n'] => return Some((end.saturating_sub(2), end)),
-        [.., b'\r' | b'\n'] => return Some((end.saturating_sub(1), end)),
+        [.., b'\r', b'\n'] => return Some(Span::new(end.saturating_sub(2), end)),
+        [.., b'\r' | b'\n'] => return Some(Span::new(end.saturating_sub(1), end)),
         _ => {}
     }
     let start = line_end(bytes, 0);
     if start < end {
-        Some((start, after_ending(bytes, start)))
+        Some(Span::new(start, after_ending(bytes, start)))
     } else {
         None
     }

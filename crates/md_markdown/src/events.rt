@@ -5,13 +5,14 @@ ghost use Rattle.std.specs.Prelude.{◌≡◌, OnOk};
 use crate::code::write_chunks;
 use crate::endings::{ending_before, write_last_ending};
 use crate::html::{has_text, without_comments, write_html, write_pieces};
+use crate::leaves::{ends_of, write_front_matter};
 use crate::options::{DocumentHtml, MarkdownOptions};
 use crate::prefixes::{write_footnote_start, write_item_start};
 use crate::table::write_table;
 use md_base::Name;
 use md_blocks::{Block, Blocks, Container, ContainerKind, Exit, Leaf, LineRange};
 use md_inlines::{Inlines, Writer};
-use md_lines::{Line, Span};
+use md_lines::Span;
 use md_urls::Base;
 use std::alloc::{AllocError, Global};
 
@@ -33,11 +34,11 @@ struct Open {
 
 /// Writes the events of a document.
 #[derive(Drop)]
-struct Emission<'a> {
+pub(crate) struct Emission<'a> {
     alloc: Global,
     bytes: &'a [u8],
-    blocks: &'a Blocks,
-    inlines: Inlines<'a>,
+    pub(crate) blocks: &'a Blocks,
+    pub(crate) inlines: Inlines<'a>,
     html: DocumentHtml,
     open: Vec<Open>,
     /// Whether the next item is its list's first.
@@ -257,91 +258,4 @@ impl<'a> Emission<'a> {
         self.inlines.write_leaf(writer, lines)?;
         writer.exit(Name::Paragraph, end)
     }
-
-    fn write_atx(
-        &mut self,
-        writer: &mut Writer,
-        marks: Span,
-        range: LineRange,
-    ) -> Result<(), AllocError> {
-        let lines = self.blocks.lines_of(range);
-        let (start, end) = ends_of(lines);
-        writer.enter(Name::HeadingAtx, marks.start)?;
-        writer.leaf(Name::HeadingAtxSequence, marks.start, marks.end)?;
-        if start < end {
-            writer.enter(Name::HeadingAtxText, start)?;
-            self.inlines.write_leaf(writer, lines)?;
-            writer.exit(Name::HeadingAtxText, end)?;
-        }
-        writer.exit(Name::HeadingAtx, end)
-    }
-
-    fn write_setext(
-        &mut self,
-        writer: &mut Writer,
-        range: LineRange,
-        underline: Span,
-    ) -> Result<(), AllocError> {
-        let lines = self.blocks.lines_of(range);
-        let (start, end) = ends_of(lines);
-        writer.enter(Name::HeadingSetextText, start)?;
-        self.inlines.write_leaf(writer, lines)?;
-        writer.exit(Name::HeadingSetextText, end)?;
-        if let Some(line) = lines.last() {
-            writer.leaf(Name::LineEnding, line.end, line.next)?;
-        }
-        writer.leaf(
-            Name::HeadingSetextUnderlineSequence,
-            underline.start,
-            underline.end,
-        )
-    }
-
-    fn write_fenced(
-        &mut self,
-        writer: &mut Writer,
-        info: Span,
-        range: LineRange,
-    ) -> Result<(), AllocError> {
-        writer.enter(Name::CodeFenced, info.start)?;
-        writer.enter(Name::CodeFencedFence, info.start)?;
-        if !info.is_empty() {
-            writer.enter(Name::CodeFencedFenceInfo, info.start)?;
-            self.inlines.write_string(writer, info)?;
-            writer.exit(Name::CodeFencedFenceInfo, info.end)?;
-        }
-        writer.exit(Name::CodeFencedFence, info.end)?;
-        write_chunks(writer, self.blocks.lines_of(range), Name::CodeFlowChunk)?;
-        writer.leaf(Name::CodeFencedFence, info.end, info.end)?;
-        writer.exit(Name::CodeFenced, info.end)
-    }
-
-    fn write_math(
-        &mut self,
-        writer: &mut Writer,
-        start: usize,
-        range: LineRange,
-    ) -> Result<(), AllocError> {
-        writer.enter(Name::MathFlow, start)?;
-        writer.leaf(Name::MathFlowFence, start, start)?;
-        write_chunks(writer, self.blocks.lines_of(range), Name::MathFlowChunk)?;
-        writer.leaf(Name::MathFlowFence, start, start)?;
-        writer.exit(Name::MathFlow, start)
-    }
-}
-
-/// Where lines begin, and where the text of the last one ends.
-fn ends_of(lines: &[Line]) -> (usize, usize) {
-    match (lines.first(), lines.last()) {
-        (Some(first), Some(last)) => (first.start, last.end),
-        _ => (0, 0),
-    }
-}
-
-fn write_front_matter(writer: &mut Writer, ending: Span) -> Result<(), AllocError> {
-    writer.leaf(Name::Frontmatter, 0, ending.start)?;
-    if ending.is_empty() {
-        return Ok(());
-    }
-    writer.leaf(Name::LineEnding, ending.start, ending.end)
 }

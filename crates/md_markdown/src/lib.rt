@@ -8,6 +8,7 @@ mod error;
 mod events;
 mod front;
 mod html;
+mod leaves;
 mod options;
 mod prefixes;
 mod table;

@@ -8,7 +8,8 @@ use Rattle.md_abi.specs.declared.failure.Failure.{Failure}
 use Rattle.md_abi.specs.declared.failure.Failure.TheVariants as failure
 use Rattle.md_abi.proofs.AnswerLemmas.{never, failure_hands_over, failed}
 use Rattle.md_markdown_abi.specs.Text.{IsReadable, IsRead}
-use Rattle.md_markdown_abi.specs.Failures.{tell, answer_of_markdown, ExplainsFault, ExplainsMarkdown}
+use Rattle.md_markdown_abi.specs.Failures.{tell, answer_of_markdown, ExplainsFault}
+use Rattle.md_markdown_abi.specs.Failures.{ExplainsMarkdown}
 use Rattle.md_markdown_abi.specs.Answers.{TellsOfMarkdown, IsOfMarkdown}
 use Rattle.md_markdown_abi.specs.declared.option.CMarkdownOptions.{CMarkdownOptions}
 use Rattle.md_markdown_abi.specs.declared.failure.MarkdownFailure.{MarkdownFailure}

@@ -1,2 +1,0 @@
--- Parts behind a text.
-pub mod UrlLemmas

@@ -70,7 +70,7 @@ impl<'a> Parts<'a> {
 
 /// Adds a part, if it is there, and a mark behind it.
 fn push_before(url: &mut Vec<u8>, part: Option<&[u8]>, mark: &[u8]) -> Result<(), AllocError>
-    ensures { OnOk result (url.new.items ≡ url.old.items ++ before part mark.now) }
+    ensures { OnOk result (url.new.items ≡ url.old.items ++ before part.entry mark.now) }
 {
     match part {
         Some(part) => {
@@ -83,7 +83,7 @@ fn push_before(url: &mut Vec<u8>, part: Option<&[u8]>, mark: &[u8]) -> Result<()
 
 /// Adds a part, if it is there, and before it a mark.
 fn push_behind(url: &mut Vec<u8>, mark: &[u8], part: Option<&[u8]>) -> Result<(), AllocError>
-    ensures { OnOk result (url.new.items ≡ url.old.items ++ behind mark.now part) }
+    ensures { OnOk result (url.new.items ≡ url.old.items ++ behind mark.now part.entry) }
 {
     match part {
         Some(part) => {
