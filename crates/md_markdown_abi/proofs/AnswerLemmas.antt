@@ -1,5 +1,5 @@
 -- What an answer about Markdown says, from the text or the failure that it tells.
-use Rattle.std.proofs.Common.{◌≡◌, ◌≢◌, ℕ, ◌<◌, ◌≤◌, List, length, refl, sym, ap, ◌∙◌, subst}
+use Rattle.std.proofs.Common.{◌≡◌, ◌≢◌, ℕ, ◌≤◌, List, length, refl, sym, ap, ◌∙◌, subst}
 use Rattle.std.proofs.Common.{inl, inr, arith}
 use Rattle.md_abi.specs.Failures.{answer_of}
 use Rattle.md_abi.specs.Buffer.{HandsOver, IsHandedOver, IsListHandedOver}
@@ -7,7 +7,7 @@ use Rattle.md_abi.specs.declared.answer.Answer.{Answer}
 use Rattle.md_abi.specs.declared.failure.Failure.{Failure}
 use Rattle.md_abi.specs.declared.failure.Failure.TheVariants as failure
 use Rattle.md_abi.proofs.AnswerLemmas.{never, failure_hands_over, failed}
-use Rattle.md_markdown_abi.specs.Text.{IsReadable, IsRead}
+use Rattle.md_markdown_abi.specs.Text.{IsRead}
 use Rattle.md_markdown_abi.specs.Failures.{tell, answer_of_markdown, ExplainsFault}
 use Rattle.md_markdown_abi.specs.Failures.{ExplainsMarkdown}
 use Rattle.md_markdown_abi.specs.Answers.{TellsOfMarkdown, IsOfMarkdown}

@@ -3,7 +3,7 @@ use Rattle.std.specs.Prelude.{◌≡◌, ◌≢◌, ◌⊎◌, ℕ, ◌<◌, ◌
 use Rattle.std.specs.Str.{IsUtf8, IsValidUpTo}
 use Rattle.md_abi.specs.Numbers.{too_short, refused, no_option, no_memory}
 use Rattle.md_abi.specs.declared.answer.Answer.{Answer}
-use Rattle.md_markdown_abi.specs.Numbers.{markdown_version, input_too_long, output_too_long}
+use Rattle.md_markdown_abi.specs.Numbers.{markdown_version, input_too_long}
 use Rattle.md_markdown_abi.specs.Numbers.{not_utf8, no_version, too_much_work}
 use Rattle.md_markdown_abi.specs.Options.{StandsForNone}
 use Rattle.md_markdown_abi.specs.declared.option.CMarkdownOptions.{CMarkdownOptions}
