@@ -166,10 +166,10 @@ static inline const char *bivdrazo_status_text(uint32_t status) {
         return "an attribute has no such value";
     case BIVDRAZO_TOO_LONG:
         return "the text is too long";
-    case BIVDRAZO_NESTED:
-        return "a link stands in a link";
     case BIVDRAZO_TOO_MUCH:
         return "there is too much work";
+    case BIVDRAZO_NESTED:
+        return "a link stands in a link";
     default:
         return "an unknown status";
     }
