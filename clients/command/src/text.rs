@@ -137,7 +137,10 @@ mod tests {
             .replace("src=\"d\"", "src=\"d/?&amp;&quot;&lt;\"");
         assert_eq!(changed, wanted);
         assert_eq!(with_urls(&html(text), |_| None), html(text));
-        assert_eq!(with_urls(&html(text), |url| Some(url.to_string())), html(text));
+        assert_eq!(
+            with_urls(&html(text), |url| Some(url.to_string())),
+            html(text)
+        );
     }
 
     #[test]
