@@ -58,10 +58,7 @@ impl From<UnnestedError> for UnnestedFailure {
 ///
 /// Tells what stands for none, that the options aren't safe, that a link stands in a link, the
 /// refusal of the compiler, or that it is out of memory.
-pub fn compile_given_unnested(
-    alloc: Global,
-    given: CDocument,
-) -> Result<SafeHtml, UnnestedFailure>
+pub fn compile_given_unnested(alloc: Global, given: CDocument) -> Result<SafeHtml, UnnestedFailure>
     ensures ok { IfOk result (IsUnnestedText given.entry.events.now given.entry.bytes.now
         given.entry.options.now given.entry.names.now) }
     ensures err { IfErr result (ExplainsUnnested given.entry.events.now given.entry.bytes.now
