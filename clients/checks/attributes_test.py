@@ -7,7 +7,7 @@ and mutated documents. Beside a text without attributes the one with them must h
 elements and texts, and exactly these attributes more; its ids must be distinct, and the headings
 those that are handed out. Where the bytes of the id of the footnotes' heading are taken out of the
 text, that id is gone, and nothing else. Then a hundred thousand links, and as many headings. Wants
-html5lib, and the module for Python with libbivdrazo-markdown.
+html5lib, and the module for Python.
 """
 
 import html

@@ -1,13 +1,14 @@
 #!/usr/bin/env python3
-"""Runs the cases of docs/GFM.md, "What differs from GFM", here and by cmark-gfm.
+"""Runs the cases of docs/GFM.md here and by cmark-gfm.
 
     differs_test.py [--own]
 
-A case reads "`INPUT` gives `TEXT`, and GFM `TEXT`", or "as GFM", where it is the same; `\\n` stands
-for a line feed, and `..` for any text. With --own nothing is asked of cmark-gfm. Ends with status 1
+A case reads "`INPUT` gives `TEXT`, and GFM `TEXT`", or "as GFM", where it is the same; `\\n`, `\\r`
+and `\\x01` stand for control characters, and `..` for any text. With --own nothing is asked of cmark-gfm. Ends with status 1
 where a text is another one.
 """
 
+import functools
 import pathlib
 import re
 import subprocess
@@ -21,7 +22,13 @@ from bivdrazo import markdown_to_html  # noqa: E402  (where the module is was ju
 
 CASE = re.compile(r"`([^`]+)`\s+gives\s+`([^`]+)`,(?:\s+and\s+GFM\s+`([^`]+)`|\s+as\s+GFM)")
 EXTENSIONS = ("footnotes", "table", "strikethrough", "autolink", "tasklist")
-WANTED = 9
+WANTED = 25
+CONTROLS = (("\\n", "\n"), ("\\r", "\r"), ("\\x01", "\x01"))
+
+
+def meant(written):
+    """A text that is written in a case."""
+    return functools.reduce(lambda text, each: text.replace(*each), CONTROLS, written)
 
 
 def gfm(text):
@@ -33,18 +40,17 @@ def gfm(text):
 
 def is_like(pattern, text):
     """Whether a text is as a case has it."""
-    parts = pattern.replace("\\n", "\n").split("..")
-    return re.fullmatch(".*".join(map(re.escape, parts)), text.rstrip("\n"), re.DOTALL) is not None
+    parts = meant(pattern).split("..")
+    return re.fullmatch(".*".join(map(re.escape, parts)), text.rstrip("\r\n"), re.DOTALL) is not None
 
 
 def main(arguments):
     """Runs the cases; the status to end with."""
     page = (CLIENTS.parent / "docs" / "GFM.md").read_text("utf-8")
-    section = re.search(r"## What differs from GFM\n(.*)", page, re.DOTALL)[1]
-    cases = CASE.findall(section)
+    cases = CASE.findall(page)
     wrong = 0
     for given, own, other in cases:
-        text = given.replace("\\n", "\n") + "\n"
+        text = meant(given) + "\n"
         found = [("bivdrazo", own, markdown_to_html(text))]
         if arguments != ["--own"]:
             found.append(("cmark-gfm", other or own, gfm(text)))

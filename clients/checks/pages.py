@@ -4,15 +4,14 @@
     pages.py FOLDER
 
 Writes each example that is run into FOLDER, as NUMBER.c, NUMBER.rs or NUMBER.py, and what it prints
-as NUMBER.txt. Prints a line for each: its number, its language, the library that it wants, and
-where it stands. Ends with status 1 where a block of C, Rust or Python has no mark.
+as NUMBER.txt. Prints a line for each: its number, its language, and where it stands. Ends with status 1 where a block of C, Rust or Python has no mark.
 
 A mark is the line before a block, a comment of HTML:
 
-    <!-- run: LANGUAGE LIBRARY; it prints: TEXT -->
+    <!-- run: LANGUAGE; it prints: TEXT -->
     <!-- not run: WHY -->
 
-LANGUAGE is c, rust or python, LIBRARY is bivdrazo or bivdrazo-markdown.
+LANGUAGE is c, rust or python.
 """
 
 import pathlib
@@ -22,18 +21,17 @@ from typing import NamedTuple
 
 ROOT = pathlib.Path(__file__).resolve().parents[2]
 SUFFIXES = {"c": "c", "rust": "rs", "python": "py"}
-MARK = re.compile(r"<!-- run: (\w+) (bivdrazo|bivdrazo-markdown); it prints: (.*) -->")
+MARK = re.compile(r"<!-- run: (\w+); it prints: (.*) -->")
 NOT_RUN = re.compile(r"<!-- not run: .+ -->")
 
 
 class Example(NamedTuple):
-    """An example: where it stands, its language, the library that it wants, what it prints but for
-    a line feed at the end, and itself.
+    """An example: where it stands, its language, what it prints but for a line feed at the end, and
+    itself.
     """
 
     place: str
     language: str
-    library: str
     wanted: str
     code: str
 
@@ -55,7 +53,7 @@ def example_of(place, mark, language, code):
         if NOT_RUN.fullmatch(mark):
             return None
         raise Unmarked(f"{place}: no mark says how this is run")
-    return Example(place, language, found[2], found[3], "".join(code))
+    return Example(place, language, found[2], "".join(code))
 
 
 def examples_of(text, page):
@@ -94,7 +92,7 @@ def main(arguments):
     for number, example in enumerate(found, 1):
         (folder / f"{number}.{SUFFIXES[example.language]}").write_text(example.code, "utf-8")
         (folder / f"{number}.txt").write_text(f"{example.wanted}\n", "utf-8")
-        print(number, example.language, example.library, example.place)
+        print(number, example.language, example.place)
     return 0
 
 

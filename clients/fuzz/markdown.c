@@ -17,6 +17,10 @@ static bivdrazo_markdown_options options_of(uint8_t flags, uint8_t bounds) {
     options.hard_breaks = flags >> 1 & 1;
     options.bare_links = flags >> 2 & 1;
     options.html = (uint8_t)((flags >> 3 & 3) % 3);
+    options.math = bounds >> 4 & 1;
+    options.front_matter = bounds >> 5 & 1;
+    options.footnotes = !(bounds >> 6 & 1);
+    options.tables = !(bounds >> 7 & 1);
     if (flags >> 5 & 1)
         options.base = bivdrazo_text_of((const uint8_t *)"https://a.b/c/", 14);
     if (flags >> 6 & 1)

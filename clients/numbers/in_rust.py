@@ -5,21 +5,19 @@ from listed import (NOTICE, RELEASE, RELEASE_COMMENT, TITLES, WIDTH, commented, 
 
 
 def markdown_numbers():
-    """The numbers of the interface for Markdown, as the crate behind it has them."""
+    """The numbers of the interface for Markdown that the crate uses."""
     version = of_group("markdown_version")[0]
     text = (f"// {NOTICE}\n\n/// {version.comment}\n"
-            f"pub const {version.name}: u32 = {version.number};\n")
-    kept = {"Ok", "Refused", "NoOption", "Memory"}
-    statuses = [entry for entry in of_group("status")
-                if entry.name in kept] + of_group("markdown_status")
+            f"pub(crate) const {version.name}: u32 = {version.number};\n")
+    used = {"InputTooLong", "OutputTooLong", "Failed", "TooMuchWork"}
+    statuses = [entry for entry in of_group("markdown_status") if entry.name in used]
     for group, type_, found in [
         ("status", "u32", statuses),
         ("html", "u8", of_group("markdown_html")),
-        ("option", "usize", of_group("markdown_option")),
     ]:
         text += "\n"
         text += "".join(
-            f"pub const {group.upper()}_{upper(entry.name)}: {type_} = {entry.number};\n"
+            f"pub(crate) const {group.upper()}_{upper(entry.name)}: {type_} = {entry.number};\n"
             for entry in found
         )
     return text
@@ -101,6 +99,8 @@ def constants():
     for group, type_ in [("status", "u32"), ("kind", "u8"), ("line_ending", "u8")]:
         for entry in of_group(group):
             name = f"{group.upper()}_{upper(entry.name)}"
+            if name == "STATUS_NESTED":
+                continue  # no call of the crate answers it
             text += f"pub(crate) const {name}: {type_} = {entry.number};\n"
     text += "\n/// The names of the options, by their numbers.\n"
     text += "pub(crate) const OPTIONS: &[&str] = &[\n"

@@ -11,7 +11,7 @@ use std::process;
 
 /// Renders Markdown as safe HTML.
 ///
-/// Tables, strikethrough, tasks, footnotes and bare links are read. Links and images whose protocol
+/// Tables, strikethrough, tasks, footnotes and bare links are read, and math with --math. Links and images whose protocol
 /// isn't permitted lead nowhere. Ends with status 0 if all was rendered, 1 if a file couldn't be
 /// (the others are written), 2 for other arguments; 5 if that is for --max-output alone, 6 for
 /// --max-work alone.
@@ -88,6 +88,18 @@ pub struct Arguments {
     #[arg(long)]
     pub no_bare_links: bool,
 
+    /// Read math between $ or $$: it stays as it is, in code with the class language-math.
+    #[arg(long)]
+    pub math: bool,
+
+    /// Read no footnotes.
+    #[arg(long)]
+    pub no_footnotes: bool,
+
+    /// Read no tables.
+    #[arg(long)]
+    pub no_tables: bool,
+
     /// What becomes of HTML in the document.
     #[arg(long, value_enum, default_value_t = Html::Text)]
     pub html: Html,
@@ -98,7 +110,7 @@ pub struct Arguments {
 
     /// The parser. The one of cmark-gfm, which is written in C, runs in a process of its
     /// own with limits.
-    #[arg(long, value_enum, default_value_t = ParserName::PulldownCmark)]
+    #[arg(long, value_enum, default_value_t = ParserName::Bivdrazo)]
     pub parser: ParserName,
 
     /// How many seconds of processor time cmark-gfm's parser may take, and three times as many
@@ -131,8 +143,8 @@ pub struct Arguments {
 /// A parser of Markdown.
 #[derive(Clone, Copy, Debug, Eq, PartialEq, ValueEnum)]
 pub enum ParserName {
-    /// pulldown-cmark, in Rust.
-    PulldownCmark,
+    /// Bivdrazo's own, which is proved.
+    Bivdrazo,
     /// cmark-gfm, for GFM to the byte.
     CmarkGfm,
 }
@@ -201,7 +213,7 @@ impl Arguments {
     /// An option that the parser doesn't have.
     fn of_another_parser(&self) -> Option<&'static str> {
         let options = match self.parser {
-            ParserName::PulldownCmark => vec![
+            ParserName::Bivdrazo => vec![
                 ("--parser-seconds", self.parser_seconds.is_some()),
                 ("--parser-memory", self.parser_memory.is_some()),
             ],
@@ -210,6 +222,9 @@ impl Arguments {
                 ("--no-bare-links", self.no_bare_links),
                 ("--html", self.html != Html::Text),
                 ("--base", self.base.is_some()),
+                ("--math", self.math),
+                ("--no-footnotes", self.no_footnotes),
+                ("--no-tables", self.no_tables),
             ],
         };
         let given = options.into_iter().find(|(_, is_given)| *is_given);
@@ -253,18 +268,29 @@ impl Arguments {
         self.files.first().map_or(Path::new("-"), PathBuf::as_path)
     }
 
-    /// The options for reading by pulldown-cmark.
+    /// The options for reading by the library's own parser.
     pub fn options(&self) -> MarkdownOptions {
-        let mut options = MarkdownOptions::default();
-        options.hard_breaks = self.hard_breaks;
-        options.bare_links = !self.no_bare_links;
+        let mut options = MarkdownOptions::default()
+            .with_hard_breaks(self.hard_breaks)
+            .with_bare_links(!self.no_bare_links)
+            .with_math(self.math)
+            .with_footnotes(!self.no_footnotes)
+            .with_tables(!self.no_tables)
+            .with_number_ids(self.number_ids);
         options.html = match self.html {
             Html::Text => DocumentHtml::Text,
             Html::LeftOut => DocumentHtml::LeftOut,
             Html::WithoutComments => DocumentHtml::WithoutComments,
         };
+        options.footnote_prefix = self.footnote_prefix.clone();
+        options.footnote_label = self.footnote_label.clone();
+        options.footnote_back_label = self.footnote_back_label.clone();
         options.base = self.base.clone();
+        options.rel = self.rel.clone();
+        options.heading_ids = self.heading_ids.clone();
         options.max_input = self.max_input;
+        options.max_output = self.max_output;
+        options.max_work = self.max_work;
         options
     }
 }

@@ -1,6 +1,6 @@
 //! What fails, and the program's status for it.
 
-use bivdrazo::quietly;
+use crate::quiet::quietly;
 use std::error::Error;
 
 /// The statuses where something isn't rendered: for a text that is too long, for too much work, and

@@ -1,34 +1,70 @@
 //! Front matter: what stands before a document between two lines of marks.
+//!
+//! What stands between two lines of `---` is what the library says. Read here is what it doesn't:
+//! YAML that ends with a line of `...`, and TOML.
 
-/// The first line of front matter in YAML, and of that in TOML.
+use bivdrazo::front_matter_of;
+
+/// The first line of front matter in YAML, another one that ends it, and the lines around TOML.
 const YAML: &str = "---";
+const YAML_END: &str = "...";
 const TOML: &str = "+++";
 
 /// The title that a document's front matter has, and how many bytes the front matter takes: none,
 /// where there is none or it has no end.
 pub fn front_matter(document: &str) -> (Option<String>, usize) {
     let text = document.strip_prefix('\u{feff}').unwrap_or(document);
-    let first = text.split_inclusive('\n').next().unwrap_or("");
-    let is_yaml = match first.trim_end() {
-        YAML => true,
-        TOML => false,
+    let (first, rest) = cut_line(text);
+    let (inner, is_yaml) = match first.trim_end() {
+        YAML => (
+            before(rest, YAML_END, YAML).or_else(|| front_matter_of(document)),
+            true,
+        ),
+        TOML => (before(rest, TOML, TOML), false),
         _ => return (None, 0),
     };
-    let mut end = document.len() - text.len() + first.len();
-    let mut title = None;
-    let mut is_in_table = false;
-    for line in text[first.len()..].split_inclusive('\n') {
-        end += line.len();
-        match (line.trim_end(), is_yaml) {
-            (YAML | "...", true) | (TOML, false) => return (title, end),
-            _ => {}
-        }
-        is_in_table |= !is_yaml && line.starts_with('[');
-        if title.is_none() && !is_in_table {
-            title = title_in(line, is_yaml);
+    match inner {
+        Some(inner) => (title_of(inner, is_yaml), end_after(inner, document)),
+        None => (None, 0),
+    }
+}
+
+/// A text's first line, and what follows it.
+fn cut_line(text: &str) -> (&str, &str) {
+    let end = match text.find(['\n', '\r']) {
+        Some(at) if text[at..].starts_with("\r\n") => at + 2,
+        Some(at) => at + 1,
+        None => text.len(),
+    };
+    text.split_at(end)
+}
+
+/// What stands before the first line that is a mark; nothing where another mark comes first.
+fn before<'a>(text: &'a str, mark: &str, other: &str) -> Option<&'a str> {
+    let mut rest = text;
+    while !rest.is_empty() {
+        let (line, next) = cut_line(rest);
+        match line.trim_end() {
+            found if found == mark => return Some(&text[..text.len() - rest.len()]),
+            found if found == other => return None,
+            _ => rest = next,
         }
     }
-    (None, 0)
+    None
+}
+
+/// Where the line ends that follows a part of a document.
+fn end_after(part: &str, document: &str) -> usize {
+    let start = part.as_ptr() as usize - document.as_ptr() as usize + part.len();
+    start + cut_line(&document[start..]).0.len()
+}
+
+/// The title that front matter says: in TOML before any table.
+fn title_of(text: &str, is_yaml: bool) -> Option<String> {
+    let lines = text.split(['\n', '\r']);
+    lines
+        .take_while(|line| is_yaml || !line.starts_with('['))
+        .find_map(|line| title_in(line, is_yaml))
 }
 
 /// The title that a line says.
@@ -100,6 +136,8 @@ mod tests {
             "--- \r\ntitle: A\r\n---\r\nb\n",
             "\u{feff}---\ntitle: A\n---\nb\n",
             "---\n\ndate: c\ntitle: A # d\ntitle: e\n---\nb\n",
+            "---\ntitle: A\r---\rb\n",
+            "---\rtitle: A\r\n...\r\nb\n",
             "+++\ntitle = \"A\"\n+++\nb\n",
             "+++\ntitle='A'\n[c]\ntitle = \"d\"\n+++\nb\n",
         ] {

@@ -1,12 +1,9 @@
-//! Links between the files of a folder, and the title of a document: both are read in its events.
+//! Links between the files of a folder.
 
 use crate::tree::{Tree, PAGE_ENDING, SOURCE_ENDING};
-use bivdrazo::{Document, Event, Kind, Name};
-use std::collections::HashMap;
 use std::ffi::OsStr;
 use std::os::unix::ffi::OsStrExt;
 use std::path::{Path, PathBuf};
-use std::str;
 
 /// What a URL of a page leads to.
 #[derive(Clone, Debug, Eq, PartialEq)]
@@ -111,74 +108,6 @@ fn without_ending(path: &str) -> String {
     let stem = &name[..name.len().saturating_sub(".md".len())];
     let encoded = stem.iter().map(|byte| format!("%{byte:02X}"));
     format!("{}{}", &path[..start], encoded.collect::<String>())
-}
-
-/// Hands the URL of each link and image to `made`, and puts what it answers in its place. URLs
-/// that stand in one place of the bytes do so still.
-pub fn change(document: &mut Document, mut made: impl FnMut(&str) -> Option<String>) {
-    let mut known = HashMap::new();
-    for at in 3..document.events.len() {
-        let found = &document.events[at - 3..=at];
-        if !is_destination(found) {
-            continue;
-        }
-        let place = (found[1].index, found[2].index);
-        let new = *known.entry(place).or_insert_with(|| {
-            let url = str::from_utf8(document.bytes.get(place.0..place.1)?).ok()?;
-            let url = made(url)?;
-            let start = document.bytes.len();
-            document.bytes.extend_from_slice(url.as_bytes());
-            Some((start, document.bytes.len()))
-        });
-        if let Some((start, end)) = new {
-            let indices = [start, start, end, end];
-            let events = &mut document.events[at - 3..=at];
-            events
-                .iter_mut()
-                .zip(indices)
-                .for_each(|(event, index)| event.index = index);
-        }
-    }
-}
-
-/// Whether four events are those of a destination that is one text.
-fn is_destination(events: &[Event]) -> bool {
-    let names = [
-        (Kind::Enter, Name::ResourceDestinationString),
-        (Kind::Enter, Name::Data),
-        (Kind::Exit, Name::Data),
-        (Kind::Exit, Name::ResourceDestinationString),
-    ];
-    let found = events.iter().map(|event| (event.kind, event.name));
-    found.eq(names)
-}
-
-/// The text of the first heading, where it has one.
-pub fn heading(document: &Document) -> Option<String> {
-    let is_heading = |event: &&Event| event.name == Name::HeadingAtx;
-    let first = document.events.iter().find(is_heading)?;
-    let rest = document.events.iter().skip_while(|event| *event != first);
-    let events: Vec<&Event> = rest
-        .take_while(|event| event.kind == Kind::Enter || event.name != first.name)
-        .collect();
-    let mut text = Vec::new();
-    let mut hidden = 0_usize;
-    for pair in events.windows(2) {
-        match (pair[0].kind, pair[0].name) {
-            (Kind::Enter, Name::Resource | Name::GfmFootnoteCall) => hidden += 1,
-            (Kind::Exit, Name::Resource | Name::GfmFootnoteCall) => {
-                hidden = hidden.saturating_sub(1);
-            }
-            (Kind::Enter, Name::Data | Name::CodeTextData | Name::HtmlTextData) if hidden == 0 => {
-                let bytes = document.bytes.get(pair[0].index..pair[1].index);
-                text.extend_from_slice(bytes.unwrap_or(b""));
-            }
-            _ => {}
-        }
-    }
-    let text = String::from_utf8_lossy(&text);
-    let text = text.split_whitespace().collect::<Vec<_>>().join(" ");
-    (!text.is_empty()).then_some(text)
 }
 
 #[cfg(test)]

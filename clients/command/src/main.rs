@@ -8,10 +8,12 @@ mod links;
 mod page;
 mod parser;
 mod progress;
+mod quiet;
 mod render;
 mod script;
 mod site;
 mod summary;
+mod text;
 mod tree;
 
 use arguments::Arguments;

@@ -5,18 +5,16 @@ use crate::failures::Failure;
 use crate::front::front_matter;
 use crate::page::{escaped, Page};
 use crate::parser::{self, ParserError};
-use crate::{files, links};
-use bivdrazo::{markdown_document, Document};
+use crate::{files, text};
+use bivdrazo::{markdown_to_html, Attributes, Error};
 use std::path::Path;
 
 /// A document that was read.
 pub struct Read {
-    /// What the parser found in it.
-    pub document: Document,
+    /// Its HTML.
+    html: String,
     /// Its title, where its front matter has one.
     title: Option<String>,
-    /// How many bytes it has, without front matter.
-    length: usize,
 }
 
 /// Reads a document, by the parser that is asked for.
@@ -28,33 +26,57 @@ pub fn read(arguments: &Arguments, source: &Path) -> Result<Read, Failure> {
         title = found;
         text.replace_range(..end, "");
     }
-    let length = text.len();
-    let document = match arguments.parser {
-        ParserName::PulldownCmark => markdown_document(&text, &arguments.options())?,
-        ParserName::CmarkGfm => parser::events_of(text, arguments.parser_limits())?,
+    let html = match arguments.parser {
+        ParserName::Bivdrazo => markdown_to_html(&text, &arguments.options())?,
+        ParserName::CmarkGfm => by_cmark_gfm(arguments, text)?,
     };
-    Ok(Read {
-        document,
-        title,
-        length,
+    Ok(Read { html, title })
+}
+
+/// The HTML of what cmark-gfm's parser makes of a document.
+fn by_cmark_gfm(arguments: &Arguments, text: String) -> Result<String, Failure> {
+    let limits = arguments.limits(text.len());
+    let document = parser::events_of(text, arguments.parser_limits())?;
+    let (options, attributes) = (arguments.library_options(), arguments.attributes());
+    let made = match attributes == Attributes::default() {
+        true => document.compile_within(&options, limits),
+        false => document
+            .compile_attributed(&options, &attributes, limits)
+            .map(|made| made.html),
+    };
+    made.map_err(|error| match error {
+        Error::Refused { .. } => ParserError::Refused(error).into(),
+        _ => error.into(),
     })
 }
 
 impl Read {
+    /// The same with other URLs of links and images, where `made` answers one for a URL.
+    pub fn with_urls(
+        self,
+        arguments: &Arguments,
+        made: impl FnMut(&str) -> Option<String>,
+    ) -> Result<Read, Error> {
+        let html = text::with_urls(&self.html, made);
+        match arguments.max_output {
+            Some(limit) if html.len() > limit => Err(Error::OutputTooLong { limit }),
+            _ => Ok(Read { html, ..self }),
+        }
+    }
+
     /// Writes the document's page; to standard output where there is no target.
     pub fn write(
-        self,
+        &self,
         arguments: &Arguments,
         page: &Page,
         source: &Path,
         target: Option<&Path>,
     ) -> Result<(), Failure> {
         let title = match page.has_title {
-            true => escaped(&self.title(arguments, source))?,
+            true => self.title(arguments, source)?,
             false => String::new(),
         };
-        let html = self.into_html(arguments)?;
-        let texts = page.around(&title, &html);
+        let texts = page.around(&title, &self.html);
         match target {
             Some(target) => files::write(target, &texts)
                 .map_err(|error| format!("{}: {error}", target.display()).into()),
@@ -62,32 +84,14 @@ impl Read {
         }
     }
 
-    /// The title of the document's page.
-    fn title(&self, arguments: &Arguments, source: &Path) -> String {
-        let given = self.title.clone().or_else(|| arguments.page.clone());
-        given
-            .or_else(|| links::heading(&self.document))
-            .unwrap_or_else(|| {
-                let stem = source.file_stem().unwrap_or_default();
-                stem.to_string_lossy().into_owned()
-            })
-    }
-
-    /// The document's HTML.
-    fn into_html(self, arguments: &Arguments) -> Result<String, Failure> {
-        let made = self.document.into_rendered(
-            &arguments.library_options(),
-            &arguments.attributes(),
-            arguments.limits(self.length),
-        );
-        match made {
-            Ok(made) => Ok(made.html),
-            Err(error @ bivdrazo::Error::Refused { .. })
-                if arguments.parser == ParserName::CmarkGfm =>
-            {
-                Err(ParserError::Refused(error).into())
-            }
-            Err(error) => Err(error.into()),
+    /// The title of the document's page, escaped.
+    fn title(&self, arguments: &Arguments, source: &Path) -> Result<String, Error> {
+        if let Some(given) = self.title.as_ref().or(arguments.page.as_ref()) {
+            return escaped(given);
+        }
+        match text::heading(&self.html) {
+            Some(heading) => Ok(heading),
+            None => escaped(&source.file_stem().unwrap_or_default().to_string_lossy()),
         }
     }
 }

@@ -108,9 +108,9 @@ impl Site<'_> {
         if self.tree.leads_out(source)? {
             return Err("a link that leads to no file of the folder".into());
         }
-        let mut read = render::read(self.arguments, &self.folder.join(source))?;
+        let read = render::read(self.arguments, &self.folder.join(source))?;
         let mut found = Found::default();
-        links::change(&mut read.document, |url| {
+        let read = read.with_urls(self.arguments, |url| {
             match links::target(url, source, &self.tree) {
                 Target::Page(url) => return Some(url),
                 Target::File(path) => {
@@ -123,7 +123,7 @@ impl Site<'_> {
                 Target::Other => {}
             }
             None
-        });
+        })?;
         Ok((read, found))
     }
 

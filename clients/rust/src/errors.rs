@@ -53,9 +53,8 @@ pub enum Error {
         /// How much there may be.
         limit: usize,
     },
-    /// The parser failed: it, or what makes events of its own, came to a panic. It is a fault that
-    /// should be reported, but in a debug build: there the parser asserts more than is so. Nothing
-    /// is printed of it.
+    /// The library's parser failed: in what it made of the Markdown a link stands in a link. It is a
+    /// fault that should be reported; no document is known that gets it.
     Parser,
     /// The library answered what this crate doesn't know: it is of another version.
     Unknown,

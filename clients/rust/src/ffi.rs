@@ -3,7 +3,7 @@
 use crate::errors::error_within;
 use crate::layouts::{
     bivdrazo_compile, bivdrazo_compile_attributed, bivdrazo_compile_within, bivdrazo_run,
-    bivdrazo_version, c_event, c_reference, c_text, CAnswer, CAttributes, CEvent, CLimits,
+    bivdrazo_version, c_event, c_reference, c_text, CAnswer, CAttributes, CLimits,
 };
 use crate::numbers::{STATUS_OK, STATUS_TOO_SHORT};
 use crate::options::c_options;
@@ -18,73 +18,6 @@ pub(crate) fn compile(
     names: &[(&str, &str)],
 ) -> Result<String, Error> {
     let events = collect(events.iter().map(c_event))?;
-    compile_c(&events, bytes, options, names)
-}
-
-/// As `crate::compile_within`.
-pub(crate) fn compile_within(
-    events: &[Event],
-    bytes: &[u8],
-    options: &Options,
-    names: &[(&str, &str)],
-    limits: Limits,
-) -> Result<String, Error> {
-    let events = collect(events.iter().map(c_event))?;
-    compile_within_c(&events, bytes, options, names, limits)
-}
-
-/// As `crate::compile_attributed`, within limits.
-pub(crate) fn compile_attributed(
-    events: &[Event],
-    bytes: &[u8],
-    options: &Options,
-    names: &[(&str, &str)],
-    attributes: &Attributes,
-    limits: Limits,
-) -> Result<Rendered, Error> {
-    let events = collect(events.iter().map(c_event))?;
-    compile_attributed_c(&events, bytes, options, names, attributes, limits)
-}
-
-/// As [`compile_within`], of events that nobody needs any more. C's take the memory of these, since
-/// they are as large.
-#[cfg(feature = "markdown")]
-pub(crate) fn compile_owned(
-    events: Vec<Event>,
-    bytes: &[u8],
-    options: &Options,
-    limits: Limits,
-) -> Result<String, Error> {
-    let events = c_events(events);
-    if limits == Limits::default() {
-        return compile_c(&events, bytes, options, &[]);
-    }
-    compile_within_c(&events, bytes, options, &[], limits)
-}
-
-/// As [`compile_attributed`], of events that nobody needs any more.
-#[cfg(feature = "markdown")]
-pub(crate) fn compile_attributed_owned(
-    events: Vec<Event>,
-    bytes: &[u8],
-    options: &Options,
-    attributes: &Attributes,
-    limits: Limits,
-) -> Result<Rendered, Error> {
-    compile_attributed_c(&c_events(events), bytes, options, &[], attributes, limits)
-}
-
-#[cfg(feature = "markdown")]
-fn c_events(events: Vec<Event>) -> Vec<CEvent> {
-    events.into_iter().map(|event| c_event(&event)).collect()
-}
-
-fn compile_c(
-    events: &[CEvent],
-    bytes: &[u8],
-    options: &Options,
-    names: &[(&str, &str)],
-) -> Result<String, Error> {
     let names = collect(names.iter().map(c_reference))?;
     let options = c_options(options);
     let room = first_size(events.len(), bytes.len());
@@ -108,13 +41,15 @@ fn compile_c(
     })
 }
 
-fn compile_within_c(
-    events: &[CEvent],
+/// As `crate::compile_within`.
+pub(crate) fn compile_within(
+    events: &[Event],
     bytes: &[u8],
     options: &Options,
     names: &[(&str, &str)],
     limits: Limits,
 ) -> Result<String, Error> {
+    let events = collect(events.iter().map(c_event))?;
     let names = collect(names.iter().map(c_reference))?;
     let options = c_options(options);
     let c_limits = CLimits {
@@ -143,10 +78,10 @@ fn compile_within_c(
     })
 }
 
-/// Where there are limits, the text without attributes is made first: it alone is made within them,
-/// and no text with attributes is shorter.
-fn compile_attributed_c(
-    events: &[CEvent],
+/// As `crate::compile_attributed`, within limits. Where there are some, the text without attributes
+/// is made first: it alone is made within them, and no text with attributes is shorter.
+pub(crate) fn compile_attributed(
+    events: &[Event],
     bytes: &[u8],
     options: &Options,
     names: &[(&str, &str)],
@@ -154,8 +89,9 @@ fn compile_attributed_c(
     limits: Limits,
 ) -> Result<Rendered, Error> {
     if limits != Limits::default() {
-        compile_within_c(events, bytes, options, names, limits)?;
+        compile_within(events, bytes, options, names, limits)?;
     }
+    let events = collect(events.iter().map(c_event))?;
     let names = collect(names.iter().map(c_reference))?;
     let options = c_options(options);
     let attributes = CAttributes {
@@ -187,7 +123,7 @@ fn compile_attributed_c(
 }
 
 /// A text up to that byte, and after it the list of its headings: before each stands a NUL.
-fn rendered_of(mut whole: Vec<u8>, start: usize) -> Option<Rendered> {
+pub(crate) fn rendered_of(mut whole: Vec<u8>, start: usize) -> Option<Rendered> {
     let list = str::from_utf8(whole.get(start..)?).ok()?;
     let headings = list
         .split('\0')
@@ -277,7 +213,7 @@ fn into_bytes(
 }
 
 /// An empty buffer with room for so many bytes.
-fn buffer_of(room: usize) -> Result<Vec<u8>, Error> {
+pub(crate) fn buffer_of(room: usize) -> Result<Vec<u8>, Error> {
     let mut buffer = Vec::new();
     buffer.try_reserve_exact(room).map_err(|_| Error::Memory)?;
     Ok(buffer)

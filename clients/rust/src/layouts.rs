@@ -52,6 +52,29 @@ pub(crate) struct CLimits {
     pub(crate) work: usize,
 }
 
+#[repr(C)]
+pub(crate) struct CMarkdownOptions {
+    pub(crate) version: u32,
+    pub(crate) number_ids: u8,
+    pub(crate) hard_breaks: u8,
+    pub(crate) bare_links: u8,
+    pub(crate) html: u8,
+    pub(crate) math: u8,
+    pub(crate) front_matter: u8,
+    pub(crate) footnotes: u8,
+    pub(crate) tables: u8,
+    pub(crate) unused: [u8; 4],
+    pub(crate) footnote_prefix: CText,
+    pub(crate) footnote_label: CText,
+    pub(crate) footnote_back_label: CText,
+    pub(crate) base: CText,
+    pub(crate) rel: CText,
+    pub(crate) heading_ids: CText,
+    pub(crate) max_input: usize,
+    pub(crate) max_output: usize,
+    pub(crate) max_work: usize,
+}
+
 const _: () = assert!(size_of::<CAnswer>() == 24);
 const _: () = assert!(size_of::<CEvent>() == 16 && size_of::<Event>() == 16);
 const _: () = assert!(size_of::<CText>() == 24);
@@ -59,6 +82,7 @@ const _: () = assert!(size_of::<CReference>() == 32);
 const _: () = assert!(size_of::<COptions>() == 128);
 const _: () = assert!(size_of::<CAttributes>() == 48);
 const _: () = assert!(size_of::<CLimits>() == 16);
+const _: () = assert!(size_of::<CMarkdownOptions>() == 184);
 
 extern "C" {
     pub(crate) fn bivdrazo_compile(
@@ -103,6 +127,14 @@ extern "C" {
         buffer_length: usize,
     ) -> CAnswer;
     pub(crate) fn bivdrazo_version() -> u32;
+    pub(crate) fn bivdrazo_markdown_into(
+        text: *const u8,
+        text_length: usize,
+        options: *const CMarkdownOptions,
+        buffer: *mut u8,
+        buffer_length: usize,
+    ) -> CAnswer;
+    pub(crate) fn bivdrazo_front_matter(text: *const u8, text_length: usize) -> CAnswer;
 }
 
 pub(crate) fn c_event(event: &Event) -> CEvent {

@@ -1,19 +1,16 @@
-//! Markdown to safe HTML, by a compiler that is proved, after a parser that isn't.
+//! Markdown to safe HTML, by a parser and a compiler that are proved.
 //!
 //! ```
-//! # #[cfg(feature = "markdown")] {
 //! use bivdrazo::{markdown_to_html, MarkdownOptions};
 //!
 //! let html = markdown_to_html("**a** <b>", &MarkdownOptions::default())?;
 //! assert_eq!(html, "<p><strong>a</strong> &lt;b&gt;</p>\n");
-//! # }
 //! # Ok::<(), bivdrazo::Error>(())
 //! ```
 //!
-//! This stands on the feature `markdown`, which is on by default: the parser is pulldown-cmark.
-//! The library itself compiles the events of a parser, and can be called with those of any other
-//! one. A parser says what it found in a document as a list of events: a paragraph begins at byte
-//! 0, a text runs from there to byte 6, the paragraph ends. [`compile`] makes HTML of such a list.
+//! The library can also be called with the events of any other parser, which says what it found in
+//! a document as a list of them: a paragraph begins at byte 0, a text runs from there to byte 6, the
+//! paragraph ends. [`compile`] makes HTML of such a list.
 //! Nothing is assumed of the events: whatever a parser hands in is refused or gives a text that,
 //! under the default options, has one reading as HTML, with links and images of permitted
 //! protocols alone.
@@ -36,35 +33,33 @@
 
 #![warn(missing_docs)]
 
+mod document;
 mod errors;
 mod ffi;
 mod layouts;
-#[cfg(feature = "markdown")]
 mod markdown;
+mod markdown_numbers;
 mod numbers;
 mod options;
-mod quiet;
+#[cfg(feature = "pulldown-cmark")]
+mod pulldown;
 mod references;
 mod setters;
 mod values;
 
-#[cfg(feature = "markdown")]
-pub use markdown::{
-    default_work, events_of, markdown_to_html, markdown_with_headings, Document, DocumentHtml,
-    MarkdownOptions,
-};
-
-/// The parser, of the version that [`events_of`] takes the events of.
-#[cfg(feature = "markdown")]
+#[cfg(feature = "pulldown-cmark")]
+pub use pulldown::events_of;
+/// pulldown-cmark, of the version that [`events_of`] takes the events of.
+#[cfg(feature = "pulldown-cmark")]
 pub use pulldown_cmark;
 
+pub use document::Document;
 pub use errors::Error;
+pub use markdown::{
+    default_work, front_matter_of, markdown_to_html, markdown_with_headings, DocumentHtml,
+    MarkdownOptions,
+};
 pub use numbers::{Name, Rule, VERSION, VERSION_TEXT};
-#[cfg(feature = "markdown")]
-#[doc(hidden)]
-pub use markdown::markdown_document;
-#[doc(hidden)]
-pub use quiet::quietly;
 pub use references::REFERENCES;
 pub use values::{Attributes, Event, Heading, Kind, Limits, LineEnding, Options, Rendered};
 
@@ -192,7 +187,7 @@ pub fn library_version() -> u32 {
 }
 
 /// So that the example of the page is run.
-#[cfg(all(doctest, feature = "markdown"))]
+#[cfg(doctest)]
 #[doc = include_str!("../README.md")]
 struct Readme;
 

@@ -22,7 +22,6 @@ macro_rules! setters {
     };
 }
 
-#[cfg(feature = "markdown")]
 pub(crate) use setters;
 
 setters! { Options:

@@ -1,7 +1,8 @@
 //! The comparison with pulldown-cmark's own renderer.
 
-use crate::judge::{judge, judge_without_html};
-use bivdrazo::{markdown_to_html, DocumentHtml, MarkdownOptions};
+use crate::judge::{judge, options};
+use bivdrazo::{events_of, Options};
+use pulldown_cmark::Parser;
 use std::collections::BTreeMap;
 use std::error::Error;
 use std::fs;
@@ -66,44 +67,21 @@ fn read_documents(input: &mut impl BufRead) -> Result<Vec<Vec<u8>>, Box<dyn Erro
 /// The classes of a document, and what is wrong with its text.
 fn compare(text: &str) -> (Vec<&'static str>, Option<String>) {
     let judged = judge(text);
-    let mut options = MarkdownOptions::default();
-    let linked = markdown_to_html(text, &options);
-    options.bare_links = false;
-    let html = match (markdown_to_html(text, &options), linked) {
-        (Ok(html), Ok(linked)) if without_links(&html) == without_links(&linked) => html,
-        (html, linked) => {
-            return (
-                Vec::new(),
-                Some(format!("  is     {html:?}\n  linked {linked:?}")),
-            )
-        }
+    let events = Parser::new_ext(text, options()).into_offset_iter();
+    let html = match events_of(events).compile(&Options::default()) {
+        Ok(html) => html,
+        Err(error) => return (Vec::new(), Some(format!("  {error}"))),
     };
-    options.html = DocumentHtml::LeftOut;
-    let without = markdown_to_html(text, &options);
-    let fault = told(&judged.wanted, &html).or_else(|| match without {
-        Ok(without) => told(&judge_without_html(text), &without),
-        Err(error) => Some(format!("  {error}")),
-    });
     let mut classes = judged.classes;
     if html == judged.plain {
         classes.push("equal");
     }
-    (classes, fault)
+    (classes, told(&judged.wanted, &html))
 }
 
 /// How a text is another one than is wanted.
 fn told(wanted: &str, text: &str) -> Option<String> {
     (wanted != text).then(|| format!("  wanted {wanted:?}\n  is     {text:?}"))
-}
-
-/// A text without the tags of links.
-fn without_links(html: &str) -> String {
-    let mut parts = html.split("<a ");
-    let mut kept = parts.next().unwrap_or("").to_string();
-    for part in parts {
-        kept.push_str(part.split_once('>').map_or("", |(_, rest)| rest));
-    }
-    kept.replace("</a>", "")
 }
 
 /// The list's lines, each with its count: the class, the count, and why.

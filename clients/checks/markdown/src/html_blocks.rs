@@ -3,9 +3,9 @@
 use crate::judge::{Events, NEEDED};
 use pulldown_cmark::{Event, Tag};
 
-/// HTML of the document becomes text, or goes. A block of it begins a line, and has no line endings
-/// at its end but one.
-pub fn changed_html(events: Events, is_kept: bool) -> Events {
+/// HTML of the document becomes text. A block of it begins a line, and has no line endings at its
+/// end but one.
+pub fn changed_html(events: Events) -> Events {
     let mut changed = Events::new();
     let mut open = Vec::new();
     let mut events = events.into_iter().peekable();
@@ -29,9 +29,7 @@ pub fn changed_html(events: Events, is_kept: bool) -> Events {
             whole.truncate(whole.trim_end_matches(['\r', '\n']).len());
             whole = format!("{NEEDED}{whole}\n");
         }
-        if is_kept {
-            changed.push(Event::Text(whole.into()));
-        }
+        changed.push(Event::Text(whole.into()));
     }
     changed
 }

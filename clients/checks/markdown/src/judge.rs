@@ -29,7 +29,7 @@ type Change = for<'a> fn(Events<'a>) -> Events<'a>;
 
 /// The classes that change the events, in the order in which they do.
 const CHANGES: [(&str, Change); 11] = [
-    ("html", |events| changed_html(events, true)),
+    ("html", changed_html),
     ("span", with_ended_spans),
     ("protocol", |events| with_urls(events, without_protocol)),
     ("url", |events| {
@@ -94,15 +94,4 @@ pub fn judge(document: &str) -> Judged {
         wanted,
         classes,
     }
-}
-
-/// What is wanted of a document where its HTML is left out.
-pub fn judge_without_html(document: &str) -> String {
-    let events = Parser::new_ext(document, options()).collect();
-    let without = changed_html(events, false);
-    let changes = CHANGES.iter().skip(1);
-    let text = rendered(&changes.fold(without, |events, (_, change)| change(events)));
-    TEXT_CHANGES
-        .iter()
-        .fold(text, |text, (_, change)| change(&text))
 }

@@ -1,7 +1,7 @@
-//! Checks of `markdown_to_html`.
+//! Checks of `markdown_to_html`, and of `events_of`.
 //!
 //!     bivdrazo-checks compare LIST [--write] < DOCUMENTS
-//!         compares with pulldown-cmark's own renderer
+//!         compares `events_of` with pulldown-cmark's own renderer
 //!     bivdrazo-checks shapes FOLDER [SIZE]
 //!         writes shapes of Markdown that make parsers slow or large
 //!     bivdrazo-checks render < MARKDOWN

@@ -1,7 +1,6 @@
-//! What URLs lead to, and what is read in events.
+//! What URLs lead to.
 
 use super::*;
-use bivdrazo::{markdown_document, MarkdownOptions};
 
 fn tree() -> Tree {
     let mut tree = Tree::default();
@@ -131,65 +130,4 @@ fn files() {
         "c/d.md",
         &[("i.png?b", file("c/i.png")), ("../i.png", file("i.png"))],
     );
-}
-
-fn document(text: &str) -> Document {
-    markdown_document(text, &MarkdownOptions::default()).unwrap()
-}
-
-#[test]
-fn changes() {
-    let mut document = document(
-        "[a](b \"t\") ![c](d) [e] [f][e] <g@h.i> `[a](b)` www.j.org [](<>)\n\n[e]: b '&amp;'\n",
-    );
-    let mut urls = Vec::new();
-    change(&mut document, |url| {
-        urls.push(url.to_string());
-        (url == "b" || url == "d").then(|| format!("{url}/<>\""))
-    });
-    assert_eq!(
-        urls,
-        ["b", "d", "b", "mailto:g@h.i", "http://www.j.org", ""]
-    );
-    let html = document.compile(&bivdrazo::Options::default()).unwrap();
-    assert_eq!(
-        html,
-        "<p><a href=\"b/%3C%3E%22\" title=\"t\">a</a> <img src=\"d/%3C%3E%22\" alt=\"c\" /> \
-         <a href=\"b/%3C%3E%22\" title=\"&amp;\">e</a> \
-         <a href=\"b/%3C%3E%22\" title=\"&amp;\">f</a> \
-         <a href=\"mailto:g@h.i\">g@h.i</a> <code>[a](b)</code> \
-         <a href=\"http://www.j.org\">www.j.org</a> <a href=\"\"></a></p>\n"
-    );
-}
-
-#[test]
-fn events_that_are_none() {
-    let mut document = Document::default();
-    let destination = Name::ResourceDestinationString;
-    document.events.extend([
-        Event::enter(destination, 9),
-        Event::enter(Name::Data, 9),
-        Event::exit(Name::Data, 3),
-        Event::exit(destination, 3),
-        Event::enter(Name::HeadingAtx, 7),
-        Event::enter(Name::Data, 7),
-    ]);
-    let before = document.clone();
-    change(&mut document, |_| Some(String::new()));
-    assert_eq!(document, before);
-    assert_eq!(heading(&document), None);
-}
-
-#[test]
-fn headings() {
-    for (text, wanted) in [
-        ("# a *b* `c`\n", Some("a b c")),
-        ("d\n\n## [a](b \"c\") ![e](f)\n# g\n", Some("a e")),
-        ("a  <b>c</b>\n&amp;\n===\n", Some("a <b>c</b> &")),
-        ("> # a[^1]\n\n[^1]: b\n", Some("a")),
-        ("#\n\n# a\n", None),
-        ("a\n", None),
-    ] {
-        assert_eq!(heading(&document(text)).as_deref(), wanted, "{text}");
-    }
 }

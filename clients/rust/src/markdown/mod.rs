@@ -1,29 +1,16 @@
-//! Markdown in: pulldown-cmark reads it, and the library judges the events that come of it.
-//!
-//! Nothing is proved of the parser or of the way from its events to ours. What the library promises
-//! it promises of any events: the text has one reading as HTML, with links and images of permitted
-//! protocols alone.
+//! Markdown in: the library's own parser reads it.
 
-mod autolinks;
-mod base;
-mod comments;
-mod counts;
-mod definitions;
-mod document;
-mod events;
-mod nests;
-mod pieces;
+mod call;
 mod setters;
-mod tables;
-mod work;
 
-pub use document::Document;
-pub use events::events_of;
-pub use work::default_work;
+pub use call::front_matter_of;
 
-use crate::{quietly, Attributes, Error, Limits, Options, Rendered};
-use definitions::Numbered;
-use pulldown_cmark::Parser;
+use crate::markdown_numbers::{HTML_LEFT_OUT, HTML_TEXT, HTML_WITHOUT_COMMENTS};
+use crate::{Error, Rendered};
+
+/// The work that any document may be, and how much more for each of its bytes.
+const LEAST_WORK: usize = 1 << 20;
+const WORK_OF_A_BYTE: usize = 64;
 
 /// What becomes of HTML in a document. Whatever is chosen, none of it is HTML in the text.
 #[derive(Clone, Copy, Debug, Default, Eq, Hash, PartialEq)]
@@ -38,6 +25,17 @@ pub enum DocumentHtml {
     WithoutComments,
 }
 
+impl DocumentHtml {
+    /// Its number, as C has it.
+    fn number(self) -> u8 {
+        match self {
+            DocumentHtml::Text => HTML_TEXT,
+            DocumentHtml::LeftOut => HTML_LEFT_OUT,
+            DocumentHtml::WithoutComments => HTML_WITHOUT_COMMENTS,
+        }
+    }
+}
+
 /// How [`markdown_to_html`] renders. Whatever is chosen, the text is safe.
 ///
 /// ```
@@ -50,6 +48,16 @@ pub enum DocumentHtml {
 #[derive(Clone, Debug, Eq, PartialEq)]
 #[non_exhaustive]
 pub struct MarkdownOptions {
+    /// Read math: `$a$`, `$$a$$`, and blocks between lines of `$$`. It stays as it is written, in
+    /// code with the class `language-math`.
+    pub math: bool,
+    /// Read front matter between lines of `---`, which prints nothing. [`front_matter_of`] hands it
+    /// out.
+    pub front_matter: bool,
+    /// Read footnotes: `[^a]`, and `[^a]: text`. This is on by default.
+    pub footnotes: bool,
+    /// Read tables. This is on by default.
+    pub tables: bool,
     /// What the ids of footnotes begin with; else `user-content-`. Each document of a page
     /// needs another one.
     pub footnote_prefix: Option<String>,
@@ -79,13 +87,18 @@ pub struct MarkdownOptions {
     /// How many bytes the text may have; else any number.
     pub max_output: Option<usize>,
     /// How much there may be to read and to print in what the parser makes of the document, as
-    /// [`Limits`] counts it; else what [`default_work`] says. `usize::MAX` is no limit.
+    /// [`Limits`](crate::Limits) counts it; else what [`default_work`] says. `usize::MAX` is no
+    /// limit.
     pub max_work: Option<usize>,
 }
 
 impl Default for MarkdownOptions {
     fn default() -> MarkdownOptions {
         MarkdownOptions {
+            math: false,
+            front_matter: false,
+            footnotes: true,
+            tables: true,
             footnote_prefix: None,
             number_ids: false,
             footnote_label: None,
@@ -103,51 +116,27 @@ impl Default for MarkdownOptions {
     }
 }
 
-impl MarkdownOptions {
-    /// The library's options for these; they are safe.
-    fn for_library(&self) -> Options {
-        Options {
-            gfm_footnote_clobber_prefix: self.footnote_prefix.clone(),
-            gfm_footnote_number_ids: self.number_ids,
-            gfm_footnote_label: self.footnote_label.clone(),
-            gfm_footnote_back_label: self.footnote_back_label.clone(),
-            ..Options::default()
-        }
-    }
-
-    /// What is added to the tags of the text.
-    fn attributes(&self) -> Attributes {
-        Attributes {
-            rel: self.rel.clone(),
-            heading_ids: self.heading_ids.clone(),
-        }
-    }
-
-    /// The limits of the text and of the work, for a document of so many bytes.
-    fn limits(&self, length: usize) -> Limits {
-        Limits {
-            text: self.max_output.unwrap_or(usize::MAX),
-            work: self.max_work.unwrap_or_else(|| default_work(length)),
-        }
-    }
+/// How much there may be to read and to print in a document of so many bytes, as
+/// [`Limits`](crate::Limits) counts it, where no other limit is set: 2^20, and 64 for each byte.
+///
+/// ```
+/// assert_eq!(bivdrazo::default_work(1000), 1_112_576);
+/// ```
+pub fn default_work(input_len: usize) -> usize {
+    input_len
+        .saturating_mul(WORK_OF_A_BYTE)
+        .saturating_add(LEAST_WORK)
 }
 
 /// The HTML of a Markdown document, with tables, strikethrough, tasks, footnotes and bare links. A
 /// byte order mark before it is passed over.
 ///
-/// A document that would take the parser much time or memory is read otherwise: without tables, if
-/// these would have more than 524,288 cells that aren't written; without footnotes, if as many as
-/// there can be, times its lines, are more than 2^29; with a mark of a quote or an item past 128
-/// bytes of a line's beginning as text, if its longest beginning, times its lines but at least
-/// 1,024, is more than 2^26; and without bare links in a word of more than 2,048 bytes. But for the
-/// last, no document that people wrote is known that is.
-///
 /// # Errors
 ///
 /// [`Error::InputTooLong`], [`Error::OutputTooLong`] and [`Error::TooMuchWork`] where a bound of
 /// the options is passed, [`Error::Memory`] where the library finds no memory. [`Error::Parser`]
-/// and [`Error::Refused`] would be a fault of this crate or of the parser: no document is known that
-/// gets one of them, but in a debug build.
+/// and [`Error::Refused`] would be a fault of the library: no document is known that gets one of
+/// them.
 ///
 /// ```
 /// use bivdrazo::{markdown_to_html, MarkdownOptions};
@@ -157,7 +146,7 @@ impl MarkdownOptions {
 /// # Ok::<(), bivdrazo::Error>(())
 /// ```
 pub fn markdown_to_html(text: &str, options: &MarkdownOptions) -> Result<String, Error> {
-    Ok(markdown_with_headings(text, options)?.html)
+    call::html(text, options)
 }
 
 /// As [`markdown_to_html`], with the headings that got an `id`, for a table of contents: none
@@ -178,56 +167,7 @@ pub fn markdown_to_html(text: &str, options: &MarkdownOptions) -> Result<String,
 /// # Ok::<(), bivdrazo::Error>(())
 /// ```
 pub fn markdown_with_headings(text: &str, options: &MarkdownOptions) -> Result<Rendered, Error> {
-    markdown_document(text, options)?.into_rendered(
-        &options.for_library(),
-        &options.attributes(),
-        options.limits(text.len()),
-    )
-}
-
-/// What [`markdown_to_html`] hands to the library, for a program that reads or changes it before.
-///
-/// # Errors
-///
-/// [`Error::InputTooLong`] and [`Error::Parser`].
-#[doc(hidden)]
-pub fn markdown_document(text: &str, options: &MarkdownOptions) -> Result<Document, Error> {
-    if let Some(limit) = options.max_input.filter(|&limit| text.len() > limit) {
-        let length = text.len();
-        return Err(Error::InputTooLong { length, limit });
-    }
-    quietly(|| document_of(text, options)).ok_or(Error::Parser)
-}
-
-/// What the parser finds in a text.
-fn document_of(text: &str, options: &MarkdownOptions) -> Document {
-    let text = nests::bounded(text.strip_prefix('\u{feff}').unwrap_or(text));
-    let read = parser_options(&text);
-    let parser = Parser::new_ext(&text, read);
-    if let Some(numbered) = Numbered::of(&parser, &text, read) {
-        return document_of_numbered(&numbered, read, options);
-    }
-    events::document_of(parser.into_offset_iter(), options)
-}
-
-fn document_of_numbered(
-    numbered: &Numbered,
-    read: pulldown_cmark::Options,
-    options: &MarkdownOptions,
-) -> Document {
-    let parser = Parser::new_ext(numbered.text(), read).into_offset_iter();
-    let events = parser.map(|(event, range)| (numbered.event(event), range));
-    events::document_of(events, options)
-}
-
-/// What the parser reads: no tables where they would have too many cells that nobody wrote, and no
-/// footnotes where too many could stand in one another.
-fn parser_options(text: &str) -> pulldown_cmark::Options {
-    use pulldown_cmark::Options;
-    let mut read = Options::ENABLE_STRIKETHROUGH | Options::ENABLE_TASKLISTS;
-    read.set(Options::ENABLE_TABLES, tables::has_few_missing_cells(text));
-    read.set(Options::ENABLE_FOOTNOTES, nests::has_few_footnotes(text));
-    read
+    call::rendered(text, options)
 }
 
 #[cfg(test)]

@@ -4,6 +4,10 @@ use super::{DocumentHtml, MarkdownOptions};
 use crate::setters::setters;
 
 setters! { MarkdownOptions:
+    with_math(math: bool) = math;
+    with_front_matter(front_matter: bool) = front_matter;
+    with_footnotes(footnotes: bool) = footnotes;
+    with_tables(tables: bool) = tables;
     with_footnote_prefix(footnote_prefix: impl Into<String>) = Some(footnote_prefix.into());
     with_number_ids(number_ids: bool) = number_ids;
     with_footnote_label(footnote_label: impl Into<String>) = Some(footnote_label.into());

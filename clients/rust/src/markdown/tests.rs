@@ -1,11 +1,10 @@
-//! Markdown in: documents, and the parts below.
+//! Markdown in: documents, and the options below.
 
 use crate::{
-    events_of, markdown_to_html, markdown_with_headings, DocumentHtml, Error, MarkdownOptions,
-    Options,
+    front_matter_of, markdown_to_html, markdown_with_headings, DocumentHtml, Error, MarkdownOptions,
 };
-use pulldown_cmark::{CowStr, Event, Parser, Tag};
 
+mod additions;
 mod bases;
 mod choices;
 mod limits;
@@ -106,7 +105,7 @@ fn spans() {
         ("`  a  ` `  `", "<p><code> a </code> <code>  </code></p>\n"),
         (
             "[a](b 'c') ![*d*\ne](f \"g\")",
-            "<p><a href=\"b\" title=\"c\">a</a> <img src=\"f\" alt=\"d e\" title=\"g\" /></p>\n",
+            "<p><a href=\"b\" title=\"c\">a</a> <img src=\"f\" alt=\"d\ne\" title=\"g\" /></p>\n",
         ),
         (
             "[a](javascript:b) ![c](mailto:d)",
@@ -179,19 +178,6 @@ fn byte_order_mark() {
     assert_eq!(html("\u{feff}# a"), "<h1>a</h1>\n");
 }
 
-/// HTML that ends the document is a block in a loose list's item, also without a line
-/// ending after it.
-#[test]
-fn html_at_the_end_of_a_loose_list() {
-    let first = "<ul>\n<li>\n<p>a</p>\n</li>\n<li>\n";
-    assert_eq!(
-        html("- a\n\n- <div>"),
-        format!("{first}&lt;div&gt;\n</li>\n</ul>\n")
-    );
-    let in_text = "<ul>\n<li>a</li>\n<li>&lt;div&gt;</li>\n</ul>\n";
-    assert_eq!(html("- a\n- <div>"), in_text);
-}
-
 /// The line ending between a table's head and its body isn't lost to a tight paragraph before it.
 #[test]
 fn table_after_a_tight_paragraph() {
@@ -201,62 +187,52 @@ fn table_after_a_tight_paragraph() {
     assert_eq!(html("- a\n  # b\n  | c |\n  |---|\n  | d |"), wanted);
 }
 
-/// In a tight list's item the parser tells spans around blocks.
+/// HTML that ends the document is a block in an item, also without a line ending after it.
 #[test]
-fn spans_around_blocks() {
+fn html_at_the_end_of_a_list() {
+    let block = "<li>\n&lt;div&gt;\n</li>\n</ul>\n";
+    let loose = format!("<ul>\n<li>\n<p>a</p>\n</li>\n{block}");
+    assert_eq!(html("- a\n\n- <div>"), loose);
+    assert_eq!(html("- a\n- <div>"), format!("<ul>\n<li>a</li>\n{block}"));
+}
+
+/// No link stands in a link, nor does a footnote's call.
+#[test]
+fn links_in_links() {
     for (text, wanted) in [
+        ("[a [b](c) d](e)", "<p>[a <a href=\"c\">b</a> d](e)</p>\n"),
         (
-            "- [a\n  # b\n  c](d)",
-            "<ul>\n<li><a href=\"d\">a</a>\n<h1>b</h1>\nc</li>\n</ul>\n",
+            "[foo <http://x.y>](/z)",
+            "<p><a href=\"/z\">foo http://x.y</a></p>\n",
         ),
         (
-            "- ![a\n  > b\n\n  c](d)",
-            "<ul>\n<li>\n<p>![a</p>\n<blockquote>\n<p>b</p>\n</blockquote>\n\
-             <p>c](d)</p>\n</li>\n</ul>\n",
-        ),
-        (
-            "- *a **b\n  ***\n  c** d*",
-            "<ul>\n<li><em>a <strong>b</strong></em>\n<hr />\nc d</li>\n</ul>\n",
+            "[a [^n]](b)\n\n[^n]: c",
+            "<p><a href=\"b\">a [^n]</a></p>\n",
         ),
     ] {
         assert_eq!(html(text), wanted, "{text:?}");
     }
 }
 
-/// In a debug build the parser asserts what isn't so of this document: its panic is an error.
+/// What was read otherwise by pulldown-cmark.
 #[test]
-fn parser_that_fails() {
-    let made = markdown_to_html("\r*\r- 1. [x] ", &MarkdownOptions::default());
-    match cfg!(debug_assertions) {
-        true => assert_eq!(made, Err(Error::Parser)),
-        false => assert!(made.is_ok()),
+fn as_gfm() {
+    for (text, wanted) in [
+        (
+            "a\n| b |\n|---|",
+            "<p>a</p>\n<table>\n<thead>\n<tr>\n<th>b</th>\n</tr>\n</thead>\n</table>\n",
+        ),
+        ("~a~", "<p><del>a</del></p>\n"),
+        (
+            "a\n>\nb",
+            "<p>a</p>\n<blockquote>\n</blockquote>\n<p>b</p>\n",
+        ),
+        ("&#1114112;", "<p>\u{fffd}</p>\n"),
+        ("www.a.b", "<p><a href=\"http://www.a.b\">www.a.b</a></p>\n"),
+    ] {
+        assert_eq!(html(text), wanted, "{text:?}");
     }
-}
-
-/// Events that no parser tells: each list is refused or has a text.
-#[test]
-fn strange_parsers() {
-    let tags = [
-        Tag::Item,
-        Tag::TableCell,
-        Tag::TableRow,
-        Tag::List(Some(u64::MAX)),
-        Tag::Table(Vec::new()),
-        Tag::Paragraph,
-    ];
-    for first in &tags {
-        for second in &tags {
-            let events = [
-                Event::Start(first.clone()),
-                Event::Text("a".into()),
-                Event::End(second.clone()),
-            ];
-            let document = events_of(events.into_iter().map(|event| (event, 0..0)));
-            let _ = document.compile(&Options::default());
-        }
-    }
-    let stray = Event::End(Tag::FootnoteDefinition(CowStr::Borrowed("")));
-    assert!(events_of([(stray, 0..0)])
-        .compile(&Options::default())
-        .is_err());
+    let notes = html("a[^b] c[^d]\n\n[^b]: e\n\n    f\n\n- [^d]: g\n");
+    assert!(notes.contains("<p>e</p>\n<p>f "), "{notes}");
+    assert!(notes.contains("<p>g "), "{notes}");
 }

@@ -1,7 +1,15 @@
 //! URLs that are read against a base.
 
 use super::*;
-use crate::markdown::base::resolved;
+
+/// A URL as it stands in the text, read against a base.
+fn resolved(base: &str, url: &str) -> String {
+    let text = format!("[x](<{url}>)");
+    let html = html_with(&text, |options| options.base = Some(base.to_string())).unwrap();
+    let start = html.find("href=\"").unwrap() + "href=\"".len();
+    let end = start + html[start..].find('"').unwrap();
+    html[start..end].to_string()
+}
 
 #[test]
 fn bases() {
@@ -31,7 +39,8 @@ fn bases() {
 fn urls_against_a_base() {
     let base = "http://a/b/c/d;p?q";
     for (url, wanted) in [
-        ("g:h", "g:h"),
+        ("irc:h", "irc:h"),
+        ("g:h", ""),
         ("g", "http://a/b/c/g"),
         ("./g", "http://a/b/c/g"),
         ("g/", "http://a/b/c/g/"),
@@ -90,8 +99,8 @@ fn urls_against_a_base_without_authority() {
         ("", "?a:b", "?a:b"),
         ("", "a#b:c", "a#b:c"),
         ("1a:b", "?c", "./1a:b?c"),
-        ("x:/docs/", "..//evil.com/", "x:/.//evil.com/"),
-        ("x:docs/", "..//evil.com/", "x:.//evil.com/"),
+        ("irc:/docs/", "..//evil.com/", "irc:/.//evil.com/"),
+        ("irc:docs/", "..//evil.com/", "irc:.//evil.com/"),
         ("http://a/b/", "..//evil.com/", "http://a//evil.com/"),
         ("http://a/b/", "./c:d", "http://a/b/c:d"),
     ] {

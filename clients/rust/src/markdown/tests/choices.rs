@@ -1,14 +1,12 @@
 //! Each option by itself.
 
 use super::*;
-use crate::markdown::autolinks::{bare_links, Bare};
-use crate::markdown::comments::without_comments;
 
 #[test]
 fn hard_breaks() {
     assert_eq!(
         html_with("a\nb ![c\nd](e)", |options| options.hard_breaks = true).unwrap(),
-        "<p>a<br />\nb <img src=\"e\" alt=\"c d\" /></p>\n"
+        "<p>a<br />\nb <img src=\"e\" alt=\"c\nd\" /></p>\n"
     );
 }
 
@@ -60,7 +58,11 @@ fn comments() {
         ("<!-- - -- -> --> <!- a ->", " <!- a ->"),
         ("<!---->", ""),
     ] {
-        assert_eq!(without_comments(html), wanted, "{html:?}");
+        let without = html_with(&format!("<div>{html}"), |options| {
+            options.html = DocumentHtml::WithoutComments;
+        });
+        let wanted = wanted.replace('<', "&lt;").replace('>', "&gt;");
+        assert_eq!(without, Ok(format!("&lt;div&gt;{wanted}\n")), "{html:?}");
     }
 }
 
@@ -91,97 +93,6 @@ fn attributes() {
     let limit = made.html.len() - 1;
     let told = markdown_with_headings("> a\n> b\n> ===\n\n- ## c *d*\n", &options);
     assert_eq!(told, Err(Error::OutputTooLong { limit }));
-}
-
-/// The URLs of the bare links of a text.
-fn urls(text: &str) -> Vec<String> {
-    let url = |bare: Bare| format!("{}{}", bare.before, &text[bare.range]);
-    bare_links(text).into_iter().map(url).collect()
-}
-
-#[test]
-fn bare() {
-    for (text, wanted) in [
-        ("www.a.org", vec!["http://www.a.org"]),
-        (
-            "Visit www.a.org/help for more.",
-            vec!["http://www.a.org/help"],
-        ),
-        (
-            "(www.a.org/b.c) Www.A.org.",
-            vec!["http://www.a.org/b.c", "http://Www.A.org"],
-        ),
-        ("www.a.org/b?c=d&copy;", vec!["http://www.a.org/b?c=d"]),
-        ("www.a.org/b<c", vec!["http://www.a.org/b"]),
-        (
-            "http://a.org HTTPS://d.org",
-            vec!["http://a.org", "HTTPS://d.org"],
-        ),
-        (
-            "a.org awww.a.org \"www.a.org :www.a.org irc://a.org javascript://a.org a@b",
-            vec![],
-        ),
-        ("ftp://b.org/c FTP://www.b.org", vec![]),
-    ] {
-        assert_eq!(urls(text), wanted, "{text:?}");
-    }
-}
-
-#[test]
-fn bare_addresses() {
-    for (text, wanted) in [
-        (
-            "a@b.org, mailto:c@d.org MailTo:e@f.org",
-            vec!["mailto:a@b.org", "mailto:c@d.org", "MailTo:e@f.org"],
-        ),
-        (
-            "xmpp:a@b.org, Xmpp:c@d.org/e",
-            vec!["xmpp:a@b.org", "Xmpp:c@d.org"],
-        ),
-        (
-            "a@b.mailto:c@d.ee",
-            vec!["mailto:a@b.mailto", "mailto:c@d.ee"],
-        ),
-    ] {
-        assert_eq!(urls(text), wanted, "{text:?}");
-    }
-}
-
-/// Links that a word is made of, in any order and with all that could belong to two of them: they
-/// are disjoint and stand in their order.
-#[test]
-fn bare_links_in_a_row() {
-    let pieces = [
-        "a@b.mailto",
-        "mailto:",
-        "xmpp:",
-        "c@d.ee",
-        "www.e.fg",
-        "http://h.ij",
-        "ftp://k.lm",
-        ":",
-        ".",
-        "@",
-        "/",
-        "&amp",
-        ";",
-        "(",
-        "\u{e9}",
-    ];
-    let count = pieces.len();
-    for number in 0..count.pow(4) {
-        let chosen = (0..4).map(|place| pieces[number / count.pow(place) % count]);
-        let text: String = chosen.collect();
-        let mut at = 0;
-        for bare in bare_links(&text) {
-            assert!(
-                at <= bare.range.start && bare.range.start < bare.range.end,
-                "{text:?}"
-            );
-            at = bare.range.end;
-        }
-        assert!(at <= text.len());
-    }
 }
 
 #[test]

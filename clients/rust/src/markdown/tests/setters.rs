@@ -26,6 +26,10 @@ fn choices() {
     sets(new().with_number_ids(true), |it| it.number_ids = true);
     sets(new().with_hard_breaks(true), |it| it.hard_breaks = true);
     sets(new().with_bare_links(false), |it| it.bare_links = false);
+    sets(new().with_math(true), |it| it.math = true);
+    sets(new().with_front_matter(true), |it| it.front_matter = true);
+    sets(new().with_footnotes(false), |it| it.footnotes = false);
+    sets(new().with_tables(false), |it| it.tables = false);
     let html = DocumentHtml::LeftOut;
     sets(new().with_html(html), |it| it.html = html);
 }

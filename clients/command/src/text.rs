@@ -1,0 +1,167 @@
+//! The library's text: its URLs and its first heading.
+//!
+//! It has one reading as HTML, in which `<` begins a tag, and no value holds a quotation mark. So
+//! what is looked for here is found where it stands, and nowhere else.
+
+/// How a link and an image begin, whose URL follows.
+const BEFORE_URLS: [&str; 2] = ["<a href=\"", "<img src=\""];
+
+/// The beginnings of the sections of footnotes and of their calls, and how a call ends.
+const FOOTNOTES: &str = "<section data-footnotes";
+const CALL: &str = "<sup><a href=\"#";
+const CALL_END: &str = "</sup>";
+
+/// The characters that are escaped, each with what stands for it; the first one is in the others.
+const ESCAPED: [(&str, &str); 4] = [
+    ("&", "&amp;"),
+    ("<", "&lt;"),
+    (">", "&gt;"),
+    ("\"", "&quot;"),
+];
+
+/// A text in which each URL of a link or an image is what `made` answers for it, and stays as it is
+/// where that is nothing.
+pub fn with_urls(html: &str, mut made: impl FnMut(&str) -> Option<String>) -> String {
+    let mut changed = String::with_capacity(html.len());
+    let mut rest = html;
+    while let Some(at) = rest.find('<') {
+        let tag = &rest[at..];
+        let before = BEFORE_URLS.iter().find(|before| tag.starts_with(**before));
+        let start = at + before.map_or(1, |before| before.len());
+        changed.push_str(&rest[..start]);
+        rest = &rest[start..];
+        if before.is_some() {
+            let (url, after) = rest.split_at(rest.find('"').unwrap_or(rest.len()));
+            match made(&unescaped(url)) {
+                Some(other) => changed.push_str(&escaped(&other)),
+                None => changed.push_str(url),
+            }
+            rest = after;
+        }
+    }
+    changed.push_str(rest);
+    changed
+}
+
+/// The text of the first heading without tags and footnotes' calls, escaped; where the document has
+/// one, and it isn't empty.
+pub fn heading(html: &str) -> Option<String> {
+    let html = html.split(FOOTNOTES).next()?;
+    let start = html
+        .match_indices("<h")
+        .find(|(at, _)| is_heading(&html[*at..]))?
+        .0;
+    let end = html[start..].find("</h")?;
+    let text = without_tags(&without_calls(&html[start..start + end]));
+    let text = text.split_whitespace().collect::<Vec<_>>().join(" ");
+    (!text.is_empty()).then_some(text)
+}
+
+/// Whether a tag that begins with `<h` is that of a heading.
+fn is_heading(tag: &str) -> bool {
+    matches!(tag.as_bytes(), [_, _, b'1'..=b'6', b' ' | b'>', ..])
+}
+
+/// A text without the calls of footnotes.
+fn without_calls(html: &str) -> String {
+    let mut kept = String::new();
+    let mut rest = html;
+    while let Some((before, call)) = rest.split_once(CALL) {
+        kept.push_str(before);
+        rest = call.split_once(CALL_END).map_or("", |(_, after)| after);
+    }
+    kept + rest
+}
+
+/// A text without tags.
+fn without_tags(html: &str) -> String {
+    let mut kept = String::new();
+    let mut rest = html;
+    while let Some((before, tag)) = rest.split_once('<') {
+        kept.push_str(before);
+        rest = tag.split_once('>').map_or("", |(_, after)| after);
+    }
+    kept + rest
+}
+
+/// A value as it is read.
+fn unescaped(value: &str) -> String {
+    let all = ESCAPED.iter().rev();
+    all.fold(value.to_string(), |value, (each, escape)| {
+        value.replace(escape, each)
+    })
+}
+
+/// A text as a value has it.
+fn escaped(text: &str) -> String {
+    let all = ESCAPED.iter();
+    all.fold(text.to_string(), |text, (each, escape)| {
+        text.replace(each, escape)
+    })
+}
+
+#[cfg(test)]
+mod tests {
+    use super::*;
+    use bivdrazo::{markdown_to_html, MarkdownOptions};
+
+    fn html(text: &str) -> String {
+        markdown_to_html(text, &MarkdownOptions::default()).unwrap()
+    }
+
+    #[test]
+    fn urls() {
+        let text = "[a](b \"<a href='x'>\") ![c](d) [e] [f][e] <g@h.ij> `<a href=\"b\">` www.j.org [](<>) \
+                    [k](l?m&n) [o](<p q>)\n\n[e]: b '&amp;'\n\n<a href=\"b\">\n";
+        let mut urls = Vec::new();
+        let changed = with_urls(&html(text), |url| {
+            urls.push(url.to_string());
+            (url == "b" || url == "d").then(|| format!("{url}/?&\"<"))
+        });
+        assert_eq!(
+            urls,
+            [
+                "b",
+                "d",
+                "b",
+                "b",
+                "mailto:g@h.ij",
+                "http://www.j.org",
+                "",
+                "l?m&n",
+                "p%20q"
+            ]
+        );
+        let wanted = html(text)
+            .replace("href=\"b\"", "href=\"b/?&amp;&quot;&lt;\"")
+            .replace("src=\"d\"", "src=\"d/?&amp;&quot;&lt;\"");
+        assert_eq!(changed, wanted);
+        assert_eq!(with_urls(&html(text), |_| None), html(text));
+        assert_eq!(
+            with_urls(&html(text), |url| Some(url.to_string())),
+            html(text)
+        );
+    }
+
+    #[test]
+    fn headings() {
+        for (text, wanted) in [
+            ("# a *b* `c`\n", Some("a b c")),
+            ("d\n\n## [a](b \"c\") ![e](f)\n# g\n", Some("a")),
+            (
+                "a  <b>c</b>\n&amp;\n===\n",
+                Some("a &lt;b&gt;c&lt;/b&gt; &amp;"),
+            ),
+            ("> # a[^1] d\n\n[^1]: b\n", Some("a d")),
+            ("a[^1]\n\n[^1]: b\n\n    # c\n", None),
+            ("***\n\n#\n\n# a\n", None),
+            ("a\n", None),
+            ("", None),
+        ] {
+            assert_eq!(heading(&html(text)).as_deref(), wanted, "{text}");
+        }
+        let options = MarkdownOptions::default().with_heading_ids("x");
+        let made = markdown_to_html("# a\n", &options).unwrap();
+        assert_eq!(heading(&made).as_deref(), Some("a"));
+    }
+}
