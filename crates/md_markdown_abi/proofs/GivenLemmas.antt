@@ -1,6 +1,6 @@
 -- From what is promised of a text, and why there is none, to what C is told.
 use Rattle.std.proofs.Common.{◌≡◌, ℕ, ◌≤◌, Bool, true, List, Option, Some, Result, Ok, Err}
-use Rattle.std.proofs.Common.{[], ◌∷◌, ◌++◌, IfErr, is_some, sym, ap, ◌∙◌, subst}
+use Rattle.std.proofs.Common.{take, [], ◌∷◌, ◌++◌, IfErr, is_some, sym, ap, ◌∙◌, subst}
 use Rattle.std.specs.Prelude.{IsErrAnd, option_and_then, slice_get}
 use Rattle.md_text.specs.Ids.{HasDistinctIds}
 use Rattle.md_safe.specs.Token.{Token, EndOfFile}
@@ -9,6 +9,8 @@ use Rattle.md_safe.specs.Tokenizer.{IsTokenized}
 use Rattle.md_safe.specs.Tokenized.{IsSafelyTokenized}
 use Rattle.md_safe.specs.Contents.{IsContained}
 use Rattle.md_safe.specs.Built.{IsBuiltAsRead}
+use Rattle.md_page.specs.Built.{IsBuiltAsWritten}
+use Rattle.md_page.proofs.Forests.{read-built}
 use Rattle.md_abi.specs.Options.{flag_of, text_of}
 use Rattle.md_abi.specs.Attributes.{asked, with_rel}
 use Rattle.md_abi.specs.Attributed.{IsListedAfter}
@@ -49,9 +51,10 @@ pub made_text : (bytes text : List ℕ) (given : CMarkdownOptions) (options : Ma
     (options.number_ids ≡ true → HasDistinctIds plain) → text_of given.rel ≡ Some rel →
     text_of given.heading_ids ≡ Some prefix →
     ((x : List Token) → IsTokenized plain x → IsListedAfter prefix (with_rel rel x) start whole) →
+    (IsBuiltAsWritten plain → IsBuiltAsWritten (take start whole)) →
     start ≤ given.max_output → IsMarkdownText bytes given start whole
 made_text bytes text given options rel prefix plain whole start same has made safe contained tree
-    distinct rel_read prefix_read listed fits =
+    distinct rel_read prefix_read listed built fits =
     let read = safe.as_read in
     let emitted : List Token = tokens read.forest ++ (EndOfFile ∷ []) in
     record {
@@ -69,6 +72,7 @@ made_text bytes text given options rel prefix plain whole start same has made sa
           (sym (asked_is given.heading_ids prefix prefix_read))
           (subst (λ r. IsListedAfter prefix (with_rel r emitted) start whole)
           (sym (asked_is given.rel rel rel_read)) (listed emitted read.tokenized));
+      built = built (read-built plain tree);
       fits = fits;
     }
 

@@ -1,5 +1,5 @@
 -- What a text is of the Markdown that C hands in, and what is read of that.
-use Rattle.std.specs.Prelude.{◌≡◌, ℕ, ◌≤◌, List, length}
+use Rattle.std.specs.Prelude.{◌≡◌, ℕ, ◌≤◌, List, length, take}
 use Rattle.std.specs.Str.{IsUtf8}
 use Rattle.md_text.specs.Ids.{HasDistinctIds}
 use Rattle.md_safe.specs.Token.{Token}
@@ -7,6 +7,7 @@ use Rattle.md_safe.specs.Tokenizer.{IsTokenized}
 use Rattle.md_safe.specs.Tokenized.{IsSafelyTokenized}
 use Rattle.md_safe.specs.Contents.{IsContained}
 use Rattle.md_safe.specs.Built.{IsBuiltAsRead}
+use Rattle.md_page.specs.Built.{IsBuiltAsWritten}
 use Rattle.md_abi.specs.Attributes.{asked, with_rel}
 use Rattle.md_abi.specs.Attributed.{IsListedAfter}
 use Rattle.md_markdown.specs.Made.{IsMadeOf}
@@ -16,7 +17,8 @@ use Rattle.md_markdown_abi.specs.declared.option.CMarkdownOptions.{CMarkdownOpti
 -- of the document there is a text, made of it and safe: it is tokenized as it is read, each element
 -- stands where it may, tree construction builds it, and where ids go by number no two are equal;
 -- with the attributes that are asked for its tokens are those of the bytes before the index, which
--- are no more than they may be; the list of the headings that got an id follows
+-- are built as they are written, and are no more than they may be; the list of the headings that got
+-- an id follows
 pub record IsMarkdownText (bytes : List ℕ) (options : CMarkdownOptions) (start : ℕ)
     (whole : List ℕ) : Type 0 where
   pub plain : List ℕ
@@ -29,6 +31,7 @@ pub record IsMarkdownText (bytes : List ℕ) (options : CMarkdownOptions) (start
   pub tokenized : IsTokenized plain tokens
   pub listed : IsListedAfter (asked options.heading_ids)
       (with_rel (asked options.rel) tokens) start whole
+  pub built : IsBuiltAsWritten (take start whole)
   pub fits : start ≤ options.max_output
 
 -- the options are laid out as they are read, and the document has no more bytes than it may

@@ -18,5 +18,5 @@ returns-clause-ok c =
     (option_copied c.in_ok-rel.rel) (option_copied c.in_ok-prefix.prefix) c.in_ok-html.html
     (string_bytes c.in_ok-made.made.whole) c.in_ok-made.made.start c.in_ok-text.ensures.ok.0
     c.in_ok-options.ensures.ok html.made html.tokens html.contained html.tree html.distinct_ids
-    c.in_ok-rel.ensures.ok c.in_ok-prefix.ensures.ok c.in_ok-made.ensures
-    (search rules)
+    c.in_ok-rel.ensures.ok c.in_ok-prefix.ensures.ok c.in_ok-made.ensures.listed
+    c.in_ok-made.ensures.tree (search rules)
