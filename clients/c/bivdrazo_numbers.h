@@ -8,7 +8,7 @@
 #define BIVDRAZO_VERSION 2
 
 /* The version of the library and of what comes with it. */
-#define BIVDRAZO_VERSION_TEXT "1.1.0"
+#define BIVDRAZO_VERSION_TEXT "2.0.0"
 
 /* What became of a call. */
 enum {

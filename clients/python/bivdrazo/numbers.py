@@ -9,7 +9,7 @@ import enum
 VERSION = 2
 
 # The version of the library and of what comes with it.
-VERSION_TEXT = "1.1.0"
+VERSION_TEXT = "2.0.0"
 
 # The options, by their numbers, each with its type.
 OPTIONS = (

@@ -547,7 +547,7 @@ impl Rule {
 pub const VERSION: u32 = 2;
 
 /// The version of the library and of what comes with it.
-pub const VERSION_TEXT: &str = "1.1.0";
+pub const VERSION_TEXT: &str = "2.0.0";
 
 pub(crate) const STATUS_OK: u32 = 0;
 pub(crate) const STATUS_TOO_SHORT: u32 = 1;
