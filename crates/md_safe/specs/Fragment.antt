@@ -31,8 +31,11 @@ is_flow_context name = not (is_one_of (of_other_states ++ of_other_modes ++ apar
 -- what an element holds
 abbrev pub children_of : Nodes → Nodes
 children_of nodes =
-    elim nodes [ Element name attributes children rest ↦ children | Text bytes rest ↦ Empty
-    | Empty ↦ Empty ]
+    elim nodes [
+      | Element name attributes children rest ↦ children
+      | Text bytes rest ↦ Empty
+      | Empty ↦ Empty
+    ]
 
 -- the children of the root, `html`, which alone is open at the beginning; other contexts aren't
 -- written out
