@@ -16,7 +16,6 @@ import documents
 
 KNOWN = {
     614: "an escaped character before an address",
-    625: "a bare link with brackets that aren't balanced",
     628: "a bare link of ftp, which isn't permitted",
 }
 MUTATED = 1000

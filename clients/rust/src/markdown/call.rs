@@ -2,7 +2,7 @@
 
 use super::{default_work, MarkdownOptions};
 use crate::errors::error_of;
-use crate::ffi::{buffer_of, first_size, rendered_of};
+use crate::ffi::{buffer_of, rendered_of};
 use crate::layouts::{
     bivdrazo_front_matter, bivdrazo_markdown_into, c_text, CAnswer, CMarkdownOptions,
 };
@@ -65,7 +65,7 @@ fn whole_of(text: &str, options: &MarkdownOptions) -> Result<(Vec<u8>, usize), E
             )
         }
     };
-    let mut buffer = buffer_of(first_size(0, text.len()))?;
+    let mut buffer = buffer_of(first_size(text.len()))?;
     let mut answer = call(&mut buffer);
     if answer.status == STATUS_TOO_SHORT {
         buffer = buffer_of(answer.length)?;
@@ -77,6 +77,11 @@ fn whole_of(text: &str, options: &MarkdownOptions) -> Result<(Vec<u8>, usize), E
     // SAFETY: under this status the library wrote the buffer's first `length` bytes.
     unsafe { buffer.set_len(answer.length) };
     Ok((buffer, answer.index))
+}
+
+/// A first size of the buffer for a document of so many bytes. Of 20,000 comments 9 don't fit.
+fn first_size(bytes: usize) -> usize {
+    bytes.saturating_mul(3).saturating_add(256)
 }
 
 /// The error that an answer without a text stands for, of a document of so many bytes.
