@@ -1,5 +1,5 @@
 -- What the text of a Markdown document is made of.
-use Rattle.std.specs.Prelude.{◌≡◌, ◌++◌, ℕ, List}
+use Rattle.std.specs.Prelude.{◌≡◌, ◌⊎◌, ◌++◌, ◌∷◌, [], ℕ, Bool, true, List}
 use Rattle.md_base.specs.Tree.{Forest}
 use Rattle.md_text.specs.declared.options.CompileOptions.{CompileOptions}
 use Rattle.md_tree.specs.Grammar.{IsGrammatical}
@@ -15,6 +15,11 @@ pub record IsMadeOver (bytes text : List ℕ) : Type 0 where
   pub grammatical : IsGrammatical bytes names document
   pub means : text ≡ meaning options names bytes document
 
--- the text is made over bytes that begin with the document's own
-abbrev pub IsMadeOf : List ℕ → List ℕ → Type 0
-IsMadeOf document text = (added : List ℕ) × IsMadeOver (document ++ added) text
+-- what may stand behind a document: nothing or a line feed, and where there is a base any bytes
+abbrev pub MayBeAdded : Bool → List ℕ → Type 0
+MayBeAdded has_base added = (has_base ≡ true) ⊎ ((added ≡ []) ⊎ (added ≡ 10 ∷ []))
+
+-- the text is made over a document's bytes and what stands behind them
+abbrev pub IsMadeOf : Bool → List ℕ → List ℕ → Type 0
+IsMadeOf has_base document text =
+    (added : List ℕ) × (MayBeAdded has_base added × IsMadeOver (document ++ added) text)

@@ -1,11 +1,11 @@
 //! Markdown to HTML.
 
-ghost use Rattle.std.specs.Prelude.{◌≡◌, ◌≤◌, ◌++◌, OnOk, IfOk, true, length};
+ghost use Rattle.std.specs.Prelude.{◌≡◌, ◌≤◌, ◌++◌, OnOk, IfOk, true, is_some, length};
 ghost use Rattle.md_safe.specs.Contents.{IsContained};
 ghost use Rattle.md_safe.specs.Built.{IsBuiltAsRead};
 ghost use Rattle.md_text.specs.Ids.{HasDistinctIds};
 ghost use Rattle.md_safe.specs.Tokenized.{IsSafelyTokenized};
-ghost use Rattle.md_markdown.specs.Made.{IsMadeOf, IsMadeOver};
+ghost use Rattle.md_markdown.specs.Made.{IsMadeOf, IsMadeOver, MayBeAdded};
 
 use crate::error::{MarkdownError, MarkdownWithinError};
 use crate::events::write_events;
@@ -40,7 +40,7 @@ pub fn markdown(
     text: &str,
     options: &MarkdownOptions,
 ) -> Result<SafeHtml, MarkdownError>
-    ensures made { IfOk result (λ html. IsMadeOf text.now html) }
+    ensures made { IfOk result (IsMadeOf (is_some options.now.base) text.now) }
     ensures tokens { IfOk result IsSafelyTokenized }
     ensures contained { IfOk result IsContained }
     ensures tree { IfOk result IsBuiltAsRead }
@@ -52,7 +52,7 @@ pub fn markdown(
     if writer.added.is_empty() {
         return compile(alloc, &writer, bytes, options);
     }
-    let whole = joined(alloc, bytes, writer.added.as_slice())?;
+    let whole = joined(alloc, bytes, added(&writer, options))?;
     compile(alloc, &writer, whole.as_slice(), options)
 }
 
@@ -107,7 +107,7 @@ pub fn markdown_within(
     limits: Limits,
 ) -> Result<SafeHtml, MarkdownWithinError>
     ensures within { IfOk result (λ html. length html ≤ limits.text) }
-    ensures made { IfOk result (λ html. IsMadeOf text.now html) }
+    ensures made { IfOk result (IsMadeOf (is_some options.now.base) text.now) }
     ensures tokens { IfOk result IsSafelyTokenized }
     ensures contained { IfOk result IsContained }
     ensures tree { IfOk result IsBuiltAsRead }
@@ -119,7 +119,7 @@ pub fn markdown_within(
     if writer.added.is_empty() {
         return compile_within(alloc, &writer, bytes, options, limits);
     }
-    let whole = joined(alloc, bytes, writer.added.as_slice())?;
+    let whole = joined(alloc, bytes, added(&writer, options))?;
     compile_within(alloc, &writer, whole.as_slice(), options, limits)
 }
 
@@ -149,6 +149,16 @@ fn compile_within(
         Ok(html) => Ok(html),
         Err(SafeWithinError::Within(error)) => Err(MarkdownWithinError::from(error)),
         Err(SafeWithinError::Options) => unreachable!(),
+    }
+}
+
+/// What stands behind a document for which bytes were added: a line feed, and with a base URLs.
+fn added<'a>(writer: &'a Writer, options: &MarkdownOptions) -> &'a [u8]
+    ensures { MayBeAdded (is_some options.now.base) result.now }
+{
+    match options.base {
+        Some(_) => writer.added.as_slice(),
+        None => b"\n",
     }
 }
 

@@ -1,7 +1,9 @@
 -- From what is promised of a text, and why there is none, to what C is told.
 use Rattle.std.proofs.Common.{◌≡◌, ℕ, ◌≤◌, Bool, true, List, Option, Some, Result, Ok, Err}
-use Rattle.std.proofs.Common.{take, [], ◌∷◌, ◌++◌, IfErr, is_some, sym, ap, ◌∙◌, subst}
-use Rattle.std.specs.Prelude.{IsErrAnd, option_and_then, slice_get}
+use Rattle.std.proofs.Common.{take, [], ◌∷◌, ◌++◌, IfErr, is_some, refl, sym, ap, ◌∙◌}
+use Rattle.std.proofs.Common.{subst}
+use Rattle.std.specs.Prelude.{None, IsErrAnd, option_and_then, option_map, slice_get}
+use Rattle.std.specs.Prelude.{string_bytes}
 use Rattle.md_text.specs.Ids.{HasDistinctIds}
 use Rattle.md_safe.specs.Token.{Token, EndOfFile}
 use Rattle.md_safe.specs.Tokens.{tokens}
@@ -44,9 +46,22 @@ is_on value flag is on = cc
 asked_is : (given : CText) (read : Option (List ℕ)) → text_of given ≡ Some read → asked given ≡ read
 asked_is given read stands = ap (option_and_then (λ text. text)) stands
 
+-- C asks for a base where there is one
+base_is : (given : CMarkdownOptions) (options : MarkdownOptions) →
+    HasMarkdownOptions given options → is_some (asked given.base) ≡ is_some options.base
+base_is given options has =
+    ap is_some (asked_is given.base (option_map string_bytes options.base) has.base)
+    ∙ by options.base string_bytes
+  where
+    by : {T : Type 0} (base : Option T) (f : T → List ℕ) →
+        is_some (option_map f base) ≡ is_some base
+    by None f = refl
+    by (Some text) f = refl
+
 pub made_text : (bytes text : List ℕ) (given : CMarkdownOptions) (options : MarkdownOptions)
     (rel prefix : Option (List ℕ)) (plain whole : List ℕ) (start : ℕ) → text ≡ bytes →
-    HasMarkdownOptions given options → IsMadeOf text plain → IsSafelyTokenized plain →
+    HasMarkdownOptions given options → IsMadeOf (is_some options.base) text plain →
+    IsSafelyTokenized plain →
     IsContained plain → IsBuiltAsRead plain →
     (options.number_ids ≡ true → HasDistinctIds plain) → text_of given.rel ≡ Some rel →
     text_of given.heading_ids ≡ Some prefix →
@@ -60,7 +75,8 @@ made_text bytes text given options rel prefix plain whole start same has made sa
     record {
       plain = plain;
       tokens = emitted;
-      made = subst (λ b. IsMadeOf b plain) same made;
+      made = subst (λ b. IsMadeOf b bytes plain) (sym (base_is given options has))
+          (subst (λ b. IsMadeOf (is_some options.base) b plain) same made);
       safe = safe;
       contained = contained;
       tree = tree;

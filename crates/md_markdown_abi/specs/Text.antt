@@ -1,5 +1,5 @@
 -- What a text is of the Markdown that C hands in, and what is read of that.
-use Rattle.std.specs.Prelude.{◌≡◌, ℕ, ◌≤◌, List, length, take}
+use Rattle.std.specs.Prelude.{◌≡◌, ℕ, ◌≤◌, List, length, take, is_some}
 use Rattle.std.specs.Str.{IsUtf8}
 use Rattle.md_text.specs.Ids.{HasDistinctIds}
 use Rattle.md_safe.specs.Token.{Token}
@@ -23,7 +23,7 @@ pub record IsMarkdownText (bytes : List ℕ) (options : CMarkdownOptions) (start
     (whole : List ℕ) : Type 0 where
   pub plain : List ℕ
   pub tokens : List Token
-  pub made : IsMadeOf bytes plain
+  pub made : IsMadeOf (is_some (asked options.base)) bytes plain
   pub safe : IsSafelyTokenized plain
   pub contained : IsContained plain
   pub tree : IsBuiltAsRead plain
