@@ -1,6 +1,6 @@
 //! Line endings of a document.
 
-ghost use Rattle.std.specs.Prelude.{◌≡◌, ◌++◌, ◌∷◌, [], ℕ, List, OnOk};
+ghost use Rattle.std.specs.Prelude.{◌≡◌, OnOk};
 ghost use Rattle.md_inlines.specs.Written.{IsLeafBehind};
 ghost use Rattle.md_base.specs.declared.event.Name.TheVariants.{BlankLineEnding};
 

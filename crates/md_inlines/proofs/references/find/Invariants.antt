@@ -1,4 +1,4 @@
-use Rattle.std.proofs.Common.{◌-◌, ◌≡◌, ℕ, ◌+◌, ◌*◌, ◌<◌, ◌≤◌, length}
+use Rattle.std.proofs.Common.{◌-◌}
 use Rattle.md_inlines.proofs.references.find.Given as goal
 
 abbrev pub decreases-loop-low : goal.decreases-loop-low
