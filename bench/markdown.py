@@ -3,14 +3,17 @@
 
     bench/markdown.py [PROGRAM]
 
-PROGRAM is crates/mdhtml/out/mdhtml if it isn't given, which `rt ci` builds. Three parts:
+PROGRAM is crates/mdhtml/out/mdhtml if it isn't given, which `rt ci` builds. Five parts:
 - the examples of the GFM specification: each text is what cmark-gfm makes of it with the
   differences that are permitted (clients/checks/judge.py), but for those that KNOWN tells;
+- the documents of bench/markdown_cases.py that are to be read as cmark-gfm reads them, likewise;
+- its documents under each option, its URLs against bases, each name of a character reference, and
+  each mark at each of OFFSETS places in a line;
 - the cases of docs/MARKDOWN.md, here and by cmark-gfm;
 - documents that make parsers slow: four times as long a one takes at most GROWTH times the
   processor time, and at most MEMORY bytes for each of its bytes beyond MEGABYTES.
-The first part needs Debian's cmark-gfm and its extensions, the second cmark-gfm: where they are
-missing, the part is left out, and that is told. The status is 1 where something is wrong.
+The first two parts need Debian's cmark-gfm and its extensions, the fourth cmark-gfm: where they
+are missing, the part is left out, and that is told. The status is 1 where something is wrong.
 """
 
 import pathlib
@@ -21,10 +24,11 @@ import subprocess
 import sys
 import tempfile
 
+import markdown_cases
+
 ROOT = pathlib.Path(__file__).resolve().parents[1]
 PROGRAM = ROOT / "crates" / "mdhtml" / "out" / "mdhtml"
 KNOWN = {
-    295: "a line ending in an empty item",
     614: "an escaped character before an address",
     628: "a bare link of ftp, which isn't permitted",
 }
@@ -35,6 +39,9 @@ SIZE = 100_000
 GROWTH = 12
 MEMORY = 400
 MEGABYTES = 64
+OFFSETS = 40
+OPTIONS = ("--math", "--base=http://a/b/c", "--html=without-comments")
+MOST_DEPTH = 96
 
 
 def framed(program, documents, *options):
@@ -51,8 +58,9 @@ def framed(program, documents, *options):
     return texts
 
 
-def examples(program):
-    """The faults of the specification's examples; None where there is nothing to judge by."""
+def judged(program):
+    """The faults of the documents that cmark-gfm judges; None where there is nothing to judge by.
+    """
     sys.path.insert(0, str(ROOT / "clients" / "checks"))
     sys.dont_write_bytecode = True
     try:
@@ -61,12 +69,53 @@ def examples(program):
         given = documents.examples()
     except OSError:
         return None
-    texts = framed(program, given)
-    differ = {number for number, (document, text) in enumerate(zip(given, texts), 1)
-              if text != judge.judge(document).wanted}
+
+    def differing(given):
+        return {number for number, (document, text) in enumerate(zip(given, framed(program, given)))
+                if text != judge.judge(document).wanted}
+
+    differ = {number + 1 for number in differing(given)}
     print(f"markdown: of {len(given)} examples {len(given) - len(differ)} give cmark-gfm's text "
           "with the permitted differences")
-    return [f"example {number}: {given[number - 1]!r}" for number in sorted(differ ^ KNOWN.keys())]
+    faults = [f"example {number}: {given[number - 1]!r}" for number in sorted(differ ^ KNOWN.keys())]
+    own = [text.encode("utf-8") for text in markdown_cases.AS_GFM]
+    print(f"markdown: {len(own)} documents as cmark-gfm reads them")
+    return faults + [f"not as cmark-gfm: {own[number]!r}" for number in sorted(differing(own))]
+
+
+def unlike(program, options, cases):
+    """The faults of documents under options: each has the HTML that stands with it."""
+    texts = framed(program, [text.encode("utf-8") for text, _ in cases], *options)
+    return [f"{' '.join(options)} {text!r}: {None if found is None else found.decode('utf-8')!r}"
+            for (text, wanted), found in zip(cases, texts)
+            if found is None or found.decode("utf-8") != wanted]
+
+
+def by_options(program):
+    """The faults of documents under each option, and of URLs against bases."""
+    faults, count = [], 0
+    for options, cases in markdown_cases.BY_OPTIONS:
+        faults += unlike(program, options, cases)
+        count += len(cases)
+    for base, urls in markdown_cases.RESOLVED.items():
+        cases = [(f"[x](<{url}>)", f'<p><a href="{wanted}">x</a></p>\n') for url, wanted in urls]
+        faults += unlike(program, (f"--base={base}",), cases)
+        count += len(cases)
+    cases = [markdown_cases.references(), markdown_cases.deep(200, MOST_DEPTH)]
+    faults += unlike(program, (), cases)
+    print(f"markdown: {count + len(cases)} documents under options")
+    return faults
+
+
+def offsets(program):
+    """The faults of marks somewhere in a line: a text before one only adds itself."""
+    marked = markdown_cases.MARKED
+    alone = framed(program, [text.encode("utf-8") for text in marked], "--math")
+    cases = [(before + text, f"<p>{before}{html.decode('utf-8')[3:]}")
+             for text, html in zip(marked, alone)
+             for before in map(markdown_cases.behind, range(4, OFFSETS + 4))]
+    print(f"markdown: {len(marked)} marks at each of {OFFSETS} places")
+    return unlike(program, ("--math",), cases)
 
 
 def by_gfm(text):
@@ -138,6 +187,11 @@ SHAPES = {
     "calls of a footnote": lambda n: times(n, "[^a]") + "\n\n[^a]: b\n",
     "tags without an end": lambda n: times(n, "<a b='"),
     "comments without an end": lambda n: times(n, "x <!-- "),
+    "comments in HTML": lambda n: "<div>" + times(n, "<!-->-") + "\n",
+    "comments over lines in HTML": lambda n: "<div>\n" + times(n, "a<!--\n-->"),
+    "a long URL by a definition": lambda n: "![" + times(n // 2, "[a] ") + "](b)\n\n[a]: "
+    + times(n // 2, "b/") + "\n",
+    "dots in a URL": lambda n: "[a](" + times(n // 2, "b/") + times(n // 2, "../") + ")",
     "declarations without an end": lambda n: times(n, "x <!A <? <![CDATA["),
     "less-than signs": lambda n: times(n, "<"),
     "www": lambda n: times(n, "_www.a_b."),
@@ -162,15 +216,16 @@ SHAPES = {
 def taken(program, text):
     """The processor seconds that the program takes for a document, and its memory in bytes."""
     script = ("import resource, subprocess, sys\n"
-              "subprocess.run([sys.argv[1], '--math'], stdin=open(sys.argv[2], 'rb'), check=True,\n"
+              "subprocess.run([*sys.argv[2:]], stdin=open(sys.argv[1], 'rb'), check=True,\n"
               "    stdout=subprocess.DEVNULL)\n"
               "used = resource.getrusage(resource.RUSAGE_CHILDREN)\n"
               "print(used.ru_utime, used.ru_maxrss * 1024)\n")
     with tempfile.NamedTemporaryFile() as file:
         file.write(text.encode("utf-8"))
         file.flush()
-        runs = [subprocess.run([sys.executable, "-c", script, program, file.name], check=True,
-                               capture_output=True, text=True).stdout.split() for _ in range(2)]
+        words = [sys.executable, "-c", script, file.name, program, *OPTIONS]
+        runs = [subprocess.run(words, check=True, capture_output=True, text=True).stdout.split()
+                for _ in range(2)]
     return min(float(seconds) for seconds, _ in runs), min(int(memory) for _, memory in runs)
 
 
@@ -198,10 +253,10 @@ def main(arguments):
     """Runs the parts; the status to end with."""
     resource.setrlimit(resource.RLIMIT_CORE, (0, 0))
     program = str(pathlib.Path(arguments[0] if arguments else PROGRAM).resolve())
-    faults = choices(program) + hostile(program)
-    judged = examples(program)
-    faults += judged or []
-    if judged is None:
+    faults = by_options(program) + offsets(program) + choices(program) + hostile(program)
+    by_judge = judged(program)
+    faults += by_judge or []
+    if by_judge is None:
         left_out("the examples of the GFM specification by mdhtml",
                  "cmark-gfm libcmark-gfm-extensions-dev")
     if not shutil.which("cmark-gfm"):

@@ -24,8 +24,8 @@
  *
  * Link with libbivdrazo.a, as clients/build makes it. docs/CALLS.md tells more.
  *
- * What a caller of bivdrazo_compile(), bivdrazo_compile_within(), bivdrazo_compile_attributed() and
- * bivdrazo_run() must keep to, since nothing checks it:
+ * What a caller of bivdrazo_compile(), bivdrazo_compile_within(), bivdrazo_compile_attributed(),
+ * bivdrazo_compile_unnested() and bivdrazo_run() must keep to, since nothing checks it:
  *  - No pointer is null, also where the length beside it is 0: then pass the address of any object
  *    that lives and is aligned for the type. Each points to as many readable elements as its length
  *    says; `buffer` to writable bytes. That holds of the pointers inside of options, names and
@@ -96,6 +96,18 @@ bivdrazo_answer bivdrazo_compile_attributed(const bivdrazo_event *events, size_t
                                             size_t buffer_length);
 
 /*
+ * As bivdrazo_compile(), under options that are safe, where no link stands in a link: a browser
+ * builds the tree that the text is read as. Else the status is BIVDRAZO_UNSAFE or BIVDRAZO_NESTED.
+ * Links are also automatic ones that are none by letters alone, and calls of footnotes; a link in
+ * an image counts as none.
+ */
+bivdrazo_answer bivdrazo_compile_unnested(const bivdrazo_event *events, size_t events_length,
+                                          const uint8_t *bytes, size_t bytes_length,
+                                          const bivdrazo_options *options,
+                                          const bivdrazo_reference *names, size_t names_length,
+                                          uint8_t *buffer, size_t buffer_length);
+
+/*
  * The HTML of an event script (lines of options and events, a line `--`, the document), likewise.
  * Its statuses are BIVDRAZO_OK, BIVDRAZO_TOO_SHORT, BIVDRAZO_REFUSED, BIVDRAZO_NO_LINE and
  * BIVDRAZO_MEMORY.
@@ -156,6 +168,8 @@ static inline const char *bivdrazo_status_text(uint32_t status) {
         return "the text is too long";
     case BIVDRAZO_TOO_MUCH:
         return "there is too much work";
+    case BIVDRAZO_NESTED:
+        return "a link stands in a link";
     default:
         return "an unknown status";
     }

@@ -154,6 +154,35 @@ static inline bivdrazo_answer bivdrazo_compile_attributed_alloc(
     return answer;
 }
 
+/* As bivdrazo_compile_unnested(), with the text in memory of its own, as bivdrazo_compile_alloc()
+   gives it. */
+static inline bivdrazo_answer bivdrazo_compile_unnested_alloc(
+    const bivdrazo_event *events, size_t events_length, const uint8_t *bytes, size_t bytes_length,
+    const bivdrazo_options *options, const bivdrazo_reference *names, size_t names_length,
+    uint8_t **text) {
+    static const bivdrazo_event no_event = {0, 0, 0, 0, 0};
+    static const bivdrazo_reference no_name = {(const uint8_t *)"", 0, (const uint8_t *)"", 0};
+    const bivdrazo_options defaults = bivdrazo_options_default();
+    bivdrazo_answer answer = {BIVDRAZO_TOO_SHORT, 0, 0,
+                              bivdrazo_first_size(events_length, bytes_length)};
+    *text = NULL;
+    if (bivdrazo_is_too_long(events_length, sizeof *events) ||
+        bivdrazo_is_too_long(bytes_length, 1) || bivdrazo_is_too_long(names_length, sizeof *names))
+        return bivdrazo_answer_memory();
+    for (int turn = 0; turn < 2 && answer.status == BIVDRAZO_TOO_SHORT; turn++) {
+        const size_t room = answer.length;
+        bivdrazo_grow(&answer, text);
+        if (answer.status == BIVDRAZO_TOO_SHORT)
+            answer = bivdrazo_compile_unnested(events_length ? events : &no_event, events_length,
+                                               bytes_length ? bytes : (const uint8_t *)"",
+                                               bytes_length, options ? options : &defaults,
+                                               names_length ? names : &no_name, names_length, *text,
+                                               room);
+    }
+    bivdrazo_settle(&answer, text);
+    return answer;
+}
+
 /* As bivdrazo_run(), with the text in memory of its own, as bivdrazo_compile_alloc() gives it. */
 static inline bivdrazo_answer bivdrazo_run_alloc(const uint8_t *script, size_t script_length,
                                                  uint8_t **text) {

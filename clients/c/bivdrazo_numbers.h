@@ -39,6 +39,8 @@ enum {
     BIVDRAZO_TOO_LONG = 10,
     /* There is more to read and to print than there may be. */
     BIVDRAZO_TOO_MUCH = 11,
+    /* A link stands in a link. */
+    BIVDRAZO_NESTED = 12,
 };
 
 /* Why events are refused. */

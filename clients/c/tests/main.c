@@ -18,6 +18,7 @@ int main(void) {
     test_words();
     test_options();
     test_attributes();
+    test_unnested();
     test_limits();
     test_memory();
     test_threads();

@@ -51,6 +51,7 @@ void test_compiling(void);
 void test_words(void);
 void test_options(void);
 void test_attributes(void);
+void test_unnested(void);
 void test_limits(void);
 void test_memory(void);
 void test_threads(void);

@@ -29,8 +29,9 @@ bivdrazo.errors.Refused: event 3: ORDER
 Calls may be made from any number of threads, and run side by side.
 """
 
-from .calls import Event, compile, compile_within, run
-from .errors import Error, Invalid, MarkdownError, Refused, TooLong, TooMuchWork, Unreadable
+from .calls import Event, compile, compile_unnested, compile_within, run
+from .errors import Error, Invalid, MarkdownError, Nested, Refused, TooLong, TooMuchWork
+from .errors import Unreadable
 from .markdown import Heading, front_matter_of, markdown_to_html, markdown_with_headings
 from .numbers import VERSION, Kind, LineEnding, Name, Rule
 from .numbers import VERSION_TEXT as __version__
@@ -48,6 +49,7 @@ __all__ = [
     "LineEnding",
     "MarkdownError",
     "Name",
+    "Nested",
     "Refused",
     "Rule",
     "SafeHtml",
@@ -56,6 +58,7 @@ __all__ = [
     "Unreadable",
     "__version__",
     "compile",
+    "compile_unnested",
     "compile_within",
     "front_matter_of",
     "markdown_to_html",

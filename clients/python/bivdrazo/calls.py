@@ -142,6 +142,41 @@ def compile_within(
     return SafeHtml(text) if are_safe(given) else text
 
 
+def compile_unnested(
+    events: Iterable[Event],
+    data: Bytes,
+    *,
+    names: Mapping[str, str] | Iterable[tuple[str, str]] = (),
+    **options: Any,
+) -> SafeHtml:
+    """As compile, whose other options it takes if they are safe, where no link stands in a link: a
+    browser builds the tree that the text is read as.
+
+    >>> from bivdrazo import Event, Name, compile_unnested
+    >>> compile_unnested([Event.enter(Name.DATA, 0), Event.exit(Name.DATA, 6)], b"Hi <b>")
+    'Hi &lt;b&gt;'
+
+    Links are also automatic ones that are none by letters alone, and calls of footnotes; a link in
+    an image counts as none.
+
+    Raises, beside what compile does, Nested where a link stands in a link, and ValueError where the
+    options aren't safe.
+    """
+    given = options_of(**options)
+    if not are_safe(given):
+        raise ValueError("the options aren't safe")
+    made, length = events_of(events)
+    references = references_of(names)
+    document = bytes_of("data", data)
+    return SafeHtml(answered(
+        first_size(length, len(document)),
+        lambda buffer, room: LIBRARY.bivdrazo_compile_unnested(
+            made, length, document, len(document), given, references, len(references) - 1, buffer,
+            room
+        ),
+    ))
+
+
 def run(script: Bytes) -> str:
     """The HTML of an event script: lines of options and events, a line `--`, the document. It is a
     plain str, since a script may set options that aren't safe.

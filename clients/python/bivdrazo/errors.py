@@ -18,6 +18,7 @@ TEXTS = {
     Status.NO_ATTRIBUTE: "an attribute has no such value",
     Status.TOO_LONG: "the text is too long",
     Status.TOO_MUCH: "there is too much work",
+    Status.NESTED: "a link stands in a link",
     MarkdownStatus.INPUT_TOO_LONG: "the Markdown is too long",
     MarkdownStatus.OUTPUT_TOO_LONG: "the text is too long",
     MarkdownStatus.NOT_UTF8: "the Markdown isn't UTF-8",
@@ -102,6 +103,17 @@ class TooMuchWork(Error):
         return type(self), (self.limit,)
 
 
+class Nested(Error):
+    """In the events' document a link stands in a link."""
+
+    def __init__(self) -> None:
+        super().__init__("a link stands in a link")
+
+    def __reduce__(self) -> tuple[type, tuple[()]]:
+        """How it is pickled."""
+        return type(self), ()
+
+
 class MarkdownError(RuntimeError):
     """The parser of Markdown failed: a fault that should be reported."""
 
@@ -118,6 +130,8 @@ def error_of(status: int, index: int, rule: int) -> Exception:
         return Invalid("option", index)
     if status == Status.NO_LINE:
         return Unreadable(index)
+    if status == Status.NESTED:
+        return Nested()
     if status == Status.MEMORY:
         return MemoryError(text_of_status(status))
     return RuntimeError(text_of_status(status))

@@ -107,6 +107,8 @@ def load() -> ctypes.CDLL:
     library.bivdrazo_compile_within.argtypes = [events, size, text, size, options, names, size,
                                                 limits, text, size]
     library.bivdrazo_compile_within.restype = CAnswer
+    library.bivdrazo_compile_unnested.argtypes = library.bivdrazo_compile.argtypes
+    library.bivdrazo_compile_unnested.restype = CAnswer
     library.bivdrazo_run.argtypes = [text, size, text, size]
     library.bivdrazo_run.restype = CAnswer
     library.bivdrazo_markdown_into.argtypes = [text, size, ctypes.POINTER(CMarkdownOptions), text,

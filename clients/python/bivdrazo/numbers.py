@@ -79,6 +79,8 @@ class Status(enum.IntEnum):
     TOO_LONG = 10
     # There is more to read and to print than there may be.
     TOO_MUCH = 11
+    # A link stands in a link.
+    NESTED = 12
 
 
 class Rule(enum.IntEnum):

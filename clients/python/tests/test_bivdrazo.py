@@ -11,12 +11,15 @@ from bivdrazo import (
     Invalid,
     LineEnding,
     Name,
+    Nested,
     Refused,
     Rule,
+    SafeHtml,
     TooLong,
     TooMuchWork,
     Unreadable,
     compile,
+    compile_unnested,
     compile_within,
     run,
 )
@@ -207,6 +210,37 @@ class Limits(unittest.TestCase):
                 self.within(max_work=bound)
 
 
+class Unnested(unittest.TestCase):
+    """No link stands in a link."""
+
+    @staticmethod
+    def link(name):
+        """A link around a node of that name."""
+        within = [(Name.LINK, 0, 6), (Name.LABEL, 0, 3), (Name.LABEL_TEXT, 1, 2), (name, 1, 2)]
+        events = [Event.enter(each, start) for each, start, _ in within]
+        events += [Event.exit(each, end) for each, _, end in reversed(within[1:])]
+        url = [(Name.RESOURCE, 3, 6), (Name.RESOURCE_DESTINATION_STRING, 4, 5), (Name.DATA, 4, 5)]
+        events += [Event.enter(each, start) for each, start, _ in url]
+        events += [Event.exit(each, end) for each, _, end in reversed(url)]
+        return [*events, Event.exit(Name.LINK, 6)]
+
+    def test_texts(self):
+        text = compile_unnested(self.link(Name.DATA), b"[a](b)")
+        self.assertEqual((text, type(text)), ('<a href="b">a</a>', SafeHtml))
+        self.assertEqual(text, compile(self.link(Name.DATA), b"[a](b)"))
+
+    def test_errors(self):
+        nested = self.link(Name.AUTOLINK_PROTOCOL)
+        self.assertIn("<a", compile(nested, b"[a](b)"))
+        with self.assertRaises(Nested):
+            compile_unnested(nested, b"[a](b)")
+        with self.assertRaises(ValueError) as caught:
+            compile_unnested([], b"", allow_dangerous_html=True)
+        self.assertNotIsInstance(caught.exception, Nested)
+        with self.assertRaises(Refused):
+            compile_unnested(nested[:3], b"[a](b)")
+
+
 class Errors(unittest.TestCase):
     """Where there is no text."""
 
@@ -257,6 +291,7 @@ class Errors(unittest.TestCase):
         self.assertEqual(str(error_of(2, 6, 3)), "event 6: PLACE")
         self.assertEqual(str(error_of(6, 7, 0)), "line 7: unreadable")
         self.assertEqual(repr(error_of(7, 0, 0)), "MemoryError('out of memory')")
+        self.assertEqual(repr(error_of(12, 0, 0)), "Nested('a link stands in a link')")
         self.assertEqual(repr(error_of(99, 0, 0)),
                          "RuntimeError('the library answered the unknown status 99')")
 

@@ -8,3 +8,4 @@ pub mod AttributedLemmas
 pub mod ListAnswerLemmas
 pub mod WithinLemmas
 pub mod WithinAnswers
+pub mod UnnestedLemmas

@@ -16,3 +16,5 @@ pub mod Attributed
 pub mod Refusals
 pub mod Within
 pub mod WithinFailures
+pub mod Unnested
+pub mod UnnestedFailures

@@ -55,6 +55,10 @@ too_long = 10
 abbrev pub too_much : ℕ
 too_much = 11
 
+-- a link stands in a link
+abbrev pub nested : ℕ
+nested = 12
+
 -- ---- rules; 0 is none
 
 abbrev pub rule_number : Rule → ℕ

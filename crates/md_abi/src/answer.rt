@@ -5,10 +5,12 @@ ghost use Rattle.md_abi.specs.Numbers.{rule_number};
 ghost use Rattle.md_abi.specs.Failures.{answer_of};
 ghost use Rattle.md_abi.specs.Refusals.{answer_of_refusal};
 ghost use Rattle.md_abi.specs.WithinFailures.{answer_of_within};
+ghost use Rattle.md_abi.specs.UnnestedFailures.{answer_of_unnested};
 ghost use Rattle.md_abi.specs.Buffer.{IsHandedOver, IsListHandedOver};
 
 use crate::failure::Failure;
 use crate::refusal::Refusal;
+use crate::unnested::UnnestedFailure;
 use crate::within::WithinFailure;
 use md_tree::Rule;
 
@@ -47,6 +49,9 @@ const TOO_LONG: u32 = 10;
 
 /// There is more to read and to print than there may be.
 const TOO_MUCH: u32 = 11;
+
+/// A link stands in a link.
+const NESTED: u32 = 12;
 
 /// What a call answers. A field of which the status says nothing is 0.
 #[repr(C)]
@@ -99,6 +104,16 @@ pub fn answer_to_within(failure: &WithinFailure) -> Answer
         WithinFailure::TooLong => about(TOO_LONG, 0),
         WithinFailure::TooMuch => about(TOO_MUCH, 0),
         WithinFailure::Failed(failure) => answer_to(failure),
+    }
+}
+
+/// The answer to a failure where no link may stand in a link.
+pub fn answer_to_unnested(failure: &UnnestedFailure) -> Answer
+    ensures { result ≡ answer_of_unnested failure.now }
+{
+    match failure {
+        UnnestedFailure::Nested => about(NESTED, 0),
+        UnnestedFailure::Refused(refusal) => answer_to_refusal(refusal),
     }
 }
 

@@ -19,8 +19,8 @@ pub struct Definition {
     pub title: Option<Title>,
     /// Whether its destination has neither a backslash nor an ampersand.
     pub is_plain: bool,
-    /// Whether its destination and title have over 256 bytes that must be looked through at each
-    /// of its links.
+    /// Whether its destination and title have over 256 bytes, which are not to be looked through at
+    /// each of its links.
     pub is_long: bool,
     /// Which one it is of the document's definitions, counted from 0.
     pub index: usize,
@@ -218,8 +218,7 @@ fn definition_of(bytes: &[u8], label: Span, target: Target) -> Definition {
         Some(title) => title.text.end - title.text.start,
         None => 0,
     };
-    let is_long = text.len().saturating_add(title_length) > MOST_AGAIN
-        && !(is_plain && title.is_none());
+    let is_long = text.len().saturating_add(title_length) > MOST_AGAIN;
     Definition {
         label,
         destination,

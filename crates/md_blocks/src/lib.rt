@@ -14,6 +14,7 @@ mod nesting;
 mod options;
 mod pass;
 mod position;
+mod preamble;
 mod starts;
 mod table;
 
@@ -22,4 +23,5 @@ pub use blocks::{Blocks, parse_blocks};
 pub use definition::{Definition, Definitions};
 pub use nesting::MAX_DEPTH;
 pub use options::BlockOptions;
+pub use preamble::{FrontMatter, front_matter};
 pub use table::next_cell;

@@ -10,7 +10,8 @@ use crate::html::HtmlKind;
 use crate::nesting::{Nesting, Open};
 use crate::options::BlockOptions;
 use crate::position::Position;
-use md_lines::{Line, Place, Span, after_ending, line_end, trim_end, trim_start};
+use crate::preamble::{front_matter, start_of};
+use md_lines::{Line, Place, Span, after_ending, line_end, trim_start};
 use std::alloc::{AllocError, Global};
 
 /// How many columns a line of code is indented by, and one that goes on in a footnote.
@@ -24,9 +25,6 @@ const BYTES_PER_LINE: usize = 32;
 
 /// For this many blocks and lines there is room in any case.
 const LEAST_ROOM: usize = 16;
-
-/// A byte order mark.
-const BYTE_ORDER_MARK: &[u8] = b"\xef\xbb\xbf";
 
 /// The leaf that is open.
 #[derive(Clone, Copy, PartialEq, Eq)]
@@ -128,14 +126,11 @@ impl<'a> Pass<'a> {
         ensures { OnOk result (vec_len self.new.nesting.stack ≤ 0) }
     {
         let bytes = self.bytes;
-        let mut at = if bytes.starts_with(BYTE_ORDER_MARK) {
-            BYTE_ORDER_MARK.len()
+        let mut at = if self.options.front_matter {
+            self.read_front_matter()?
         } else {
-            0
+            start_of(bytes)
         };
-        if self.options.front_matter {
-            at = self.read_front_matter(at)?;
-        }
         'lines: while at < bytes.len() {
             let end = line_end(bytes, at);
             let next = after_ending(bytes, end);
@@ -145,27 +140,17 @@ impl<'a> Pass<'a> {
         self.close_unmatched(0)
     }
 
-    /// Reads front matter that begins at an index: where the document goes on, which is that index
-    /// where there is none.
-    fn read_front_matter(&mut self, at: usize) -> Result<usize, AllocError> {
-        let bytes = self.bytes;
-        let end = line_end(bytes, at);
-        if !is_front_fence(bytes, at, end) {
-            return Ok(at);
-        }
-        let mut from = after_ending(bytes, end);
-        'lines: while from < bytes.len() {
-            let end = line_end(bytes, from);
-            let next = after_ending(bytes, end);
-            if is_front_fence(bytes, from, end) {
+    /// Reads front matter: where the document goes on behind it, or behind a byte order mark.
+    fn read_front_matter(&mut self) -> Result<usize, AllocError> {
+        match front_matter(self.bytes) {
+            Some(found) => {
                 self.nesting.put(Leaf::FrontMatter {
-                    ending: Span::new(end, next),
+                    ending: found.ending,
                 })?;
-                return Ok(next);
+                Ok(found.ending.end)
             }
-            from = next;
+            None => Ok(start_of(self.bytes)),
         }
-        Ok(at)
     }
 
     /// Reads a line.
@@ -401,9 +386,4 @@ fn goes_on_indented(columns: usize, position: &mut Position<'_>) -> bool {
     }
     position.advance(columns);
     true
-}
-
-/// Whether a line is a fence of front matter: three dashes.
-fn is_front_fence(bytes: &[u8], at: usize, end: usize) -> bool {
-    bytes.get(at..trim_end(bytes, at, end)) == Some(b"---")
 }

@@ -5,7 +5,7 @@ ghost use Rattle.md_script.specs.Run.{IsTextOf};
 ghost use Rattle.md_script.specs.Script.{IsReadable, IsFirstUnreadable};
 ghost use Rattle.md_abi.specs.Numbers.{refused, no_event, no_name, no_option, no_line};
 ghost use Rattle.md_abi.specs.Numbers.{unsafe_options, no_attribute};
-ghost use Rattle.md_abi.specs.Numbers.{too_long, too_much};
+ghost use Rattle.md_abi.specs.Numbers.{too_long, too_much, nested};
 ghost use Rattle.md_abi.specs.Standing.{IsFirstWithout};
 ghost use Rattle.md_abi.specs.Events.{event_of};
 ghost use Rattle.md_abi.specs.References.{reference_of};
@@ -14,6 +14,7 @@ ghost use Rattle.md_abi.specs.Attributes.{StandsForNoAttribute};
 ghost use Rattle.md_abi.specs.Attributed.{IsAttributedText};
 ghost use Rattle.md_abi.specs.Rendered.{IsRendered, IsRefusedBy, IsRefusedIn};
 ghost use Rattle.md_abi.specs.Within.{IsRenderedWithin, IsTooLong, IsTooMuch, IsBounded};
+ghost use Rattle.md_abi.specs.Unnested.{IsUnnestedText, IsNestedIn, IsOfUnnested};
 ghost use Rattle.md_abi.specs.Buffer.{HandsOver};
 ghost use Rattle.md_abi.specs.Answers.{IsOfCompile, IsOfAttributed, IsOfRun};
 ghost use Rattle.md_abi.specs.Answers.{IsOfWithin, TellsOfEvents};
@@ -23,8 +24,8 @@ ghost use Rattle.md_markdown_abi.specs.Answers.{TellsOfMarkdown, IsOfMarkdown};
 
 use md_abi::{
     Answer, CAttributes, CDocument, CEvent, CLimits, COptions, CReference, Failure, answer_to,
-    answer_to_refusal, answer_to_within, compile_attributed, compile_given, compile_given_within,
-    hand_over, hand_over_listed,
+    answer_to_refusal, answer_to_unnested, answer_to_within, compile_attributed, compile_given,
+    compile_given_unnested, compile_given_within, hand_over, hand_over_listed,
 };
 use md_markdown_abi::{
     CMarkdownOptions, answer_to_front_matter, answer_to_markdown, markdown_given,
@@ -150,6 +151,55 @@ pub extern "C" fn bivdrazo_compile_attributed(
     match compile_attributed(alloc, given, attributes) {
         Ok(made) => hand_over_listed(made.whole.as_str(), made.start, buffer),
         Err(refusal) => answer_to_refusal(&refusal),
+    }
+}
+
+/// The HTML of a list of events over a document's bytes, whose options are safe, where no link
+/// stands in a link, into a buffer: wherever flow content may be set, the HTML Standard's tree
+/// construction builds the tree that it is read as.
+///
+/// Its six parameters are those of C's call, as [`bivdrazo_compile`] tells them.
+///
+/// # Statuses
+///
+/// - 0 to 5, 7: as of [`bivdrazo_compile`].
+/// - 8: the options aren't safe.
+/// - 12: a link stands in a link, of which neither stands in an image. Links are also automatic ones
+///   that are none by letters alone, and calls of footnotes.
+///
+/// With all but 0 the buffer is as it was. Which of 3 to 5 and 8 is told, if several are true, is
+/// left open.
+#[unsafe(no_mangle)]
+pub extern "C" fn bivdrazo_compile_unnested(
+    alloc: Global,
+    events: &[CEvent],
+    bytes: &[u8],
+    options: &COptions,
+    names: &[CReference],
+    buffer: &mut [u8],
+) -> Answer
+    // The text is safe, the meaning of what was handed in, and built as it is read.
+    ensures text { HandsOver
+        (IsUnnestedText events.now bytes.now options.now names.now)
+        buffer.old buffer.new result }
+    ensures refused { result.status ≡ refused →
+        IsRefusedBy events.now bytes.now names.now result.index result.rule }
+    ensures no_event { result.status ≡ no_event → IsFirstWithout event_of events.now result.index }
+    ensures no_name { result.status ≡ no_name → IsFirstWithout reference_of names.now result.index }
+    ensures no_option { result.status ≡ no_option → StandsForNone options.now result.index }
+    ensures unsafe_options { result.status ≡ unsafe_options → KeepsImages options.now → ⊥ }
+    ensures nested { result.status ≡ nested → IsNestedIn events.now bytes.now names.now }
+    ensures fields { IsOfUnnested result }
+{
+    let given = CDocument {
+        events,
+        bytes,
+        options,
+        names,
+    };
+    match compile_given_unnested(alloc, given) {
+        Ok(html) => hand_over(html.as_str(), buffer),
+        Err(failure) => answer_to_unnested(&failure),
     }
 }
 
@@ -303,8 +353,8 @@ pub extern "C" fn bivdrazo_markdown_into(
     }
 }
 
-/// Where the front matter of a Markdown document stands: what is between the two lines of `---` with
-/// which it begins.
+/// Where the front matter of a Markdown document stands: what is between the two lines of `---`
+/// with which it begins.
 ///
 /// A C caller passes for the slice a pointer, which isn't null, and a length.
 ///

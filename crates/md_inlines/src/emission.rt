@@ -1,28 +1,32 @@
 //! From tokens to events.
 
+ghost use Rattle.std.specs.Prelude.{◌≡◌, OnOk, false};
+
 use crate::bare_links::{BareLink, address, is_www, url, www};
 use crate::brackets::Target;
 use crate::leaf::Leaf;
+use crate::links::write_label_start;
+use crate::options::InlineOptions;
 use crate::reader::Reader;
-use crate::strings::{has_reference, write_data, write_reference, write_string, write_url};
+use crate::source::Source;
+use crate::strings::{write_data, write_reference};
 use crate::token::{Mark, Token};
 use crate::writer::Writer;
 use md_base::Name;
-use md_blocks::Definition;
-use md_lines::{Class, Line, Span, Title, is};
+use md_lines::{Class, is};
 use std::alloc::AllocError;
 
 /// What stands around a token.
 #[derive(Drop)]
-struct Around<'e> {
-    leaf: Leaf<'e>,
-    /// All lines of the document, in which definitions stand.
-    lines: &'e [Line],
-    targets: &'e [Target],
+pub(crate) struct Around<'e> {
+    pub(crate) leaf: Leaf<'e>,
+    pub(crate) source: &'e Source<'e>,
+    options: InlineOptions,
+    pub(crate) targets: &'e [Target],
     /// Whether texts may hold bare links that aren't tokens.
     has_late_links: bool,
     /// How many links are open.
-    links: usize,
+    pub(crate) links: usize,
     /// How many images are open.
     images: usize,
 }
@@ -32,11 +36,12 @@ pub(crate) fn write_tokens(
     writer: &mut Writer,
     reader: &Reader,
     leaf: Leaf,
-    lines: &[Line],
+    source: &Source,
 ) -> Result<(), AllocError> {
     let mut around = Around {
         leaf,
-        lines,
+        source,
+        options: reader.options,
         targets: reader.targets.as_slice(),
         has_late_links: reader.has_late_links,
         links: 0,
@@ -79,7 +84,7 @@ impl<'e> Around<'e> {
             Mark::StrikethroughEnd => writer.exit(Name::GfmStrikethrough, end),
             Mark::Code => self.write_lines(writer, token, Name::CodeText, Name::CodeTextData),
             Mark::Math => self.write_lines(writer, token, Name::MathText, Name::MathTextData),
-            Mark::Html => self.write_lines(writer, token, Name::HtmlText, Name::HtmlTextData),
+            Mark::Html => self.write_html(writer, token),
             Mark::Url => self.write_url_link(writer, start, end),
             Mark::Address => self.write_link(writer, Name::AutolinkEmail, start, end),
             Mark::BareUrl => {
@@ -108,6 +113,24 @@ impl<'e> Around<'e> {
             }
             Mark::FootnoteCall => self.write_call(writer, start, end),
         }
+    }
+
+    /// Writes HTML, unless it is left out.
+    fn write_html(&self, writer: &mut Writer, token: &Token) -> Result<(), AllocError>
+        ensures left_out { self.now.options.html ≡ false
+            → self.now.options.comments ≡ false → OnOk result (writer.new.events.items
+            ≡ writer.old.events.items) }
+    {
+        let rest = self.leaf.bytes.get(token.start..).unwrap_or(b"");
+        let is_kept = if rest.starts_with(b"<!--") {
+            self.options.comments
+        } else {
+            self.options.html
+        };
+        if !is_kept {
+            return Ok(());
+        }
+        self.write_lines(writer, token, Name::HtmlText, Name::HtmlTextData)
     }
 
     /// Writes a text, with the bare links in it.
@@ -188,205 +211,6 @@ impl<'e> Around<'e> {
         }
         writer.exit(outer, token.end)
     }
-
-    /// Writes a link that is written out as such; in a link it is text.
-    fn write_link(
-        &self,
-        writer: &mut Writer,
-        name: Name,
-        start: usize,
-        end: usize,
-    ) -> Result<(), AllocError> {
-        let name = if self.links > 0 { Name::Data } else { name };
-        writer.leaf(name, start, end)
-    }
-
-    /// Writes a link to a URL between angle brackets. Where that has character references, they
-    /// are read in its text and in its destination.
-    fn write_url_link(
-        &self,
-        writer: &mut Writer,
-        start: usize,
-        end: usize,
-    ) -> Result<(), AllocError> {
-        let bytes = self.leaf.bytes;
-        if !has_reference(bytes.get(start..end).unwrap_or(b"")) {
-            return self.write_link(writer, Name::AutolinkProtocol, start, end);
-        }
-        if self.links > 0 {
-            return write_url(writer, bytes, start, end);
-        }
-        write_label_start(writer, Name::Link, start, start)?;
-        write_url(writer, bytes, start, end)?;
-        writer.exit(Name::LabelText, end)?;
-        writer.exit(Name::Label, end)?;
-        writer.enter(Name::Resource, start)?;
-        writer.enter(Name::ResourceDestinationString, start)?;
-        write_url(writer, bytes, start, end)?;
-        writer.exit(Name::ResourceDestinationString, end)?;
-        writer.exit(Name::Resource, end)?;
-        writer.exit(Name::Link, end)
-    }
-
-    /// Writes a call of a footnote; in a link it is text.
-    fn write_call(&self, writer: &mut Writer, start: usize, end: usize) -> Result<(), AllocError> {
-        if self.links > 0 {
-            return writer.leaf(Name::Data, start, end);
-        }
-        writer.enter(Name::GfmFootnoteCall, start)?;
-        writer.enter(Name::Label, start)?;
-        writer.leaf(
-            Name::LabelText,
-            start.saturating_add(2),
-            end.saturating_sub(1),
-        )?;
-        writer.exit(Name::Label, end)?;
-        writer.exit(Name::GfmFootnoteCall, end)
-    }
-
-    /// Writes the end of a link's or an image's label, and where it leads.
-    fn write_link_end(
-        &self,
-        writer: &mut Writer,
-        name: Name,
-        token: &Token,
-    ) -> Result<(), AllocError> {
-        let after = token.start.saturating_add(1);
-        writer.exit(Name::LabelText, token.start)?;
-        writer.exit(Name::Label, after)?;
-        match self.targets.get(token.index) {
-            Some(Target::Resource(destination, title)) => {
-                writer.enter(Name::Resource, after)?;
-                self.write_destination(writer, *destination, false)?;
-                self.write_title(writer, *title, self.leaf.lines)?;
-                writer.exit(Name::Resource, token.end)?;
-            }
-            Some(Target::Definition(definition)) if definition.is_long => {
-                writer.refer_to(definition.index)?;
-                let label = definition.label;
-                writer.leaf(Name::ReferenceString, label.start, label.end)?;
-            }
-            Some(Target::Definition(definition)) => {
-                writer.enter(Name::Resource, after)?;
-                self.write_destination(writer, definition.destination, definition.is_plain)?;
-                self.write_title(writer, definition.title, self.lines)?;
-                writer.exit(Name::Resource, token.end)?;
-            }
-            None => {}
-        }
-        writer.exit(name, token.end)
-    }
-
-    fn write_destination(
-        &self,
-        writer: &mut Writer,
-        place: Span,
-        is_plain: bool,
-    ) -> Result<(), AllocError> {
-        let name = Name::ResourceDestinationString;
-        write_destination(writer, self.leaf.bytes, name, place, is_plain)
-    }
-
-    fn write_title(
-        &self,
-        writer: &mut Writer,
-        title: Option<Title>,
-        lines: &[Line],
-    ) -> Result<(), AllocError> {
-        match title {
-            Some(title) => {
-                let name = Name::ResourceTitleString;
-                write_title(writer, self.leaf.bytes, name, title, lines)
-            }
-            None => Ok(()),
-        }
-    }
-}
-
-/// Writes a definition.
-pub(crate) fn write_definition(
-    writer: &mut Writer,
-    bytes: &[u8],
-    lines: &[Line],
-    definition: &Definition,
-) -> Result<(), AllocError> {
-    let label = definition.label;
-    writer.enter(Name::Definition, label.start)?;
-    writer.leaf(Name::DefinitionLabelString, label.start, label.end)?;
-    let name = Name::DefinitionDestinationString;
-    write_destination(
-        writer,
-        bytes,
-        name,
-        definition.destination,
-        definition.is_plain,
-    )?;
-    if let Some(title) = definition.title {
-        write_title(writer, bytes, Name::DefinitionTitleString, title, lines)?;
-    }
-    writer.exit(Name::Definition, definition.destination.end)
-}
-
-/// Writes the beginning of a link or an image, up to the text of its label.
-fn write_label_start(
-    writer: &mut Writer,
-    name: Name,
-    start: usize,
-    inside: usize,
-) -> Result<(), AllocError> {
-    writer.enter(name, start)?;
-    writer.enter(Name::Label, start)?;
-    writer.enter(Name::LabelText, inside)
-}
-
-/// Writes a destination, if it has any byte. A plain one has no escape and no reference.
-fn write_destination(
-    writer: &mut Writer,
-    bytes: &[u8],
-    name: Name,
-    place: Span,
-    is_plain: bool,
-) -> Result<(), AllocError> {
-    if place.is_empty() {
-        return Ok(());
-    }
-    writer.enter(name, place.start)?;
-    if is_plain {
-        write_data(writer, place.start, place.end)?;
-    } else {
-        write_string(writer, bytes, place.start, place.end)?;
-    }
-    writer.exit(name, place.end)
-}
-
-/// Writes a title, if it has any byte, of the lines in which it stands.
-fn write_title(
-    writer: &mut Writer,
-    bytes: &[u8],
-    name: Name,
-    title: Title,
-    lines: &[Line],
-) -> Result<(), AllocError> {
-    if title.text.is_empty() {
-        return Ok(());
-    }
-    let end = title.text.end;
-    writer.enter(name, title.text.start)?;
-    let mut at = title.text.start;
-    let lines = lines.get(title.line..).unwrap_or(&[]);
-    for (index, line) in lines.iter().enumerate() {
-        if end <= line.end || index.saturating_add(1) == lines.len() {
-            break;
-        }
-        write_string(writer, bytes, at, line.end)?;
-        writer.leaf(Name::LineEnding, line.end, line.next)?;
-        at = match lines.get(index.saturating_add(1)) {
-            Some(next) => next.start,
-            None => line.next,
-        };
-    }
-    write_string(writer, bytes, at, end)?;
-    writer.exit(name, end)
 }
 
 /// The bare link whose mark stands at a place, which begins at `low` or later and ends with the

@@ -1,37 +1,44 @@
 //! The inline pass over the leaves of a document.
 
-use crate::emission::{write_definition, write_tokens};
+use crate::emission::write_tokens;
 use crate::leaf::Leaf;
 use crate::options::InlineOptions;
 use crate::reader::Reader;
+use crate::source::Source;
 use crate::strings::write_string;
+use crate::targets::write_definition;
 use crate::writer::Writer;
 use md_blocks::Definitions;
 use md_lines::{Line, Span};
+use md_urls::Base;
 use std::alloc::{AllocError, Global};
 
 /// The inline pass over a document: its bytes, all its lines, and the definitions of its links and
 /// footnotes.
 #[derive(Drop)]
 pub struct Inlines<'a> {
-    bytes: &'a [u8],
-    lines: &'a [Line],
+    source: Source<'a>,
     definitions: &'a Definitions,
     reader: Reader<'a>,
 }
 
 impl<'a> Inlines<'a> {
-    /// A pass over a document.
+    /// A pass over a document, whose URLs are read against a base where there is one.
     pub fn new(
         alloc: Global,
         bytes: &'a [u8],
         lines: &'a [Line],
         definitions: &'a Definitions,
         options: InlineOptions,
+        base: Option<Base<'a>>,
     ) -> Inlines<'a> {
         Inlines {
-            bytes,
-            lines,
+            source: Source {
+                alloc,
+                bytes,
+                lines,
+                base,
+            },
             definitions,
             reader: Reader::new(alloc, definitions, options),
         }
@@ -43,9 +50,9 @@ impl<'a> Inlines<'a> {
     ///
     /// Only where memory runs out.
     pub fn write_leaf(&mut self, writer: &mut Writer, lines: &[Line]) -> Result<(), AllocError> {
-        let leaf = Leaf::new(self.bytes, lines);
+        let leaf = Leaf::new(self.source.bytes, lines);
         self.reader.read(&leaf)?;
-        write_tokens(writer, &self.reader, leaf, self.lines)
+        write_tokens(writer, &self.reader, leaf, &self.source)
     }
 
     /// Writes the events of a text in which only escapes and character references are read.
@@ -54,7 +61,7 @@ impl<'a> Inlines<'a> {
     ///
     /// Only where memory runs out.
     pub fn write_string(&self, writer: &mut Writer, text: Span) -> Result<(), AllocError> {
-        write_string(writer, self.bytes, text.start, text.end)
+        write_string(writer, self.source.bytes, text.start, text.end)
     }
 
     /// Writes the definitions to which what is written refers by their labels.
@@ -65,7 +72,7 @@ impl<'a> Inlines<'a> {
     pub fn write_definitions(&self, writer: &mut Writer) -> Result<(), AllocError> {
         for (index, definition) in self.definitions.list().iter().enumerate() {
             if writer.is_referred(index) {
-                write_definition(writer, self.bytes, self.lines, definition)?;
+                write_definition(writer, &self.source, definition)?;
             }
         }
         Ok(())

@@ -11,13 +11,17 @@ mod emission;
 mod html;
 mod inlines;
 mod leaf;
+mod links;
 mod marks;
 mod names;
 mod options;
 mod reader;
 mod references;
+mod source;
 mod strings;
+mod targets;
 mod token;
+mod urls;
 mod writer;
 
 pub use inlines::Inlines;

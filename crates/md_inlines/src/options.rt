@@ -11,4 +11,8 @@ pub struct InlineOptions {
     pub bare_links: bool,
     /// A break at the end of each line.
     pub hard_breaks: bool,
+    /// HTML; else it is left out.
+    pub html: bool,
+    /// Comments of HTML; else they are left out.
+    pub comments: bool,
 }

@@ -1,6 +1,7 @@
 //! Character references, and the names that a document uses.
 
 use crate::names::{COUNT, entry};
+use md_base::decode_character_reference;
 use std::alloc::{AllocError, Global};
 use std::cmp::Ordering;
 use std::str;
@@ -74,6 +75,32 @@ fn split(number: usize) -> Option<(&'static [u8], &'static [u8])> {
     let entry = entry(number)?;
     let length = entry.iter().position(|byte| *byte == b';')?;
     Some((entry.get(..length)?, entry.get(length..)?.get(1..)?))
+}
+
+/// What a character reference stands for, from its `&` to its `;`; nothing where it is none.
+pub(crate) fn text_of_reference(alloc: Global, reference: &[u8]) -> Result<String, AllocError> {
+    let inner = match reference {
+        [b'&', inner @ .., b';'] => str::from_utf8(inner).unwrap_or(""),
+        _ => "",
+    };
+    let text = match inner.as_bytes() {
+        [b'#', b'x' | b'X', ..] => {
+            let digits = inner.get(2..).unwrap_or("");
+            decode_character_reference(alloc, digits, b'x', &[])?
+        }
+        [b'#', ..] => {
+            let digits = inner.get(1..).unwrap_or("");
+            decode_character_reference(alloc, digits, b'#', &[])?
+        }
+        name => match find(name).and_then(split) {
+            Some((_, text)) => {
+                let text = str::from_utf8(text).unwrap_or("");
+                Some(String::from_str(alloc, text)?)
+            }
+            None => None,
+        },
+    };
+    Ok(text.unwrap_or(String::new(alloc)))
 }
 
 /// The names that a document uses, each once.

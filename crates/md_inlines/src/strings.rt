@@ -1,5 +1,7 @@
 //! Texts in which only escapes and character references are read.
 
+ghost use Rattle.std.specs.Prelude.{◌<◌, length};
+
 use crate::references::reference_length;
 use crate::writer::Writer;
 use md_base::Name;
@@ -38,25 +40,34 @@ fn write_decoded(
     let mut from = start;
     let mut at = start;
     while at < text.len() {
-        match text[at] {
-            b'\\' if has_escapes && is_escape(text, at) => {
-                write_data(writer, from, at)?;
-                from = at + 1;
-                at = from.saturating_add(1);
-            }
-            b'&' => {
-                let length = reference_length(&text[at..]).unwrap_or(0);
-                if length > 0 {
-                    write_data(writer, from, at)?;
-                    from = at.saturating_add(length);
-                    write_reference(writer, bytes, at, from)?;
-                }
-                at = at.saturating_add(length.max(1));
-            }
-            _ => at += 1,
+        let length = code_length(text, at, has_escapes);
+        if length == 0 {
+            at += 1;
+            continue;
+        }
+        write_data(writer, from, at)?;
+        from = at.saturating_add(length);
+        if text[at] == b'&' {
+            write_reference(writer, bytes, at, from)?;
+            at = from;
+        } else {
+            at = from.saturating_add(1);
         }
     }
     write_data(writer, from, end)
+}
+
+/// How long the reference is that begins at a place, or the backslash there that escapes what
+/// follows it; 0 where the byte there stands for itself.
+#[inline(always)]
+pub(crate) fn code_length(text: &[u8], at: usize, has_escapes: bool) -> usize
+    requires { at < length text.now }
+{
+    match text[at] {
+        b'\\' if has_escapes && is_escape(text, at) => 1,
+        b'&' => reference_length(&text[at..]).unwrap_or(0),
+        _ => 0,
+    }
 }
 
 /// Whether the backslash at a place escapes what follows it.

@@ -5,30 +5,78 @@ ghost use Rattle.md_base.specs.Tree.{entering, exiting};
 ghost use Rattle.md_inlines.specs.Written.{point_at};
 
 use crate::references::UsedNames;
+use crate::urls::Url;
 use md_base::{Event, Kind, Name, Point};
+use md_lines::Span;
 use std::alloc::{AllocError, Global};
 
 /// The events of a document, as they are written one after another, and what goes with them. Places
-/// are byte indices into the document; of a point only its index and its columns of a tab are set.
+/// are byte indices into the document and what was added behind it; of a point only its index and
+/// its columns of a tab are set.
 #[derive(Drop)]
 pub struct Writer {
     /// The events so far.
     pub events: Vec<Event>,
+    /// The bytes that were added behind the document's.
+    pub added: Vec<u8>,
+    /// How many bytes the document has.
+    length: usize,
     names: UsedNames,
     /// Of each definition whether something refers to it by its label.
     are_referred: Vec<bool>,
+    /// Of each definition what became of its URL.
+    urls: Vec<Url>,
 }
 
 impl Writer {
-    /// No event yet.
-    pub fn new(alloc: Global) -> Writer
-        ensures { result.events.items ≡ [] }
+    /// No event yet, of a document of so many bytes.
+    pub fn new(alloc: Global, length: usize) -> Writer
+        ensures events { result.events.items ≡ [] }
+        ensures added { result.added.items ≡ [] }
     {
         Writer {
             events: Vec::new(alloc),
+            added: Vec::new(alloc),
+            length,
             names: UsedNames::new(alloc),
             are_referred: Vec::new(alloc),
+            urls: Vec::new(alloc),
         }
+    }
+
+    /// Where the next byte stands that is added behind the document.
+    pub fn end(&self) -> usize {
+        self.length.saturating_add(self.added.len())
+    }
+
+    /// Adds bytes behind the document: where they stand.
+    ///
+    /// # Errors
+    ///
+    /// Only where memory runs out.
+    pub fn add(&mut self, bytes: &[u8]) -> Result<Span, AllocError>
+        ensures events { self.new.events.items ≡ self.old.events.items }
+        ensures added { OnOk result (self.new.added.items ≡ self.old.added.items ++ bytes.now) }
+    {
+        let start = self.end();
+        self.added.extend_from_slice(bytes)?;
+        Ok(Span::new(start, self.end()))
+    }
+
+    /// What became of the URL of the definition with an index.
+    pub(crate) fn url_of(&self, index: usize) -> Url {
+        self.urls.get(index).copied().unwrap_or(Url::Unread)
+    }
+
+    /// Notes what became of the URL of the definition with an index.
+    pub(crate) fn note_url(&mut self, index: usize, url: Url) -> Result<(), AllocError> {
+        if self.urls.len() <= index {
+            self.urls.resize(index.saturating_add(1), Url::Unread)?;
+        }
+        if let Some(noted) = self.urls.get_mut(index) {
+            *noted = url;
+        }
+        Ok(())
     }
 
     /// Makes room for so many more events.

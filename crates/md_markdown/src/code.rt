@@ -1,4 +1,4 @@
-//! Code, math and HTML on lines of their own.
+//! Code and math on lines of their own.
 
 use md_base::Name;
 use md_inlines::Writer;
@@ -7,17 +7,17 @@ use std::alloc::AllocError;
 
 /// Lines that follow one another in the document, without prefixes between them.
 #[derive(Clone, Copy, Debug, PartialEq, Eq)]
-struct Run {
-    start: usize,
-    columns: u8,
+pub(crate) struct Run {
+    pub(crate) start: usize,
+    pub(crate) columns: u8,
     /// Where the text of the last line ends.
-    end: usize,
+    pub(crate) end: usize,
     /// Where its line ending ends.
-    next: usize,
+    pub(crate) next: usize,
 }
 
 impl Run {
-    fn new(line: &Line) -> Run {
+    pub(crate) fn new(line: &Line) -> Run {
         Run {
             start: line.start,
             columns: line.columns,
@@ -27,12 +27,12 @@ impl Run {
     }
 
     /// Whether a line follows at once.
-    fn is_before(&self, line: &Line) -> bool {
+    pub(crate) fn is_before(&self, line: &Line) -> bool {
         line.start == self.next && line.columns == 0
     }
 
     /// With a line that follows at once.
-    fn with(self, line: &Line) -> Run {
+    pub(crate) fn with(self, line: &Line) -> Run {
         Run {
             end: line.end,
             next: line.next,
@@ -60,32 +60,4 @@ pub(crate) fn write_chunks(
         }
     }
     writer.leaf_in_tab(name, run.start, run.columns, run.next)
-}
-
-/// Writes a block of HTML.
-pub(crate) fn write_html(writer: &mut Writer, lines: &[Line]) -> Result<(), AllocError> {
-    let Some((first, others)) = lines.split_first() else {
-        return Ok(());
-    };
-    writer.enter(Name::HtmlFlow, first.start)?;
-    let mut run = Run::new(first);
-    for line in others {
-        if run.is_before(line) {
-            run = run.with(line);
-        } else {
-            write_html_run(writer, run)?;
-            writer.leaf(Name::LineEnding, run.end, run.next)?;
-            run = Run::new(line);
-        }
-    }
-    write_html_run(writer, run)?;
-    writer.exit(Name::HtmlFlow, run.end)
-}
-
-/// Writes lines of HTML, if they have any byte.
-fn write_html_run(writer: &mut Writer, run: Run) -> Result<(), AllocError> {
-    if run.start < run.end || run.columns > 0 {
-        writer.leaf_in_tab(Name::HtmlFlowData, run.start, run.columns, run.end)?;
-    }
-    Ok(())
 }

@@ -1,11 +1,11 @@
 //! Markdown to HTML.
 
-ghost use Rattle.std.specs.Prelude.{◌≡◌, ◌≤◌, OnOk, IfOk, true, length};
+ghost use Rattle.std.specs.Prelude.{◌≡◌, ◌≤◌, ◌++◌, OnOk, IfOk, true, length};
 ghost use Rattle.md_safe.specs.Contents.{IsContained};
 ghost use Rattle.md_safe.specs.Built.{IsBuiltAsRead};
 ghost use Rattle.md_text.specs.Ids.{HasDistinctIds};
 ghost use Rattle.md_safe.specs.Tokenized.{IsSafelyTokenized};
-ghost use Rattle.md_markdown.specs.Made.{IsMadeOf};
+ghost use Rattle.md_markdown.specs.Made.{IsMadeOf, IsMadeOver};
 
 use crate::error::{MarkdownError, MarkdownWithinError};
 use crate::events::write_events;
@@ -33,7 +33,7 @@ use std::alloc::{AllocError, Global};
 ///
 /// ```
 /// let html = markdown(alloc, "**a** <b>", &MarkdownOptions::default())?;
-/// assert_eq!(html.as_str(), "<p><strong>a</strong> &lt;b&gt;</p>");
+/// assert_eq!(html.as_str(), "<p><strong>a</strong> &lt;b&gt;</p>\n");
 /// ```
 pub fn markdown(
     alloc: Global,
@@ -47,9 +47,30 @@ pub fn markdown(
     ensures distinct_ids { IfOk result
         (λ html. options.now.number_ids ≡ true → HasDistinctIds html) }
 {
-    let writer = events_of(alloc, text.as_bytes(), options)?;
-    let compile_options = options.for_compiler(alloc)?;
     let bytes = text.as_bytes();
+    let writer = events_of(alloc, bytes, options)?;
+    if writer.added.is_empty() {
+        return compile(alloc, &writer, bytes, options);
+    }
+    let whole = joined(alloc, bytes, writer.added.as_slice())?;
+    compile(alloc, &writer, whole.as_slice(), options)
+}
+
+/// The HTML of events over bytes.
+fn compile(
+    alloc: Global,
+    writer: &Writer,
+    bytes: &[u8],
+    options: &MarkdownOptions,
+) -> Result<SafeHtml, MarkdownError>
+    ensures made { IfOk result (λ html. IsMadeOver bytes.now html) }
+    ensures tokens { IfOk result IsSafelyTokenized }
+    ensures contained { IfOk result IsContained }
+    ensures tree { IfOk result IsBuiltAsRead }
+    ensures distinct_ids { IfOk result
+        (λ html. options.now.number_ids ≡ true → HasDistinctIds html) }
+{
+    let compile_options = options.for_compiler(alloc)?;
     match compile_unnested(
         alloc,
         writer.events.as_slice(),
@@ -93,9 +114,32 @@ pub fn markdown_within(
     ensures distinct_ids { IfOk result
         (λ html. options.now.number_ids ≡ true → HasDistinctIds html) }
 {
-    let writer = events_of(alloc, text.as_bytes(), options)?;
-    let compile_options = options.for_compiler(alloc)?;
     let bytes = text.as_bytes();
+    let writer = events_of(alloc, bytes, options)?;
+    if writer.added.is_empty() {
+        return compile_within(alloc, &writer, bytes, options, limits);
+    }
+    let whole = joined(alloc, bytes, writer.added.as_slice())?;
+    compile_within(alloc, &writer, whole.as_slice(), options, limits)
+}
+
+/// The HTML of events over bytes, where it is within limits.
+fn compile_within(
+    alloc: Global,
+    writer: &Writer,
+    bytes: &[u8],
+    options: &MarkdownOptions,
+    limits: Limits,
+) -> Result<SafeHtml, MarkdownWithinError>
+    ensures within { IfOk result (λ html. length html ≤ limits.text) }
+    ensures made { IfOk result (λ html. IsMadeOver bytes.now html) }
+    ensures tokens { IfOk result IsSafelyTokenized }
+    ensures contained { IfOk result IsContained }
+    ensures tree { IfOk result IsBuiltAsRead }
+    ensures distinct_ids { IfOk result
+        (λ html. options.now.number_ids ≡ true → HasDistinctIds html) }
+{
+    let compile_options = options.for_compiler(alloc)?;
     let names = writer.names();
     let events = writer.events.as_slice();
     if has_nested_link(events) {
@@ -108,7 +152,18 @@ pub fn markdown_within(
     }
 }
 
-/// The events of a document, and the names of the character references in it.
+/// The bytes of a document and those that were added behind it.
+fn joined(alloc: Global, document: &[u8], added: &[u8]) -> Result<Vec<u8>, AllocError>
+    ensures { IfOk result (λ whole. whole.items ≡ document.now ++ added.now) }
+{
+    let mut whole = Vec::with_capacity(alloc, document.len().saturating_add(added.len()))?;
+    whole.extend_from_slice(document)?;
+    whole.extend_from_slice(added)?;
+    Ok(whole)
+}
+
+/// The events of a document, the names of the character references in it, and the bytes that they
+/// need behind the document's.
 ///
 /// # Errors
 ///
@@ -119,8 +174,8 @@ pub fn events_of(
     options: &MarkdownOptions,
 ) -> Result<Writer, AllocError> {
     let blocks = parse_blocks(alloc, bytes, options.for_blocks())?;
-    let mut writer = Writer::new(alloc);
+    let mut writer = Writer::new(alloc, bytes.len());
     writer.reserve((bytes.len() / 8).saturating_add(64))?;
-    write_events(alloc, bytes, &blocks, options.for_inlines(), &mut writer)?;
+    write_events(alloc, bytes, &blocks, options, &mut writer)?;
     Ok(writer)
 }

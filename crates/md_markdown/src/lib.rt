@@ -3,12 +3,18 @@
 
 mod code;
 mod compiling;
+mod endings;
 mod error;
 mod events;
+mod front;
+mod html;
+mod leaves;
 mod options;
+mod prefixes;
 mod table;
 
 pub use compiling::{events_of, markdown, markdown_within};
 pub use error::{MarkdownError, MarkdownWithinError};
+pub use front::front_matter_of;
 pub use md_html::{Limits, SafeHtml};
 pub use options::{DocumentHtml, MarkdownOptions};

@@ -1,6 +1,6 @@
 //! How Markdown is read, and how its HTML is made.
 
-ghost use Rattle.std.specs.Prelude.{◌≡◌, IfOk};
+ghost use Rattle.std.specs.Prelude.{◌≡◌, ◌≢◌, ◌↔◌, IfOk, IsTrue};
 ghost use Rattle.md_safe.specs.Options.{KeepsImages};
 
 use md_blocks::BlockOptions;
@@ -92,12 +92,16 @@ impl MarkdownOptions {
         ensures footnotes { result.footnotes ≡ self.now.footnotes }
         ensures bare_links { result.bare_links ≡ self.now.bare_links }
         ensures hard_breaks { result.hard_breaks ≡ self.now.hard_breaks }
+        ensures html { IsTrue result.html ↔ (self.now.html ≢ DocumentHtml.LeftOut) }
+        ensures comments { IsTrue result.comments ↔ (self.now.html ≡ DocumentHtml.Text) }
     {
         InlineOptions {
             math: self.math,
             footnotes: self.footnotes,
             bare_links: self.bare_links,
             hard_breaks: self.hard_breaks,
+            html: !matches!(self.html, DocumentHtml::LeftOut),
+            comments: matches!(self.html, DocumentHtml::Text),
         }
     }
 

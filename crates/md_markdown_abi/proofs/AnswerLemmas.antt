@@ -1,5 +1,5 @@
 -- What an answer about Markdown says, from the text or the failure that it tells.
-use Rattle.std.proofs.Common.{◌≡◌, ◌≢◌, ℕ, ◌<◌, ◌≤◌, List, length, refl, sym, ap, ◌∙◌, subst}
+use Rattle.std.proofs.Common.{◌≡◌, ◌≢◌, ℕ, ◌≤◌, List, length, refl, sym, ap, ◌∙◌, subst}
 use Rattle.std.proofs.Common.{inl, inr, arith}
 use Rattle.md_abi.specs.Failures.{answer_of}
 use Rattle.md_abi.specs.Buffer.{HandsOver, IsHandedOver, IsListHandedOver}
@@ -7,8 +7,9 @@ use Rattle.md_abi.specs.declared.answer.Answer.{Answer}
 use Rattle.md_abi.specs.declared.failure.Failure.{Failure}
 use Rattle.md_abi.specs.declared.failure.Failure.TheVariants as failure
 use Rattle.md_abi.proofs.AnswerLemmas.{never, failure_hands_over, failed}
-use Rattle.md_markdown_abi.specs.Text.{IsReadable, IsRead}
-use Rattle.md_markdown_abi.specs.Failures.{tell, answer_of_markdown, ExplainsFault, ExplainsMarkdown}
+use Rattle.md_markdown_abi.specs.Text.{IsRead}
+use Rattle.md_markdown_abi.specs.Failures.{tell, answer_of_markdown, ExplainsFault}
+use Rattle.md_markdown_abi.specs.Failures.{ExplainsMarkdown}
 use Rattle.md_markdown_abi.specs.Answers.{TellsOfMarkdown, IsOfMarkdown}
 use Rattle.md_markdown_abi.specs.declared.option.CMarkdownOptions.{CMarkdownOptions}
 use Rattle.md_markdown_abi.specs.declared.failure.MarkdownFailure.{MarkdownFailure}
@@ -39,36 +40,36 @@ module _ (bytes : List ℕ) (options : CMarkdownOptions) where
   of_read : (answer : Answer) → answer.status ≢ 35 → answer.status ≢ 5 → answer.status ≢ 32 →
       answer.status ≢ 34 → IsRead bytes options → TellsOfMarkdown bytes options answer
   of_read answer version option input utf8 read = record {
-    no_version = λ is. absurd (version is);
+    other_version = λ is. absurd (version is);
     version = λ _. read.readable.version;
     no_option = λ is. absurd (option is);
     too_long = λ is. absurd (input is);
     counted = λ is. absurd (input is);
     fits = λ _. read.readable.fits;
-    not_utf8 = λ is. absurd (utf8 is);
+    invalid_from = λ is. absurd (utf8 is);
     utf8 = λ _ _. read.utf8;
   }
 
   of_fault : (why : Failure) → ExplainsFault bytes options why →
       TellsOfMarkdown bytes options (answer_of why)
   of_fault failure.Memory h = record {
-    no_version = never 7 35 refl;
+    other_version = never 7 35 refl;
     version = λ _. h;
     no_option = never 7 5 refl;
     too_long = never 7 32 refl;
     counted = never 7 32 refl;
     fits = λ past. absurd (past.memory refl);
-    not_utf8 = never 7 34 refl;
+    invalid_from = never 7 34 refl;
     utf8 = λ past. absurd (past.memory refl);
   }
   of_fault (failure.Option number) h = record {
-    no_version = never 5 35 refl;
+    other_version = never 5 35 refl;
     version = λ _. h.0;
     no_option = λ _. h.1;
     too_long = never 5 32 refl;
     counted = never 5 32 refl;
     fits = λ past. absurd (past.option refl);
-    not_utf8 = never 5 34 refl;
+    invalid_from = never 5 34 refl;
     utf8 = λ past. absurd (past.option refl);
   }
   of_fault (failure.Refused index rule) h =
@@ -81,33 +82,33 @@ module _ (bytes : List ℕ) (options : CMarkdownOptions) where
   of_failure : (why : MarkdownFailure) → ExplainsMarkdown bytes options why →
       TellsOfMarkdown bytes options (answer_of_markdown why)
   of_failure NoVersion h = record {
-    no_version = λ _. h;
+    other_version = λ _. h;
     version = λ other. absurd (other refl);
     no_option = never 35 5 refl;
     too_long = never 35 32 refl;
     counted = never 35 32 refl;
     fits = λ past. absurd (past.version refl);
-    not_utf8 = never 35 34 refl;
+    invalid_from = never 35 34 refl;
     utf8 = λ past. absurd (past.version refl);
   }
   of_failure (InputTooLong size) h = record {
-    no_version = never 32 35 refl;
+    other_version = never 32 35 refl;
     version = λ _. h.0;
     no_option = never 32 5 refl;
     too_long = λ _. h.1.1;
     counted = λ _. h.1.0;
     fits = λ past. absurd (past.input refl);
-    not_utf8 = never 32 34 refl;
+    invalid_from = never 32 34 refl;
     utf8 = λ past. absurd (past.input refl);
   }
   of_failure (NotUtf8 index) h = record {
-    no_version = never 34 35 refl;
+    other_version = never 34 35 refl;
     version = λ _. h.0.version;
     no_option = never 34 5 refl;
     too_long = never 34 32 refl;
     counted = never 34 32 refl;
     fits = λ _. h.0.fits;
-    not_utf8 = λ _. h.1;
+    invalid_from = λ _. h.1;
     utf8 = λ _ other. absurd (other refl);
   }
   of_failure OutputTooLong h = of_read (tell 33 0 0) (never 33 35 refl) (never 33 5 refl)

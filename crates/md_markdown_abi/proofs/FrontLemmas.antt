@@ -12,7 +12,7 @@ place_told bytes answer place utf8 = record {
   known = inl place.told;
   within = λ _. place.within;
   utf8 = λ _. utf8;
-  not_utf8 = λ is. absurd (omega (arith, is, place.told));
+  invalid_from = λ is. absurd (omega (arith, is, place.told));
   no_length = λ is. absurd (omega (arith, is, place.told));
   no_rule = place.no_rule;
 }
@@ -25,7 +25,7 @@ fault_told bytes index answer is valid =
       known = inr refl;
       within = never 34 0 refl;
       utf8 = never 34 0 refl;
-      not_utf8 = λ _. valid;
+      invalid_from = λ _. valid;
       no_length = λ _. refl;
       no_rule = refl;
     })

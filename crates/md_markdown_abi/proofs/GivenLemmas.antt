@@ -1,6 +1,6 @@
 -- From what is promised of a text, and why there is none, to what C is told.
-use Rattle.std.proofs.Common.{◌≡◌, ℕ, ◌≤◌, Bool, true, List, length, Option, Some, Result, Ok, Err}
-use Rattle.std.proofs.Common.{[], ◌∷◌, ◌++◌, IfErr, is_some, refl, sym, ap, ◌∙◌, subst}
+use Rattle.std.proofs.Common.{◌≡◌, ℕ, ◌≤◌, Bool, true, List, Option, Some, Result, Ok, Err}
+use Rattle.std.proofs.Common.{[], ◌∷◌, ◌++◌, IfErr, is_some, sym, ap, ◌∙◌, subst}
 use Rattle.std.specs.Prelude.{IsErrAnd, option_and_then, slice_get}
 use Rattle.md_text.specs.Ids.{HasDistinctIds}
 use Rattle.md_safe.specs.Token.{Token, EndOfFile}
@@ -24,7 +24,7 @@ use Rattle.md_markdown.specs.declared.error.MarkdownWithinError.{MarkdownWithinE
 use Rattle.md_markdown.specs.declared.error.MarkdownWithinError.TheVariants as within
 use Rattle.md_markdown_abi.specs.Numbers.{markdown_version}
 use Rattle.md_markdown_abi.specs.Options.{HasMarkdownOptions, readable_fields}
-use Rattle.md_markdown_abi.specs.Text.{IsMarkdownText, IsReadable, IsRead}
+use Rattle.md_markdown_abi.specs.Text.{IsMarkdownText, IsRead}
 use Rattle.md_markdown_abi.specs.Failures.{failure_of_error, failure_within, IsOptionFault}
 use Rattle.md_markdown_abi.specs.Failures.{IsDocumentFault, ExplainsMarkdown}
 use Rattle.md_markdown_abi.specs.declared.option.CMarkdownOptions.{CMarkdownOptions}

@@ -3,7 +3,7 @@ use Rattle.std.specs.Prelude.{◌≡◌, ◌≢◌, ◌⊎◌, ℕ, ◌<◌, ◌
 use Rattle.std.specs.Str.{IsUtf8, IsValidUpTo}
 use Rattle.md_abi.specs.Numbers.{too_short, refused, no_option, no_memory}
 use Rattle.md_abi.specs.declared.answer.Answer.{Answer}
-use Rattle.md_markdown_abi.specs.Numbers.{markdown_version, input_too_long, output_too_long}
+use Rattle.md_markdown_abi.specs.Numbers.{markdown_version, input_too_long}
 use Rattle.md_markdown_abi.specs.Numbers.{not_utf8, no_version, too_much_work}
 use Rattle.md_markdown_abi.specs.Options.{StandsForNone}
 use Rattle.md_markdown_abi.specs.declared.option.CMarkdownOptions.{CMarkdownOptions}
@@ -19,13 +19,13 @@ pub record IsPastLength (status : ℕ) : Type 0 where
 -- that is too long or from a byte on no UTF-8; with a status that comes after these they aren't so
 pub record TellsOfMarkdown (bytes : List ℕ) (options : CMarkdownOptions) (answer : Answer)
     : Type 0 where
-  pub no_version : answer.status ≡ no_version → options.version ≢ markdown_version
+  pub other_version : answer.status ≡ no_version → options.version ≢ markdown_version
   pub version : answer.status ≢ no_version → options.version ≡ markdown_version
   pub no_option : answer.status ≡ no_option → StandsForNone options answer.index
   pub too_long : answer.status ≡ input_too_long → options.max_input < length bytes
   pub counted : answer.status ≡ input_too_long → answer.length ≡ length bytes
   pub fits : IsPastLength answer.status → length bytes ≤ options.max_input
-  pub not_utf8 : answer.status ≡ not_utf8 → IsValidUpTo bytes answer.index
+  pub invalid_from : answer.status ≡ not_utf8 → IsValidUpTo bytes answer.index
   pub utf8 : IsPastLength answer.status → answer.status ≢ not_utf8 → IsUtf8 bytes
 
 -- a status of a call with Markdown

@@ -11,7 +11,7 @@ pub record TellsOfFrontMatter (bytes : List ℕ) (answer : Answer) : Type 0 wher
   pub known : (answer.status ≡ written) ⊎ (answer.status ≡ not_utf8)
   pub within : answer.status ≡ written → answer.index + answer.length ≤ length bytes
   pub utf8 : answer.status ≡ written → IsUtf8 bytes
-  pub not_utf8 : answer.status ≡ not_utf8 → IsValidUpTo bytes answer.index
+  pub invalid_from : answer.status ≡ not_utf8 → IsValidUpTo bytes answer.index
   pub no_length : answer.status ≡ not_utf8 → answer.length ≡ 0
   pub no_rule : answer.rule ≡ 0
 

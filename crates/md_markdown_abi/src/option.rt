@@ -1,6 +1,6 @@
 //! The options of Markdown as C hands them in.
 
-ghost use Rattle.std.specs.Prelude.{◌≡◌, ◌≢◌, Some, IfOk, IfErr, MatchResult};
+ghost use Rattle.std.specs.Prelude.{◌≡◌, ◌≢◌, Some, OnOk, IfOk, IfErr};
 ghost use Rattle.md_abi.specs.Failures.{IsFaultOf};
 ghost use Rattle.md_markdown_abi.specs.Numbers.{markdown_version};
 ghost use Rattle.md_markdown_abi.specs.Options.{HasMarkdownOptions, html_of, most_work};
@@ -73,7 +73,8 @@ pub struct CMarkdownOptions<'a> {
 ///
 /// Tells that they aren't.
 pub(crate) fn check_version(given: &CMarkdownOptions) -> Result<(), MarkdownFailure>
-    ensures { MatchResult result (λ _. given.now.version ≡ markdown_version)
+    ensures ok { OnOk result (given.now.version ≡ markdown_version) }
+    ensures err { IfErr result
         (λ why. (why ≡ NoVersion) × (given.now.version ≢ markdown_version)) }
 {
     if given.version != VERSION {

@@ -1,6 +1,6 @@
 //! What the arguments ask for.
 
-use md_markdown::MarkdownOptions;
+use md_markdown::{DocumentHtml, MarkdownOptions};
 use std::env;
 use std::io::{self, Error, ErrorKind};
 use std::rt::Env;
@@ -40,11 +40,22 @@ fn set<R: AllocGlobal>(rt: &R, settings: &mut Settings, word: &str) -> io::Resul
         "--no-bare-links" => settings.options.bare_links = false,
         "--hard-breaks" => settings.options.hard_breaks = true,
         "--number-ids" => settings.options.number_ids = true,
-        _ => {
-            let prefix = word.strip_prefix("--footnote-prefix=");
-            let prefix = prefix.ok_or(Error::from(ErrorKind::InvalidInput))?;
-            settings.options.footnote_prefix = Some(String::from_str(rt.alloc(), prefix)?);
-        }
+        "--html=text" => settings.options.html = DocumentHtml::Text,
+        "--html=left-out" => settings.options.html = DocumentHtml::LeftOut,
+        "--html=without-comments" => settings.options.html = DocumentHtml::WithoutComments,
+        _ => return set_text(rt, settings, word),
+    }
+    Ok(())
+}
+
+/// Does what an argument with a text says.
+fn set_text<R: AllocGlobal>(rt: &R, settings: &mut Settings, word: &str) -> io::Result<()> {
+    if let Some(prefix) = word.strip_prefix("--footnote-prefix=") {
+        settings.options.footnote_prefix = Some(String::from_str(rt.alloc(), prefix)?);
+    } else if let Some(base) = word.strip_prefix("--base=") {
+        settings.options.base = Some(String::from_str(rt.alloc(), base)?);
+    } else {
+        return Err(Error::from(ErrorKind::InvalidInput));
     }
     Ok(())
 }

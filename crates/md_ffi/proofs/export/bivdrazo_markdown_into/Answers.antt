@@ -4,7 +4,8 @@ use Rattle.std.proofs.Common.{◌≤◌, length, subst, sym}
 use Rattle.md_abi.proofs.ListAnswerLemmas.{list_handed, list_status}
 use Rattle.md_markdown_abi.specs.Text.{IsMarkdownText}
 use Rattle.md_markdown_abi.proofs.AnswerLemmas.{text_tells, text_fields}
-use Rattle.md_markdown_abi.proofs.AnswerLemmas.{markdown_hands_over, markdown_tells, markdown_fields}
+use Rattle.md_markdown_abi.proofs.AnswerLemmas.{markdown_hands_over, markdown_tells}
+use Rattle.md_markdown_abi.proofs.AnswerLemmas.{markdown_fields}
 use Rattle.md_ffi.proofs.export.bivdrazo_markdown_into.Goals as goal
 
 pub returns-in-Ok-clause-text : goal.returns-in-Ok-clause-text

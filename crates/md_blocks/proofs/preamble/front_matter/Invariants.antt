@@ -1,6 +1,6 @@
 -- Each turn goes on to the next line.
 use Rattle.std.proofs.Common.{◌-◌, length}
-use Rattle.md_blocks.proofs.pass.Pass.read_front_matter.Given as goal
+use Rattle.md_blocks.proofs.preamble.front_matter.Given as goal
 
 abbrev pub decreases-lines : goal.decreases-lines
 decreases-lines l = length l.bytes - l.from

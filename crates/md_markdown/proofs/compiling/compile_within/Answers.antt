@@ -1,12 +1,12 @@
 use Rattle.std.proofs.Common.{sym, ◌∙◌}
 use Rattle.md_markdown.proofs.MadeLemmas.{made}
-use Rattle.md_markdown.proofs.compiling.markdown_within.Goals as goal
+use Rattle.md_markdown.proofs.compiling.compile_within.Goals as goal
 
 pub returns-in-Ok-clause-made : goal.returns-in-Ok-clause-made
 returns-in-Ok-clause-made c =
-    made c.as_slice-events.result.now c.as_bytes-bytes.result.now c.args.text.now c.in-Ok.html
-    c.names-names.result.now c.in_ok-compile_options.compile_options c.as_bytes-bytes.ensures.value
-    c.in-Ok.ensures.safe c.in-Ok.ensures.grammatical c.in-Ok.ensures.meaning
+    made c.as_slice-events.result.now c.args.bytes.now c.in-Ok.html c.names-names.result.now
+    c.in_ok-compile_options.compile_options c.in-Ok.ensures.safe c.in-Ok.ensures.grammatical
+    c.in-Ok.ensures.meaning
 
 pub returns-in-Ok-clause-tree : goal.returns-in-Ok-clause-tree
 returns-in-Ok-clause-tree c =

@@ -1,0 +1,33 @@
+/* Tests of texts without a link in a link. */
+#include "test.h"
+
+/* The status of events over a document. */
+static uint32_t status_of(const bivdrazo_event *events, size_t events_length, const char *document,
+                          const bivdrazo_options *options, const char *wanted) {
+    uint8_t *made;
+    const bivdrazo_answer answer =
+        bivdrazo_compile_unnested_alloc(events, events_length, (const uint8_t *)document,
+                                        strlen(document), options, NULL, 0, &made);
+    CHECK(answer.rule == 0 && answer.index == 0);
+    CHECK(wanted == NULL ? made == NULL && answer.length == 0
+                         : made != NULL && strcmp((char *)made, wanted) == 0);
+    free(made);
+    return answer.status;
+}
+
+void test_unnested(void) {
+    bivdrazo_event plain[14];
+    bivdrazo_options options = bivdrazo_options_default();
+    medium(plain, BIVDRAZO_NAME_LINK, 1, 6);
+    CHECK(status_of(plain, 14, "[a](b)", NULL, "<a href=\"b\">a</a>") == BIVDRAZO_OK);
+    options.allow_dangerous_html = 1;
+    CHECK(status_of(plain, 14, "[a](b)", &options, NULL) == BIVDRAZO_UNSAFE);
+    uint8_t buffer[20] = {7};
+    const bivdrazo_reference none = {buffer, 0, buffer, 0};
+    options = bivdrazo_options_default();
+    const bivdrazo_answer answer = bivdrazo_compile_unnested(
+        plain, 14, (const uint8_t *)"[a](b)", 6, &options, &none, 0, buffer, 16);
+    CHECK(answer.status == BIVDRAZO_TOO_SHORT && answer.length == 17 && buffer[0] == 7);
+    plain[3].name = plain[4].name = BIVDRAZO_NAME_AUTOLINK_PROTOCOL;
+    CHECK(status_of(plain, 14, "[a](b)", NULL, NULL) == BIVDRAZO_NESTED);
+}

@@ -1,0 +1,137 @@
+//! Links, images and calls of footnotes as events.
+
+use crate::brackets::Target;
+use crate::emission::Around;
+use crate::strings::{has_reference, write_url};
+use crate::targets::{Destination, write_destination, write_title};
+use crate::token::Token;
+use crate::writer::Writer;
+use md_base::Name;
+use md_lines::{Line, Title};
+use std::alloc::AllocError;
+
+impl<'e> Around<'e> {
+    /// Writes a link that is written out as such; in a link it is text.
+    pub(crate) fn write_link(
+        &self,
+        writer: &mut Writer,
+        name: Name,
+        start: usize,
+        end: usize,
+    ) -> Result<(), AllocError> {
+        let name = if self.links > 0 { Name::Data } else { name };
+        writer.leaf(name, start, end)
+    }
+
+    /// Writes a link to a URL between angle brackets. Where that has character references, they
+    /// are read in its text and in its destination.
+    pub(crate) fn write_url_link(
+        &self,
+        writer: &mut Writer,
+        start: usize,
+        end: usize,
+    ) -> Result<(), AllocError> {
+        let bytes = self.leaf.bytes;
+        if !has_reference(bytes.get(start..end).unwrap_or(b"")) {
+            return self.write_link(writer, Name::AutolinkProtocol, start, end);
+        }
+        if self.links > 0 {
+            return write_url(writer, bytes, start, end);
+        }
+        write_label_start(writer, Name::Link, start, start)?;
+        write_url(writer, bytes, start, end)?;
+        writer.exit(Name::LabelText, end)?;
+        writer.exit(Name::Label, end)?;
+        writer.enter(Name::Resource, start)?;
+        writer.enter(Name::ResourceDestinationString, start)?;
+        write_url(writer, bytes, start, end)?;
+        writer.exit(Name::ResourceDestinationString, end)?;
+        writer.exit(Name::Resource, end)?;
+        writer.exit(Name::Link, end)
+    }
+
+    /// Writes a call of a footnote; in a link it is text.
+    pub(crate) fn write_call(
+        &self,
+        writer: &mut Writer,
+        start: usize,
+        end: usize,
+    ) -> Result<(), AllocError> {
+        if self.links > 0 {
+            return writer.leaf(Name::Data, start, end);
+        }
+        writer.enter(Name::GfmFootnoteCall, start)?;
+        writer.enter(Name::Label, start)?;
+        writer.leaf(
+            Name::LabelText,
+            start.saturating_add(2),
+            end.saturating_sub(1),
+        )?;
+        writer.exit(Name::Label, end)?;
+        writer.exit(Name::GfmFootnoteCall, end)
+    }
+
+    /// Writes the end of a link's or an image's label, and where it leads.
+    pub(crate) fn write_link_end(
+        &self,
+        writer: &mut Writer,
+        name: Name,
+        token: &Token,
+    ) -> Result<(), AllocError> {
+        let after = token.start.saturating_add(1);
+        writer.exit(Name::LabelText, token.start)?;
+        writer.exit(Name::Label, after)?;
+        match self.targets.get(token.index) {
+            Some(Target::Resource(destination, title)) => {
+                writer.enter(Name::Resource, after)?;
+                let destination = Destination::inline(*destination);
+                self.write_resource(writer, destination, *title, self.leaf.lines)?;
+                writer.exit(Name::Resource, token.end)?;
+            }
+            Some(Target::Definition(definition)) if definition.is_long => {
+                writer.refer_to(definition.index)?;
+                let label = definition.label;
+                writer.leaf(Name::ReferenceString, label.start, label.end)?;
+            }
+            Some(Target::Definition(definition)) => {
+                writer.enter(Name::Resource, after)?;
+                let destination = Destination::defined(definition);
+                self.write_resource(writer, destination, definition.title, self.source.lines)?;
+                writer.exit(Name::Resource, token.end)?;
+            }
+            None => {}
+        }
+        writer.exit(name, token.end)
+    }
+
+    /// Writes a destination and a title, which stands in such lines.
+    fn write_resource(
+        &self,
+        writer: &mut Writer,
+        destination: Destination,
+        title: Option<Title>,
+        lines: &[Line],
+    ) -> Result<(), AllocError> {
+        let name = Name::ResourceDestinationString;
+        write_destination(writer, self.source, name, destination)?;
+        match title {
+            Some(title) => {
+                let name = Name::ResourceTitleString;
+                write_title(writer, self.source.bytes, name, title, lines)
+            }
+            None => Ok(()),
+        }
+    }
+}
+
+/// Writes the beginning of a link or an image, up to the text of its label.
+pub(crate) fn write_label_start(
+    writer: &mut Writer,
+    name: Name,
+    start: usize,
+    inside: usize,
+) -> Result<(), AllocError> {
+    writer.enter(name, start)?;
+    writer.enter(Name::Label, start)?;
+    writer.enter(Name::LabelText, inside)
+}

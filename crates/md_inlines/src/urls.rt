@@ -1,0 +1,91 @@
+//! URLs that are read against a base.
+
+use crate::references::text_of_reference;
+use crate::source::Source;
+use crate::strings::code_length;
+use crate::targets::Destination;
+use crate::writer::Writer;
+use md_lines::Span;
+use md_urls::Base;
+use std::alloc::{AllocError, Global};
+
+/// What became of a URL.
+#[derive(Clone, Copy, Debug, PartialEq, Eq)]
+pub(crate) enum Url {
+    /// It wasn't read yet.
+    Unread,
+    /// It stays as it is.
+    Own,
+    /// It stands behind the document.
+    Added(Span),
+}
+
+/// What becomes of a destination's URL where there is a base. That of a definition is read once.
+pub(crate) fn url_of(
+    writer: &mut Writer,
+    source: &Source,
+    destination: Destination,
+) -> Result<Url, AllocError> {
+    let Some(base) = source.base else {
+        return Ok(Url::Own);
+    };
+    let Some(index) = destination.definition else {
+        return resolve(writer, source, &base, destination);
+    };
+    match writer.url_of(index) {
+        Url::Unread => {
+            let url = resolve(writer, source, &base, destination)?;
+            writer.note_url(index, url)?;
+            Ok(url)
+        }
+        url => Ok(url),
+    }
+}
+
+/// Reads a destination's URL against a base.
+fn resolve(
+    writer: &mut Writer,
+    source: &Source,
+    base: &Base,
+    destination: Destination,
+) -> Result<Url, AllocError> {
+    let place = destination.place;
+    let text = source.bytes.get(place.start..place.end).unwrap_or(b"");
+    let start = writer.end();
+    let is_other = if destination.is_plain {
+        base.push_resolved(source.alloc, text, &mut writer.added)?
+    } else {
+        let url = decoded(source.alloc, text)?;
+        base.push_resolved(source.alloc, url.as_slice(), &mut writer.added)?
+    };
+    if is_other {
+        Ok(Url::Added(Span::new(start, writer.end())))
+    } else {
+        Ok(Url::Own)
+    }
+}
+
+/// A text of escapes and references as it is meant.
+fn decoded(alloc: Global, text: &[u8]) -> Result<Vec<u8>, AllocError> {
+    let mut meant = Vec::with_capacity(alloc, text.len())?;
+    let mut from = 0;
+    let mut at = 0;
+    while at < text.len() {
+        let length = code_length(text, at, true);
+        if length == 0 {
+            at += 1;
+            continue;
+        }
+        meant.extend_from_slice(text.get(from..at).unwrap_or(b""))?;
+        from = at.saturating_add(length);
+        if text[at] == b'&' {
+            let reference = text.get(at..from).unwrap_or(b"");
+            meant.extend_from_slice(text_of_reference(alloc, reference)?.as_bytes())?;
+            at = from;
+        } else {
+            at = from.saturating_add(1);
+        }
+    }
+    meant.extend_from_slice(text.get(from..).unwrap_or(b""))?;
+    Ok(meant)
+}

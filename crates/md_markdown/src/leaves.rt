@@ -1,0 +1,99 @@
+//! Headings, fenced code, math and front matter as events.
+
+use crate::code::write_chunks;
+use crate::events::Emission;
+use md_base::Name;
+use md_blocks::LineRange;
+use md_inlines::Writer;
+use md_lines::{Line, Span};
+use std::alloc::AllocError;
+
+impl<'a> Emission<'a> {
+    pub(crate) fn write_atx(
+        &mut self,
+        writer: &mut Writer,
+        marks: Span,
+        range: LineRange,
+    ) -> Result<(), AllocError> {
+        let lines = self.blocks.lines_of(range);
+        let (start, end) = ends_of(lines);
+        writer.enter(Name::HeadingAtx, marks.start)?;
+        writer.leaf(Name::HeadingAtxSequence, marks.start, marks.end)?;
+        if start < end {
+            writer.enter(Name::HeadingAtxText, start)?;
+            self.inlines.write_leaf(writer, lines)?;
+            writer.exit(Name::HeadingAtxText, end)?;
+        }
+        writer.exit(Name::HeadingAtx, end)
+    }
+
+    pub(crate) fn write_setext(
+        &mut self,
+        writer: &mut Writer,
+        range: LineRange,
+        underline: Span,
+    ) -> Result<(), AllocError> {
+        let lines = self.blocks.lines_of(range);
+        let (start, end) = ends_of(lines);
+        writer.enter(Name::HeadingSetextText, start)?;
+        self.inlines.write_leaf(writer, lines)?;
+        writer.exit(Name::HeadingSetextText, end)?;
+        if let Some(line) = lines.last() {
+            writer.leaf(Name::LineEnding, line.end, line.next)?;
+        }
+        writer.leaf(
+            Name::HeadingSetextUnderlineSequence,
+            underline.start,
+            underline.end,
+        )
+    }
+
+    pub(crate) fn write_fenced(
+        &mut self,
+        writer: &mut Writer,
+        info: Span,
+        range: LineRange,
+    ) -> Result<(), AllocError> {
+        writer.enter(Name::CodeFenced, info.start)?;
+        writer.enter(Name::CodeFencedFence, info.start)?;
+        if !info.is_empty() {
+            writer.enter(Name::CodeFencedFenceInfo, info.start)?;
+            self.inlines.write_string(writer, info)?;
+            writer.exit(Name::CodeFencedFenceInfo, info.end)?;
+        }
+        writer.exit(Name::CodeFencedFence, info.end)?;
+        write_chunks(writer, self.blocks.lines_of(range), Name::CodeFlowChunk)?;
+        writer.leaf(Name::CodeFencedFence, info.end, info.end)?;
+        writer.exit(Name::CodeFenced, info.end)
+    }
+
+    pub(crate) fn write_math(
+        &mut self,
+        writer: &mut Writer,
+        start: usize,
+        range: LineRange,
+    ) -> Result<(), AllocError> {
+        writer.enter(Name::MathFlow, start)?;
+        writer.leaf(Name::MathFlowFence, start, start)?;
+        write_chunks(writer, self.blocks.lines_of(range), Name::MathFlowChunk)?;
+        writer.leaf(Name::MathFlowFence, start, start)?;
+        writer.exit(Name::MathFlow, start)
+    }
+}
+
+/// Where lines begin, and where the text of the last one ends.
+pub(crate) fn ends_of(lines: &[Line]) -> (usize, usize) {
+    match (lines.first(), lines.last()) {
+        (Some(first), Some(last)) => (first.start, last.end),
+        _ => (0, 0),
+    }
+}
+
+/// Writes front matter, which prints nothing.
+pub(crate) fn write_front_matter(writer: &mut Writer, ending: Span) -> Result<(), AllocError> {
+    writer.leaf(Name::Frontmatter, 0, ending.start)?;
+    if ending.is_empty() {
+        return Ok(());
+    }
+    writer.leaf(Name::LineEnding, ending.start, ending.end)
+}

@@ -1,0 +1,28 @@
+-- What a URL is made of, and what one is that is read against a base.
+use Rattle.std.specs.Prelude.{◌≡◌, ◌++◌, ℕ, List, [], Option, Some, None, codes}
+use Rattle.std.specs.Borrow.{Bor}
+use Rattle.md_urls.specs.declared.parts.Parts.{Parts}
+
+-- a part behind a mark, if it is there
+abbrev pub behind : List ℕ → Option (Bor (List ℕ)) → List ℕ
+behind mark None = []
+behind mark (Some part) = mark ++ part.now
+
+-- a part before a mark, if it is there
+abbrev pub before : Option (Bor (List ℕ)) → List ℕ → List ℕ
+before None mark = []
+before (Some part) mark = part.now ++ mark
+
+-- the URL of some parts (RFC 3986, 5.3), with a guard before its path
+abbrev pub url_of : List ℕ → Parts → List ℕ
+url_of guard parts =
+    before parts.scheme (codes ":") ++ (behind (codes "//") parts.authority ++ (guard
+    ++ (parts.path.now ++ (behind (codes "?") parts.query ++ behind (codes "#") parts.fragment))))
+
+-- behind a text stands the URL of these parts
+abbrev pub IsBehind : Parts → List ℕ → List ℕ → Type 0
+IsBehind parts old new = (guard : List ℕ) × (new ≡ old ++ url_of guard parts)
+
+-- behind a text stands a URL of a base's scheme
+abbrev pub IsOfScheme : Parts → List ℕ → List ℕ → Type 0
+IsOfScheme base old new = (parts : Parts) × (parts.scheme ≡ base.scheme) × IsBehind parts old new

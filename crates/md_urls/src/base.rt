@@ -1,0 +1,82 @@
+//! A base, and URLs that are read against it.
+
+ghost use Rattle.std.specs.Prelude.{◌≡◌, IfOk, IsTrue, false};
+ghost use Rattle.md_urls.specs.Urls.{IsOfScheme};
+
+use crate::parts::Parts;
+use crate::path::merged;
+use std::alloc::{AllocError, Global};
+
+/// The URL against which others are read. It may be relative itself: what is read against it is
+/// relative then.
+#[derive(Clone, Copy, Debug, PartialEq, Eq)]
+pub struct Base<'a> {
+    /// Its parts.
+    pub parts: Parts<'a>,
+}
+
+impl<'a> Base<'a> {
+    /// A URL as a base.
+    pub fn new(url: &'a str) -> Base<'a> {
+        Base {
+            parts: Parts::new(url.as_bytes()),
+        }
+    }
+
+    /// Adds a URL, read against this base, to a text; whether it is another one. A URL with a
+    /// scheme stays as it is, and so does an empty one and one that is a fragment alone: nothing is
+    /// added then.
+    ///
+    /// # Errors
+    ///
+    /// Only where memory runs out.
+    ///
+    /// # Examples
+    ///
+    /// ```
+    /// let base = Base::new("https://a.b/c/d");
+    /// let is_other = base.push_resolved(alloc, b"../e", &mut text)?;
+    /// // true, and the text ends with `https://a.b/e`
+    /// ```
+    pub fn push_resolved(
+        &self,
+        alloc: Global,
+        url: &[u8],
+        text: &mut Vec<u8>,
+    ) -> Result<bool, AllocError>
+        ensures other { IfOk result (λ is_other. IsTrue is_other
+            → IsOfScheme self.now.parts text.old.items text.new.items) }
+        ensures own { IfOk result (λ is_other. is_other ≡ false
+            → text.new.items ≡ text.old.items) }
+    {
+        let parts = Parts::new(url);
+        if parts.scheme.is_some() || matches!(url, [] | [b'#', ..]) {
+            return Ok(false);
+        }
+        let scheme = self.parts.scheme;
+        let authority = self.parts.authority;
+        if parts.authority.is_some() {
+            Parts { scheme, ..parts }.push_onto(text)?;
+        } else if parts.path.is_empty() {
+            let path = self.parts.path;
+            Parts {
+                scheme,
+                authority,
+                path,
+                ..parts
+            }
+            .push_onto(text)?;
+        } else {
+            let path = merged(alloc, &self.parts, parts.path)?;
+            let path = path.as_slice();
+            Parts {
+                scheme,
+                authority,
+                path,
+                ..parts
+            }
+            .push_onto(text)?;
+        }
+        Ok(true)
+    }
+}

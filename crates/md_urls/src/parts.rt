@@ -1,0 +1,138 @@
+//! The parts of a URL.
+
+ghost use Rattle.std.specs.Prelude.{◌≡◌, ◌++◌, OnOk};
+ghost use Rattle.md_urls.specs.Urls.{IsBehind, before, behind};
+
+use std::alloc::AllocError;
+
+/// The parts of a URL (RFC 3986, 3). What isn't there is `None`, and the path is always there.
+#[derive(Clone, Copy, Debug, PartialEq, Eq)]
+pub struct Parts<'a> {
+    /// What stands before the first colon, if it is a scheme.
+    pub scheme: Option<&'a [u8]>,
+    /// What stands behind `//`.
+    pub authority: Option<&'a [u8]>,
+    pub path: &'a [u8],
+    /// What stands behind the first `?`.
+    pub query: Option<&'a [u8]>,
+    /// What stands behind the first `#`.
+    pub fragment: Option<&'a [u8]>,
+}
+
+impl<'a> Parts<'a> {
+    /// The parts of a URL.
+    pub fn new(url: &'a [u8]) -> Parts<'a> {
+        let (rest, fragment) = cut(url, b'#');
+        let (rest, query) = cut(rest, b'?');
+        let (scheme, rest) = cut_scheme(rest);
+        let (authority, path) = cut_authority(rest);
+        Parts {
+            scheme,
+            authority,
+            path,
+            query,
+            fragment,
+        }
+    }
+
+    /// Adds the URL of these parts (5.3).
+    ///
+    /// # Errors
+    ///
+    /// Only where memory runs out.
+    pub fn push_onto(&self, url: &mut Vec<u8>) -> Result<(), AllocError>
+        ensures { OnOk result (IsBehind self.now url.old.items url.new.items) }
+    {
+        push_before(url, self.scheme, b":")?;
+        push_behind(url, b"//", self.authority)?;
+        url.extend_from_slice(self.before_path())?;
+        url.extend_from_slice(self.path)?;
+        push_behind(url, b"?", self.query)?;
+        push_behind(url, b"#", self.fragment)
+    }
+
+    /// What stands before the path so that it is read as one: as it stands its beginning would be
+    /// an authority (3.3), or a scheme (4.2).
+    fn before_path(&self) -> &'static [u8] {
+        if self.authority.is_some() {
+            return b"";
+        }
+        if self.path.starts_with(b"//") {
+            return b"/.";
+        }
+        let (first, _) = cut(self.path, b'/');
+        if self.scheme.is_none() && first.contains(&b':') {
+            return b"./";
+        }
+        b""
+    }
+}
+
+/// Adds a part, if it is there, and a mark behind it.
+fn push_before(url: &mut Vec<u8>, part: Option<&[u8]>, mark: &[u8]) -> Result<(), AllocError>
+    ensures { OnOk result (url.new.items ≡ url.old.items ++ before part.entry mark.now) }
+{
+    match part {
+        Some(part) => {
+            url.extend_from_slice(part)?;
+            url.extend_from_slice(mark)
+        }
+        None => Ok(()),
+    }
+}
+
+/// Adds a part, if it is there, and before it a mark.
+fn push_behind(url: &mut Vec<u8>, mark: &[u8], part: Option<&[u8]>) -> Result<(), AllocError>
+    ensures { OnOk result (url.new.items ≡ url.old.items ++ behind mark.now part.entry) }
+{
+    match part {
+        Some(part) => {
+            url.extend_from_slice(mark)?;
+            url.extend_from_slice(part)
+        }
+        None => Ok(()),
+    }
+}
+
+/// What stands before the first such mark, and what after it.
+fn cut(text: &[u8], mark: u8) -> (&[u8], Option<&[u8]>) {
+    match text.iter().position(|byte| *byte == mark) {
+        Some(at) => (&text[..at], Some(&text[at + 1..])),
+        None => (text, None),
+    }
+}
+
+/// The scheme with which a text begins, and what stands behind its colon.
+fn cut_scheme(text: &[u8]) -> (Option<&[u8]>, &[u8]) {
+    match cut(text, b':') {
+        (scheme, Some(rest)) if is_scheme(scheme) => (Some(scheme), rest),
+        _ => (None, text),
+    }
+}
+
+/// The authority with which a text begins, and what stands behind it.
+fn cut_authority(text: &[u8]) -> (Option<&[u8]>, &[u8]) {
+    if !text.starts_with(b"//") {
+        return (None, text);
+    }
+    let rest = text.get(2..).unwrap_or(b"");
+    let end = rest
+        .iter()
+        .position(|byte| *byte == b'/')
+        .unwrap_or(rest.len());
+    let (authority, path) = rest.split_at(end);
+    (Some(authority), path)
+}
+
+/// Whether a text is a scheme: a letter, and letters, digits, `+`, `-` and `.` behind it.
+fn is_scheme(text: &[u8]) -> bool {
+    match text.first() {
+        Some(first) => first.is_ascii_alphabetic() && text.iter().all(|byte| is_in_scheme(*byte)),
+        None => false,
+    }
+}
+
+/// Whether a byte may stand in a scheme.
+fn is_in_scheme(byte: u8) -> bool {
+    byte.is_ascii_alphanumeric() || matches!(byte, b'+' | b'-' | b'.')
+}
