@@ -99,8 +99,6 @@ def constants():
     for group, type_ in [("status", "u32"), ("kind", "u8"), ("line_ending", "u8")]:
         for entry in of_group(group):
             name = f"{group.upper()}_{upper(entry.name)}"
-            if name == "STATUS_NESTED":
-                continue  # no call of the crate answers it
             text += f"pub(crate) const {name}: {type_} = {entry.number};\n"
     text += "\n/// The names of the options, by their numbers.\n"
     text += "pub(crate) const OPTIONS: &[&str] = &[\n"

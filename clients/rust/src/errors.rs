@@ -2,7 +2,7 @@
 
 use crate::layouts::CAnswer;
 use crate::numbers::{
-    self, Rule, STATUS_MEMORY, STATUS_NO_ATTRIBUTE, STATUS_NO_EVENT, STATUS_NO_LINE,
+    self, Rule, STATUS_MEMORY, STATUS_NESTED, STATUS_NO_ATTRIBUTE, STATUS_NO_EVENT, STATUS_NO_LINE,
     STATUS_NO_NAME, STATUS_NO_OPTION, STATUS_REFUSED, STATUS_TOO_LONG, STATUS_TOO_MUCH,
     STATUS_UNSAFE,
 };
@@ -32,8 +32,10 @@ pub enum Error {
     Line(usize),
     /// There is no more memory.
     Memory,
-    /// Attributes are asked for, and the options aren't safe.
+    /// What is asked for wants safe options, and these aren't.
     Unsafe,
+    /// A link stands in a link.
+    Nested,
     /// The attribute with this number stands for none; this crate hands in none such.
     Attribute(usize),
     /// The Markdown has more bytes than a bound permits.
@@ -72,7 +74,8 @@ impl fmt::Display for Error {
             }
             Error::Line(number) => write!(formatter, "line {number}: unreadable"),
             Error::Memory => write!(formatter, "out of memory"),
-            Error::Unsafe => write!(formatter, "attributes under unsafe options"),
+            Error::Unsafe => write!(formatter, "the options aren't safe"),
+            Error::Nested => write!(formatter, "a link in a link"),
             Error::Attribute(number) => write!(formatter, "attribute {number}: no such value"),
             Error::InputTooLong { length, limit } => {
                 write!(
@@ -119,6 +122,7 @@ pub(crate) fn error_of(answer: &CAnswer) -> Error {
         STATUS_NO_LINE => Error::Line(answer.index),
         STATUS_MEMORY => Error::Memory,
         STATUS_UNSAFE => Error::Unsafe,
+        STATUS_NESTED => Error::Nested,
         STATUS_NO_ATTRIBUTE => Error::Attribute(answer.index),
         _ => Error::Unknown,
     }

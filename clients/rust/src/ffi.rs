@@ -2,8 +2,9 @@
 
 use crate::errors::error_within;
 use crate::layouts::{
-    bivdrazo_compile, bivdrazo_compile_attributed, bivdrazo_compile_within, bivdrazo_run,
-    bivdrazo_version, c_event, c_reference, c_text, CAnswer, CAttributes, CLimits,
+    bivdrazo_compile, bivdrazo_compile_attributed, bivdrazo_compile_unnested,
+    bivdrazo_compile_within, bivdrazo_run, bivdrazo_version, c_event, c_reference, c_text, CAnswer,
+    CAttributes, CLimits,
 };
 use crate::numbers::{STATUS_OK, STATUS_TOO_SHORT};
 use crate::options::c_options;
@@ -27,6 +28,35 @@ pub(crate) fn compile(
         // length and isn't null.
         unsafe {
             bivdrazo_compile(
+                events.as_ptr(),
+                events.len(),
+                bytes.as_ptr(),
+                bytes.len(),
+                &options,
+                names.as_ptr(),
+                names.len(),
+                buffer.as_mut_ptr(),
+                buffer.capacity(),
+            )
+        }
+    })
+}
+
+/// As `crate::compile_unnested`.
+pub(crate) fn compile_unnested(
+    events: &[Event],
+    bytes: &[u8],
+    options: &Options,
+    names: &[(&str, &str)],
+) -> Result<String, Error> {
+    let events = collect(events.iter().map(c_event))?;
+    let names = collect(names.iter().map(c_reference))?;
+    let options = c_options(options);
+    let room = first_size(events.len(), bytes.len());
+    into_text(room, Limits::default(), |buffer| {
+        // SAFETY: as of the call in `compile`.
+        unsafe {
+            bivdrazo_compile_unnested(
                 events.as_ptr(),
                 events.len(),
                 bytes.as_ptr(),

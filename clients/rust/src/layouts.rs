@@ -96,6 +96,17 @@ extern "C" {
         buffer: *mut u8,
         buffer_length: usize,
     ) -> CAnswer;
+    pub(crate) fn bivdrazo_compile_unnested(
+        events: *const CEvent,
+        events_length: usize,
+        bytes: *const u8,
+        bytes_length: usize,
+        options: *const COptions,
+        names: *const CReference,
+        names_length: usize,
+        buffer: *mut u8,
+        buffer_length: usize,
+    ) -> CAnswer;
     pub(crate) fn bivdrazo_compile_within(
         events: *const CEvent,
         events_length: usize,

@@ -89,6 +89,36 @@ pub fn compile(
     ffi::compile(events, bytes, options, names)
 }
 
+/// As [`compile`] under safe options, where no link stands in a link: a browser builds the tree that
+/// the text is read as.
+///
+/// Links are also automatic ones that are none by letters alone, and calls of footnotes; a link in
+/// an image counts as none.
+///
+/// # Errors
+///
+/// Those of [`compile`], [`Error::Nested`] where a link stands in a link, and [`Error::Unsafe`]
+/// where the options aren't safe.
+///
+/// ```
+/// use bivdrazo::{compile_unnested, Error, Event, Name, Options};
+///
+/// let events = [Event::enter(Name::Data, 0), Event::exit(Name::Data, 6)];
+/// let html = compile_unnested(&events, b"Hi <b>", &Options::default(), &[])?;
+/// assert_eq!(html, "Hi &lt;b&gt;");
+/// let options = Options::default().with_allow_any_img_src(true);
+/// assert_eq!(compile_unnested(&events, b"Hi <b>", &options, &[]), Err(Error::Unsafe));
+/// # Ok::<(), Error>(())
+/// ```
+pub fn compile_unnested(
+    events: &[Event],
+    bytes: &[u8],
+    options: &Options,
+    names: &[(&str, &str)],
+) -> Result<String, Error> {
+    ffi::compile_unnested(events, bytes, options, names)
+}
+
 /// As [`compile`], where the text has at most as many bytes as it may have, and there is at most as
 /// much work.
 ///

@@ -561,6 +561,7 @@ pub(crate) const STATUS_UNSAFE: u32 = 8;
 pub(crate) const STATUS_NO_ATTRIBUTE: u32 = 9;
 pub(crate) const STATUS_TOO_LONG: u32 = 10;
 pub(crate) const STATUS_TOO_MUCH: u32 = 11;
+pub(crate) const STATUS_NESTED: u32 = 12;
 pub(crate) const KIND_ENTER: u8 = 1;
 pub(crate) const KIND_EXIT: u8 = 2;
 pub(crate) const LINE_ENDING_LINE_FEED: u8 = 0;

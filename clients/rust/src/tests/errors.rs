@@ -29,6 +29,7 @@ fn statuses() {
     assert_eq!(error(7, 0, 0), Error::Memory);
     assert_eq!(error(8, 0, 0), Error::Unsafe);
     assert_eq!(error(9, 0, 1), Error::Attribute(1));
+    assert_eq!(error(12, 0, 0), Error::Nested);
     assert_eq!(error(99, 0, 0), Error::Unknown);
 }
 
@@ -53,7 +54,8 @@ fn texts_of_errors() {
         (Error::Name(5), "character reference 5: not UTF-8"),
         (Error::Line(6), "line 6: unreadable"),
         (Error::Memory, "out of memory"),
-        (Error::Unsafe, "attributes under unsafe options"),
+        (Error::Unsafe, "the options aren't safe"),
+        (Error::Nested, "a link in a link"),
         (Error::Attribute(1), "attribute 1: no such value"),
         (
             Error::OutputTooLong { limit: 7 },

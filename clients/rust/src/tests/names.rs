@@ -30,6 +30,22 @@ fn references() {
     }
 }
 
+/// A link in a link is told, where that is asked for.
+#[test]
+fn nested_links() {
+    let around = |inner: &[Event]| {
+        let text = node(Name::LabelText, 0, 0, inner);
+        let resource = node(Name::Resource, 0, 0, &[]);
+        let parts = [node(Name::Label, 0, 0, &text), resource].concat();
+        node(Name::Link, 0, 0, &parts)
+    };
+    let unnested = |events: &[Event]| compile_unnested(events, b"", &Options::default(), &[]);
+    let nested = around(&around(&[]));
+    assert_eq!(unnested(&around(&[])), Ok("<a href=\"\"></a>".to_string()));
+    assert_eq!(unnested(&nested), Err(Error::Nested));
+    assert!(with_defaults(&nested, b"").is_ok());
+}
+
 #[test]
 fn numbers_of_rules() {
     assert_eq!(Rule::from_number(Rule::Target.number()), Some(Rule::Target));
