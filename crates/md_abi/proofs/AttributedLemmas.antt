@@ -139,6 +139,14 @@ built-before whole start given text list (Ok made) is at built = λ h.
     subst IsBuiltAsWritten (sym (after text list (whole made) (start made) is at).0) (built h)
 built-before whole start given text list (Err why) is at built = tt
 
+-- and so of another text, of which that is built
+pub built-from : {S E : Type 0} (given text : List ℕ) (of : S → List ℕ) (r : Result S E) →
+    IfOk r (λ made. IsBuiltAsWritten text → IsBuiltAsWritten (of made)) →
+    (IsBuiltAsWritten given → IsBuiltAsWritten text) →
+    IfOk r (λ made. IsBuiltAsWritten given → IsBuiltAsWritten (of made))
+built-from given text of (Ok made) h built = λ b. h (built b)
+built-from given text of (Err why) h built = tt
+
 -- what is asked for is what was read
 asked_is : (given : CText) (read : Option (List ℕ)) → text_of given ≡ Some read → asked given ≡ read
 asked_is given read stands = ap (option_and_then (λ text. text)) stands

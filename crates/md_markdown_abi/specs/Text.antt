@@ -17,8 +17,8 @@ use Rattle.md_markdown_abi.specs.declared.option.CMarkdownOptions.{CMarkdownOpti
 -- of the document there is a text, made of it and safe: it is tokenized as it is read, each element
 -- stands where it may, tree construction builds it, and where ids go by number no two are equal;
 -- with the attributes that are asked for its tokens are those of the bytes before the index, which
--- are built as they are written, and are no more than they may be; the list of the headings that got
--- an id follows
+-- are built as they are written, and are no more than they may be; the list of the headings that
+-- got an id follows
 pub record IsMarkdownText (bytes : List ℕ) (options : CMarkdownOptions) (start : ℕ)
     (whole : List ℕ) : Type 0 where
   pub plain : List ℕ

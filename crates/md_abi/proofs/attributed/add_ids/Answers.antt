@@ -1,7 +1,5 @@
 -- Without ids the text is as it was given.
-use Rattle.std.proofs.Common.{[], option_copied, string_bytes, map, sym, ap, subst}
-use Rattle.md_page.specs.Headings.{listed}
-use Rattle.md_abi.specs.Attributes.{listing}
+use Rattle.std.proofs.Common.{option_copied, string_bytes, sym, ap, subst}
 use Rattle.md_page.specs.Built.{IsBuiltAsWritten}
 use Rattle.md_abi.proofs.AttributedLemmas.{none-result, built-before}
 use Rattle.md_abi.proofs.attributed.add_ids.Goals as goal
@@ -16,7 +14,7 @@ returns-in-None-clause-listed g c =
 pub returns-in-None-clause-tree : goal.returns-in-None-clause-tree
 returns-in-None-clause-tree g c =
     built-before (λ made. string_bytes made.whole) (λ made. made.start)
-    (g.H.Html.text c.args.html.now) c.as_str-in-None.result.now [] c.with_list-in-None.result
+    (g.H.Html.text c.args.html.now) c.as_str-in-None.result.now _ c.with_list-in-None.result
     c.with_list-in-None.ensures.whole c.with_list-in-None.ensures.start
     (subst (λ t. IsBuiltAsWritten (g.H.Html.text c.args.html.now) → IsBuiltAsWritten t)
     (sym c.as_str-in-None.ensures.text) (λ h. h))
@@ -25,7 +23,7 @@ pub returns-in-Some-clause-tree : goal.returns-in-Some-clause-tree
 returns-in-Some-clause-tree g c =
     built-before (λ made. string_bytes made.whole) (λ made. made.start)
     (g.H.Html.text c.args.html.now) c.as_str-in-Some.result.now
-    (listing (map listed c.in_ok-after.after.headings.items)) c.with_list-in-Some.result
+    _ c.with_list-in-Some.result
     c.with_list-in-Some.ensures.whole c.with_list-in-Some.ensures.start
     (subst (λ t. IsBuiltAsWritten (g.H.Html.text c.args.html.now) → IsBuiltAsWritten t)
     (sym c.as_str-in-Some.ensures.text) c.in_ok-after.ensures.tree)
