@@ -2,7 +2,7 @@
 use Rattle.std.proofs.Common.{◌≡◌, ℕ, ◌≤◌, Bool, true, false, cond, eqb, List, [], ◌∷◌, ◌++◌}
 use Rattle.std.proofs.Common.{length, take, drop, Option, Some, None, Result, Ok, Err, IfOk, IfErr}
 use Rattle.std.proofs.Common.{refl, sym, ap, ◌∙◌, subst, arith}
-use Rattle.std.specs.Prelude.{IsErrAnd, option_map, option_and_then, string_bytes}
+use Rattle.std.specs.Prelude.{IsTrue, IsErrAnd, option_map, option_and_then, string_bytes}
 use Rattle.std.proofs.lemmas.Bool.{eqb-true}
 use Rattle.std.proofs.lemmas.List.{length-append, take-append-le, drop-append-le, take_all}
 use Rattle.std.proofs.lemmas.List.{drop_all}
@@ -20,13 +20,16 @@ use Rattle.md_html.specs.Safe.{IsRefusedFor, OfCompile}
 use Rattle.md_html.specs.declared.safe_html.SafeError.{SafeError}
 use Rattle.md_html.specs.declared.safe_html.SafeError.TheVariants as wrong
 use Rattle.md_safe.specs.Options as safe
+use Rattle.md_text.specs.Ids.{are_distinct}
+use Rattle.md_page.specs.Added.{shown, with_heading_ids, headings_of}
+use Rattle.md_page.specs.Ids.{ids_among, none_begins}
 use Rattle.md_page.specs.Attributed.{IsAttributed}
 use Rattle.md_page.specs.Pieces.{IsWritten}
 use Rattle.md_page.specs.Built.{IsBuiltAsWritten}
 use Rattle.md_page.proofs.Rules.{attributed}
 use Rattle.md_page.proofs.Forests.{read-built}
 use Rattle.md_abi.specs.Options.{flag_of, text_of, HasOptions, KeepsImages}
-use Rattle.md_abi.specs.Attributes.{asked, with_rel}
+use Rattle.md_abi.specs.Attributes.{asked, with_rel, listing}
 use Rattle.md_abi.specs.Attributed.{IsListedAfter, IsAttributedText}
 use Rattle.md_abi.specs.Refusals.{refusal_of, IsRefusalFor}
 use Rattle.md_abi.specs.Rendered.{IsRendered}
@@ -128,6 +131,32 @@ none-result whole start prefix text given none same written (Ok made) is at = λ
     (listed-none given (whole made) (start made) x (is ∙ ap (λ t. t ++ []) same)
     (at ∙ ap length same) h (attributed given written) written)
 none-result whole start prefix text given none same written (Err why) is at = tt
+
+-- what is answered with ids on headings
+pub some-result : {S E : Type 0} (whole : S → List ℕ) (start : S → ℕ) (asked : Option (List ℕ))
+    (prefix text given list : List ℕ) → asked ≡ Some prefix →
+    ((x : List Token) → IsTokenized given x → IsTokenized text (with_heading_ids prefix x)) →
+    ((x : List Token) → IsTokenized given x → list ≡ listing (headings_of x)) →
+    ((x : List Token) → IsTokenized given x → IsTrue (are_distinct (ids_among x)) →
+    IsTrue (none_begins (shown prefix) (ids_among x)) →
+    IsTrue (are_distinct (ids_among (with_heading_ids prefix x)))) →
+    IsWritten text → (r : Result S E) → IfOk r (λ made. whole made ≡ text ++ list) →
+    IfOk r (λ made. start made ≡ length text) →
+    IfOk r (λ made. (x : List Token) → IsTokenized given x →
+    IsListedAfter asked x (start made) (whole made))
+some-result whole start asked prefix text given list some tokenized listed distinct written
+    (Ok made) is at = λ x h.
+    (let parts = after text list (whole made) (start made) is at in
+    subst (λ p. IsListedAfter p x (start made) (whole made)) (sym some) (record {
+      within = parts.2;
+      added = subst (λ t. IsTokenized t (with_heading_ids prefix x)) (sym parts.0) (tokenized x h);
+      attributed = subst IsAttributed (sym parts.0) (attributed text written);
+      written = subst IsWritten (sym parts.0) written;
+      headings = parts.1 ∙ listed x h;
+      distinct = distinct x h;
+    }))
+some-result whole start asked prefix text given list some tokenized listed distinct written
+    (Err why) is at = tt
 
 -- what is built of a text is built of the bytes before a list
 pub built-before : {S E : Type 0} (whole : S → List ℕ) (start : S → ℕ) (given text list : List ℕ)

@@ -1,10 +1,9 @@
 -- Without a `rel` the tokens are those of the text.
-use Rattle.std.proofs.Common.{List, IfOk, option_copied, string_bytes, sym, ap, subst, take, rules}
+use Rattle.std.proofs.Common.{List, IfOk, option_copied, string_bytes, sym, ap, subst}
 use Rattle.md_safe.specs.Token.{Token}
 use Rattle.md_safe.specs.Tokenizer.{IsTokenized}
 use Rattle.md_abi.specs.Attributes.{with_rel}
 use Rattle.md_abi.specs.Attributed.{IsListedAfter}
-use Rattle.md_abi.proofs.AttributedLemmas.{built-from}
 use Rattle.md_abi.proofs.attributed.add_asked.Goals as goal
 
 pub returns-in-None-clause-listed : goal.returns-in-None-clause-listed
@@ -14,8 +13,3 @@ returns-in-None-clause-listed c =
     → IsListedAfter (option_copied c.args.prefix) (with_rel rel x) made.start
     (string_bytes made.whole))) (sym (ap option_copied c.in-None.is))
     c.add_ids-in-None.ensures.listed
-
-pub returns-in-Some-clause-tree : goal.returns-in-Some-clause-tree
-returns-in-Some-clause-tree c =
-    built-from c.args.html.now _ (λ made. take made.start (string_bytes made.whole))
-    c.add_ids-in-Some.result c.add_ids-in-Some.ensures.tree (search rules)
