@@ -6,12 +6,12 @@ use Rattle.md_markdown.proofs.compiling.markdown.Goals as goal
 pub returns-then-is_empty-clause-made : goal.returns-then-is_empty-clause-made
 returns-then-is_empty-clause-made c =
     of_own (is_some c.args.options.now.base) c.args.text.now c.as_bytes-bytes.result.now
-    c.compile-then-is_empty.result c.as_bytes-bytes.ensures.value c.compile-then-is_empty.ensures.made
+    c.compile.result c.as_bytes-bytes.ensures.value c.compile.ensures.made
 
 pub returns-clause-made : goal.returns-clause-made
 returns-clause-made c =
     of_joined (is_some c.args.options.now.base) c.args.text.now c.added.result.now
-    c.as_slice.result.now c.compile.result c.added.ensures
+    c.as_slice.result.now c.compile-2.result c.added.ensures
     (c.as_slice.ensures.value ∙ c.in_ok-whole.ensures
     ∙ ap (λ bytes. bytes ++ c.added.result.now) c.as_bytes-bytes.ensures.value)
-    c.compile.ensures.made
+    c.compile-2.ensures.made
