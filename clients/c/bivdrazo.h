@@ -96,10 +96,10 @@ bivdrazo_answer bivdrazo_compile_attributed(const bivdrazo_event *events, size_t
                                             size_t buffer_length);
 
 /*
- * As bivdrazo_compile(), under options that are safe, where no link stands in a link: a browser
- * builds the tree that the text is read as. Else the status is BIVDRAZO_UNSAFE or BIVDRAZO_NESTED.
- * Links are also automatic ones that are none by letters alone, and calls of footnotes; a link in
- * an image counts as none.
+ * As bivdrazo_compile(), under options that are safe, where no link stands in a link: the HTML
+ * Standard's tree construction builds the tree that the text is read as. Else the status is
+ * BIVDRAZO_UNSAFE or BIVDRAZO_NESTED. Links are also automatic ones that are none by letters alone,
+ * and calls of footnotes; a link in an image counts as none.
  */
 bivdrazo_answer bivdrazo_compile_unnested(const bivdrazo_event *events, size_t events_length,
                                           const uint8_t *bytes, size_t bytes_length,

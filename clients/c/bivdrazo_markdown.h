@@ -10,8 +10,9 @@
  * Link with libbivdrazo, which needs the C library alone. Markdown is CommonMark with tables,
  * strikethrough, tasks, footnotes and bare links, and math and front matter where they are asked
  * for. It is proved that the parser ends on each document and that the text is safe: it has one
- * reading as HTML, with links and images of permitted protocols alone, and a browser builds the
- * tree of that reading. That the parser finds what CommonMark says is tested.
+ * reading as HTML, with links and images of permitted protocols alone, and the HTML Standard's tree
+ * construction builds the tree of that reading, wherever flow content may be set. That the parser
+ * finds what CommonMark says is tested.
  *
  * What a caller must keep to, since nothing checks it:
  *  - `text` points to `length` bytes. It may be null where `length` is 0, but for

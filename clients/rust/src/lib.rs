@@ -9,8 +9,8 @@
 //! ```
 //!
 //! The library can also be called with the events of any other parser, which says what it found in
-//! a document as a list of them: a paragraph begins at byte 0, a text runs from there to byte 6, the
-//! paragraph ends. [`compile`] makes HTML of such a list.
+//! a document as a list of them: a paragraph begins at byte 0, a text runs from there to byte 6,
+//! the paragraph ends. [`compile`] makes HTML of such a list.
 //! Nothing is assumed of the events: whatever a parser hands in is refused or gives a text that,
 //! under the default options, has one reading as HTML, with links and images of permitted
 //! protocols alone.
@@ -89,8 +89,8 @@ pub fn compile(
     ffi::compile(events, bytes, options, names)
 }
 
-/// As [`compile`] under safe options, where no link stands in a link: a browser builds the tree that
-/// the text is read as.
+/// As [`compile`] under safe options, where no link stands in a link: the HTML Standard's tree
+/// construction builds the tree that the text is read as.
 ///
 /// Links are also automatic ones that are none by letters alone, and calls of footnotes; a link in
 /// an image counts as none.
