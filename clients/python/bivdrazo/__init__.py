@@ -30,7 +30,7 @@ Calls may be made from any number of threads, and run side by side.
 """
 
 from .calls import Event, compile, compile_unnested, compile_within, run
-from .errors import Error, Invalid, MarkdownError, Nested, Refused, TooLong, TooMuchWork
+from .errors import Error, Invalid, Nested, Refused, TooLong, TooMuchWork
 from .errors import Unreadable
 from .markdown import Heading, front_matter_of, markdown_to_html, markdown_with_headings
 from .numbers import VERSION, Kind, LineEnding, Name, Rule
@@ -47,7 +47,6 @@ __all__ = [
     "Invalid",
     "Kind",
     "LineEnding",
-    "MarkdownError",
     "Name",
     "Nested",
     "Refused",

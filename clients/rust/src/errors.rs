@@ -55,9 +55,6 @@ pub enum Error {
         /// How much there may be.
         limit: usize,
     },
-    /// The library's parser failed: in what it made of the Markdown a link stands in a link. It is a
-    /// fault that should be reported; no document is known that gets it.
-    Parser,
     /// The library answered what this crate doesn't know: it is of another version.
     Unknown,
 }
@@ -89,7 +86,6 @@ impl fmt::Display for Error {
             Error::TooMuchWork { limit } => {
                 write!(formatter, "there is more work than {limit}")
             }
-            Error::Parser => write!(formatter, "the parser failed"),
             Error::Unknown => write!(formatter, "a library of another version"),
         }
     }
