@@ -253,6 +253,8 @@ RESOLVED = {
     "http://a/b/c/d;p?q": [
         ("g", "http://a/b/c/g"), ("./g", "http://a/b/c/g"), ("g/", "http://a/b/c/g/"),
         ("/g", "http://a/g"), ("//g", "http://g"), ("?y", "http://a/b/c/d;p?y"),
+        ("//g/../h", "http://g/h"), ("//g/h/./i/..?j", "http://g/h/?j"),
+        ("//g?y/../x", "http://g?y/../x"), ("///g/.//../h", "http:///g/h"),
         ("g?y", "http://a/b/c/g?y"), ("g#s", "http://a/b/c/g#s"), ("g?y#s", "http://a/b/c/g?y#s"),
         (";x", "http://a/b/c/;x"), ("g;x?y#s", "http://a/b/c/g;x?y#s"), (".", "http://a/b/c/"),
         ("./", "http://a/b/c/"), ("..", "http://a/b/"), ("../", "http://a/b/"),
@@ -316,3 +318,25 @@ def deep(depth, most):
     """A document of so many marks of quotes, of which only some may be one, and its HTML."""
     text = "&gt;" * (depth - most)
     return ">" * depth, "<blockquote>\n" * most + f"<p>{text}</p>\n" + "</blockquote>\n" * most
+
+
+def nested(depth, most):
+    """Documents of so many spans and brackets in one another, of which only some may be one, and
+    their HTML.
+    """
+    deep = depth - min(depth, most)
+    depth -= deep
+    spans = [("*", "<em>", "</em>"), ("**", "<strong>", "</strong>"), ("~", "<del>", "</del>")]
+    cases = [(f"{mark}a " * (depth + deep) + "b" + f" c{mark}" * (depth + deep),
+              "<p>" + f"{start}a " * depth + f"{mark}a " * deep + "b" + f" c{mark}" * deep
+              + f" c{end}" * depth + "</p>\n")
+             for mark, start, end in spans]
+    images = "![a " * deep + "b" + "](c)" * deep
+    link = "[" * deep + "a](b)" + "]" * (deep - 1) if deep else '<a href="b">a</a>'
+    around = depth if deep else depth - 1
+    return cases + [
+        ("![a " * (depth + deep) + "b" + "](c)" * (depth + deep),
+         '<p><img src="c" alt="' + "a " * depth + images + '" /></p>\n'),
+        ("[" * (depth + deep) + "a](b)" + "]" * (depth + deep - 1),
+         "<p>" + "[" * around + link + "]" * around + "</p>\n"),
+    ]
