@@ -58,6 +58,7 @@ AS_GFM = [
     "[a](b\n'c\nd')\n", "[a] (b)\n", "[a](b c)\n", '[a](b"c")\n', '[a](\\(b\\) "\\"")\n',
     "[a](b(c)d)\n", "[a](b(c)\n", "[*a](b)*\n", "<https://a?b&amp;c> &copy;\n", "a  \nb\\\nc\nd\n",
     "a   \n\nb\\\n", "`a\nb`\n", "`` a ``` b ``\n", "` `` `\n", "`  `\n", "\\a\\!\\\\\n",
+    "\u00e9  \nb\u00e9\n",
     "a <!-- b\nc --> d\n", "a <b\nc='d'> e\n", "a <?b?> <!C d> <![CDATA[e]]>\n",
     # References.
     "&amp;a &sup; &sup1; &#1234567; &#Xa0F;\n",
