@@ -141,24 +141,30 @@ impl<'a> Reader<'a> {
     }
 
     /// Makes a link or an image of an open bracket and what stands in it.
-    fn put_link(&mut self, open: &Bracket, here: Place, found: &Found) -> Result<Place, AllocError>
-        ensures inactive { open.now.is_image ≡ false → OnOk result
+    fn put_link(
+        &mut self,
+        bracket: &Bracket,
+        here: Place,
+        found: &Found,
+    ) -> Result<Place, AllocError>
+        ensures inactive { bracket.now.is_image ≡ false → OnOk result
             (self.new.inactive ≡ vec_len self.new.brackets) }
     {
         let end = found.end;
         let index = self.targets.len();
         self.targets.push(found.target)?;
-        let (start_mark, end_mark) = if open.is_image {
+        let (start_mark, end_mark) = if bracket.is_image {
             (Mark::ImageStart, Mark::ImageEnd)
         } else {
             (Mark::LinkStart, Mark::LinkEnd)
         };
-        if let Some(token) = self.tokens.get_mut(open.token) {
+        if let Some(token) = self.tokens.get_mut(bracket.token) {
             token.mark = start_mark;
         }
         self.push(end_mark, here.at, end.at, index)?;
-        self.delimiters.resolve(&mut self.tokens, open.delimiters)?;
-        if !open.is_image {
+        self.delimiters
+            .resolve(&mut self.tokens, bracket.delimiters)?;
+        if !bracket.is_image {
             self.inactive = self.brackets.len();
         }
         self.from = end.at;
