@@ -106,6 +106,8 @@ def by_options(program):
         faults += unlike(program, (f"--base={base}",), cases)
         count += len(cases)
     cases = [markdown_cases.references(), markdown_cases.deep(200, MOST_DEPTH)]
+    for depth in (MOST_DEPTH, MOST_DEPTH + 1, 3 * MOST_DEPTH):
+        cases += markdown_cases.nested(depth, MOST_DEPTH)
     faults += unlike(program, (), cases)
     print(f"markdown: {count + len(cases)} documents under options")
     return faults
