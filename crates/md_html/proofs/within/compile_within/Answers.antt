@@ -30,7 +30,8 @@ returns-in-Some c =
     let kept = promises c.args.options.now given text read few meant in
     let worked : work given.events ≤ c.args.limits.work =
     ltb-false c.args.limits.work (work c.args.events.now)
-    (sym c.is_over.ensures ∙ c.if-is_over.false) in
+    (sym (c.is_over.ensures (work c.args.events.now) c.measure-measured.ensures.work)
+    ∙ c.if-is_over.false) in
     let reused : IsReuseWithin c.args.options.now given c.args.limits.work =
     subst (λ (given : Handed). IsReuseWithin c.args.options.now given c.args.limits.work)
     c.in_ok-checked.ensures.ok (λ document flat. ltb-false _ _
@@ -38,7 +39,8 @@ returns-in-Some c =
     record {
       within =
           some-at _ c.in_ok-text.field-0 c.in-Some.text c.in-Some.is c.in_ok-text.ensures.within;
-      work = search rules;
+      work = worked;
+      depth = search rules;
       reuse = reused;
       bounded =
           bounded c.args.options.now given text c.args.limits.work read few meant worked reused;
@@ -53,6 +55,7 @@ returns-in-Some c =
       safe_link_tokens = kept.safe_link_tokens;
       safe_image_tokens = kept.safe_image_tokens;
       distinct_ids = kept.distinct_ids;
+      too_deep = search rules;
       too_much = search rules;
       too_long = search rules;
       long_grammatical = search rules;
@@ -77,7 +80,8 @@ returns-then-branch-clause-too_much c =
 pub returns-clause-too_much : goal.returns-clause-too_much
 returns-clause-too_much c = (
   ltb-false c.args.limits.work (work c.args.events.now)
-      (sym c.is_over.ensures ∙ c.if-is_over.false),
+      (sym (c.is_over.ensures (work c.args.events.now) c.measure-measured.ensures.work)
+      ∙ c.if-is_over.false),
   subst (λ (given : Handed). IsReuseWithin c.args.options.now given c.args.limits.work)
       c.in_ok-checked.ensures.ok (λ document flat. ltb-false _ _
       (sym (c.in_ok-is_reuse_over.ensures document flat) ∙ c.if-branch.false)),

@@ -1,0 +1,2 @@
+-- That the events of a document nest as its nodes.
+pub mod Nodes

@@ -1,0 +1,2 @@
+-- How deep events and nodes nest.
+pub mod Depth
