@@ -112,10 +112,11 @@ impl From<AllocError> for WithinError {
 ///
 /// # Errors
 ///
-/// [`WithinError::TooDeep`] exactly where the events nest deeper than `limits.depth`, before anything
-/// else is looked at; [`WithinError::TooMuch`] where else there is more work than `limits.work`, and
-/// where the events are a document's that uses more again than that; [`WithinError::TooLong`] only where they are a document's whose text has more than
-/// `limits.text` bytes; else the refusal of [`compile`](crate::compile).
+/// [`WithinError::TooDeep`] exactly where the events nest deeper than `limits.depth`, before
+/// anything else is looked at; [`WithinError::TooMuch`] where else there is more work than
+/// `limits.work`, and where the events are a document's that uses more again than that;
+/// [`WithinError::TooLong`] only where they are a document's whose text has more than `limits.text`
+/// bytes; else the refusal of [`compile`](crate::compile).
 ///
 /// # Examples
 ///

@@ -54,8 +54,10 @@ pub told_within : {T : Type 0} (r : Result T RunWithinError) (why : WithinError)
     OfTooLong (IsChecked (document_of given bytes)) why →
     OfWithin (IsRefusal (document_of given bytes)) why →
     IfErr r (λ error. ExplainsEventsWithin events bytes options limits error)
-told_within (Ok x) why given events bytes options limits same h deep much longer checked refusal = tt
-told_within (Err made) why given events bytes options limits same h deep much longer checked refusal =
+told_within (Ok x) why given events bytes options limits same h deep much longer checked refusal =
+    tt
+told_within (Err made) why given events bytes options limits same h deep much longer checked
+    refusal =
     subst (λ es. ExplainsEventsWithin es bytes options limits made) same
     (subst (λ error. ExplainsEventsWithin given bytes options limits error) (sym h)
     (explained given bytes options limits why deep much longer checked refusal))

@@ -102,9 +102,9 @@ impl From<WithinError> for RunWithinError {
 /// # Errors
 ///
 /// `RunWithinError::TooDeep` where the script can be read and its events nest deeper than
-/// `limits.depth`; `RunWithinError::TooMuch` where else it gives more work than `limits.work`, or is
-/// a document's that uses more again than that; `RunWithinError::TooLong` only where its text has
-/// more bytes than `limits.text`; else as [`run`](crate::run).
+/// `limits.depth`; `RunWithinError::TooMuch` where else it gives more work than `limits.work`, or
+/// is a document's that uses more again than that; `RunWithinError::TooLong` only where its text
+/// has more bytes than `limits.text`; else as [`run`](crate::run).
 ///
 /// # Examples
 ///
