@@ -1,2 +1,3 @@
--- How deep events and nodes nest.
+-- How deep events, nodes and elements nest.
 pub mod Depth
+pub mod Levels

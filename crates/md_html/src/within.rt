@@ -1,7 +1,7 @@
 //! Texts within limits: how long a text may be, how much work it may take, and how deep its events
 //! may nest.
 
-ghost use Rattle.std.specs.Prelude.{◌≡◌, ◌*◌, ◌≤◌, ◌<◌, OnOk, IfOk, IfErr, true, false, length};
+ghost use Rattle.std.specs.Prelude.{◌≡◌, ◌+◌, ◌*◌, ◌≤◌, ◌<◌, OnOk, IfOk, IfErr, true, false, length};
 ghost use Rattle.std.specs.Prelude.{string_bytes};
 ghost use Rattle.md_base.specs.Reference.{name_table};
 ghost use Rattle.md_base.specs.Tree.{Forest, flatten};
@@ -19,6 +19,7 @@ ghost use Rattle.md_safe.specs.Built.{IsBuiltAsRead};
 ghost use Rattle.md_safe.specs.Options.{KeepsGrammar, KeepsLinks, KeepsImages, KeepsIds};
 ghost use Rattle.md_length.specs.Bound.{text_bound};
 ghost use Rattle.md_depth.specs.Depth.{depth};
+ghost use Rattle.md_depth.specs.Levels.{NestsWithin};
 ghost use Rattle.md_html.specs.Work.{work};
 ghost use Rattle.md_html.specs.Within.{IsLonger, IsReuseWithin, OfTooLong, IsTooMuchFor, OfWithin};
 ghost use Rattle.md_html.specs.Within.{IsTooDeepFor};
@@ -135,6 +136,8 @@ pub fn compile_within(
     ensures within { IfOk result (λ text. length (string_bytes text) ≤ limits.text) }
     ensures work { OnOk result (work events.now ≤ limits.work) }
     ensures depth { OnOk result (depth events.now ≤ limits.depth) }
+    ensures nesting { IfOk result (λ text. KeepsGrammar options.now
+        → NestsWithin (2 * limits.depth + 5) (string_bytes text)) }
     ensures reuse { OnOk result (IsReuseWithin options.now
         (handed events.now bytes.now names.now) limits.work) }
     ensures bounded { IfOk result (λ text. length (string_bytes text) ≤ text_bound options.now
@@ -251,6 +254,7 @@ pub fn compile_safe_within(
     ensures within { IfOk result (λ html. length html ≤ limits.text) }
     ensures work { OnOk result (work events.now ≤ limits.work) }
     ensures depth { OnOk result (depth events.now ≤ limits.depth) }
+    ensures nesting { IfOk result (λ html. NestsWithin (2 * limits.depth + 5) html) }
     ensures reuse { OnOk result (IsReuseWithin options.now
         (handed events.now bytes.now names.now) limits.work) }
     ensures bounded { IfOk result (λ html. length html ≤ text_bound options.now
