@@ -19,6 +19,7 @@ TEXTS = {
     Status.TOO_LONG: "the text is too long",
     Status.TOO_MUCH: "there is too much work",
     Status.NESTED: "a link stands in a link",
+    Status.TOO_DEEP: "the events nest too deep",
     MarkdownStatus.INPUT_TOO_LONG: "the Markdown is too long",
     MarkdownStatus.OUTPUT_TOO_LONG: "the text is too long",
     MarkdownStatus.NOT_UTF8: "the Markdown isn't UTF-8",
@@ -95,6 +96,18 @@ class TooMuchWork(Error):
 
     def __init__(self, limit: int) -> None:
         super().__init__(f"there is more work than {limit}")
+        self.limit = limit
+
+    def __reduce__(self) -> tuple[type, tuple[int]]:
+        """How it is pickled."""
+        return type(self), (self.limit,)
+
+
+class TooDeep(Error):
+    """The events nest deeper than `limit`."""
+
+    def __init__(self, limit: int) -> None:
+        super().__init__(f"the events nest deeper than {limit}")
         self.limit = limit
 
     def __reduce__(self) -> tuple[type, tuple[int]]:

@@ -6,7 +6,7 @@ Written by clients/numbers/generate from numbers.txt. Don't edit it.
 import enum
 
 # The number of this interface: it changes when a layout or a number changes.
-VERSION = 2
+VERSION = 3
 
 # The version of the library and of what comes with it.
 VERSION_TEXT = "2.0.0"
@@ -81,6 +81,8 @@ class Status(enum.IntEnum):
     TOO_MUCH = 11
     # A link stands in a link.
     NESTED = 12
+    # The events nest deeper than they may.
+    TOO_DEEP = 13
 
 
 class Rule(enum.IntEnum):
