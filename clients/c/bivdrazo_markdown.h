@@ -163,15 +163,11 @@ static inline size_t bivdrazo_markdown_first_size(size_t length) {
     return length > (size_t)PTRDIFF_MAX / 2 ? (size_t)PTRDIFF_MAX : length + length / 2 + 256;
 }
 
-/* bivdrazo_markdown_into() or bivdrazo_markdown_slugs_into(). */
-typedef bivdrazo_answer bivdrazo_markdown_call(const uint8_t *, size_t,
-                                               const bivdrazo_markdown_options *, uint8_t *,
-                                               size_t);
-
-/* As that call, with the buffer in memory of its own: under BIVDRAZO_OK `*made` is what it wrote,
-   and a NUL; else it is null. */
-static inline bivdrazo_answer bivdrazo_markdown_alloc_by(bivdrazo_markdown_call *into,
-                                                         const uint8_t *text, size_t length,
+/* As bivdrazo_markdown_slugs_into() where `slugs` is 1, and else as bivdrazo_markdown_into(), with
+   the buffer in memory of its own: under BIVDRAZO_OK `*made` is what it wrote, and a NUL; else it
+   is null. */
+static inline bivdrazo_answer bivdrazo_markdown_alloc_by(int slugs, const uint8_t *text,
+                                                         size_t length,
                                                          const bivdrazo_markdown_options *options,
                                                          uint8_t **made) {
     const bivdrazo_markdown_options defaults = bivdrazo_markdown_options_default();
@@ -181,8 +177,9 @@ static inline bivdrazo_answer bivdrazo_markdown_alloc_by(bivdrazo_markdown_call 
         const size_t room = answer.length;
         bivdrazo_grow(&answer, made);
         if (answer.status == BIVDRAZO_TOO_SHORT)
-            answer = into(length ? text : (const uint8_t *)"", length,
-                          options ? options : &defaults, *made, room);
+            answer = (slugs ? bivdrazo_markdown_slugs_into : bivdrazo_markdown_into)(
+                length ? text : (const uint8_t *)"", length, options ? options : &defaults, *made,
+                room);
     }
     bivdrazo_settle(&answer, made);
     return answer;
@@ -192,7 +189,7 @@ static inline bivdrazo_answer bivdrazo_markdown_alloc_by(bivdrazo_markdown_call 
 static inline bivdrazo_answer bivdrazo_markdown_alloc(const uint8_t *text, size_t length,
                                                       const bivdrazo_markdown_options *options,
                                                       uint8_t **made) {
-    return bivdrazo_markdown_alloc_by(bivdrazo_markdown_into, text, length, options, made);
+    return bivdrazo_markdown_alloc_by(0, text, length, options, made);
 }
 
 /*
@@ -226,13 +223,12 @@ static inline char *bivdrazo_markdown_lines(const uint8_t *list, size_t length) 
     return lines;
 }
 
-/* A text with its headings, by that call. */
-static inline bivdrazo_answer bivdrazo_markdown_texts(bivdrazo_markdown_call *into,
-                                                      const uint8_t *text, size_t length,
+/* A text with its headings, by one call or the other. */
+static inline bivdrazo_answer bivdrazo_markdown_texts(int slugs, const uint8_t *text, size_t length,
                                                       const bivdrazo_markdown_options *options,
                                                       char **html, char **headings) {
     uint8_t *made;
-    bivdrazo_answer answer = bivdrazo_markdown_alloc_by(into, text, length, options, &made);
+    bivdrazo_answer answer = bivdrazo_markdown_alloc_by(slugs, text, length, options, &made);
     *html = NULL;
     *headings = NULL;
     if (answer.status != BIVDRAZO_OK)
@@ -257,7 +253,7 @@ static inline bivdrazo_answer bivdrazo_markdown_texts(bivdrazo_markdown_call *in
 static inline bivdrazo_answer bivdrazo_markdown_headings(const uint8_t *text, size_t length,
                                                          const bivdrazo_markdown_options *options,
                                                          char **html, char **headings) {
-    return bivdrazo_markdown_texts(bivdrazo_markdown_into, text, length, options, html, headings);
+    return bivdrazo_markdown_texts(0, text, length, options, html, headings);
 }
 
 /*
@@ -268,8 +264,7 @@ static inline bivdrazo_answer bivdrazo_markdown_headings(const uint8_t *text, si
 static inline bivdrazo_answer bivdrazo_markdown_slugs(const uint8_t *text, size_t length,
                                                       const bivdrazo_markdown_options *options,
                                                       char **html, char **headings) {
-    return bivdrazo_markdown_texts(bivdrazo_markdown_slugs_into, text, length, options, html,
-                                   headings);
+    return bivdrazo_markdown_texts(1, text, length, options, html, headings);
 }
 
 /* Gives back a text that bivdrazo_markdown(), bivdrazo_markdown_headings() or
