@@ -177,9 +177,9 @@ static inline bivdrazo_answer bivdrazo_markdown_alloc_by(int slugs, const uint8_
         const size_t room = answer.length;
         bivdrazo_grow(&answer, made);
         if (answer.status == BIVDRAZO_TOO_SHORT)
-            answer = (slugs ? bivdrazo_markdown_slugs_into : bivdrazo_markdown_into)(
-                length ? text : (const uint8_t *)"", length, options ? options : &defaults, *made,
-                room);
+            answer = (slugs ? bivdrazo_markdown_slugs_into
+                            : bivdrazo_markdown_into)(length ? text : (const uint8_t *)"", length,
+                                                      options ? options : &defaults, *made, room);
     }
     bivdrazo_settle(&answer, made);
     return answer;

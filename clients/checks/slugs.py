@@ -26,13 +26,12 @@ def slug(text):
 
 def ids_of(texts, prefix):
     """An id for each text: where it is taken, with the next free number behind it."""
-    taken, found = set(), []
+    taken, tried, found = set(), {}, []
     for text in texts:
-        base = prefix + slug(text) or "section"
-        number, made = 0, base
+        base = made = prefix + slug(text) or "section"
         while made in taken:
-            number += 1
-            made = f"{base}-{number}"
+            tried[base] = tried.get(base, 0) + 1
+            made = f"{base}-{tried[base]}"
         taken.add(made)
         found.append(made)
     return found
