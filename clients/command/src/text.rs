@@ -167,7 +167,12 @@ mod tests {
             .into_iter()
             .collect();
         found.sort();
-        let wanted = ["footnote-label", "user-content-fn-1", "user-content-fnref-1", "x\"&a-b"];
+        let wanted = [
+            "footnote-label",
+            "user-content-fn-1",
+            "user-content-fnref-1",
+            "x\"&a-b",
+        ];
         assert_eq!(found, wanted);
     }
 

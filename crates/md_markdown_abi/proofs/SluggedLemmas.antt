@@ -1,8 +1,8 @@
 -- From what a text with ids promises to what C is handed.
-use Rattle.std.proofs.Common.{◌≡◌, ℕ, ◌≤◌, Bool, true, List, [], ◌∷◌, ◌++◌, length, take, drop}
-use Rattle.std.proofs.Common.{Option, Some, None, is_some, refl, sym, ap, ◌∙◌, subst, append_assoc}
-use Rattle.std.proofs.Common.{arith, string_bytes}
-use Rattle.std.specs.Prelude.{IsTrue, option_map, option_and_then}
+use Rattle.std.proofs.Common.{◌≡◌, ℕ, ◌≤◌, true, List, [], ◌∷◌, ◌++◌, length, take, drop}
+use Rattle.std.proofs.Common.{Option, Some, is_some, sym, ap, ◌∙◌, subst}
+use Rattle.std.proofs.Common.{arith}
+use Rattle.std.specs.Prelude.{IsTrue}
 use Rattle.std.proofs.lemmas.List.{length-append, take-append-le, drop-append-le, take_all}
 use Rattle.std.proofs.lemmas.List.{drop_all}
 use Rattle.md_text.specs.Ids.{are_distinct, HasDistinctIds}

@@ -8,11 +8,11 @@ use Rattle.std.proofs.lemmas.Bool.{and_parts, and_from, or_parts, or_from, not-t
 use Rattle.md_base.proofs.Lies.{lie}
 use Rattle.md_text.specs.Bytes.{is_one_of}
 use Rattle.md_text.specs.Ids.{are_distinct}
-use Rattle.md_safe.specs.Token.{Token, TokenAttribute, Doctype, Character, StartTag, EndTag}
+use Rattle.md_safe.specs.Token.{Token, Doctype, Character, StartTag, EndTag}
 use Rattle.md_safe.specs.Token.{EndOfFile}
 use Rattle.md_page.specs.Added.{added, with_attribute, has_attribute, gets_id, heading_names, shown}
 use Rattle.md_page.specs.GivenIds.{id_text, given_id, with_given_ids, ids_after, ids_given}
-use Rattle.md_page.specs.Ids.{ids_in, ids_at, ids_among}
+use Rattle.md_page.specs.Ids.{ids_at, ids_among}
 use Rattle.md_page.proofs.Distinct.{is_in, in-append, no-ids, ids-more}
 
 pub other-way : (x y : List ℕ) → bytes_eq x y ≡ false → bytes_eq y x ≡ false

@@ -1,5 +1,5 @@
 -- Headings that get given ids: what is written, and its tokens.
-use Rattle.std.proofs.Common.{◌≡◌, ℕ, true, List, ap, codes, subst}
+use Rattle.std.proofs.Common.{ℕ, true, List, ap, codes, subst}
 use Rattle.md_text.proofs.EncodeLaws.{is_escaped-encoded}
 use Rattle.md_text.specs.Encode.{encoded}
 use Rattle.md_safe.specs.Token.{Token}

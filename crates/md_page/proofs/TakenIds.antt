@@ -1,14 +1,13 @@
 -- Each id among the tokens of a text stands in quotes after ` id=`.
 use Rattle.std.specs.Str.{bytes_eq}
-use Rattle.std.proofs.Common.{◌≡◌, ℕ, ◌+◌, ◌-◌, ◌==◌, suc, Bool, true, false, not, ◌||◌, cond, List}
+use Rattle.std.proofs.Common.{◌≡◌, ℕ, ◌+◌, ◌-◌, Bool, true, false, not, cond, List}
 use Rattle.std.proofs.Common.{[], ◌∷◌, ◌++◌, map, length, drop, refl, sym, ap, ◌∙◌, subst, append_assoc}
-use Rattle.std.proofs.Common.{append-nil, codes, inl, inr, arith}
+use Rattle.std.proofs.Common.{codes, inl, inr, arith}
 use Rattle.std.specs.Prelude.{nat_eq}
 use Rattle.std.specs.List.{list_all}
 use lib.Pointwise.{pointwise}
 use Rattle.std.specs.Cmp.Lexicographic.{bytes_decides}
-use Rattle.std.proofs.lemmas.Bool.{and_parts, and_from, not-true, or_cases, or_left, or_right}
-use Rattle.std.proofs.lemmas.Bool.{cases_Bool}
+use Rattle.std.proofs.lemmas.Bool.{and_parts, and_from, or_cases, or_left, or_right}
 use Rattle.std.proofs.lemmas.List.{length-append}
 use Rattle.std.proofs.Math.Seq.{drop-append_seam}
 use Rattle.md_base.proofs.Lies.{lie}
@@ -18,11 +17,11 @@ use Rattle.md_text.specs.Encode.{encoded}
 use Rattle.md_text.specs.References.{is_escaped}
 use Rattle.md_text.specs.Html.{Attribute, written_attributes}
 use Rattle.md_safe.specs.Input.{with_line_feeds}
-use Rattle.md_safe.specs.Token.{Token, Character, StartTag, EndTag, EndOfFile}
+use Rattle.md_safe.specs.Token.{Token, Character}
 use Rattle.md_safe.specs.Tokenizer.{IsTokenized}
 use Rattle.md_safe.specs.Tokens.{seen, seen_attributes}
 use Rattle.md_page.specs.GivenIds.{is_among}
-use Rattle.md_page.specs.Ids.{ids_in, ids_at, ids_among}
+use Rattle.md_page.specs.Ids.{ids_in, ids_among}
 use Rattle.md_page.specs.Pieces.{Piece, Words, Opening, Single, Closing, all_written, all_tokens}
 use Rattle.md_page.specs.Pieces.{are_sound, are_plain, is_name, is_name_byte, is_tag_name}
 use Rattle.md_page.specs.Pieces.{void_names, begins_with_words, IsWritten}
@@ -32,7 +31,7 @@ use Rattle.md_page.proofs.HeadingTexts.{encoded-seen}
 use Rattle.md_page.proofs.Parts.{is_filled, parts-filled, parts-run, parts-none}
 use Rattle.md_page.proofs.Plain.{void-name}
 use Rattle.md_page.proofs.Rules.{attributed}
-use Rattle.md_page.proofs.Scanning.{StandsOutside, escaped-differs, name-differs, all-join}
+use Rattle.md_page.proofs.Scanning.{escaped-differs, name-differs, all-join}
 use Rattle.md_page.proofs.Scanning.{name_bytes}
 
 -- no `"`

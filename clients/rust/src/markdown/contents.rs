@@ -95,7 +95,11 @@ mod tests {
     #[test]
     fn texts() {
         for (text, id, wanted) in [
-            ("a](x) *b* `c` &lt;d&gt; &amp;amp; www.e.org", "é b", "#%C3%A9%20b"),
+            (
+                "a](x) *b* `c` &lt;d&gt; &amp;amp; www.e.org",
+                "é b",
+                "#%C3%A9%20b",
+            ),
             ("- 1. # &gt; | ~ ![", ">\"\\)", "#%3E%22%5C)"),
             ("\\ [^1] a@b.org https://c.org", "", "#"),
             (" \n ", "a_*b*", "#a_*b*"),

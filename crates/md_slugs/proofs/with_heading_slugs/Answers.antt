@@ -2,8 +2,8 @@
 use Rattle.std.proofs.Common.{◌≡◌, ◌++◌, true, length, map, string_bytes, sym, ap, ◌∙◌, subst}
 use Rattle.std.proofs.lemmas.List.{length-map}
 use Rattle.md_text.specs.Ids.{are_distinct}
-use Rattle.md_page.specs.Added.{shown, headings_of}
-use Rattle.md_page.specs.GivenIds.{is_among, with_given_ids, ids_given}
+use Rattle.md_page.specs.Added.{headings_of}
+use Rattle.md_page.specs.GivenIds.{with_given_ids, ids_given}
 use Rattle.md_page.specs.Headings.{listed}
 use Rattle.md_page.specs.Ids.{ids_among}
 use Rattle.md_slugs.specs.Chosen.{AreChosen}

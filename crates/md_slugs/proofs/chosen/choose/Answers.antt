@@ -1,5 +1,5 @@
 -- One more id, which was free, is taken.
-use Rattle.std.proofs.Common.{◌≡◌, ◌||◌, ◌++◌, ◌∷◌, [], ◌+◌, ℕ, List, Bool, true, cond, length, map}
+use Rattle.std.proofs.Common.{◌≡◌, ◌||◌, ◌++◌, ◌∷◌, [], ℕ, List, Bool, true, cond, length, map}
 use Rattle.std.proofs.Common.{string_bytes, sym, ap, ◌∙◌, subst, arith}
 use Rattle.std.specs.Str.{bytes_eq}
 use Rattle.std.specs.BTreeSet.{contains_text}

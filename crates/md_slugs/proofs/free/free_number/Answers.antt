@@ -1,5 +1,5 @@
 -- A number that isn't free is one more that is taken.
-use Rattle.std.proofs.Common.{◌≡◌, ◌≤◌, ◌+◌, ◌<◌, ◌^◌, true, length, refl, sym, ap, ◌∙◌, arith}
+use Rattle.std.proofs.Common.{◌≡◌, ◌≤◌, ◌+◌, true, length, refl, sym, ap, ◌∙◌, arith}
 use Rattle.std.specs.BTreeSet.{contains_text}
 use Rattle.md_page.specs.GivenIds.{written_id}
 use Rattle.md_slugs.specs.Chosen.{numbered}
