@@ -166,11 +166,11 @@ pub extern "C" fn bivdrazo_compile_attributed(
 ///
 /// - 0 to 5, 7: as of [`bivdrazo_compile`].
 /// - 8: the options aren't safe.
-/// - 12: a link stands in a link, of which neither stands in an image. Links are also automatic ones
-///   that are none by letters alone, and calls of footnotes.
+/// - 12: a link stands in a link, of which neither stands in an image. Links are also automatic
+///   ones that are none by letters alone, and calls of footnotes.
 ///
-/// With all but 0 the buffer is as it was. Which of 3 to 5 and 8 is told, if several are true, is
-/// left open.
+/// With all but 0 the buffer is as it was. Which of 2 to 5 and 8 is told, if several are true, is
+/// left open. 12 is told only where the events are those of a document.
 #[unsafe(no_mangle)]
 pub extern "C" fn bivdrazo_compile_unnested(
     alloc: Global,
@@ -358,8 +358,6 @@ const MARKDOWN_VERSION: u32 = 4;
 /// - 37: there is more work than `max_work`.
 /// - 33: the text is longer than `max_output`.
 /// - 7: there is no more memory.
-/// - 2, 36: what was made of the document is refused, or has a link in a link: a fault of the
-///   parser. No document is known that gets one of them.
 ///
 /// Of 35, 5, 32 and 34 the first that is true is told, and none of the others where one is.
 #[unsafe(no_mangle)]

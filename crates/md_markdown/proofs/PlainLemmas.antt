@@ -1,4 +1,5 @@
 -- A document that is shown as it is written is one of the grammar, whatever its text is.
+use Rattle.std.proofs.Common.{◌+◌, ◌*◌, ◌≤◌, ◌<◌, arith, inr}
 use Rattle.std.proofs.Common.{◌≡◌, ◌∙◌, ℕ, zero, suc, ◌-◌, List, [], ◌∷◌, ◌++◌, true}
 use Rattle.std.proofs.Common.{false, ◌&&◌, if◌then◌else◌, refl, ap, sym, subst, length, nat_le, Some}
 use Rattle.std.proofs.Common.{inl, Result, Ok, Err, IfErr}
@@ -21,7 +22,7 @@ use Rattle.md_pattern.specs.declared.kinds.Symbol.TheVariants as symbol
 use Rattle.md_pattern.specs.declared.kinds.Role.TheVariants as role
 use Rattle.md_text.specs.Encode.{encoded}
 use Rattle.md_text.specs.declared.options.CompileOptions.{CompileOptions}
-use Rattle.md_tree.specs.Grammar.{IsChecked, IsGrammatical, handed}
+use Rattle.md_tree.specs.Grammar.{Handed, IsChecked, IsReadAs, IsGrammatical, handed}
 use Rattle.md_tree.specs.Mentions.{IsResolved, mentions_of}
 use Rattle.md_tree.specs.Refusal.{IsOutside}
 use Rattle.md_tree.specs.Rules.{broken_by}
@@ -30,11 +31,16 @@ use Rattle.md_tree.specs.declared.mention.Mention.TheVariants.{Nothing}
 use Rattle.md_tree.specs.declared.rule.CompileError.TheVariants as refusal
 use Rattle.md_tree.proofs.ClosedNodes.{not_childless}
 use Rattle.md_meaning.specs.Meaning.{meaning}
+use Rattle.md_safe.specs.Links.{has_nested_link}
 use Rattle.md_safe.specs.Options.{KeepsImages}
+use Rattle.md_depth.specs.Depth.{depth, height}
+use Rattle.md_depth.specs.Levels.{NestsWithin}
+use Rattle.md_depth.proofs.Nodes.{events-nest}
+use Rattle.md_depth.proofs.WholeMoves.{elements-nest}
 use Rattle.md_html.specs.Safe.{IsRefusedFor, OfCompile}
 use Rattle.md_html.specs.Unnested.{AreNested, OfSafe, OfNested}
-use Rattle.md_html.specs.Within as given
-use given.{OfWithin}
+use Rattle.md_html.specs.Within as limited
+use limited.{OfWithin}
 use Rattle.md_html.specs.SafeWithin.{IsUnsafeFor, OfLimits}
 use Rattle.md_html.specs.declared.safe_html.SafeError.TheVariants as safe
 use Rattle.md_html.specs.declared.unnested.UnnestedError.{UnnestedError}
@@ -45,7 +51,8 @@ use Rattle.md_html.specs.declared.within.SafeWithinError.TheVariants as safe_wit
 use Rattle.md_markdown.specs.Made.{IsMadeOver, IsLonger, OfTooLong}
 use Rattle.md_markdown.specs.declared.error.MarkdownWithinError.{MarkdownWithinError}
 use Rattle.md_markdown.specs.declared.error.MarkdownWithinError.TheVariants as error
-use Rattle.md_markdown.specs.Parsed.{is_memory, of_limits, IsMadeOfEither}
+use Rattle.md_markdown.specs.Depth.{most_depth}
+use Rattle.md_markdown.specs.Parsed.{IsShown, is_memory, of_limits, IsMadeOfEither}
 use Rattle.md_markdown.specs.Plain.{plain, plain_text, at}
 
 pub takes-all : (bytes : List ℕ) → take (length bytes) bytes ≡ bytes
@@ -118,7 +125,7 @@ means options bytes utf8 =
 -- what is claimed of a text that is too long, of the document's error
 pub long_told : (claimed also longer : Type 0) (why : SafeWithinError)
     (cause : MarkdownWithinError) → (claimed → also → longer) →
-    OfLimits (given.OfTooLong claimed) why → OfLimits (given.OfTooLong also) why →
+    OfLimits (limited.OfTooLong claimed) why → OfLimits (limited.OfTooLong also) why →
     of_limits why ≡ Some cause → OfTooLong longer cause
 long_told claimed also longer safe_within.Options cause make claim more is =
     absurd (none-some cause is)
@@ -137,11 +144,11 @@ long_told claimed also longer (safe_within.Within (within.Compile (refusal.Event
 pub long_over : (events : List Event) (bytes text : List ℕ)
     (names : List (Bor (List ℕ) × Bor (List ℕ))) (options : CompileOptions) (limit : ℕ)
     (why : SafeWithinError) (cause : MarkdownWithinError) → KeepsImages options →
-    OfLimits (given.OfTooLong (given.IsLonger options (handed events bytes names) limit)) why →
-    OfLimits (given.OfTooLong (IsChecked (handed events bytes names))) why →
+    OfLimits (limited.OfTooLong (limited.IsLonger options (handed events bytes names) limit)) why →
+    OfLimits (limited.OfTooLong (IsChecked (handed events bytes names))) why →
     of_limits why ≡ Some cause → OfTooLong (IsLonger (IsMadeOfEither bytes text) limit) cause
 long_over events bytes text names options limit why cause safe claim checked is =
-    long_told (given.IsLonger options (handed events bytes names) limit)
+    long_told (limited.IsLonger options (handed events bytes names) limit)
     (IsChecked (handed events bytes names)) (IsLonger (IsMadeOfEither bytes text) limit) why cause
     (λ long read. (
       meaning options (name_table names) bytes read.0,
@@ -167,6 +174,68 @@ long_widened (Err error.TooLong) claim wider limit widen long =
     (long.0, (widen long.0 long.1.0, long.1.1))
 long_widened (Err error.TooMuch) claim wider limit widen long = tt
 long_widened (Err error.Memory) claim wider limit widen long = tt
+
+-- what nests within a bound nests within a greater one
+pub wider : (least most : ℕ) (text : List ℕ) → least ≤ most → NestsWithin least text →
+    NestsWithin most text
+wider least most text fits nests tree read =
+    let few = nests tree read in
+    omega (arith, fits, few)
+
+-- the nodes of a document that events flatten nest as deep as these
+pub as_nodes : (given : Handed) (document : Forest) → IsReadAs given document →
+    depth given.events ≡ height document
+as_nodes given document read = ap depth (sym read.flattened) ∙ events-nest document
+
+-- events that nest deeper are of no document that is shown
+pub too_deep : (given : Handed) (most : ℕ) (document : Forest) → most < depth given.events →
+    IsShown given most document → ⊥
+too_deep given most document deep shown =
+    let same = as_nodes given document shown.read in
+    let few = shown.nested in
+    omega (arith, deep, same, few)
+
+-- a document is shown that is checked, has no link in a link, and nests no deeper
+pub is_shown : (given : Handed) (most : ℕ) (checked : IsChecked given) →
+    has_nested_link false checked.0 ≡ false → depth given.events ≤ most →
+    IsShown given most checked.0
+is_shown given most checked unnested few = record {
+  read = checked.1;
+  unnested = unnested;
+  nested = let same = as_nodes given checked.0 checked.1 in omega (arith, few, same);
+}
+
+-- the compiler has a text of a document that is shown, within limits or not
+pub never_shown : (given : Handed) (options : CompileOptions) (most : ℕ) (why : SafeWithinError)
+    (document : Forest) → KeepsImages options → OfLimits (limited.IsTooDeepFor given.events most) why →
+    IsUnsafeFor options why → OfLimits (OfWithin (IsOutside given)) why → of_limits why ≡ None →
+    IsShown given most document → ⊥
+never_shown given options most safe_within.Options document kept deep refused outside other shown =
+    refused kept
+never_shown given options most (safe_within.Within within.TooLong) document kept deep refused
+    outside other shown = none-some _ (sym other)
+never_shown given options most (safe_within.Within within.TooDeep) document kept deep refused
+    outside other shown = too_deep given most document deep shown
+never_shown given options most (safe_within.Within within.TooMuch) document kept deep refused
+    outside other shown = none-some _ (sym other)
+never_shown given options most (safe_within.Within (within.Compile refusal.Memory)) document kept
+    deep refused outside other shown = none-some _ (sym other)
+never_shown given options most (safe_within.Within (within.Compile (refusal.Event index rule)))
+    document kept deep refused outside other shown = outside (document, shown.read)
+
+-- the elements of what a document means
+pub meant_nests : (given : Handed) (options : CompileOptions) (html : List ℕ) →
+    KeepsImages options → depth given.events ≤ most_depth → IsChecked given →
+    ((document : Forest) → flatten document ≡ given.events →
+    html ≡ meaning options given.names given.bytes document) →
+    NestsWithin (2 * most_depth + 5) html
+meant_nests given options html safe few checked meant =
+    subst (NestsWithin (2 * most_depth + 5)) (sym (meant checked.0 checked.1.flattened))
+    (wider (2 * height checked.0 + 5) (2 * most_depth + 5)
+    (meaning options given.names given.bytes checked.0)
+    (let same = as_nodes given checked.0 checked.1 in omega (arith, few, same))
+    (elements-nest given.bytes given.names options checked.0 checked.1.grammatical
+    safe.links.grammar))
 
 -- its events, over bytes that are a text's
 module _ (events : List Event) (bytes text : List ℕ)
@@ -216,23 +285,39 @@ module _ (events : List Event) (bytes text : List ℕ)
       outside other = outside (checked [])
 
   pub never_within : (options : CompileOptions) (why : SafeWithinError) → KeepsImages options →
-      IsUnsafeFor options why → OfLimits (OfWithin (IsOutside (handed events bytes []))) why →
+      OfLimits (limited.IsTooDeepFor events most_depth) why → IsUnsafeFor options why → OfLimits (OfWithin (IsOutside (handed events bytes []))) why →
       of_limits why ≡ None → ⊥
-  never_within options safe_within.Options kept refused outside other = refused kept
-  never_within options (safe_within.Within within.TooLong) kept refused outside other = none-some _ (sym other)
-  never_within options (safe_within.Within within.TooMuch) kept refused outside other = none-some _ (sym other)
-  never_within options (safe_within.Within (within.Compile refusal.Memory)) kept refused outside
-      other = none-some _ (sym other)
-  never_within options (safe_within.Within (within.Compile (refusal.Event index rule))) kept
+  never_within options safe_within.Options kept deep refused outside other = refused kept
+  never_within options (safe_within.Within within.TooLong) kept deep refused outside other =
+      none-some _ (sym other)
+  never_within options (safe_within.Within within.TooDeep) kept deep refused outside other =
+      let two : depth events ≡ 2 = ap depth same ∙ events-nest (plain (length text)) in
+      omega (arith, deep, two)
+  never_within options (safe_within.Within within.TooMuch) kept deep refused outside other =
+      none-some _ (sym other)
+  never_within options (safe_within.Within (within.Compile refusal.Memory)) kept deep refused
+      outside other = none-some _ (sym other)
+  never_within options (safe_within.Within (within.Compile (refusal.Event index rule))) kept deep
       refused outside other = outside (checked [])
+
+  -- its elements nest no deeper than they may
+  pub nested : (options : CompileOptions) (html : List ℕ) → KeepsImages options →
+      ((document : Forest) → flatten document ≡ events →
+      html ≡ meaning options [] bytes document) → NestsWithin (2 * most_depth + 5) html
+  nested options html safe meant =
+      subst (NestsWithin (2 * most_depth + 5)) (sym (meant (plain (length text)) (sym same)))
+      (wider 9 (2 * most_depth + 5) (meaning options [] bytes (plain (length text))) (omega arith)
+      (elements-nest bytes [] options (plain (length text))
+      (subst (λ b. IsGrammatical b [] (plain (length text))) (sym value)
+      (grammatical text [] utf8)) safe.links.grammar))
 
   -- a text that is too long is that of the document
   pub longer : (options : CompileOptions) (limit : ℕ) (why : SafeWithinError)
       (cause : MarkdownWithinError) → KeepsImages options →
-      OfLimits (given.OfTooLong (given.IsLonger options (handed events bytes []) limit)) why →
+      OfLimits (limited.OfTooLong (limited.IsLonger options (handed events bytes []) limit)) why →
       of_limits why ≡ Some cause → OfTooLong (IsLonger (IsMadeOver text) limit) cause
   longer options limit why cause safe claim is =
-      let claimed = given.IsLonger options (handed events bytes []) limit in
+      let claimed = limited.IsLonger options (handed events bytes []) limit in
       long_told claimed claimed (IsLonger (IsMadeOver text) limit) why cause
       (λ long _. (
         meaning options [] bytes (plain (length text)),

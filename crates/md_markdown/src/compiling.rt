@@ -20,7 +20,6 @@ use crate::options::MarkdownOptions;
 use crate::plain::{Within, compile_plain, compile_plain_within};
 use md_base::Event;
 use md_blocks::parse_blocks;
-use md_depth::laws::elements_nest_as_the_nodes;
 use md_html::{
     Limits, SafeHtml, compile_safe_within, compile_unnested, depth_of, has_nested_link,
 };
@@ -182,7 +181,6 @@ fn compile_or_plain(
     if depth_of(parsed.events) > MAX_DEPTH {
         return compile_plain(alloc, text, options);
     }
-    elements_nest_as_the_nodes();
     match compile_unnested(alloc, parsed.events, parsed.bytes, options, parsed.names) {
         Ok(html) => Ok(html),
         Err(error) if is_memory(&error) => Err(AllocError),

@@ -15,7 +15,6 @@ ghost use Rattle.md_markdown.specs.Plain.{at, plain, plain_text};
 use crate::compiling::MAX_DEPTH;
 use crate::error::{MarkdownWithinError, is_memory, of_limits};
 use md_base::{Event, Kind, Name, Point};
-use md_depth::laws::elements_nest_as_the_nodes;
 use md_html::{Limits, SafeHtml, compile_safe_within, compile_unnested};
 use md_text::CompileOptions;
 use std::alloc::{AllocError, Global};
@@ -47,7 +46,6 @@ pub(crate) fn compile_plain(
     ensures distinct_ids { IfOk result
         (λ html. options.now.gfm_footnote_number_ids ≡ true → HasDistinctIds html) }
 {
-    elements_nest_as_the_nodes();
     let events = plain_events(text.len());
     match compile_unnested(alloc, &events, text.as_bytes(), options, &[]) {
         Ok(html) => Ok(html),

@@ -1,5 +1,5 @@
 -- From what is promised of a text, and why there is none, to what C is told.
-use Rattle.std.proofs.Common.{◌≡◌, ℕ, ◌≤◌, Bool, true, List, Option, Some, Result, Ok, Err}
+use Rattle.std.proofs.Common.{◌+◌, ◌*◌, ◌≡◌, ℕ, ◌≤◌, Bool, true, List, Option, Some, Result, Ok, Err}
 use Rattle.std.proofs.Common.{take, [], ◌∷◌, ◌++◌, IfErr, is_some, refl, sym, ap, ◌∙◌}
 use Rattle.std.proofs.Common.{subst}
 use Rattle.std.specs.Prelude.{None, IsErrAnd, option_and_then, option_map, slice_get}
@@ -20,13 +20,15 @@ use Rattle.md_abi.specs.Failures.{IsFaultOf}
 use Rattle.md_abi.specs.declared.option.CText.{CText}
 use Rattle.md_abi.specs.declared.failure.Failure.{Failure}
 use Rattle.md_abi.specs.declared.failure.Failure.TheVariants as failure
+use Rattle.md_depth.specs.Levels.{NestsWithin}
+use Rattle.md_markdown.specs.Depth.{most_depth}
 use Rattle.md_markdown.specs.Made.{IsMadeOf}
 use Rattle.md_markdown.specs.declared.options.MarkdownOptions.{MarkdownOptions}
 use Rattle.md_markdown.specs.declared.error.MarkdownWithinError.{MarkdownWithinError}
 use Rattle.md_markdown.specs.declared.error.MarkdownWithinError.TheVariants as within
 use Rattle.md_markdown_abi.specs.Numbers.{markdown_version}
 use Rattle.md_markdown_abi.specs.Options.{HasMarkdownOptions, readable_fields}
-use Rattle.md_markdown_abi.specs.Text.{IsMarkdownText, AreRead, IsRead}
+use Rattle.md_markdown_abi.specs.Text.{IsPlainOf, IsMarkdownText, AreRead, IsRead}
 use Rattle.md_markdown_abi.specs.Failures.{failure_within, IsOptionFault}
 use Rattle.md_markdown_abi.specs.Failures.{IsDocumentFault, ExplainsMarkdown}
 use Rattle.md_markdown_abi.specs.declared.option.CMarkdownOptions.{CMarkdownOptions}
@@ -56,37 +58,43 @@ base_is given options has =
     by None f = refl
     by (Some text) f = refl
 
-pub made_text : (bytes text : List ℕ) (given : CMarkdownOptions) (options : MarkdownOptions)
-    (rel prefix : Option (List ℕ)) (plain whole : List ℕ) (start : ℕ) → text ≡ bytes →
-    HasMarkdownOptions given options → IsMadeOf (is_some options.base) text plain →
-    IsSafelyTokenized plain →
-    IsContained plain → IsBuiltAsRead plain →
-    (options.number_ids ≡ true → HasDistinctIds plain) → text_of given.rel ≡ Some rel →
-    text_of given.heading_ids ≡ Some prefix →
-    ((x : List Token) → IsTokenized plain x → IsListedAfter prefix (with_rel rel x) start whole) →
-    (IsBuiltAsWritten plain → IsBuiltAsWritten (take start whole)) →
-    start ≤ given.max_output → IsMarkdownText bytes given start whole
-made_text bytes text given options rel prefix plain whole start same has made safe contained tree
-    distinct rel_read prefix_read listed built fits =
-    let read = safe.as_read in
-    let emitted : List Token = tokens read.forest ++ (EndOfFile ∷ []) in
+pub plain_of : (bytes text : List ℕ) (given : CMarkdownOptions) (options : MarkdownOptions)
+    (plain : List ℕ) → text ≡ bytes → HasMarkdownOptions given options →
+    IsMadeOf (is_some options.base) text plain → IsSafelyTokenized plain → IsContained plain →
+    IsBuiltAsRead plain → NestsWithin (2 * most_depth + 5) plain →
+    (options.number_ids ≡ true → HasDistinctIds plain) → IsPlainOf bytes given plain
+plain_of bytes text given options plain same has made safe contained tree nesting distinct =
     record {
-      plain = plain;
-      tokens = emitted;
       made = subst (λ b. IsMadeOf b bytes plain) (sym (base_is given options has))
           (subst (λ b. IsMadeOf (is_some options.base) b plain) same made);
       safe = safe;
       contained = contained;
       tree = tree;
+      nesting = nesting;
       distinct_ids = λ one.
           distinct (is_on (flag_of given.number_ids) options.number_ids has.number_ids
           (ap flag_of one));
+    }
+
+pub made_text : (bytes : List ℕ) (given : CMarkdownOptions) (rel prefix : Option (List ℕ))
+    (plain whole : List ℕ) (start : ℕ) → IsPlainOf bytes given plain → text_of given.rel ≡ Some rel →
+    text_of given.heading_ids ≡ Some prefix →
+    ((x : List Token) → IsTokenized plain x → IsListedAfter prefix (with_rel rel x) start whole) →
+    (IsBuiltAsWritten plain → IsBuiltAsWritten (take start whole)) →
+    start ≤ given.max_output → IsMarkdownText bytes given start whole
+made_text bytes given rel prefix plain whole start made rel_read prefix_read listed built fits =
+    let read = made.safe.as_read in
+    let emitted : List Token = tokens read.forest ++ (EndOfFile ∷ []) in
+    record {
+      plain = plain;
+      tokens = emitted;
+      made = made;
       tokenized = read.tokenized;
       listed = subst (λ p. IsListedAfter p (with_rel (asked given.rel) emitted) start whole)
           (sym (asked_is given.heading_ids prefix prefix_read))
           (subst (λ r. IsListedAfter prefix (with_rel r emitted) start whole)
           (sym (asked_is given.rel rel rel_read)) (listed emitted read.tokenized));
-      built = built (read-built plain tree);
+      built = built (read-built plain made.tree);
       fits = fits;
     }
 

@@ -25,6 +25,7 @@ use Rattle.md_abi.specs.Attributes.{with_rel, listing}
 use Rattle.md_markdown.specs.Made.{IsMadeOf}
 use Rattle.md_markdown.specs.declared.options.MarkdownOptions.{MarkdownOptions}
 use Rattle.md_markdown_abi.specs.Options.{HasMarkdownOptions}
+use Rattle.md_markdown_abi.specs.Text.{IsPlainOf}
 use Rattle.md_markdown_abi.specs.Slugged.{IsSluggedText, IsSluggedAfter, id_listing}
 use Rattle.md_markdown_abi.specs.declared.option.CMarkdownOptions.{CMarkdownOptions}
 use Rattle.md_markdown_abi.proofs.GivenLemmas.{asked_is, base_is, is_on}
@@ -68,33 +69,21 @@ built-slugs text list whole start is at built =
     ∙ take_all (length text) text same)) built
 
 -- ---- of a document
-pub made_slugged : (bytes text : List ℕ) (given : CMarkdownOptions) (options : MarkdownOptions)
-    (rel : Option (List ℕ)) (plain whole : List ℕ) (start : ℕ) → text ≡ bytes →
-    HasMarkdownOptions given options → IsMadeOf (is_some options.base) text plain →
-    IsSafelyTokenized plain →
-    IsContained plain → IsBuiltAsRead plain →
-    (options.number_ids ≡ true → HasDistinctIds plain) → text_of given.rel ≡ Some rel →
+pub made_slugged : (bytes : List ℕ) (given : CMarkdownOptions) (rel : Option (List ℕ))
+    (plain whole : List ℕ) (start : ℕ) → IsPlainOf bytes given plain → text_of given.rel ≡ Some rel →
     ((x : List Token) → IsTokenized plain x → IsSluggedAfter (with_rel rel x) start whole) →
     (IsBuiltAsWritten plain → IsBuiltAsWritten (take start whole)) →
     start ≤ given.max_output → IsSluggedText bytes given start whole
-made_slugged bytes text given options rel plain whole start same has made safe contained tree
-    distinct rel_read slugged built fits =
-    let read = safe.as_read in
+made_slugged bytes given rel plain whole start made rel_read slugged built fits =
+    let read = made.safe.as_read in
     let emitted : List Token = tokens read.forest ++ (EndOfFile ∷ []) in
     record {
       plain = plain;
       tokens = emitted;
-      made = subst (λ b. IsMadeOf b bytes plain) (sym (base_is given options has))
-          (subst (λ b. IsMadeOf (is_some options.base) b plain) same made);
-      safe = safe;
-      contained = contained;
-      tree = tree;
-      distinct_ids = λ one.
-          distinct (is_on (flag_of given.number_ids) options.number_ids has.number_ids
-          (ap flag_of one));
+      made = made;
       tokenized = read.tokenized;
       slugged = subst (λ r. IsSluggedAfter (with_rel r emitted) start whole)
           (sym (asked_is given.rel rel rel_read)) (slugged emitted read.tokenized);
-      built = built (read-built plain tree);
+      built = built (read-built plain made.tree);
       fits = fits;
     }

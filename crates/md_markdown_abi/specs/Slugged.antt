@@ -1,14 +1,10 @@
 -- What a text whose headings have ids made of their texts is of the Markdown that C hands in.
 use Rattle.std.specs.Prelude.{◌≡◌, ℕ, ◌≤◌, true, IsTrue, List, ◌∷◌, ◌++◌, length, take, drop}
-use Rattle.std.specs.Prelude.{is_some}
 use Rattle.std.specs.List.{flat_map}
 use Rattle.md_text.specs.Encode.{encoded}
-use Rattle.md_text.specs.Ids.{are_distinct, HasDistinctIds}
+use Rattle.md_text.specs.Ids.{are_distinct}
 use Rattle.md_safe.specs.Token.{Token}
 use Rattle.md_safe.specs.Tokenizer.{IsTokenized}
-use Rattle.md_safe.specs.Tokenized.{IsSafelyTokenized}
-use Rattle.md_safe.specs.Contents.{IsContained}
-use Rattle.md_safe.specs.Built.{IsBuiltAsRead}
 use Rattle.md_page.specs.Added.{headings_of}
 use Rattle.md_page.specs.Attributed.{IsAttributed}
 use Rattle.md_page.specs.Built.{IsBuiltAsWritten}
@@ -16,7 +12,7 @@ use Rattle.md_page.specs.GivenIds.{with_given_ids}
 use Rattle.md_page.specs.Ids.{ids_among}
 use Rattle.md_page.specs.Pieces.{IsWritten}
 use Rattle.md_abi.specs.Attributes.{asked, with_rel, listing}
-use Rattle.md_markdown.specs.Made.{IsMadeOf}
+use Rattle.md_markdown_abi.specs.Text.{IsPlainOf}
 use Rattle.md_markdown_abi.specs.declared.option.CMarkdownOptions.{CMarkdownOptions}
 
 -- ids in the list: before each a NUL and `#`; in none, as it is escaped, is a NUL
@@ -38,18 +34,14 @@ pub record IsSluggedAfter (tokens : List Token) (start : ℕ) (whole : List ℕ)
   pub distinct : IsTrue (are_distinct (ids_among tokens)) →
       IsTrue (are_distinct (ids_among (with_given_ids ids tokens)))
 
--- of the document there is a text, made of it and safe, as without ids; with the `rel` that is
+-- there is a text of the document, as without ids; with the `rel` that is
 -- asked for, and with ids, its tokens are those of the bytes before the index, which are built as
 -- they are written, and are no more than they may be; the lists follow
 pub record IsSluggedText (bytes : List ℕ) (options : CMarkdownOptions) (start : ℕ)
     (whole : List ℕ) : Type 0 where
   pub plain : List ℕ
   pub tokens : List Token
-  pub made : IsMadeOf (is_some (asked options.base)) bytes plain
-  pub safe : IsSafelyTokenized plain
-  pub contained : IsContained plain
-  pub tree : IsBuiltAsRead plain
-  pub distinct_ids : options.number_ids ≡ 1 → HasDistinctIds plain
+  pub made : IsPlainOf bytes options plain
   pub tokenized : IsTokenized plain tokens
   pub slugged : IsSluggedAfter (with_rel (asked options.rel) tokens) start whole
   pub built : IsBuiltAsWritten (take start whole)

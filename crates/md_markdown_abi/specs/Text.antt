@@ -1,7 +1,8 @@
 -- What a text is of the Markdown that C hands in, and what is read of that.
-use Rattle.std.specs.Prelude.{◌≡◌, ℕ, ◌≤◌, List, length, take, is_some}
+use Rattle.std.specs.Prelude.{◌≡◌, ℕ, ◌+◌, ◌*◌, ◌≤◌, List, length, take, is_some}
 use Rattle.std.specs.Str.{IsUtf8}
 use Rattle.md_text.specs.Ids.{HasDistinctIds}
+use Rattle.md_depth.specs.Levels.{NestsWithin}
 use Rattle.md_safe.specs.Token.{Token}
 use Rattle.md_safe.specs.Tokenizer.{IsTokenized}
 use Rattle.md_safe.specs.Tokenized.{IsSafelyTokenized}
@@ -10,25 +11,32 @@ use Rattle.md_safe.specs.Built.{IsBuiltAsRead}
 use Rattle.md_page.specs.Built.{IsBuiltAsWritten}
 use Rattle.md_abi.specs.Attributes.{asked, with_rel}
 use Rattle.md_abi.specs.Attributed.{IsListedAfter}
+use Rattle.md_markdown.specs.Depth.{most_depth}
 use Rattle.md_markdown.specs.Made.{IsMadeOf}
 use Rattle.md_markdown_abi.specs.Numbers.{markdown_version}
 use Rattle.md_markdown_abi.specs.Options.{AreReadable}
 use Rattle.md_markdown_abi.specs.declared.option.CMarkdownOptions.{CMarkdownOptions}
 
--- of the document there is a text, made of it and safe: it is tokenized as it is read, each element
--- stands where it may, tree construction builds it, and where ids go by number no two are equal;
--- with the attributes that are asked for its tokens are those of the bytes before the index, which
--- are built as they are written, and are no more than they may be; the list of the headings that
--- got an id follows
-pub record IsMarkdownText (bytes : List ℕ) (options : CMarkdownOptions) (start : ℕ)
-    (whole : List ℕ) : Type 0 where
-  pub plain : List ℕ
-  pub tokens : List Token
+-- a text is made of the document and safe: it is tokenized as it is read, each element stands where
+-- it may, tree construction builds it, elements nest no deeper than they may, and where ids go by
+-- number no two are equal
+pub record IsPlainOf (bytes : List ℕ) (options : CMarkdownOptions) (plain : List ℕ)
+    : Type 0 where
   pub made : IsMadeOf (is_some (asked options.base)) bytes plain
   pub safe : IsSafelyTokenized plain
   pub contained : IsContained plain
   pub tree : IsBuiltAsRead plain
+  pub nesting : NestsWithin (2 * most_depth + 5) plain
   pub distinct_ids : options.number_ids ≡ 1 → HasDistinctIds plain
+
+-- there is such a text of the document; with the attributes that are asked for its tokens are those
+-- of the bytes before the index, which are built as they are written, and are no more than they may
+-- be; the list of the headings that got an id follows
+pub record IsMarkdownText (bytes : List ℕ) (options : CMarkdownOptions) (start : ℕ)
+    (whole : List ℕ) : Type 0 where
+  pub plain : List ℕ
+  pub tokens : List Token
+  pub made : IsPlainOf bytes options plain
   pub tokenized : IsTokenized plain tokens
   pub listed : IsListedAfter (asked options.heading_ids)
       (with_rel (asked options.rel) tokens) start whole

@@ -1,6 +1,6 @@
 -- The paragraph is a document of the grammar, whose text is known.
 use Rattle.std.proofs.Common.{sym, ◌∙◌}
-use Rattle.md_markdown.proofs.PlainLemmas.{shown, made, never}
+use Rattle.md_markdown.proofs.PlainLemmas.{shown, made, never, nested}
 use Rattle.md_markdown.proofs.plain.compile_plain.Goals as goal
 
 pub unreachable-requires : goal.unreachable-requires
@@ -19,5 +19,11 @@ returns-in-Ok-clause-text c =
 pub returns-in-Ok-clause-made : goal.returns-in-Ok-clause-made
 returns-in-Ok-clause-made c =
     made c.plain_events-events.result c.as_bytes.result.now c.args.text.now
+    c.plain_events-events.ensures c.as_bytes.ensures.value c.utf8.text c.args.options.now
+    c.in-Ok.html c.requires.safe c.in-Ok.ensures.meaning
+
+pub returns-in-Ok-clause-nesting : goal.returns-in-Ok-clause-nesting
+returns-in-Ok-clause-nesting c =
+    nested c.plain_events-events.result c.as_bytes.result.now c.args.text.now
     c.plain_events-events.ensures c.as_bytes.ensures.value c.utf8.text c.args.options.now
     c.in-Ok.html c.requires.safe c.in-Ok.ensures.meaning

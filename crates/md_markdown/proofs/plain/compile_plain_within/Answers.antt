@@ -8,7 +8,7 @@ pub unreachable-requires : goal.unreachable-requires
 unreachable-requires c =
     never_within c.plain_events-events.result c.as_bytes.result.now c.args.text.now
     c.plain_events-events.ensures c.as_bytes.ensures.value c.utf8.text
-    c.args.within.now.options.now c.in-Err.error c.requires.safe c.in-Err.ensures.options
+    c.args.within.now.options.now c.in-Err.error c.requires.safe c.in-Err.ensures.too_deep c.in-Err.ensures.options
     c.in-Err.ensures.outside (sym c.of_limits.ensures ∙ c.in-None.is)
 
 pub returns-in-Ok-clause-text : goal.returns-in-Ok-clause-text

@@ -1,7 +1,7 @@
 -- What was promised of a text, carried to what C is told, and what was read. By itself the search
 -- can't put the clauses together.
 use Rattle.std.proofs.Common.{option_copied, string_bytes, rules}
-use Rattle.md_markdown_abi.proofs.GivenLemmas.{told, option_fault}
+use Rattle.md_markdown_abi.proofs.GivenLemmas.{plain_of, told, option_fault}
 use Rattle.md_markdown_abi.proofs.SluggedLemmas.{made_slugged}
 use Rattle.md_markdown_abi.proofs.slugged.markdown_slugged.Goals as goal
 
@@ -15,9 +15,9 @@ returns-in_err-options-clause-err c =
 pub returns-clause-ok : goal.returns-clause-ok
 returns-clause-ok c =
     let html = c.in_ok-html.ensures in
-    made_slugged c.args.bytes.now c.in_ok-text.text.now c.args.given.now c.in_ok-options.options
-    (option_copied c.in_ok-rel.rel) c.in_ok-html.html
-    (string_bytes c.in_ok-made.made.whole) c.in_ok-made.made.start c.in_ok-text.ensures.ok.0
-    c.in_ok-options.ensures.ok html.made html.tokens html.contained html.tree html.distinct_ids
-    c.in_ok-rel.ensures.ok c.in_ok-made.ensures.slugged
+    made_slugged c.args.bytes.now c.args.given.now (option_copied c.in_ok-rel.rel)
+    c.in_ok-html.html (string_bytes c.in_ok-made.made.whole) c.in_ok-made.made.start
+    (plain_of c.args.bytes.now c.in_ok-text.text.now c.args.given.now c.in_ok-options.options
+    c.in_ok-html.html c.in_ok-text.ensures.ok.0 c.in_ok-options.ensures.ok html.made html.tokens
+    html.contained html.tree html.nesting html.distinct_ids) c.in_ok-rel.ensures.ok c.in_ok-made.ensures.slugged
     c.in_ok-made.ensures.tree (search rules)
