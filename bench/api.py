@@ -3,7 +3,7 @@
 
     bench/api.py
 
-Of md_base, md_text, md_tree, md_html, md_script, md_page and md_markdown: the names at the root and
+Of md_base, md_text, md_tree, md_html, md_script, md_page, md_slugs and md_markdown: the names at the root and
 the methods of the types among them are those of the crate's list, and of the table at the end, and
 no others.
 md_html hands on exactly the names of the lists of md_base, md_text and md_tree. The C headers have
@@ -17,7 +17,7 @@ import re
 import sys
 
 ROOT = pathlib.Path(__file__).resolve().parents[1]
-CRATES = ["md_base", "md_text", "md_tree", "md_html", "md_script", "md_page", "md_markdown"]
+CRATES = ["md_base", "md_text", "md_tree", "md_html", "md_script", "md_page", "md_slugs", "md_markdown"]
 BELOW_HTML = ["md_base", "md_text", "md_tree"]
 # Crates whose own list has what they hand on of a crate below.
 HANDED_ON = {"md_script": "md_html", "md_markdown": "md_html"}
@@ -27,8 +27,8 @@ OTHERS = ["md_ffi", "mdevents", "mdhtml", "md_bench"]
 INTERNAL = "Internal: users call nothing of it ([docs/API.md](../../docs/API.md))."
 # What the inline functions of the headers call.
 HELPERS = {"bivdrazo_answer_memory", "bivdrazo_is_too_long", "bivdrazo_first_size", "bivdrazo_grow",
-           "bivdrazo_settle", "bivdrazo_markdown_alloc", "bivdrazo_markdown_first_size",
-           "bivdrazo_markdown_lines"}
+           "bivdrazo_settle", "bivdrazo_markdown_alloc", "bivdrazo_markdown_alloc_by",
+           "bivdrazo_markdown_first_size", "bivdrazo_markdown_lines", "bivdrazo_markdown_texts"}
 
 
 # An item of a list that begins with names, up to the colon before what they are.

@@ -133,7 +133,7 @@ uint32_t bivdrazo_version(void);
 static inline int bivdrazo_next_heading(const uint8_t **at, const uint8_t *end,
                                         bivdrazo_heading *heading) {
     const uint8_t *next = *at;
-    if (next == end)
+    if (next == end || next[1] == '#') /* the ids of bivdrazo_markdown_slugs_into() follow */
         return 0;
     heading->level = (uint8_t)(next[1] - '0'); /* a NUL, the level, a space, the number, a
                                                   space, the text */
@@ -145,6 +145,25 @@ static inline int bivdrazo_next_heading(const uint8_t **at, const uint8_t *end,
     while (next != end && *next != 0)
         next++;
     heading->text_length = (size_t)((const char *)next - heading->text);
+    *at = next;
+    return 1;
+}
+
+/*
+ * Reads the first id of the list of ids that ends at `end`, and moves `*at` past it; 0 where none
+ * is left. That list is what bivdrazo_markdown_slugs_into() wrote after the headings. The id is
+ * escaped, and no NUL ends it.
+ */
+static inline int bivdrazo_next_id(const uint8_t **at, const uint8_t *end, const char **id,
+                                   size_t *id_length) {
+    const uint8_t *next = *at;
+    if (next == end || next[1] != '#')
+        return 0;
+    next += 2;
+    *id = (const char *)next;
+    while (next != end && *next != 0)
+        next++;
+    *id_length = (size_t)((const char *)next - *id);
     *at = next;
     return 1;
 }

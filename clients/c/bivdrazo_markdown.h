@@ -98,11 +98,23 @@ BIVDRAZO_ASSERT(offsetof(bivdrazo_markdown_options, max_work) == 176, "the last 
  * The other statuses, the first of them that is true in this order:
  * BIVDRAZO_MARKDOWN_NO_VERSION, BIVDRAZO_NO_OPTION (`index` is BIVDRAZO_MARKDOWN_OPTION_..),
  * BIVDRAZO_MARKDOWN_INPUT_TOO_LONG, .._NOT_UTF8, .._TOO_MUCH_WORK, .._OUTPUT_TOO_LONG; and
- * BIVDRAZO_MEMORY. BIVDRAZO_REFUSED and BIVDRAZO_MARKDOWN_FAILED would be faults of the parser.
+ * BIVDRAZO_MEMORY.
  */
 bivdrazo_answer bivdrazo_markdown_into(const uint8_t *text, size_t text_length,
                                        const bivdrazo_markdown_options *options, uint8_t *buffer,
                                        size_t buffer_length);
+
+/*
+ * As bivdrazo_markdown_into(), with an id on each heading that is made of the heading's text, as
+ * GitHub makes it: in lower case, a hyphen for each space, and without what is no letter, mark,
+ * number, connector or hyphen. Where heading_ids is set, each begins with that text. Where an id is
+ * there already, a hyphen and a number follow it, from 1 on: so no two ids are equal where
+ * number_ids is 1. After the list of headings the list of their ids follows, which
+ * bivdrazo_next_id() reads.
+ */
+bivdrazo_answer bivdrazo_markdown_slugs_into(const uint8_t *text, size_t text_length,
+                                             const bivdrazo_markdown_options *options,
+                                             uint8_t *buffer, size_t buffer_length);
 
 /*
  * The front matter of a Markdown document: what stands between lines of `---` at its beginning,
@@ -151,11 +163,13 @@ static inline size_t bivdrazo_markdown_first_size(size_t length) {
     return length > (size_t)PTRDIFF_MAX / 2 ? (size_t)PTRDIFF_MAX : length + length / 2 + 256;
 }
 
-/* As bivdrazo_markdown_into(), with the buffer in memory of its own: under BIVDRAZO_OK `*made` is
-   what it wrote, and a NUL; else it is null. */
-static inline bivdrazo_answer bivdrazo_markdown_alloc(const uint8_t *text, size_t length,
-                                                      const bivdrazo_markdown_options *options,
-                                                      uint8_t **made) {
+/* As bivdrazo_markdown_slugs_into() where `slugs` is 1, and else as bivdrazo_markdown_into(), with
+   the buffer in memory of its own: under BIVDRAZO_OK `*made` is what it wrote, and a NUL; else it
+   is null. */
+static inline bivdrazo_answer bivdrazo_markdown_alloc_by(int slugs, const uint8_t *text,
+                                                         size_t length,
+                                                         const bivdrazo_markdown_options *options,
+                                                         uint8_t **made) {
     const bivdrazo_markdown_options defaults = bivdrazo_markdown_options_default();
     bivdrazo_answer answer = {BIVDRAZO_TOO_SHORT, 0, 0, bivdrazo_markdown_first_size(length)};
     *made = NULL;
@@ -163,11 +177,19 @@ static inline bivdrazo_answer bivdrazo_markdown_alloc(const uint8_t *text, size_
         const size_t room = answer.length;
         bivdrazo_grow(&answer, made);
         if (answer.status == BIVDRAZO_TOO_SHORT)
-            answer = bivdrazo_markdown_into(length ? text : (const uint8_t *)"", length,
-                                            options ? options : &defaults, *made, room);
+            answer = (slugs ? bivdrazo_markdown_slugs_into
+                            : bivdrazo_markdown_into)(length ? text : (const uint8_t *)"", length,
+                                                      options ? options : &defaults, *made, room);
     }
     bivdrazo_settle(&answer, made);
     return answer;
+}
+
+/* As bivdrazo_markdown_into(), likewise. */
+static inline bivdrazo_answer bivdrazo_markdown_alloc(const uint8_t *text, size_t length,
+                                                      const bivdrazo_markdown_options *options,
+                                                      uint8_t **made) {
+    return bivdrazo_markdown_alloc_by(0, text, length, options, made);
 }
 
 /*
@@ -201,17 +223,12 @@ static inline char *bivdrazo_markdown_lines(const uint8_t *list, size_t length) 
     return lines;
 }
 
-/*
- * As bivdrazo_markdown(), with the headings that got an id, for a table of contents. `*headings`
- * has a line for each: its level, a space, its number, a space, and its text, without tags and
- * escaped, in which a space stands for each line feed; each line ends with a line feed. It is to be
- * given back as `*html` is, and null where that is null.
- */
-static inline bivdrazo_answer bivdrazo_markdown_headings(const uint8_t *text, size_t length,
-                                                         const bivdrazo_markdown_options *options,
-                                                         char **html, char **headings) {
+/* A text with its headings, by one call or the other. */
+static inline bivdrazo_answer bivdrazo_markdown_texts(int slugs, const uint8_t *text, size_t length,
+                                                      const bivdrazo_markdown_options *options,
+                                                      char **html, char **headings) {
     uint8_t *made;
-    bivdrazo_answer answer = bivdrazo_markdown_alloc(text, length, options, &made);
+    bivdrazo_answer answer = bivdrazo_markdown_alloc_by(slugs, text, length, options, &made);
     *html = NULL;
     *headings = NULL;
     if (answer.status != BIVDRAZO_OK)
@@ -227,7 +244,31 @@ static inline bivdrazo_answer bivdrazo_markdown_headings(const uint8_t *text, si
     return answer;
 }
 
-/* Gives back a text that bivdrazo_markdown() or bivdrazo_markdown_headings() made, or null. */
+/*
+ * As bivdrazo_markdown(), with the headings that got an id, for a table of contents. `*headings`
+ * has a line for each: its level, a space, its number, a space, and its text, without tags and
+ * escaped, in which a space stands for each line feed; each line ends with a line feed. It is to be
+ * given back as `*html` is, and null where that is null.
+ */
+static inline bivdrazo_answer bivdrazo_markdown_headings(const uint8_t *text, size_t length,
+                                                         const bivdrazo_markdown_options *options,
+                                                         char **html, char **headings) {
+    return bivdrazo_markdown_texts(0, text, length, options, html, headings);
+}
+
+/*
+ * The same with ids that are made of the headings' texts, as bivdrazo_markdown_slugs_into() has
+ * them. After the lines of the headings `*headings` has a line for each of their ids, in the same
+ * order: `#` and the id, escaped.
+ */
+static inline bivdrazo_answer bivdrazo_markdown_slugs(const uint8_t *text, size_t length,
+                                                      const bivdrazo_markdown_options *options,
+                                                      char **html, char **headings) {
+    return bivdrazo_markdown_texts(1, text, length, options, html, headings);
+}
+
+/* Gives back a text that bivdrazo_markdown(), bivdrazo_markdown_headings() or
+   bivdrazo_markdown_slugs() made, or null. */
 static inline void bivdrazo_markdown_free(char *html) {
     free(html);
 }
@@ -243,8 +284,6 @@ static inline const char *bivdrazo_markdown_status_text(uint32_t status) {
         return "the Markdown isn't UTF-8";
     case BIVDRAZO_MARKDOWN_NO_VERSION:
         return "the options are of an unknown version";
-    case BIVDRAZO_MARKDOWN_FAILED:
-        return "the parser failed";
     case BIVDRAZO_MARKDOWN_TOO_MUCH_WORK:
         return "there is too much work";
     default:

@@ -203,6 +203,19 @@ static void test_attributes(void) {
     check(answer.status == BIVDRAZO_OK && headings != NULL && *headings == 0, "no headings");
     bivdrazo_markdown_free(html);
     bivdrazo_markdown_free(headings);
+    static const char equal[] = "# A *b*\n\n# a b\n\n# a b-1\n\n# ?\n";
+    options = bivdrazo_markdown_options_default();
+    answer = bivdrazo_markdown_slugs((const uint8_t *)equal, sizeof equal - 1, &options, &html,
+                                     &headings);
+    check(answer.status == BIVDRAZO_OK &&
+              strcmp(html, "<h1 id=\"a-b\">A <em>b</em></h1>\n<h1 id=\"a-b-1\">a b</h1>\n"
+                           "<h1 id=\"a-b-1-1\">a b-1</h1>\n<h1 id=\"section\">?</h1>\n") == 0,
+          "ids of texts");
+    check(headings != NULL && strcmp(headings, "1 1 A b\n1 2 a b\n1 3 a b-1\n1 4 ?\n"
+                                               "#a-b\n#a-b-1\n#a-b-1-1\n#section\n") == 0,
+          "headings and ids of texts");
+    bivdrazo_markdown_free(html);
+    bivdrazo_markdown_free(headings);
     answer = bivdrazo_markdown_headings((const uint8_t *)"\xFF", 1, NULL, &html, &headings);
     check(answer.status == BIVDRAZO_MARKDOWN_NOT_UTF8 && html == NULL && headings == NULL,
           "no text, no headings");
@@ -318,7 +331,8 @@ static void test_failures(void) {
     options.base = text_of("\xFF");
     check(fails("a", 1, &options, BIVDRAZO_NO_OPTION, BIVDRAZO_MARKDOWN_OPTION_BASE),
           "a text that isn't UTF-8");
-    check(strcmp(bivdrazo_markdown_status_text(BIVDRAZO_MARKDOWN_FAILED), "the parser failed") == 0,
+    check(strcmp(bivdrazo_markdown_status_text(BIVDRAZO_MARKDOWN_NO_VERSION),
+                 "the options are of an unknown version") == 0,
           "a status");
     check(strcmp(bivdrazo_markdown_status_text(BIVDRAZO_MEMORY), "out of memory") == 0,
           "a status of the library");

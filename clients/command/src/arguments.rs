@@ -9,6 +9,9 @@ use clap_complete::Shell;
 use std::path::{Path, PathBuf};
 use std::process;
 
+/// What asks for ids of headings that are made of their texts.
+const SLUG: &str = "slug";
+
 /// Renders Markdown as safe HTML.
 ///
 /// Tables, strikethrough, tasks, footnotes and bare links are read, and math with --math. Links and images whose protocol
@@ -40,7 +43,8 @@ pub struct Arguments {
     #[arg(long, value_name = "TITLE")]
     pub page: Option<String>,
 
-    /// Write a whole page like this one, with {{title}}, {{content}}, {{lang}} and {{style}}.
+    /// Write a whole page like this one, with {{title}}, {{content}}, {{toc}}, {{lang}} and
+    /// {{style}}.
     #[arg(long, value_name = "FILE", value_hint = ValueHint::FilePath)]
     pub page_template: Option<PathBuf>,
 
@@ -76,9 +80,15 @@ pub struct Arguments {
     #[arg(long, value_name = "TEXT")]
     pub rel: Option<String>,
 
-    /// Give each heading an id: this text and the heading's number.
-    #[arg(long, value_name = "PREFIX")]
+    /// Give each heading an id: slug for one that is made of its text, as GitHub does; else this
+    /// text and the heading's number.
+    #[arg(long, value_name = "slug|PREFIX")]
     pub heading_ids: Option<String>,
+
+    /// Write a table of contents before the text, or at {{toc}} in a --page-template. Headings get
+    /// ids that are made of their texts, where no other ones are asked for.
+    #[arg(long)]
+    pub toc: bool,
 
     /// Begin a new line where the document does.
     #[arg(long)]
@@ -225,6 +235,8 @@ impl Arguments {
                 ("--math", self.math),
                 ("--no-footnotes", self.no_footnotes),
                 ("--no-tables", self.no_tables),
+                ("--toc", self.toc),
+                ("--heading-ids slug", self.has_slugs()),
             ],
         };
         let given = options.into_iter().find(|(_, is_given)| *is_given);
@@ -246,6 +258,19 @@ impl Arguments {
         options.gfm_footnote_label = self.footnote_label.clone();
         options.gfm_footnote_back_label = self.footnote_back_label.clone();
         options
+    }
+
+    /// Whether the ids of headings are made of their texts.
+    pub fn has_slugs(&self) -> bool {
+        match self.heading_ids.as_deref() {
+            None => self.toc,
+            Some(asked) => asked == SLUG,
+        }
+    }
+
+    /// Whether headings get ids.
+    pub fn has_heading_ids(&self) -> bool {
+        self.heading_ids.is_some() || self.toc
     }
 
     /// What is added to the tags of a text.
@@ -287,7 +312,8 @@ impl Arguments {
         options.footnote_back_label = self.footnote_back_label.clone();
         options.base = self.base.clone();
         options.rel = self.rel.clone();
-        options.heading_ids = self.heading_ids.clone();
+        options.heading_slugs = self.has_slugs();
+        options.heading_ids = self.heading_ids.clone().filter(|asked| asked != SLUG);
         options.max_input = self.max_input;
         options.max_output = self.max_output;
         options.max_work = self.max_work;

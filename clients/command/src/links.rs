@@ -46,6 +46,31 @@ pub fn target(url: &str, source: &Path, tree: &Tree) -> Target {
     }
 }
 
+/// The page that a URL leads to, by its source, and the id in it, where it has both.
+pub fn anchor(url: &str, source: &Path, tree: &Tree) -> Option<(PathBuf, String)> {
+    let (before, fragment) = url.split_once('#')?;
+    let path = before.split('?').next().unwrap_or("");
+    let id = String::from_utf8_lossy(&decoded(fragment)).into_owned();
+    if id.is_empty() || id.eq_ignore_ascii_case("top") {
+        return None;
+    }
+    if path.is_empty() {
+        return Some((source.to_path_buf(), id));
+    }
+    if path.starts_with('/') || has_scheme(path) {
+        return None;
+    }
+    let found = read_from(source.parent().unwrap_or_else(|| Path::new("")), path)?;
+    let named = [
+        found.clone(),
+        found.with_extension(SOURCE_ENDING),
+        found.join("index.md"),
+    ];
+    let is_source = |page: &PathBuf| tree.pages.contains(page);
+    let page = named.into_iter().find(is_source)?;
+    Some((page, id))
+}
+
 /// Whether a path begins with a scheme (RFC 3986, 3.1).
 fn has_scheme(path: &str) -> bool {
     let is_part = |each: char| each.is_ascii_alphanumeric() || "+-.".contains(each);

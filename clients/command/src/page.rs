@@ -25,6 +25,15 @@ pub struct Page {
     pieces: Vec<Piece>,
     /// Whether it has a title.
     pub has_title: bool,
+    /// Whether it has a table of contents.
+    pub has_toc: bool,
+}
+
+/// What a page has of one document; all of it is HTML.
+pub struct Parts<'a> {
+    pub title: &'a str,
+    pub toc: &'a str,
+    pub content: &'a str,
 }
 
 /// A piece of a page: a text that each page has, or what is a document's own.
@@ -32,6 +41,7 @@ pub struct Page {
 enum Piece {
     Text(String),
     Title,
+    Toc,
     Content,
 }
 
@@ -45,27 +55,48 @@ impl Page {
                 pieces_of(&template, &lang, &style_of(arguments)?)
                     .map_err(|error| format!("{}: {error}", path.display()))?
             }
-            None if arguments.wants_page() => pieces_of(&own(&lang), &lang, &style_of(arguments)?)?,
+            None if arguments.wants_page() => {
+                let own = own(&lang, arguments.toc);
+                pieces_of(&own, &lang, &style_of(arguments)?)?
+            }
+            None if arguments.toc => vec![Piece::Toc, Piece::Content],
             None => vec![Piece::Content],
         };
-        let has_title = pieces.contains(&Piece::Title);
-        Ok(Page { pieces, has_title })
+        Page::made_of(pieces, arguments)
     }
 
-    /// A text in the page with this title, which is escaped: what is to be written, one after
-    /// another.
-    pub fn around<'a>(&'a self, title: &'a str, html: &'a str) -> Vec<&'a str> {
+    /// A page of these pieces, which has a place for each part that is asked for.
+    fn made_of(pieces: Vec<Piece>, arguments: &Arguments) -> Result<Page, Failure> {
+        let (has_title, has_toc) = (pieces.contains(&Piece::Title), pieces.contains(&Piece::Toc));
+        match (has_toc, arguments.toc) {
+            (true, false) => Err("the place {{toc}} needs --toc".into()),
+            (false, true) => Err("--toc needs the place {{toc}}".into()),
+            _ => Ok(Page {
+                pieces,
+                has_title,
+                has_toc,
+            }),
+        }
+    }
+
+    /// A page with these parts: what is to be written, one after another.
+    pub fn around<'a>(&'a self, parts: &Parts<'a>) -> Vec<&'a str> {
         let texts = self.pieces.iter().map(|piece| match piece {
             Piece::Text(text) => text,
-            Piece::Title => title,
-            Piece::Content => html,
+            Piece::Title => parts.title,
+            Piece::Toc => parts.toc,
+            Piece::Content => parts.content,
         });
         texts.collect()
     }
 }
 
 /// The template where none is given.
-fn own(lang: &str) -> String {
+fn own(lang: &str, has_toc: bool) -> String {
+    let toc = match has_toc {
+        true => "<nav>{{toc}}</nav>",
+        false => "",
+    };
     let lang = match lang {
         "" => "",
         _ => " lang=\"{{lang}}\"",
@@ -73,7 +104,7 @@ fn own(lang: &str) -> String {
     format!(
         "<!doctype html>\n<html{lang}><head><meta charset=\"utf-8\" />\
          <meta name=\"viewport\" content=\"width=device-width, initial-scale=1\" />\
-         <title>{{{{title}}}}</title>{{{{style}}}}</head><body>{{{{content}}}}</body></html>\n"
+         <title>{{{{title}}}}</title>{{{{style}}}}</head><body>{toc}{{{{content}}}}</body></html>\n"
     )
 }
 
@@ -89,6 +120,7 @@ fn pieces_of(template: &str, lang: &str, style: &str) -> Result<Vec<Piece>, Stri
         pieces.push(match name.trim() {
             "title" => Piece::Title,
             "content" => Piece::Content,
+            "toc" => Piece::Toc,
             "lang" => Piece::Text(lang.to_string()),
             "style" => Piece::Text(style.to_string()),
             other => {
@@ -139,16 +171,22 @@ mod tests {
     #[test]
     fn templates() {
         let pieces = pieces_of(
-            "{{lang}}a{{ title }}{{content}}{{style}}{{title}}",
+            "{{lang}}a{{ title }}{{content}}{{style}}{{title}}{{toc}}",
             "l",
             "s",
         );
         let page = Page {
             pieces: pieces.unwrap(),
             has_title: true,
+            has_toc: true,
         };
-        let text = page.around("{{content}}", "{{title}} {{none}}").concat();
-        assert_eq!(text, "la{{content}}{{title}} {{none}}s{{content}}");
+        let parts = Parts {
+            title: "{{content}}",
+            toc: "{{t}}",
+            content: "{{title}} {{none}}",
+        };
+        let text = page.around(&parts).concat();
+        assert_eq!(text, "la{{content}}{{title}} {{none}}s{{content}}{{t}}");
         for (template, told) in [
             ("", "the place {{content}} is missing"),
             ("{{title}} {content}", "the place {{content}} is missing"),

@@ -3,16 +3,19 @@
 use crate::arguments::{Arguments, ParserName};
 use crate::failures::Failure;
 use crate::front::front_matter;
-use crate::page::{escaped, Page};
+use crate::page::{escaped, Page, Parts};
 use crate::parser::{self, ParserError};
 use crate::{files, text};
-use bivdrazo::{markdown_to_html, Attributes, Error};
+use bivdrazo::{contents, markdown_with_headings, Attributes, Error, Heading};
+use std::collections::HashSet;
 use std::path::Path;
 
 /// A document that was read.
 pub struct Read {
     /// Its HTML.
     html: String,
+    /// Its headings that got an id.
+    headings: Vec<Heading>,
     /// Its title, where its front matter has one.
     title: Option<String>,
 }
@@ -26,11 +29,18 @@ pub fn read(arguments: &Arguments, source: &Path) -> Result<Read, Failure> {
         title = found;
         text.replace_range(..end, "");
     }
-    let html = match arguments.parser {
-        ParserName::Bivdrazo => markdown_to_html(&text, &arguments.options())?,
-        ParserName::CmarkGfm => by_cmark_gfm(arguments, text)?,
+    let (html, headings) = match arguments.parser {
+        ParserName::Bivdrazo => {
+            let made = markdown_with_headings(&text, &arguments.options())?;
+            (made.html, made.headings)
+        }
+        ParserName::CmarkGfm => (by_cmark_gfm(arguments, text)?, Vec::new()),
     };
-    Ok(Read { html, title })
+    Ok(Read {
+        html,
+        headings,
+        title,
+    })
 }
 
 /// The HTML of what cmark-gfm's parser makes of a document.
@@ -76,12 +86,25 @@ impl Read {
             true => self.title(arguments, source)?,
             false => String::new(),
         };
-        let texts = page.around(&title, &self.html);
+        let toc = match page.has_toc {
+            true => contents(&self.headings)?,
+            false => String::new(),
+        };
+        let texts = page.around(&Parts {
+            title: &title,
+            toc: &toc,
+            content: &self.html,
+        });
         match target {
             Some(target) => files::write(target, &texts)
                 .map_err(|error| format!("{}: {error}", target.display()).into()),
             None => print(&texts),
         }
+    }
+
+    /// The ids of the text: what a fragment of a URL can lead to.
+    pub fn ids(&self) -> HashSet<String> {
+        text::ids(&self.html)
     }
 
     /// The title of the document's page, escaped.

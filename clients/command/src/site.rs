@@ -10,7 +10,7 @@ use crate::render::{self, Read};
 use crate::summary::{Done, Outcome};
 use crate::tree::{Tree, PAGE_ENDING};
 use rayon::prelude::*;
-use std::collections::{BTreeSet, HashMap};
+use std::collections::{BTreeMap, BTreeSet, HashMap, HashSet};
 use std::fs;
 use std::path::{Path, PathBuf};
 use std::time::SystemTime;
@@ -29,11 +29,14 @@ struct Site<'a> {
     newest: Option<SystemTime>,
 }
 
-/// What the links of a page lead to: files, and nothing, by their URLs.
+/// What the links of a page lead to: files, nothing, and ids in pages, by their URLs.
 #[derive(Default)]
 struct Found {
     files: BTreeSet<PathBuf>,
     lost: BTreeSet<String>,
+    anchors: BTreeMap<String, (PathBuf, String)>,
+    /// The ids of the page itself.
+    ids: HashSet<String>,
 }
 
 /// Makes the pages of a folder. Nothing is written before each document was read once, and it is
@@ -86,21 +89,42 @@ impl Site<'_> {
             found.map(|found| (source, found))
         };
         let all: Vec<Result<_, Failed>> = sources.par_iter().map(work).collect();
-        let (mut read, mut copied) = (Vec::new(), BTreeSet::new());
+        let (mut read, mut copied) = (BTreeMap::new(), BTreeSet::new());
         for one in all {
             match one {
-                Ok((source, found)) => {
-                    read.push(source);
-                    copied.extend(found.files);
-                    let name = self.name(source);
-                    let lost = found.lost.iter();
-                    let lost = lost.map(|url| format!("{name}: a link leads nowhere: {url}"));
-                    outcome.lost.extend(lost);
+                Ok((source, mut found)) => {
+                    copied.append(&mut found.files);
+                    read.insert(source, found);
                 }
                 Err(failed) => outcome.failed.push(failed),
             }
         }
-        (read, copied)
+        for (source, found) in &read {
+            let name = self.name(source);
+            let lost = found.lost.iter().map(|url| (url, "a link leads nowhere"));
+            let without = self.lost_anchors(found, &read);
+            let without = without.map(|url| (url, "a link leads to no such id"));
+            let told = lost.chain(without);
+            let told = told.map(|(url, what)| format!("{name}: {what}: {}", short(url)));
+            outcome.lost.extend(told);
+        }
+        (read.into_keys().collect(), copied)
+    }
+
+    /// The URLs of a page that lead to pages which were read, and have no such id. Where headings
+    /// have no ids, none is told.
+    fn lost_anchors<'a>(
+        &self,
+        found: &'a Found,
+        read: &'a BTreeMap<&Path, Found>,
+    ) -> impl Iterator<Item = &'a String> {
+        let is_asked = self.arguments.has_heading_ids();
+        let anchors = found.anchors.iter().filter(move |_| is_asked);
+        let lost = anchors.filter(move |(_, (page, id))| {
+            let page = read.get(&**page);
+            page.map_or(false, |page| !page.ids.contains(id))
+        });
+        lost.map(|(url, _)| url)
     }
 
     /// Reads a document; its links to other documents lead to their pages.
@@ -109,16 +133,21 @@ impl Site<'_> {
             return Err("a link that leads to no file of the folder".into());
         }
         let read = render::read(self.arguments, &self.folder.join(source))?;
-        let mut found = Found::default();
+        let mut found = Found {
+            ids: read.ids(),
+            ..Found::default()
+        };
         let read = read.with_urls(self.arguments, |url| {
+            if let Some(anchor) = links::anchor(url, source, &self.tree) {
+                found.anchors.insert(url.to_string(), anchor);
+            }
             match links::target(url, source, &self.tree) {
                 Target::Page(url) => return Some(url),
                 Target::File(path) => {
                     found.files.insert(path);
                 }
                 Target::Nowhere => {
-                    let url: String = url.chars().take(MOST_TOLD).collect();
-                    found.lost.insert(url.replace(char::is_control, "\u{fffd}"));
+                    found.lost.insert(url.to_string());
                 }
                 Target::Other => {}
             }
@@ -212,6 +241,12 @@ impl Site<'_> {
     fn name(&self, path: &Path) -> String {
         self.folder.join(path).display().to_string()
     }
+}
+
+/// A URL as it is told: in one line, and not all of a long one.
+fn short(url: &str) -> String {
+    let url: String = url.chars().take(MOST_TOLD).collect();
+    url.replace(char::is_control, "\u{fffd}")
 }
 
 /// Where the page of a source goes.

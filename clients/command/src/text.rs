@@ -3,6 +3,8 @@
 //! It has one reading as HTML, in which `<` begins a tag, and no value holds a quotation mark. So
 //! what is looked for here is found where it stands, and nowhere else.
 
+use std::collections::HashSet;
+
 /// How a link and an image begin, whose URL follows.
 const BEFORE_URLS: [&str; 2] = ["<a href=\"", "<img src=\""];
 
@@ -41,6 +43,19 @@ pub fn with_urls(html: &str, mut made: impl FnMut(&str) -> Option<String>) -> St
     }
     changed.push_str(rest);
     changed
+}
+
+/// The ids of a text.
+pub fn ids(html: &str) -> HashSet<String> {
+    // Where no quotation mark stands in a text, what is between two of them is a value.
+    let mut ids = HashSet::new();
+    let mut parts = html.split('"');
+    while let (Some(before), Some(value)) = (parts.next(), parts.next()) {
+        if before.ends_with(" id=") {
+            ids.insert(unescaped(value));
+        }
+    }
+    ids
 }
 
 /// The text of the first heading without tags and footnotes' calls, escaped; where the document has
@@ -141,6 +156,24 @@ mod tests {
             with_urls(&html(text), |url| Some(url.to_string())),
             html(text)
         );
+    }
+
+    #[test]
+    fn ids_of() {
+        let mut options = MarkdownOptions::default().with_heading_slugs(true);
+        options.heading_ids = Some("x\"&".to_string());
+        let text = "# a b\n\nc[^1] ` id=\"d\"` [e](f \" id=\")\n\n[^1]: g\n";
+        let mut found: Vec<String> = ids(&markdown_to_html(text, &options).unwrap())
+            .into_iter()
+            .collect();
+        found.sort();
+        let wanted = [
+            "footnote-label",
+            "user-content-fn-1",
+            "user-content-fnref-1",
+            "x\"&a-b",
+        ];
+        assert_eq!(found, wanted);
     }
 
     #[test]

@@ -30,9 +30,10 @@ Calls may be made from any number of threads, and run side by side.
 """
 
 from .calls import Event, compile, compile_unnested, compile_within, has_nested_link, run
-from .errors import Error, Invalid, MarkdownError, Nested, Refused, TooDeep, TooLong
+from .errors import Error, Invalid, Nested, Refused, TooDeep, TooLong
 from .errors import TooMuchWork, Unreadable
-from .markdown import Heading, front_matter_of, markdown_to_html, markdown_with_headings
+from .markdown import Heading, contents, front_matter_of, markdown_to_html
+from .markdown import markdown_with_headings
 from .numbers import VERSION, Kind, LineEnding, Name, Rule
 from .numbers import VERSION_TEXT as __version__
 from .references import REFERENCES
@@ -47,7 +48,6 @@ __all__ = [
     "Invalid",
     "Kind",
     "LineEnding",
-    "MarkdownError",
     "Name",
     "Nested",
     "Refused",
@@ -61,6 +61,7 @@ __all__ = [
     "compile",
     "compile_unnested",
     "compile_within",
+    "contents",
     "front_matter_of",
     "has_nested_link",
     "markdown_to_html",

@@ -24,7 +24,6 @@ TEXTS = {
     MarkdownStatus.OUTPUT_TOO_LONG: "the text is too long",
     MarkdownStatus.NOT_UTF8: "the Markdown isn't UTF-8",
     MarkdownStatus.NO_VERSION: "the options are of an unknown version",
-    MarkdownStatus.FAILED: "the parser failed",
     MarkdownStatus.TOO_MUCH_WORK: "there is too much work",
 }
 
@@ -125,10 +124,6 @@ class Nested(Error):
     def __reduce__(self) -> tuple[type, tuple[()]]:
         """How it is pickled."""
         return type(self), ()
-
-
-class MarkdownError(RuntimeError):
-    """The parser of Markdown failed: a fault that should be reported."""
 
 
 def error_of(status: int, index: int, rule: int) -> Exception:

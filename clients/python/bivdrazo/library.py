@@ -113,9 +113,9 @@ def load() -> ctypes.CDLL:
     library.bivdrazo_has_nested_link.restype = CAnswer
     library.bivdrazo_run.argtypes = [text, size, text, size]
     library.bivdrazo_run.restype = CAnswer
-    library.bivdrazo_markdown_into.argtypes = [text, size, ctypes.POINTER(CMarkdownOptions), text,
-                                               size]
-    library.bivdrazo_markdown_into.restype = CAnswer
+    for into in library.bivdrazo_markdown_into, library.bivdrazo_markdown_slugs_into:
+        into.argtypes = [text, size, ctypes.POINTER(CMarkdownOptions), text, size]
+        into.restype = CAnswer
     library.bivdrazo_front_matter.argtypes = [text, size]
     library.bivdrazo_front_matter.restype = CAnswer
     for call, wanted in ((library.bivdrazo_version, VERSION),

@@ -4,11 +4,13 @@ from __future__ import annotations
 
 import ctypes
 import functools
+import string
 import threading
+from collections.abc import Iterable
 from typing import Any, Literal, NamedTuple
 
 from .calls import UNSET, text_of
-from .errors import MarkdownError, TooLong, TooMuchWork, error_of, text_of_status
+from .errors import TooLong, TooMuchWork, error_of
 from .library import LIBRARY, CAnswer, CMarkdownOptions
 from .numbers import MARKDOWN_OPTIONS, MARKDOWN_VERSION, DocumentHtml, MarkdownStatus, Status
 from .safe import SafeHtml
@@ -31,13 +33,14 @@ TOO_SHORT = int(Status.TOO_SHORT)
 
 
 class Heading(NamedTuple):
-    """A heading that got an id: its level, its number from 1, and its text, without
-    tags and escaped.
+    """A heading that got an id: its level, its number from 1, its text, without tags and escaped,
+    and its id, not escaped.
     """
 
     level: int
     number: int
     text: SafeHtml
+    id: str
 
 
 class Kept(threading.local):
@@ -67,6 +70,7 @@ def markdown_to_html(
     base: str | None = None,
     rel: str | None = None,
     heading_ids: str | None = None,
+    heading_slugs: bool = False,
     max_input: int | None = None,
     max_output: int | None = None,
     max_work: int | None = None,
@@ -93,7 +97,9 @@ def markdown_to_html(
     what the ids of headings begin with, their numbers follow; they are distinct from one
     another, and from all others where no other begins so: those of footnotes are
     `footnote-label`, and the prefix and `fn`. On a page with several documents let it end with a
-    separator that is no digit.
+    separator that is no digit. heading_slugs: the id of each heading is made of its text, as GitHub
+    does it, behind heading_ids where that is set; these ids are distinct from one another and from
+    all others.
 
     max_input, max_output: how many bytes of UTF-8 the document and the text may have; else any
     number. max_work: how much there may be to read and to print in what the parser makes of the
@@ -111,30 +117,69 @@ def markdown_to_html(
     given = options_of(number_ids, hard_breaks, bare_links, html, math, front_matter, footnotes,
                        tables, footnote_prefix, footnote_label, footnote_back_label, base, rel,
                        heading_ids, max_input, max_output, max_work)
-    return SafeHtml(rendered(document, given)[0])
+    return SafeHtml(rendered(document, given, typed("heading_slugs", heading_slugs, bool))[0])
 
 
-def markdown_with_headings(text: str, heading_ids: str, **options: Any) -> tuple[SafeHtml,
-                                                                                 list[Heading]]:
+def markdown_with_headings(
+    text: str, heading_ids: str = "", *, heading_slugs: bool = False, **options: Any,
+) -> tuple[SafeHtml, list[Heading]]:
     """As markdown_to_html, whose other options it takes, with the headings that got an id, for a
     table of contents.
 
     >>> from bivdrazo import markdown_with_headings
     >>> markdown_with_headings("## a *b*", "part-")
-    ('<h2 id="part-1">a <em>b</em></h2>\\n', [Heading(level=2, number=1, text='a b')])
+    ('<h2 id="part-1">a <em>b</em></h2>\\n', [Heading(level=2, number=1, text='a b', id='part-1')])
+    >>> markdown_with_headings("# A\\n# a", heading_slugs=True)[1][1].id
+    'a-1'
 
     In a heading's text a space stands for each line feed.
     """
     document = coded("text", text)
     html, listed = rendered(
-        document, options_of(heading_ids=typed("heading_ids", heading_ids, str), **options))
-    return SafeHtml(html), [heading_of(line) for line in listed.split("\0")[1:]]
+        document, options_of(heading_ids=typed("heading_ids", heading_ids, str), **options),
+        typed("heading_slugs", heading_slugs, bool))
+    lines = listed.split("\0")[1:]
+    ids = [unescaped(line[1:]) for line in lines if line.startswith("#")]
+    lines = [line for line in lines if not line.startswith("#")]
+    ids = ids or [heading_ids + line.split(" ", 2)[1] for line in lines]
+    return SafeHtml(html), [heading_of(line, name) for line, name in zip(lines, ids)]
 
 
-def heading_of(line: str) -> Heading:
-    """A heading: its level, a space, its number, a space, and its text."""
+def contents(headings: Iterable[Heading]) -> SafeHtml:
+    """The headings of a text as a list of links to them, nested by their levels. It is as safe as
+    what markdown_to_html makes, by which it is made; empty where there are none.
+
+    >>> from bivdrazo import contents, markdown_with_headings
+    >>> contents(markdown_with_headings("# a", heading_slugs=True)[1])
+    '<ul>\\n<li><a href="#a">a</a></li>\\n</ul>\\n'
+    """
+    document, levels = "", list[int]()
+    for heading in headings:
+        while levels and levels[-1] >= heading.level:
+            levels.pop()
+        shown = quoted(unescaped(heading.text).strip() or heading.id)
+        document += f"{'  ' * len(levels)}- [{shown}](<#{quoted(heading.id)}>)\n"
+        levels.append(heading.level)
+    return markdown_to_html(document, bare_links=False, footnotes=False, tables=False,
+                            max_work=MOST)
+
+
+def quoted(text: str) -> str:
+    """A text in Markdown: what may be a mark has a backslash, and a line ending is a space."""
+    marks = {ord(mark): "\\" + mark for mark in string.punctuation}
+    return text.translate(marks | {10: " ", 13: " "})
+
+
+def heading_of(line: str, name: str) -> Heading:
+    """A heading: its level, a space, its number, a space, and its text; and its id."""
     level, number, text = line.split(" ", 2)
-    return Heading(int(level), int(number), SafeHtml(text.replace("\n", " ")))
+    return Heading(int(level), int(number), SafeHtml(text.replace("\n", " ")), name)
+
+
+def unescaped(text: str) -> str:
+    """A text that the library escaped, as it was."""
+    text = text.replace("&lt;", "<").replace("&gt;", ">")
+    return text.replace("&quot;", '"').replace("&amp;", "&")
 
 
 def front_matter_of(text: str) -> str | None:
@@ -225,20 +270,20 @@ def made_choices(
 known_choices = functools.lru_cache(maxsize=16, typed=True)(made_choices)
 
 
-def rendered(document: bytes, options: CMarkdownOptions) -> tuple[str, str]:
+def rendered(document: bytes, options: CMarkdownOptions, slugs: bool = False) -> tuple[str, str]:
     """The text of a document, and the list of its headings that got an id."""
     buffer = taken(len(document) + len(document) // 2 + 256)
     try:
-        return rendered_into(buffer, document, options)
+        return rendered_into(buffer, document, options, slugs)
     finally:
         if len(buffer) == KEPT_SIZE:
             KEPT.buffer = buffer
 
 
-def rendered_into(buffer: ctypes.Array[ctypes.c_char], document: bytes,
-                  options: CMarkdownOptions) -> tuple[str, str]:
+def rendered_into(buffer: ctypes.Array[ctypes.c_char], document: bytes, options: CMarkdownOptions,
+                  slugs: bool) -> tuple[str, str]:
     """The same by a buffer, where it is long enough, and else by another one."""
-    into = LIBRARY.bivdrazo_markdown_into
+    into = LIBRARY.bivdrazo_markdown_slugs_into if slugs else LIBRARY.bivdrazo_markdown_into
     answer = into(document, len(document), options, buffer, len(buffer))
     if answer.status == TOO_SHORT:
         buffer = ctypes.create_string_buffer(answer.length)
@@ -279,6 +324,4 @@ def markdown_error_of(answer: CAnswer, options: CMarkdownOptions, length: int) -
         return TooMuchWork(options.max_work if is_given else LEAST_WORK + WORK_OF_A_BYTE * length)
     if answer.status == Status.NO_OPTION:
         return ValueError(f"{MARKDOWN_OPTIONS[answer.index]}: no such value")
-    if answer.status == MarkdownStatus.FAILED:
-        return MarkdownError(text_of_status(MarkdownStatus.FAILED))
     return error_of(answer.status, answer.index, answer.rule)

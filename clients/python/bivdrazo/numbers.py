@@ -333,8 +333,6 @@ class MarkdownStatus(enum.IntEnum):
     NOT_UTF8 = 34
     # The options have a version that the library doesn't know.
     NO_VERSION = 35
-    # What was made of the Markdown has a link in a link: a fault that should be reported.
-    FAILED = 36
     # There is more to read and to print than there may be.
     TOO_MUCH_WORK = 37
 

@@ -13,8 +13,8 @@ import unittest
 
 import bivdrazo
 from bivdrazo import REFERENCES, Event, Heading, Invalid, Name, Refused, Rule, TooLong
-from bivdrazo import TooMuchWork, Unreadable, compile, front_matter_of, markdown_to_html
-from bivdrazo import markdown_with_headings
+from bivdrazo import TooMuchWork, Unreadable, compile, contents, front_matter_of
+from bivdrazo import markdown_to_html, markdown_with_headings
 from bivdrazo.markdown import KEPT, KEPT_SIZE, markdown_error_of, taken
 from bivdrazo.library import CAnswer, CMarkdownOptions
 from bivdrazo.numbers import DocumentHtml
@@ -94,10 +94,34 @@ class Texts(unittest.TestCase):
     def test_headings(self):
         html, headings = markdown_with_headings("# a *b* <\n\n> c\n> d\n> ---\n", "p-",
                                                 hard_breaks=True)
-        self.assertEqual(headings, [Heading(1, 1, "a b &lt;"), Heading(2, 2, "c d")])
+        self.assertEqual(headings, [Heading(1, 1, "a b &lt;", "p-1"),
+                                    Heading(2, 2, "c d", "p-2")])
         self.assertIn('<h2 id="p-2">c<br />', html)
         self.assertEqual(markdown_with_headings(NOTE, "p-")[1], [])
         self.assertEqual(markdown_with_headings("", "p-"), ("", []))
+
+    def test_slugs(self):
+        text = "# A *b* & C\n\n# a b  c\n# a b  c-1\n# É_ü.\n# ?\n## footnote label\n" + NOTE
+        html, headings = markdown_with_headings(text, heading_slugs=True)
+        ids = ["a-b--c", "a-b--c-1", "a-b--c-1-1", "é_ü", "section", "footnote-label-1"]
+        self.assertEqual([heading.id for heading in headings], ids)
+        for name in ids:
+            self.assertIn(f' id="{name}">', html)
+        html, headings = markdown_with_headings("# a\n# a\n", 'p"', heading_slugs=True)
+        self.assertEqual([heading.id for heading in headings], ['p"a', 'p"a-1'])
+        self.assertIn('<h1 id="p&quot;a-1">', html)
+        self.assertEqual(markdown_to_html("# a b", heading_slugs=True),
+                         '<h1 id="a-b">a b</h1>\n')
+        self.assertRaises(TypeError, markdown_to_html, "", heading_slugs=1)
+
+    def test_contents(self):
+        text = "# a\n### b & *c*\n## d](e)\n# www.f.org\n"
+        html = contents(markdown_with_headings(text, heading_slugs=True)[1])
+        self.assertEqual(html, '<ul>\n<li><a href="#a">a</a>\n<ul>\n'
+                         '<li><a href="#b--c">b &amp; c</a></li>\n'
+                         '<li><a href="#de">d](e)</a></li>\n</ul>\n</li>\n'
+                         '<li><a href="#wwwforg">www.f.org</a></li>\n</ul>\n')
+        self.assertEqual(contents([]), "")
 
     def test_ids_of_two_documents(self):
         ids = functools.partial(re.findall, ' id="([^"]*)"')
@@ -188,7 +212,6 @@ class Errors(unittest.TestCase):
         self.assertEqual(told(2, 3, 1), "Refused('event 3: ORDER')")
         self.assertEqual(told(5, 7), "ValueError('base: no such value')")
         self.assertEqual(told(7), "MemoryError('out of memory')")
-        self.assertEqual(told(36), "MarkdownError('the parser failed')")
         self.assertEqual(told(35), "RuntimeError('the options are of an unknown version')")
         self.assertEqual(told(37), "TooMuchWork('there is more work than 6')")
 

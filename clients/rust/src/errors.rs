@@ -60,9 +60,6 @@ pub enum Error {
         /// How many nodes may be open at once.
         limit: usize,
     },
-    /// The library's parser failed: in what it made of the Markdown a link stands in a link. It is a
-    /// fault that should be reported; no document is known that gets it.
-    Parser,
     /// The library answered what this crate doesn't know: it is of another version.
     Unknown,
 }
@@ -97,7 +94,6 @@ impl fmt::Display for Error {
             Error::TooDeep { limit } => {
                 write!(formatter, "the events nest deeper than {limit}")
             }
-            Error::Parser => write!(formatter, "the parser failed"),
             Error::Unknown => write!(formatter, "a library of another version"),
         }
     }

@@ -6,6 +6,7 @@ use crate::layouts::{
     bivdrazo_compile_within, bivdrazo_has_nested_link, bivdrazo_run, bivdrazo_version, c_event,
     c_reference, c_text, CAnswer, CAttributes, CLimits,
 };
+use crate::markdown::unescaped;
 use crate::numbers::{STATUS_NESTED, STATUS_OK, STATUS_TOO_SHORT};
 use crate::options::c_options;
 use crate::{Attributes, Error, Event, Heading, Limits, Options, Rendered};
@@ -137,6 +138,7 @@ pub(crate) fn compile_attributed(
     let events = collect(events.iter().map(c_event))?;
     let names = collect(names.iter().map(c_reference))?;
     let options = c_options(options);
+    let prefix = attributes.heading_ids.as_deref().unwrap_or("");
     let attributes = CAttributes {
         rel: c_text(&attributes.rel),
         heading_ids: c_text(&attributes.heading_ids),
@@ -162,30 +164,36 @@ pub(crate) fn compile_attributed(
         }
     };
     let (whole, start) = into_bytes(room, limits, |answer| answer.index, call)?;
-    rendered_of(whole, start).ok_or(Error::Unknown)
+    rendered_of(whole, start, prefix).ok_or(Error::Unknown)
 }
 
-/// A text up to that byte, and after it the list of its headings: before each stands a NUL.
-pub(crate) fn rendered_of(mut whole: Vec<u8>, start: usize) -> Option<Rendered> {
+/// A text up to that byte, and after it the list of its headings: before each stands a NUL. Their
+/// ids follow, with a NUL and `#` before each; where they don't, they are that prefix and a number.
+pub(crate) fn rendered_of(mut whole: Vec<u8>, start: usize, prefix: &str) -> Option<Rendered> {
     let list = str::from_utf8(whole.get(start..)?).ok()?;
-    let headings = list
+    let (ids, lines): (Vec<&str>, Vec<&str>) = list
         .split('\0')
         .skip(1)
-        .map(heading_of)
-        .collect::<Option<_>>()?;
+        .partition(|line| line.starts_with('#'));
+    let headings = lines.iter().enumerate().map(|(index, line)| {
+        let id = ids.get(index).map(|id| unescaped(&id[1..]));
+        heading_of(line, id, prefix)
+    });
+    let headings = headings.collect::<Option<_>>()?;
     whole.truncate(start);
     let html = String::from_utf8(whole).ok()?;
     Some(Rendered { html, headings })
 }
 
 /// A heading: its level, a space, its number, a space, and its text.
-fn heading_of(line: &str) -> Option<Heading> {
+fn heading_of(line: &str, id: Option<String>, prefix: &str) -> Option<Heading> {
     let (level, rest) = line.split_once(' ')?;
     let (number, text) = rest.split_once(' ')?;
     Some(Heading {
         level: level.parse().ok()?,
         number: number.parse().ok()?,
         text: text.to_string(),
+        id: id.unwrap_or_else(|| format!("{prefix}{number}")),
     })
 }
 

@@ -147,6 +147,13 @@ extern "C" {
         buffer: *mut u8,
         buffer_length: usize,
     ) -> CAnswer;
+    pub(crate) fn bivdrazo_markdown_slugs_into(
+        text: *const u8,
+        text_length: usize,
+        options: *const CMarkdownOptions,
+        buffer: *mut u8,
+        buffer_length: usize,
+    ) -> CAnswer;
     pub(crate) fn bivdrazo_front_matter(text: *const u8, text_length: usize) -> CAnswer;
 }
 

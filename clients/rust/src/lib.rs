@@ -56,8 +56,8 @@ pub use pulldown_cmark;
 pub use document::Document;
 pub use errors::Error;
 pub use markdown::{
-    default_work, front_matter_of, markdown_to_html, markdown_with_headings, DocumentHtml,
-    MarkdownOptions,
+    contents, default_work, front_matter_of, markdown_to_html, markdown_with_headings,
+    DocumentHtml, MarkdownOptions,
 };
 pub use numbers::{Name, Rule, VERSION, VERSION_TEXT};
 pub use references::REFERENCES;

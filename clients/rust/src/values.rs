@@ -153,10 +153,12 @@ impl Default for Limits {
 pub struct Heading {
     /// Its level, from 1 to 6.
     pub level: u8,
-    /// Its number, from 1: its `id` is what was asked for, and this number.
+    /// Its number, from 1.
     pub number: usize,
     /// Its text without tags, escaped: it may be set into HTML as it is.
     pub text: String,
+    /// Its `id`, not escaped.
+    pub id: String,
 }
 
 /// A text, and its headings that got an `id`.

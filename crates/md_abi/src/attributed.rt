@@ -127,7 +127,11 @@ fn add_ids<H: Html>(alloc: Global, html: &H, prefix: Option<&str>) -> Result<Att
 }
 
 /// A text, and after it a list of headings.
-fn with_list(alloc: Global, text: &str, headings: &[Heading]) -> Result<Attributed, AllocError>
+///
+/// # Errors
+///
+/// Only where memory runs out.
+pub fn with_list(alloc: Global, text: &str, headings: &[Heading]) -> Result<Attributed, AllocError>
     ensures whole { IfOk result
         (λ made. string_bytes made.whole ≡ text.now ++ listing (map listed headings.now)) }
     ensures start { IfOk result (λ made. made.start ≡ length text.now) }

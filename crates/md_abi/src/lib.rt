@@ -20,7 +20,7 @@ pub use answer::{
     Answer, answer_to, answer_to_refusal, answer_to_unnested, answer_to_within, hand_over,
     hand_over_listed,
 };
-pub use attributed::{Attributed, add_asked, compile_attributed};
+pub use attributed::{Attributed, add_asked, compile_attributed, with_list};
 pub use attributes::CAttributes;
 pub use event::CEvent;
 pub use failure::Failure;

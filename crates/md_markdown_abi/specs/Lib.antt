@@ -3,4 +3,5 @@ pub mod Options
 pub mod Failures
 pub mod Answers
 pub mod Text
+pub mod Slugged
 pub mod Front

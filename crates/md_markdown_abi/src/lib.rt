@@ -7,9 +7,11 @@ mod failure;
 mod front;
 mod given;
 mod option;
+mod slugged;
 
 pub use answer::answer_to_markdown;
 pub use failure::MarkdownFailure;
 pub use front::answer_to_front_matter;
 pub use given::markdown_given;
 pub use option::CMarkdownOptions;
+pub use slugged::markdown_slugged;

@@ -20,10 +20,10 @@ use Rattle.md_page.specs.Added.{id_of, with_heading_ids, heading_of, headings_af
 use Rattle.md_page.specs.Ids.{ids_in, ids_at, ids_among, none_begins}
 
 -- a text among some
-abbrev is_in : List ℕ → List (List ℕ) → Bool
+abbrev pub is_in : List ℕ → List (List ℕ) → Bool
 is_in w xs = list_any (λ y. bytes_eq y w) xs
 
-in-append : (w : List ℕ) (xs ys : List (List ℕ)) → is_in w (xs ++ ys) ≡ (is_in w xs || is_in w ys)
+pub in-append : (w : List ℕ) (xs ys : List (List ℕ)) → is_in w (xs ++ ys) ≡ (is_in w xs || is_in w ys)
 in-append w [] ys = refl
 in-append w (x ∷ xs) ys = by (bytes_eq x w) (in-append w xs ys)
   where
@@ -72,13 +72,13 @@ other_number prefix m k l n f = by (bytes_eq (prefix ++ decimal m) (prefix ++ de
 
 -- ---- ids of a heading
 
-no-ids : (x : List TokenAttribute) → has_attribute (codes "id") x ≡ false → ids_in x ≡ []
+pub no-ids : (x : List TokenAttribute) → has_attribute (codes "id") x ≡ false → ids_in x ≡ []
 no-ids [] h = refl
 no-ids (a ∷ x) h =
     let p = or_parts (bytes_eq (codes "id") a.name) (has_attribute (codes "id") x) h in
     ap (λ b. cond b (a.value ∷ ids_in x) (ids_in x)) p.0 ∙ no-ids x p.1
 
-ids-more : (x : List TokenAttribute) (a : TokenAttribute) → bytes_eq (codes "id") a.name ≡ true →
+pub ids-more : (x : List TokenAttribute) (a : TokenAttribute) → bytes_eq (codes "id") a.name ≡ true →
     ids_in (x ++ (a ∷ [])) ≡ ids_in x ++ (a.value ∷ [])
 ids-more [] a h = ap (λ b. cond b (a.value ∷ []) []) h
 ids-more (b ∷ x) a h = by (bytes_eq (codes "id") b.name) (ids-more x a h)
@@ -141,12 +141,12 @@ then-passed prefix n t x h =
     ∷ added gets_id (id_of prefix) (suc n) x) (t ∷ added gets_id (id_of prefix) n x))) h
 
 -- how many headings come after so many
-count-picked : (n : ℕ) (t : Token) (x : List Token) → gets_id t ≡ true →
+pub count-picked : (n : ℕ) (t : Token) (x : List Token) → gets_id t ≡ true →
     length (headings_after n (t ∷ x)) ≡ suc (length (headings_after (suc n) x))
 count-picked n t x h =
     ap (λ b. length (cond b (heading_of n t x ∷ headings_after (suc n) x) (headings_after n x))) h
 
-count-passed : (n : ℕ) (t : Token) (x : List Token) → gets_id t ≡ false →
+pub count-passed : (n : ℕ) (t : Token) (x : List Token) → gets_id t ≡ false →
     length (headings_after n (t ∷ x)) ≡ length (headings_after n x)
 count-passed n t x h =
     ap (λ b. length (cond b (heading_of n t x ∷ headings_after (suc n) x) (headings_after n x))) h
@@ -198,7 +198,7 @@ new-out prefix k n (t ∷ x) h l few =
 
 -- ---- distinct ids
 
-distinct-later : (xs ys : List (List ℕ)) → are_distinct (xs ++ ys) ≡ true → are_distinct ys ≡ true
+pub distinct-later : (xs ys : List (List ℕ)) → are_distinct (xs ++ ys) ≡ true → are_distinct ys ≡ true
 distinct-later [] ys h = h
 distinct-later (x ∷ xs) ys h =
     distinct-later xs ys (and_parts (not (is_in x (xs ++ ys))) (are_distinct (xs ++ ys)) h).1

@@ -5,7 +5,6 @@ use Rattle.std.specs.Prelude.{Option, Some, None}
 use Rattle.std.specs.Option.{option_map_or}
 use Rattle.std.proofs.lemmas.Bool.{and_parts, and_from, cond_both}
 use Rattle.md_base.specs.Identifier.{is_nonempty}
-use Rattle.md_base.proofs.Lies.{lie}
 use Rattle.md_text.specs.Bytes.{is_one_of}
 use Rattle.md_text.specs.References.{is_escaped}
 use Rattle.md_text.specs.Html.{Attribute, Forest, Empty, Text, Void, Element, is_forest, is_tag}
@@ -17,7 +16,7 @@ use Rattle.md_safe.specs.Tokens.{tokens, seen_attributes}
 use Rattle.md_safe.specs.Contents.{Content, Flow, held_in, voids_in, may_say, is_contained}
 use Rattle.md_safe.specs.Built.{has_whole_texts, IsBuiltAsRead}
 use Rattle.md_safe.proofs.WholeTrees.{forest-built}
-use Rattle.md_page.specs.Pieces.{Piece, Words, Opening, Single, Closing, all_written, all_tokens}
+use Rattle.md_page.specs.Pieces.{Piece, Words, Opening, Single, Closing, all_written}
 use Rattle.md_page.specs.Pieces.{are_sound, are_plain, is_tag_name, void_names, begins_with_words}
 use Rattle.md_page.specs.Scan.{with_new}
 use Rattle.md_page.specs.Built.{is_plain_forest, IsBuiltAsWritten}

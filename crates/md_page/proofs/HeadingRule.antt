@@ -13,6 +13,7 @@ use Rattle.std.proofs.lemmas.Bool.{cases_eq, eqb-true, leb-true}
 use Rattle.md_base.proofs.Lies.{lie}
 use Rattle.md_text.specs.Bytes.{is_one_of, is_between}
 use Rattle.md_text.specs.Encode.{encoded}
+use Rattle.md_text.specs.References.{is_escaped}
 use Rattle.md_text.specs.Html.{Attribute, written_attributes}
 use Rattle.md_text.proofs.EncodeLemmas.{and_false}
 use Rattle.md_safe.specs.Token.{Token, Doctype, Character, StartTag, EndTag, EndOfFile}
@@ -180,35 +181,45 @@ heading-elements = record {
       (void-name (λ n. not (is_one_of heading_names n)) name refl h));
 }
 
-pub heading-may : (prefix : List ℕ) → MayAdd gets_id (new_id prefix)
-heading-may prefix = record {
+-- an `id` with such a value
+abbrev pub id_with : (ℕ → List ℕ) → ℕ → Attribute
+id_with value n = record { name = codes "id"; value = value n }
+
+id-may : (value : ℕ → List ℕ) → ((n : ℕ) → is_escaped (value n) ≡ true) →
+    MayAdd gets_id (id_with value)
+id-may value escaped = record {
   named = λ n. refl;
-  escaped = λ n. numbered-escaped prefix (suc n);
+  escaped = escaped;
   fresh = λ n name x passes.
       same-names (codes "id") x ∙ not-true (has_attribute (codes "id") (seen_attributes x))
       (and_parts (is_one_of heading_names name) _ passes).1;
 }
 
-heading-listed : (prefix : List ℕ) (n : ℕ) (t : Token) → gets_id t ≡ true →
-    is_addition_to t (seen_attribute (new_id prefix n)) ≡ true
-heading-listed prefix n (Doctype name) h = refl
-heading-listed prefix n (Character b) h = refl
-heading-listed prefix n (StartTag name x flag) h =
+id-listed : (value : ℕ → List ℕ) (n : ℕ) (t : Token) → gets_id t ≡ true →
+    is_addition_to t (seen_attribute (id_with value n)) ≡ true
+id-listed value n (Doctype name) h = refl
+id-listed value n (Character b) h = refl
+id-listed value n (StartTag name x flag) h =
     or_right (bytes_eq name (codes "a") && false) (is_one_of heading_names name && true)
     (and_from (is_one_of heading_names name) true
     (and_parts (is_one_of heading_names name) _ h).0 refl)
-heading-listed prefix n (EndTag name) h = refl
-heading-listed prefix n EndOfFile h = refl
+id-listed value n (EndTag name) h = refl
+id-listed value n EndOfFile h = refl
 
-pub heading-rule : (prefix : List ℕ) → IsRule picks_heading gets_id (new_id prefix)
-heading-rule prefix = record {
+pub id-rule : (value : ℕ → List ℕ) → ((n : ℕ) → is_escaped (value n) ≡ true) →
+    IsRule picks_heading gets_id (id_with value)
+id-rule value escaped = record {
   picks_by = heading-picks;
   elements = heading-elements;
-  may_add = heading-may prefix;
-  listed = heading-listed prefix;
+  may_add = id-may value escaped;
+  listed = id-listed value;
   links = λ n. refl;
   images = λ n. refl;
 }
+
+pub heading-rule : (prefix : List ℕ) → IsRule picks_heading gets_id (new_id prefix)
+heading-rule prefix =
+    id-rule (λ n. encoded true prefix ++ decimal (suc n)) (λ n. numbered-escaped prefix (suc n))
 
 pub heading-written : (prefix text : List ℕ) → IsWritten text →
     IsWritten (with_new picks_heading (new_id prefix) text)
@@ -216,7 +227,7 @@ heading-written prefix text w =
     keeps picks_heading gets_id (new_id prefix) (heading-rule prefix) text w
 
 -- attributes that are seen alike are added alike
-added-same : (test : Token → Bool) (f g : ℕ → TokenAttribute) → ((n : ℕ) → f n ≡ g n) →
+pub added-same : (test : Token → Bool) (f g : ℕ → TokenAttribute) → ((n : ℕ) → f n ≡ g n) →
     (n : ℕ) (x : List Token) →
     added test f n x ≡ added test g n x
 added-same test f g same n [] = refl

@@ -47,7 +47,7 @@ encoded-back x h =
     (λ rest later. ap (λ y. codes "&lt;" ++ y) later)
     (λ rest later. ap (λ y. codes "&gt;" ++ y) later) x h
 
-encoded-seen : (x : List ℕ) → is_escaped x ≡ true → encoded true (seen x) ≡ with_line_feeds x
+pub encoded-seen : (x : List ℕ) → is_escaped x ≡ true → encoded true (seen x) ≡ with_line_feeds x
 encoded-seen x h = encoded-back (with_line_feeds x) (line_feeds-escaped x h)
 
 pub lined-step : (b : ℕ) (rest : List ℕ) →

@@ -21,6 +21,9 @@ pub mod HeadingTexts
 pub mod Listing
 pub mod HeadingTurns
 pub mod Distinct
+pub mod GivenRule
+pub mod GivenDistinct
+pub mod TakenIds
 pub mod Apart
 pub mod Paging
 pub mod PagesAround

@@ -21,7 +21,7 @@ abbrev pub is_digit : ℕ → Bool
 is_digit b = is_between 48 57 b
 
 -- a digit stands for itself
-abbrev is_itself : ℕ → Bool
+abbrev pub is_itself : ℕ → Bool
 is_itself b = not (b == 0) && (not (b == 38) && (not (b == 34) && (not (b == 60) && (not (b == 62)
     && (not (b == 13) && not (b == 10))))))
 
@@ -41,16 +41,16 @@ onto-itself (suc k) n acc h =
     (λ x. list_all is_itself x ≡ true)
     (λ _. first) (λ _. onto-itself k (n / 10) (digit_glyph false (n % 10) ∷ acc) first)
 
-decimal-itself : (n : ℕ) → list_all is_itself (decimal n) ≡ true
+pub decimal-itself : (n : ℕ) → list_all is_itself (decimal n) ≡ true
 unfolding digits
 decimal-itself n = onto-itself 64 n [] refl
 
-record IsItself (b : ℕ) : Type 0 where
-  plain : IsPlain b
-  no_return : (b == 13) ≡ false
-  no_feed : (b == 10) ≡ false
+pub record IsItself (b : ℕ) : Type 0 where
+  pub plain : IsPlain b
+  pub no_return : (b == 13) ≡ false
+  pub no_feed : (b == 10) ≡ false
 
-itself_parts : (b : ℕ) → is_itself b ≡ true → IsItself b
+pub itself_parts : (b : ℕ) → is_itself b ≡ true → IsItself b
 itself_parts b h =
     let p = and_parts (not (b == 0)) _ h in
     let q = and_parts (not (b == 38)) _ p.1 in
@@ -84,7 +84,7 @@ itself-back (b ∷ x) h =
     read_back-other b x (eqb-false b 38 (itself_parts b p.0).plain.no_and)
     ∙ ap (λ y. b ∷ y) (itself-back x p.1)
 
-itself-returns : (x : List ℕ) → list_all is_itself x ≡ true → list_all no_return x ≡ true
+pub itself-returns : (x : List ℕ) → list_all is_itself x ≡ true → list_all no_return x ≡ true
 itself-returns [] h = refl
 itself-returns (b ∷ x) h =
     let p = and_parts (is_itself b) (list_all is_itself x) h in

@@ -9,5 +9,6 @@ pub mod Pieces
 pub mod Scan
 pub mod Headings
 pub mod Ids
+pub mod GivenIds
 pub mod PageAround
 pub mod Built

@@ -3,17 +3,18 @@ use Rattle.std.specs.Str.{bytes_eq}
 use Rattle.std.specs.Prelude.{◌≡◌, ℕ, zero, suc, ◌<◌, ◌≤◌, ◌-◌, ◌==◌, IsTrue, length, take}
 use Rattle.std.specs.Prelude.{slice_index, Bool, true, false, not, ◌&&◌, ◌||◌, if◌then◌else◌, List}
 use Rattle.std.specs.Prelude.{[], ◌∷◌, ◌++◌, drop, Option, Some, None, option_map, is_none, codes}
-use Rattle.std.specs.Prelude.{MatchOption}
+use Rattle.std.specs.Prelude.{MatchOption, nat_eq}
 use Rattle.std.specs.Option.{option_map_or}
-use Rattle.std.specs.List.{list_all}
+use Rattle.std.specs.List.{list_all, ends_with}
 use Rattle.std.specs.Fmt.{decimal}
 use Rattle.md_base.specs.Identifier.{is_nonempty}
 use Rattle.md_text.specs.Bytes.{is_between}
 use Rattle.md_text.specs.Encode.{encoded}
 use Rattle.md_text.specs.Html.{Attribute, written_attributes}
 use Rattle.md_text.specs.References.{begins_with}
-use Rattle.md_safe.specs.Input.{begins_with_line_feed}
+use Rattle.md_safe.specs.Input.{begins_with_line_feed, with_line_feeds}
 use Rattle.md_page.specs.Added.{Listed}
+use Rattle.md_page.specs.GivenIds.{id_text}
 use Rattle.md_page.specs.declared.scan.Rule.{Rule}
 use Rattle.md_page.specs.declared.scan.Rule.TheVariants.{Link, Heading}
 
@@ -145,6 +146,28 @@ new_rel text n = record { name = codes "rel"; value = encoded true text }
 -- `id` with this prefix, escaped, and a number
 abbrev pub new_id : List ℕ → ℕ → Attribute
 new_id prefix n = record { name = codes "id"; value = encoded true prefix ++ decimal (suc n) }
+
+-- `id` with the text for the heading after so many, escaped
+abbrev pub new_given : List (List ℕ) → ℕ → Attribute
+new_given ids n = record { name = codes "id"; value = encoded true (id_text ids n) }
+
+-- ---- the ids of a text
+
+-- ` id=` comes last
+abbrev pub ends_at_id : List ℕ → Bool
+ends_at_id before = ends_with nat_eq before (codes " id=")
+
+-- of a text in such parts, the values after ` id=`, with a line feed for each line ending
+abbrev pub ids_in_parts : List (List ℕ) → List (List ℕ)
+ids_in_parts [] = []
+ids_in_parts (before ∷ []) = []
+ids_in_parts (before ∷ value ∷ []) = []
+ids_in_parts (before ∷ value ∷ next ∷ more) =
+    (if ends_at_id before then with_line_feeds value ∷ [] else []) ++ ids_in_parts (next ∷ more)
+
+-- those of a text
+abbrev pub scanned_ids : List ℕ → List (List ℕ)
+scanned_ids text = ids_in_parts (parts_of text)
 
 -- ---- the headings of a table of contents
 

@@ -68,7 +68,7 @@ fn heading_text(alloc: Global, text: &str, digit: u8) -> Result<String, AllocErr
 }
 
 /// Adds a text with a line feed for each line ending.
-fn push_lined(out: &mut String, text: &str) -> Result<(), AllocError>
+pub(crate) fn push_lined(out: &mut String, text: &str) -> Result<(), AllocError>
     ensures { OnOk result
         (string_bytes out.new ≡ string_bytes out.old ++ with_line_feeds text.now) }
 {

@@ -2,12 +2,14 @@
 #![tactic(auto)]
 
 mod around;
+mod handed;
 mod headings;
 mod html;
 mod ids;
 pub mod laws;
 mod rel;
 mod scan;
+mod taken;
 
 ghost use Rattle.std.specs.Prelude.{◌≡◌, false, IfOk, string_bytes};
 ghost use Rattle.md_text.specs.Encode.{encoded};
@@ -18,6 +20,7 @@ ghost use Rattle.md_safe.specs.Page.{IsBuiltPage};
 ghost use Rattle.md_page.specs.Page.{IsPageOf, page_text};
 
 pub use around::page_around;
+pub use handed::{list_headings, with_given_ids};
 pub use headings::Heading;
 pub use html::{AttributedHtml, Html};
 pub use ids::{WithHeadingIds, with_heading_ids};
@@ -25,6 +28,7 @@ use md_html::SafeHtml;
 use md_text::encode;
 pub use rel::with_link_rel;
 use std::alloc::{AllocError, Global};
+pub use taken::{list_ids, written_id};
 
 /// A whole page: `title`, escaped, in its head, and `body` as it is.
 ///

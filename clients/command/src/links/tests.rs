@@ -131,3 +131,25 @@ fn files() {
         &[("i.png?b", file("c/i.png")), ("../i.png", file("i.png"))],
     );
 }
+
+#[test]
+fn anchors() {
+    for (url, wanted) in [
+        ("#a%20b", Some(("c/d.md", "a b"))),
+        ("?q#a", Some(("c/d.md", "a"))),
+        ("../a.md#%C3%A9", Some(("a.md", "\u{e9}"))),
+        ("../a.html?q#b#c", Some(("a.md", "b#c"))),
+        ("./#b", Some(("c/index.md", "b"))),
+        ("#", None),
+        ("#Top", None),
+        ("../a.md", None),
+        ("i.png#a", None),
+        ("g.md#a", None),
+        ("/a.md#a", None),
+        ("https://x.org/a.md#a", None),
+    ] {
+        let found = anchor(url, Path::new("c/d.md"), &tree());
+        let wanted = wanted.map(|(page, id)| (PathBuf::from(page), id.to_string()));
+        assert_eq!(found, wanted, "{url}");
+    }
+}

@@ -4,10 +4,11 @@ use super::{default_work, MarkdownOptions};
 use crate::errors::error_of;
 use crate::ffi::{buffer_of, rendered_of};
 use crate::layouts::{
-    bivdrazo_front_matter, bivdrazo_markdown_into, c_text, CAnswer, CMarkdownOptions,
+    bivdrazo_front_matter, bivdrazo_markdown_into, bivdrazo_markdown_slugs_into, c_text, CAnswer,
+    CMarkdownOptions,
 };
 use crate::markdown_numbers::{
-    MARKDOWN_VERSION, STATUS_FAILED, STATUS_INPUT_TOO_LONG, STATUS_OUTPUT_TOO_LONG,
+    MARKDOWN_VERSION, STATUS_INPUT_TOO_LONG, STATUS_OUTPUT_TOO_LONG,
     STATUS_TOO_MUCH_WORK,
 };
 use crate::numbers::{STATUS_NO_OPTION, STATUS_OK, STATUS_TOO_SHORT};
@@ -26,7 +27,8 @@ pub(super) fn html(text: &str, options: &MarkdownOptions) -> Result<String, Erro
 /// As `crate::markdown_with_headings`.
 pub(super) fn rendered(text: &str, options: &MarkdownOptions) -> Result<Rendered, Error> {
     let (whole, end) = whole_of(text, options)?;
-    rendered_of(whole, end).ok_or(Error::Unknown)
+    let prefix = options.heading_ids.as_deref().unwrap_or("");
+    rendered_of(whole, end, prefix).ok_or(Error::Unknown)
 }
 
 /// The front matter of a document: what stands between a line of `---` at its beginning and the
@@ -51,12 +53,16 @@ pub fn front_matter_of(text: &str) -> Option<&str> {
 /// list of headings. Where the first buffer is too short it is asked once more.
 fn whole_of(text: &str, options: &MarkdownOptions) -> Result<(Vec<u8>, usize), Error> {
     let given = c_options(options);
+    let into = match options.heading_slugs {
+        true => bivdrazo_markdown_slugs_into,
+        false => bivdrazo_markdown_into,
+    };
     let call = |buffer: &mut Vec<u8>| {
         // SAFETY: the pointers are those of a string, of a struct that refers to strings of the
         // caller's, and of a buffer that nothing else refers to; each goes with its own length and
         // isn't null.
         unsafe {
-            bivdrazo_markdown_into(
+            into(
                 text.as_ptr(),
                 text.len(),
                 &given,
@@ -97,7 +103,6 @@ fn error_under(answer: &CAnswer, length: usize, options: &MarkdownOptions) -> Er
         STATUS_TOO_MUCH_WORK => Error::TooMuchWork {
             limit: options.max_work.unwrap_or_else(|| default_work(length)),
         },
-        STATUS_FAILED => Error::Parser,
         STATUS_NO_OPTION => Error::Unknown,
         _ => error_of(answer),
     }
@@ -160,8 +165,7 @@ mod tests {
         let limit = default_work(3);
         let too_much = Error::TooMuchWork { limit };
         assert_eq!(of(STATUS_TOO_MUCH_WORK, &options), too_much);
-        assert_eq!(of(STATUS_FAILED, &options), Error::Parser);
-        for status in [STATUS_NO_OPTION, 34, 35] {
+        for status in [STATUS_NO_OPTION, 34, 35, 36] {
             assert_eq!(of(status, &options), Error::Unknown);
         }
     }

@@ -1,9 +1,12 @@
 //! Markdown in: the library's own parser reads it.
 
 mod call;
+mod contents;
 mod setters;
 
 pub use call::front_matter_of;
+pub use contents::contents;
+pub(crate) use contents::unescaped;
 
 use crate::markdown_numbers::{HTML_LEFT_OUT, HTML_TEXT, HTML_WITHOUT_COMMENTS};
 use crate::{Error, Rendered};
@@ -82,6 +85,11 @@ pub struct MarkdownOptions {
     /// distinct from one another, and from all others where no other begins so: those of footnotes
     /// are `footnote-label`, and what `footnote_prefix` says and `fn`.
     pub heading_ids: Option<String>,
+    /// Make the `id` of each heading of its text, as GitHub does: in lower case, with a hyphen for
+    /// each space, and without what is no letter, mark, number, connector or hyphen. Where
+    /// `heading_ids` is set each begins with that. Where an id is there already, a hyphen and a
+    /// number follow it: these ids are distinct from one another and from all others.
+    pub heading_slugs: bool,
     /// How many bytes the document may have; else any number.
     pub max_input: Option<usize>,
     /// How many bytes the text may have; else any number.
@@ -109,6 +117,7 @@ impl Default for MarkdownOptions {
             base: None,
             rel: None,
             heading_ids: None,
+            heading_slugs: false,
             max_input: None,
             max_output: None,
             max_work: None,
@@ -134,9 +143,8 @@ pub fn default_work(input_len: usize) -> usize {
 /// # Errors
 ///
 /// [`Error::InputTooLong`], [`Error::OutputTooLong`] and [`Error::TooMuchWork`] where a bound of
-/// the options is passed, [`Error::Memory`] where the library finds no memory. [`Error::Parser`]
-/// and [`Error::Refused`] would be a fault of the library: no document is known that gets one of
-/// them.
+/// the options is passed, [`Error::Memory`] where the library finds no memory. No document is
+/// refused.
 ///
 /// ```
 /// use bivdrazo::{markdown_to_html, MarkdownOptions};
@@ -150,7 +158,8 @@ pub fn markdown_to_html(text: &str, options: &MarkdownOptions) -> Result<String,
 }
 
 /// As [`markdown_to_html`], with the headings that got an `id`, for a table of contents: none
-/// without [`heading_ids`](MarkdownOptions::heading_ids).
+/// without [`heading_ids`](MarkdownOptions::heading_ids) or
+/// [`heading_slugs`](MarkdownOptions::heading_slugs).
 ///
 /// # Errors
 ///
@@ -164,6 +173,12 @@ pub fn markdown_to_html(text: &str, options: &MarkdownOptions) -> Result<String,
 /// assert_eq!(made.html, "<h2 id=\"part-1\">a <em>b</em></h2>\n");
 /// let heading = &made.headings[0];
 /// assert_eq!((heading.level, heading.number, heading.text.as_str()), (2, 1, "a b"));
+/// assert_eq!(heading.id, "part-1");
+///
+/// let options = MarkdownOptions::default().with_heading_slugs(true);
+/// let made = markdown_with_headings("# A *b*\n# a b", &options)?;
+/// let ids: Vec<&str> = made.headings.iter().map(|heading| &*heading.id).collect();
+/// assert_eq!(ids, ["a-b", "a-b-1"]);
 /// # Ok::<(), bivdrazo::Error>(())
 /// ```
 pub fn markdown_with_headings(text: &str, options: &MarkdownOptions) -> Result<Rendered, Error> {

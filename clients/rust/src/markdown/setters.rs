@@ -19,6 +19,7 @@ setters! { MarkdownOptions:
     with_base(base: impl Into<String>) = Some(base.into());
     with_rel(rel: impl Into<String>) = Some(rel.into());
     with_heading_ids(heading_ids: impl Into<String>) = Some(heading_ids.into());
+    with_heading_slugs(heading_slugs: bool) = heading_slugs;
     with_max_input(max_input: usize) = Some(max_input);
     with_max_output(max_output: usize) = Some(max_output);
     with_max_work(max_work: usize) = Some(max_work);

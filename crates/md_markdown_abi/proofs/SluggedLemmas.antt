@@ -1,0 +1,100 @@
+-- From what a text with ids promises to what C is handed.
+use Rattle.std.proofs.Common.{◌≡◌, ℕ, ◌≤◌, true, List, [], ◌∷◌, ◌++◌, length, take, drop}
+use Rattle.std.proofs.Common.{Option, Some, is_some, sym, ap, ◌∙◌, subst}
+use Rattle.std.proofs.Common.{arith}
+use Rattle.std.specs.Prelude.{IsTrue}
+use Rattle.std.proofs.lemmas.List.{length-append, take-append-le, drop-append-le, take_all}
+use Rattle.std.proofs.lemmas.List.{drop_all}
+use Rattle.md_text.specs.Ids.{are_distinct, HasDistinctIds}
+use Rattle.md_safe.specs.Token.{Token, EndOfFile}
+use Rattle.md_safe.specs.Tokens.{tokens}
+use Rattle.md_safe.specs.Tokenizer.{IsTokenized}
+use Rattle.md_safe.specs.Tokenized.{IsSafelyTokenized}
+use Rattle.md_safe.specs.Contents.{IsContained}
+use Rattle.md_safe.specs.Built.{IsBuiltAsRead}
+use Rattle.md_page.specs.Added.{headings_of}
+use Rattle.md_page.specs.Attributed.{IsAttributed}
+use Rattle.md_page.specs.Built.{IsBuiltAsWritten}
+use Rattle.md_page.specs.GivenIds.{with_given_ids}
+use Rattle.md_page.specs.Ids.{ids_among}
+use Rattle.md_page.specs.Pieces.{IsWritten}
+use Rattle.md_page.proofs.Forests.{read-built}
+use Rattle.md_page.proofs.Rules.{attributed}
+use Rattle.md_abi.specs.Options.{flag_of, text_of}
+use Rattle.md_abi.specs.Attributes.{with_rel, listing}
+use Rattle.md_markdown.specs.Made.{IsMadeOf}
+use Rattle.md_markdown.specs.declared.options.MarkdownOptions.{MarkdownOptions}
+use Rattle.md_markdown_abi.specs.Options.{HasMarkdownOptions}
+use Rattle.md_markdown_abi.specs.Slugged.{IsSluggedText, IsSluggedAfter, id_listing}
+use Rattle.md_markdown_abi.specs.declared.option.CMarkdownOptions.{CMarkdownOptions}
+use Rattle.md_markdown_abi.proofs.GivenLemmas.{asked_is, base_is, is_on}
+
+-- ---- lists after a text
+pub listed-slugs : (text whole : List ℕ) (start : ℕ) (ids : List (List ℕ)) (x : List Token) →
+    whole ≡ text ++ (listing (headings_of x) ++ id_listing ids) → start ≡ length text →
+    length ids ≡ length (headings_of x) → IsTokenized text (with_given_ids ids x) →
+    (IsTrue (are_distinct (ids_among x)) →
+    IsTrue (are_distinct (ids_among (with_given_ids ids x)))) →
+    IsWritten text → IsSluggedAfter x start whole
+listed-slugs text whole start ids x is at count tokenized distinct written =
+    let list = listing (headings_of x) ++ id_listing ids in
+    let same : length text ≤ length text = omega arith in
+    let before : take start whole ≡ text =
+    ap (λ n. take n whole) at ∙ ap (take (length text)) is
+    ∙ take-append-le (length text) text list same
+    ∙ take_all (length text) text same in
+    let behind : drop start whole ≡ list =
+    ap (λ n. drop n whole) at ∙ ap (drop (length text)) is
+    ∙ drop-append-le (length text) text list same
+    ∙ ap (λ first. first ++ list) (drop_all (length text) text same) in
+    record {
+      ids = ids;
+      within = omega (arith, at, ap length is, length-append text list);
+      count = count;
+      added = subst (λ t. IsTokenized t (with_given_ids ids x)) (sym before) tokenized;
+      attributed = subst IsAttributed (sym before) (attributed text written);
+      written = subst IsWritten (sym before) written;
+      headings = behind;
+      distinct = distinct;
+    }
+
+-- what is built of a text is built of the bytes before the lists
+pub built-slugs : (text list whole : List ℕ) (start : ℕ) → whole ≡ text ++ list →
+    start ≡ length text → IsBuiltAsWritten text → IsBuiltAsWritten (take start whole)
+built-slugs text list whole start is at built =
+    let same : length text ≤ length text = omega arith in
+    subst IsBuiltAsWritten (sym (ap (λ n. take n whole) at ∙ ap (take (length text)) is
+    ∙ take-append-le (length text) text list same
+    ∙ take_all (length text) text same)) built
+
+-- ---- of a document
+pub made_slugged : (bytes text : List ℕ) (given : CMarkdownOptions) (options : MarkdownOptions)
+    (rel : Option (List ℕ)) (plain whole : List ℕ) (start : ℕ) → text ≡ bytes →
+    HasMarkdownOptions given options → IsMadeOf (is_some options.base) text plain →
+    IsSafelyTokenized plain →
+    IsContained plain → IsBuiltAsRead plain →
+    (options.number_ids ≡ true → HasDistinctIds plain) → text_of given.rel ≡ Some rel →
+    ((x : List Token) → IsTokenized plain x → IsSluggedAfter (with_rel rel x) start whole) →
+    (IsBuiltAsWritten plain → IsBuiltAsWritten (take start whole)) →
+    start ≤ given.max_output → IsSluggedText bytes given start whole
+made_slugged bytes text given options rel plain whole start same has made safe contained tree
+    distinct rel_read slugged built fits =
+    let read = safe.as_read in
+    let emitted : List Token = tokens read.forest ++ (EndOfFile ∷ []) in
+    record {
+      plain = plain;
+      tokens = emitted;
+      made = subst (λ b. IsMadeOf b bytes plain) (sym (base_is given options has))
+          (subst (λ b. IsMadeOf (is_some options.base) b plain) same made);
+      safe = safe;
+      contained = contained;
+      tree = tree;
+      distinct_ids = λ one.
+          distinct (is_on (flag_of given.number_ids) options.number_ids has.number_ids
+          (ap flag_of one));
+      tokenized = read.tokenized;
+      slugged = subst (λ r. IsSluggedAfter (with_rel r emitted) start whole)
+          (sym (asked_is given.rel rel rel_read)) (slugged emitted read.tokenized);
+      built = built (read-built plain tree);
+      fits = fits;
+    }

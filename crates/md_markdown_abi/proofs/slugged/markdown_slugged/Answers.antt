@@ -1,0 +1,23 @@
+-- What was promised of a text, carried to what C is told, and what was read. By itself the search
+-- can't put the clauses together.
+use Rattle.std.proofs.Common.{option_copied, string_bytes, rules}
+use Rattle.md_markdown_abi.proofs.GivenLemmas.{told, option_fault}
+use Rattle.md_markdown_abi.proofs.SluggedLemmas.{made_slugged}
+use Rattle.md_markdown_abi.proofs.slugged.markdown_slugged.Goals as goal
+
+pub returns-in_err-options-clause-err : goal.returns-in_err-options-clause-err
+returns-in_err-options-clause-err c =
+    let made = c.from_residual-in_err-options in
+    told c.args.bytes.now c.args.given.now made.result _ made.ensures.1
+    (option_fault c.args.bytes.now c.args.given.now c.in_ok-check_version.ensures.ok _
+    c.in_err-options.ensures.err)
+
+pub returns-clause-ok : goal.returns-clause-ok
+returns-clause-ok c =
+    let html = c.in_ok-html.ensures in
+    made_slugged c.args.bytes.now c.in_ok-text.text.now c.args.given.now c.in_ok-options.options
+    (option_copied c.in_ok-rel.rel) c.in_ok-html.html
+    (string_bytes c.in_ok-made.made.whole) c.in_ok-made.made.start c.in_ok-text.ensures.ok.0
+    c.in_ok-options.ensures.ok html.made html.tokens html.contained html.tree html.distinct_ids
+    c.in_ok-rel.ensures.ok c.in_ok-made.ensures.slugged
+    c.in_ok-made.ensures.tree (search rules)

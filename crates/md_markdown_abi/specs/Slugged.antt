@@ -1,0 +1,56 @@
+-- What a text whose headings have ids made of their texts is of the Markdown that C hands in.
+use Rattle.std.specs.Prelude.{◌≡◌, ℕ, ◌≤◌, true, IsTrue, List, ◌∷◌, ◌++◌, length, take, drop}
+use Rattle.std.specs.Prelude.{is_some}
+use Rattle.std.specs.List.{flat_map}
+use Rattle.md_text.specs.Encode.{encoded}
+use Rattle.md_text.specs.Ids.{are_distinct, HasDistinctIds}
+use Rattle.md_safe.specs.Token.{Token}
+use Rattle.md_safe.specs.Tokenizer.{IsTokenized}
+use Rattle.md_safe.specs.Tokenized.{IsSafelyTokenized}
+use Rattle.md_safe.specs.Contents.{IsContained}
+use Rattle.md_safe.specs.Built.{IsBuiltAsRead}
+use Rattle.md_page.specs.Added.{headings_of}
+use Rattle.md_page.specs.Attributed.{IsAttributed}
+use Rattle.md_page.specs.Built.{IsBuiltAsWritten}
+use Rattle.md_page.specs.GivenIds.{with_given_ids}
+use Rattle.md_page.specs.Ids.{ids_among}
+use Rattle.md_page.specs.Pieces.{IsWritten}
+use Rattle.md_abi.specs.Attributes.{asked, with_rel, listing}
+use Rattle.md_markdown.specs.Made.{IsMadeOf}
+use Rattle.md_markdown_abi.specs.declared.option.CMarkdownOptions.{CMarkdownOptions}
+
+-- ids in the list: before each a NUL and `#`; in none, as it is escaped, is a NUL
+abbrev pub id_listing : List (List ℕ) → List ℕ
+id_listing ids = flat_map (λ id. 0 ∷ 35 ∷ encoded true id) ids
+
+-- the bytes before the index are tokenized as these tokens with an id on each heading that had
+-- none, and keep to what such a text keeps to; they are written as whole tags and texts; those
+-- after it are the list of these headings, and then of their ids; where no two ids among the tokens
+-- are equal, no two of the text are
+pub record IsSluggedAfter (tokens : List Token) (start : ℕ) (whole : List ℕ) : Type 0 where
+  pub ids : List (List ℕ)
+  pub within : start ≤ length whole
+  pub count : length ids ≡ length (headings_of tokens)
+  pub added : IsTokenized (take start whole) (with_given_ids ids tokens)
+  pub attributed : IsAttributed (take start whole)
+  pub written : IsWritten (take start whole)
+  pub headings : drop start whole ≡ listing (headings_of tokens) ++ id_listing ids
+  pub distinct : IsTrue (are_distinct (ids_among tokens)) →
+      IsTrue (are_distinct (ids_among (with_given_ids ids tokens)))
+
+-- of the document there is a text, made of it and safe, as without ids; with the `rel` that is
+-- asked for, and with ids, its tokens are those of the bytes before the index, which are built as
+-- they are written, and are no more than they may be; the lists follow
+pub record IsSluggedText (bytes : List ℕ) (options : CMarkdownOptions) (start : ℕ)
+    (whole : List ℕ) : Type 0 where
+  pub plain : List ℕ
+  pub tokens : List Token
+  pub made : IsMadeOf (is_some (asked options.base)) bytes plain
+  pub safe : IsSafelyTokenized plain
+  pub contained : IsContained plain
+  pub tree : IsBuiltAsRead plain
+  pub distinct_ids : options.number_ids ≡ 1 → HasDistinctIds plain
+  pub tokenized : IsTokenized plain tokens
+  pub slugged : IsSluggedAfter (with_rel (asked options.rel) tokens) start whole
+  pub built : IsBuiltAsWritten (take start whole)
+  pub fits : start ≤ options.max_output

@@ -1,0 +1,107 @@
+//! From what C hands in to a text whose headings have ids made of their texts, and the lists of
+//! these headings and ids.
+
+ghost use Rattle.std.specs.Prelude.{◌≡◌, ◌++◌, List, IfOk, IfErr, OnOk, map, take, option_copied};
+ghost use Rattle.std.specs.Prelude.{◌∷◌, true, string_bytes};
+ghost use Rattle.md_text.specs.Encode.{encoded};
+ghost use Rattle.md_safe.specs.Token.{Token};
+ghost use Rattle.md_safe.specs.Tokenizer.{IsTokenized};
+ghost use Rattle.md_page.specs.Built.{IsBuiltAsWritten};
+ghost use Rattle.md_abi.specs.Attributes.{with_rel};
+ghost use Rattle.md_markdown_abi.specs.Failures.{ExplainsMarkdown};
+ghost use Rattle.md_markdown_abi.specs.Slugged.{IsSluggedText, IsSluggedAfter, id_listing};
+ghost use Rattle.md_markdown_abi.specs.Text.{IsRead};
+
+use crate::document::read_document;
+use crate::failure::MarkdownFailure;
+use crate::option::{CMarkdownOptions, check_version, limits_of, read_markdown_options};
+use md_abi::{Attributed, borrow_text, with_list};
+use md_html::SafeHtml;
+use md_markdown::markdown_within;
+use md_page::{Html, with_link_rel};
+use md_slugs::with_heading_slugs;
+use md_text::push_encoded;
+use std::alloc::{AllocError, Global};
+
+/// The HTML of a document with an `id` in each heading, made of the heading's text; where
+/// `heading_ids` is set, behind that prefix. The headings follow, and then their ids.
+///
+/// # Errors
+///
+/// Those of [`markdown_given`](crate::markdown_given).
+pub fn markdown_slugged(
+    alloc: Global,
+    bytes: &[u8],
+    given: &CMarkdownOptions,
+) -> Result<Attributed, MarkdownFailure>
+    ensures ok { IfOk result (λ made.
+        IsSluggedText bytes.now given.now made.start (string_bytes made.whole)) }
+    ensures read { OnOk result (IsRead bytes.now given.now) }
+    ensures err { IfErr result (ExplainsMarkdown bytes.now given.now) }
+{
+    check_version(given)?;
+    let options = read_markdown_options(alloc, given)?;
+    let rel = borrow_text(&given.rel, 8)?;
+    let prefix = borrow_text(&given.heading_ids, 9)?;
+    let text = read_document(bytes, given.max_input)?;
+    let limits = limits_of(given, bytes.len());
+    let html = markdown_within(alloc, text, &options, limits)?;
+    let made = add_slugs(alloc, &html, rel, prefix.unwrap_or(""))?;
+    if made.start > given.max_output {
+        return Err(MarkdownFailure::OutputTooLong);
+    }
+    Ok(made)
+}
+
+/// A text with the `rel` that is asked for and with ids on its headings, and after it these
+/// headings and their ids.
+fn add_slugs(
+    alloc: Global,
+    html: &SafeHtml,
+    rel: Option<&str>,
+    prefix: &str,
+) -> Result<Attributed, AllocError>
+    ensures slugged { IfOk result (λ made. (x : List Token) → IsTokenized html.now x
+        → IsSluggedAfter (with_rel (option_copied rel.entry) x) made.start
+        (string_bytes made.whole)) }
+    ensures tree { IfOk result (λ made. IsBuiltAsWritten html.now
+        → IsBuiltAsWritten (take made.start (string_bytes made.whole))) }
+{
+    match rel {
+        Some(rel) => slugged(alloc, &with_link_rel(alloc, html, rel)?, prefix),
+        None => slugged(alloc, html, prefix),
+    }
+}
+
+/// The same of a text without a `rel` to be added.
+fn slugged<H: Html>(alloc: Global, html: &H, prefix: &str) -> Result<Attributed, AllocError>
+    ensures slugged { IfOk result (λ made. (x : List Token) → IsTokenized (H.text html.now) x
+        → IsSluggedAfter x made.start (string_bytes made.whole)) }
+    ensures tree { IfOk result (λ made. IsBuiltAsWritten (H.text html.now)
+        → IsBuiltAsWritten (take made.start (string_bytes made.whole))) }
+{
+    let after = with_heading_slugs(alloc, html, prefix)?;
+    let mut made = with_list(alloc, Html::as_str(&after.html), after.headings.as_slice())?;
+    push_ids(&mut made.whole, after.ids.as_slice())?;
+    Ok(made)
+}
+
+/// Adds a list of ids.
+fn push_ids(whole: &mut String, ids: &[String]) -> Result<(), AllocError>
+    ensures { OnOk result (string_bytes whole.new
+        ≡ string_bytes whole.old ++ id_listing (map string_bytes ids.now)) }
+{
+    for id in ids {
+        push_id(whole, id.as_str())?;
+    }
+    Ok(())
+}
+
+/// Adds an id to the list.
+fn push_id(whole: &mut String, id: &str) -> Result<(), AllocError>
+    ensures { OnOk result (string_bytes whole.new
+        ≡ string_bytes whole.old ++ (0 ∷ 35 ∷ encoded true id.now)) }
+{
+    whole.push_str("\0#")?;
+    push_encoded(whole, id, true)
+}

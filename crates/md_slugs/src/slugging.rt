@@ -1,0 +1,73 @@
+//! The slug of a heading's text.
+
+use std::alloc::{AllocError, Global};
+use ucd_category::GeneralCategory;
+
+/// The slug of a text that is escaped, as GitHub makes it of a heading: in lower case, without what
+/// is no letter, mark, number, connector, space or hyphen, and with a hyphen for each space.
+///
+/// # Errors
+///
+/// Only where memory runs out.
+///
+/// # Examples
+///
+/// ```
+/// let slug = slug(alloc, "What's new &amp; old?")?;
+/// assert_eq!(slug.as_str(), "whats-new--old");
+/// ```
+pub fn slug(alloc: Global, text: &str) -> Result<String, AllocError> {
+    let mut slug = String::new(alloc);
+    // What a character reference of the four stands for is left out, as the reference is.
+    let mut is_in_reference = false;
+    for character in text.chars() {
+        match character {
+            '&' => is_in_reference = true,
+            ';' => is_in_reference = false,
+            _ if is_in_reference => {}
+            _ => push_lower(&mut slug, character)?,
+        }
+    }
+    Ok(slug)
+}
+
+/// Adds what a slug has for a character.
+fn push_lower(slug: &mut String, character: char) -> Result<(), AllocError> {
+    if character == ' ' {
+        return slug.push('-');
+    }
+    if is_kept(character) {
+        for lower in character.to_lowercase() {
+            slug.push(lower)?;
+        }
+    }
+    Ok(())
+}
+
+/// Whether a slug has a character, in lower case.
+fn is_kept(character: char) -> bool {
+    match character {
+        'a'..='z' | 'A'..='Z' | '0'..='9' | '_' | '-' => true,
+        _ if character.is_ascii() => false,
+        _ => is_word(character),
+    }
+}
+
+/// Whether it is a letter, a mark, a number or a connector.
+fn is_word(character: char) -> bool {
+    match GeneralCategory::for_char(character) {
+        GeneralCategory::UppercaseLetter
+        | GeneralCategory::LowercaseLetter
+        | GeneralCategory::TitlecaseLetter
+        | GeneralCategory::ModifierLetter
+        | GeneralCategory::OtherLetter
+        | GeneralCategory::NonspacingMark
+        | GeneralCategory::SpacingMark
+        | GeneralCategory::EnclosingMark
+        | GeneralCategory::DecimalNumber
+        | GeneralCategory::LetterNumber
+        | GeneralCategory::OtherNumber
+        | GeneralCategory::ConnectorPunctuation => true,
+        _ => false,
+    }
+}
