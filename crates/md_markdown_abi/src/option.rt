@@ -137,6 +137,7 @@ pub(crate) fn limits_of(given: &CMarkdownOptions, bytes: usize) -> Limits
     Limits {
         text: given.max_output,
         work,
+        depth: usize::MAX,
     }
 }
 
