@@ -43,84 +43,21 @@ Opens name = (l t : ℕ) → run (to Begun (at l t)) name ≡ at (suc l) (max t 
 abbrev Voids : List ℕ → Type 0
 Voids name = (l t : ℕ) → run (to Begun (at l t)) name ≡ at l (max t (suc l))
 
+infixr 4 ◌⊗◌
+◌⊗◌ : {A B : Type 0} → A → B → A × B
+a ⊗ b = (a, b)
+
 elements-open : Each Opens elements
-elements-open = (
-  λ l t. refl,
-  (
-    λ l t. refl,
-    (
-      λ l t. refl,
-      (
-        λ l t. refl,
-        (
-          λ l t. refl,
-          (
-            λ l t. refl,
-            (
-              λ l t. refl,
-              (
-                λ l t. refl,
-                (
-                  λ l t. refl,
-                  (
-                    λ l t. refl,
-                    (
-                      λ l t. refl,
-                      (
-                        λ l t. refl,
-                        (
-                          λ l t. refl,
-                          (
-                            λ l t. refl,
-                            (
-                              λ l t. refl,
-                              (
-                                λ l t. refl,
-                                (
-                                  λ l t. refl,
-                                  (
-                                    λ l t. refl,
-                                    (
-                                      λ l t. refl,
-                                      (
-                                        λ l t. refl,
-                                        (
-                                          λ l t. refl,
-                                          (
-                                            λ l t. refl,
-                                            (
-                                              λ l t. refl,
-                                              (
-                                                λ l t. refl,
-                                                (λ l t. refl, tt),
-                                              ),
-                                            ),
-                                          ),
-                                        ),
-                                      ),
-                                    ),
-                                  ),
-                                ),
-                              ),
-                            ),
-                          ),
-                        ),
-                      ),
-                    ),
-                  ),
-                ),
-              ),
-            ),
-          ),
-        ),
-      ),
-    ),
-  ),
-)
+elements-open =
+    (λ l t. refl) ⊗ (λ l t. refl) ⊗ (λ l t. refl) ⊗ (λ l t. refl) ⊗ (λ l t. refl) ⊗ (λ l t. refl)
+    ⊗ (λ l t. refl) ⊗ (λ l t. refl) ⊗ (λ l t. refl) ⊗ (λ l t. refl) ⊗ (λ l t. refl)
+    ⊗ (λ l t. refl) ⊗ (λ l t. refl) ⊗ (λ l t. refl) ⊗ (λ l t. refl) ⊗ (λ l t. refl)
+    ⊗ (λ l t. refl) ⊗ (λ l t. refl) ⊗ (λ l t. refl) ⊗ (λ l t. refl) ⊗ (λ l t. refl)
+    ⊗ (λ l t. refl) ⊗ (λ l t. refl) ⊗ (λ l t. refl) ⊗ (λ l t. refl) ⊗ tt
 
 tags-void : Each Voids void_tags
 tags-void =
-    (λ l t. refl, (λ l t. refl, (λ l t. refl, (λ l t. refl, tt))))
+    (λ l t. refl) ⊗ (λ l t. refl) ⊗ (λ l t. refl) ⊗ (λ l t. refl) ⊗ tt
 
 -- what follows a text that has no `<`
 rest-angle : (x y : List ℕ) → list_all no_angle (x ++ y) ≡ true → list_all no_angle y ≡ true
@@ -185,7 +122,8 @@ opens (Void name attributes rest) h l t low =
     tag name attributes end (written rest) l t (at l (max t (suc l))) l (max t (suc l)) refl
     (of-tag Voids void_tags name attributes tags-void p.0 l t)
     (tag-angle name attributes end (void-tidy name attributes p.0) refl)
-    ∙ opens rest p.1 l (max t (suc l)) (omega arith) ∙ ap (λ top. at l top) (levels-void l t (levels rest))
+    ∙ opens rest p.1 l (max t (suc l)) (omega arith)
+    ∙ ap (λ top. at l top) (levels-void l t (levels rest))
 opens (Element name attributes inner rest) h l t low =
     let p = and_parts (is_tag elements name attributes && is_forest inner) (is_forest rest) h in
     let q = and_parts (is_tag elements name attributes) (is_forest inner) p.0 in

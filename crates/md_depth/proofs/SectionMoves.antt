@@ -24,7 +24,8 @@ use Rattle.md_text.proofs.HtmlNames.{escaped-angle}
 use Rattle.md_depth.proofs.Machine.{Leads, leads-quiet, leads-append, leads-open, leads-close}
 use Rattle.md_depth.proofs.Machine.{run}
 use Rattle.md_depth.proofs.Moves as moves
-use Rattle.md_depth.proofs.Moves.{Moves, ◌▸◌, none, needed, forced, plain, part, open_tag, close_tag}
+use Rattle.md_depth.proofs.Moves.{Moves, ◌▸◌, none, needed, forced, plain, part, open_tag}
+use Rattle.md_depth.proofs.Moves.{close_tag}
 use Rattle.md_depth.proofs.Moves.{open_line, close_line, kept}
 use Rattle.md_depth.proofs.Insertion.{leads-put}
 use Rattle.md_depth.proofs.ForestMoves.{TextsLead}
@@ -64,7 +65,8 @@ back-leads options identifier number occurrence =
     (escaped-angle id (call_id-escaped options identifier number occurrence)))
     (leads-append 1 1 0 2 (codes "\" data-footnote-backref=\"\" aria-label=\"") _
     (leads-quiet 1 2 (codes "\" data-footnote-backref=\"\" aria-label=\"") refl)
-    (leads-append 1 1 0 2 label _ (leads-quiet 1 2 label (escaped-angle label (back-escaped options)))
+    (leads-append 1 1 0 2 label _
+    (leads-quiet 1 2 label (escaped-angle label (back-escaped options)))
     (leads-append 1 1 0 2 (codes "\" class=\"data-footnote-backref\">") _
     (leads-quiet 1 2 (codes "\" class=\"data-footnote-backref\">") refl)
     (leads-append 1 1 0 2 (226 ∷ 134 ∷ 169 ∷ []) _
@@ -206,7 +208,8 @@ head-moves e n room label h =
     (leads-append 0 1 2 n (codes "<section data-footnotes=\"\" class=\"footnotes\">") (codes "<h2")
     (leads-open 0 n (codes "<section data-footnotes=\"\" class=\"footnotes\">") (λ l t. refl) first)
     (leads-open 1 n (codes "<h2") (λ l t. refl) room)))
-    ▸ part e n 2 (codes " id=\"footnote-label\" ") refl ▸ part e n 2 (codes "class=\"sr-only\"") refl
+    ▸ part e n 2 (codes " id=\"footnote-label\" ") refl
+    ▸ part e n 2 (codes "class=\"sr-only\"") refl
     ▸ part e n 2 (codes ">") refl ▸ plain e n 2 label h
     ▸ two-texts e n 2 1 (codes "</") (codes "h2")
     (close_tag e n 1 (codes "</h2") (λ l t. refl)) ▸ part e n 1 (codes ">") refl
