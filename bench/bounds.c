@@ -264,7 +264,7 @@ int main(int given, char **words) {
         bivdrazo_text prefix = {document, length, 1};
         options.gfm_footnote_clobber_prefix = prefix;
     }
-    bivdrazo_limits limits = {strtoull(words[4], NULL, 10), strtoull(words[5], NULL, 10)};
+    bivdrazo_limits limits = {strtoull(words[4], NULL, 10), strtoull(words[5], NULL, 10), 0};
     long before = peak();
     clock_t began = clock();
     bivdrazo_answer answer = bivdrazo_compile_within_alloc(events, count, document, length,

@@ -45,7 +45,9 @@ MOST_DEPTH = 96
 
 
 def framed(program, documents, *options):
-    """What the program makes of each document."""
+    """What the program makes of each document, and None of one that it shows as it is written
+    because the compiler refused what the parser made of it: that text alone ends in no line ending.
+    """
     given = b"".join(b"%d\n%s" % (len(document), document) for document in documents)
     out = subprocess.run([program, "--frames", *options], input=given, capture_output=True,
                          check=True).stdout
@@ -53,7 +55,9 @@ def framed(program, documents, *options):
     while at < len(out):
         end = out.index(b"\n", at)
         status, length = map(int, out[at:end].split())
-        texts.append(None if status else out[end + 1:end + 1 + length])
+        text = out[end + 1:end + 1 + length]
+        is_plain = text.startswith(b"<p>") and text[-1:] not in b"\r\n"
+        texts.append(None if status or is_plain else text)
         at = end + 1 + length
     return texts
 
@@ -102,6 +106,8 @@ def by_options(program):
         faults += unlike(program, (f"--base={base}",), cases)
         count += len(cases)
     cases = [markdown_cases.references(), markdown_cases.deep(200, MOST_DEPTH)]
+    for depth in (MOST_DEPTH, MOST_DEPTH + 1, 3 * MOST_DEPTH):
+        cases += markdown_cases.nested(depth, MOST_DEPTH)
     faults += unlike(program, (), cases)
     print(f"markdown: {count + len(cases)} documents under options")
     return faults

@@ -58,6 +58,7 @@ AS_GFM = [
     "[a](b\n'c\nd')\n", "[a] (b)\n", "[a](b c)\n", '[a](b"c")\n', '[a](\\(b\\) "\\"")\n',
     "[a](b(c)d)\n", "[a](b(c)\n", "[*a](b)*\n", "<https://a?b&amp;c> &copy;\n", "a  \nb\\\nc\nd\n",
     "a   \n\nb\\\n", "`a\nb`\n", "`` a ``` b ``\n", "` `` `\n", "`  `\n", "\\a\\!\\\\\n",
+    "\u00e9  \nb\u00e9\n",
     "a <!-- b\nc --> d\n", "a <b\nc='d'> e\n", "a <?b?> <!C d> <![CDATA[e]]>\n",
     # References.
     "&amp;a &sup; &sup1; &#1234567; &#Xa0F;\n",
@@ -253,6 +254,8 @@ RESOLVED = {
     "http://a/b/c/d;p?q": [
         ("g", "http://a/b/c/g"), ("./g", "http://a/b/c/g"), ("g/", "http://a/b/c/g/"),
         ("/g", "http://a/g"), ("//g", "http://g"), ("?y", "http://a/b/c/d;p?y"),
+        ("//g/../h", "http://g/h"), ("//g/h/./i/..?j", "http://g/h/?j"),
+        ("//g?y/../x", "http://g?y/../x"), ("///g/.//../h", "http:///g/h"),
         ("g?y", "http://a/b/c/g?y"), ("g#s", "http://a/b/c/g#s"), ("g?y#s", "http://a/b/c/g?y#s"),
         (";x", "http://a/b/c/;x"), ("g;x?y#s", "http://a/b/c/g;x?y#s"), (".", "http://a/b/c/"),
         ("./", "http://a/b/c/"), ("..", "http://a/b/"), ("../", "http://a/b/"),
@@ -316,3 +319,25 @@ def deep(depth, most):
     """A document of so many marks of quotes, of which only some may be one, and its HTML."""
     text = "&gt;" * (depth - most)
     return ">" * depth, "<blockquote>\n" * most + f"<p>{text}</p>\n" + "</blockquote>\n" * most
+
+
+def nested(depth, most):
+    """Documents of so many spans and brackets in one another, of which only some may be one, and
+    their HTML.
+    """
+    deep = depth - min(depth, most)
+    depth -= deep
+    spans = [("*", "<em>", "</em>"), ("**", "<strong>", "</strong>"), ("~", "<del>", "</del>")]
+    cases = [(f"{mark}a " * (depth + deep) + "b" + f" c{mark}" * (depth + deep),
+              "<p>" + f"{start}a " * depth + f"{mark}a " * deep + "b" + f" c{mark}" * deep
+              + f" c{end}" * depth + "</p>\n")
+             for mark, start, end in spans]
+    images = "![a " * deep + "b" + "](c)" * deep
+    link = "[" * deep + "a](b)" + "]" * (deep - 1) if deep else '<a href="b">a</a>'
+    around = depth if deep else depth - 1
+    return cases + [
+        ("![a " * (depth + deep) + "b" + "](c)" * (depth + deep),
+         '<p><img src="c" alt="' + "a " * depth + images + '" /></p>\n'),
+        ("[" * (depth + deep) + "a](b)" + "]" * (depth + deep - 1),
+         "<p>" + "[" * around + link + "]" * around + "</p>\n"),
+    ]

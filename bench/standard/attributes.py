@@ -1,6 +1,6 @@
 """Adds a `rel` to links and ids to headings, and has chromium read each text.
 
-    BIVDRAZO_LIBRARY=clients/out/libbivdrazo.so.2 attributes.py
+    BIVDRAZO_LIBRARY=clients/out/libbivdrazo.so.3 attributes.py
 
 Goes over the documents of clients/checks/attributes_test.py. In what chromium makes of a text with
 attributes, set by `innerHTML` of a `div`, there must be the same elements and texts as in that of

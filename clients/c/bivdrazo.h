@@ -68,9 +68,10 @@ bivdrazo_answer bivdrazo_compile(const bivdrazo_event *events, size_t events_len
 
 /*
  * As bivdrazo_compile(), within limits. What can't be read, an event, a name or an option, is
- * reported first. Then the status is BIVDRAZO_TOO_MUCH where there is more to read and to print
- * than `limits->work`, whether or not the events are a document, or where they are one that uses
- * more again; else BIVDRAZO_TOO_LONG where they are one whose text has more than `limits->text`
+ * reported first. Then the status is BIVDRAZO_TOO_DEEP where the events nest deeper than
+ * `limits->depth`, whether or not they are a document; else BIVDRAZO_TOO_MUCH where there is more
+ * to read and to print than `limits->work`, likewise, or where they are one that uses more again;
+ * else BIVDRAZO_TOO_LONG where they are one whose text has more than `limits->text`
  * bytes. Under BIVDRAZO_TOO_SHORT `length` isn't more than `limits->text`: a buffer of as many
  * bytes is never too short.
  */
@@ -106,6 +107,13 @@ bivdrazo_answer bivdrazo_compile_unnested(const bivdrazo_event *events, size_t e
                                           const bivdrazo_options *options,
                                           const bivdrazo_reference *names, size_t names_length,
                                           uint8_t *buffer, size_t buffer_length);
+
+/*
+ * Whether a link stands in a link, of events that are a document's: BIVDRAZO_NESTED where one does,
+ * BIVDRAZO_OK where none does, and BIVDRAZO_NO_EVENT or BIVDRAZO_MEMORY. Nothing is compiled. What
+ * counts as a link is as of bivdrazo_compile_unnested(). `events` isn't null.
+ */
+bivdrazo_answer bivdrazo_has_nested_link(const bivdrazo_event *events, size_t events_length);
 
 /*
  * The HTML of an event script (lines of options and events, a line `--`, the document), likewise.
@@ -189,6 +197,8 @@ static inline const char *bivdrazo_status_text(uint32_t status) {
         return "there is too much work";
     case BIVDRAZO_NESTED:
         return "a link stands in a link";
+    case BIVDRAZO_TOO_DEEP:
+        return "the events nest too deep";
     default:
         return "an unknown status";
     }

@@ -98,7 +98,7 @@ BIVDRAZO_ASSERT(offsetof(bivdrazo_markdown_options, max_work) == 176, "the last 
  * The other statuses, the first of them that is true in this order:
  * BIVDRAZO_MARKDOWN_NO_VERSION, BIVDRAZO_NO_OPTION (`index` is BIVDRAZO_MARKDOWN_OPTION_..),
  * BIVDRAZO_MARKDOWN_INPUT_TOO_LONG, .._NOT_UTF8, .._TOO_MUCH_WORK, .._OUTPUT_TOO_LONG; and
- * BIVDRAZO_MEMORY. BIVDRAZO_REFUSED and BIVDRAZO_MARKDOWN_FAILED would be faults of the parser.
+ * BIVDRAZO_MEMORY.
  */
 bivdrazo_answer bivdrazo_markdown_into(const uint8_t *text, size_t text_length,
                                        const bivdrazo_markdown_options *options, uint8_t *buffer,
@@ -284,8 +284,6 @@ static inline const char *bivdrazo_markdown_status_text(uint32_t status) {
         return "the Markdown isn't UTF-8";
     case BIVDRAZO_MARKDOWN_NO_VERSION:
         return "the options are of an unknown version";
-    case BIVDRAZO_MARKDOWN_FAILED:
-        return "the parser failed";
     case BIVDRAZO_MARKDOWN_TOO_MUCH_WORK:
         return "there is too much work";
     default:

@@ -15,8 +15,6 @@ enum {
     BIVDRAZO_MARKDOWN_NOT_UTF8 = 34,
     /* The options have a version that the library doesn't know. */
     BIVDRAZO_MARKDOWN_NO_VERSION = 35,
-    /* What was made of the Markdown has a link in a link: a fault that should be reported. */
-    BIVDRAZO_MARKDOWN_FAILED = 36,
     /* There is more to read and to print than there may be. */
     BIVDRAZO_MARKDOWN_TOO_MUCH_WORK = 37,
 };

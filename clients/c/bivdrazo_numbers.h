@@ -5,7 +5,7 @@
 #include <stdint.h>
 
 /* The number of this interface: it changes when a layout or a number changes. */
-#define BIVDRAZO_VERSION 2
+#define BIVDRAZO_VERSION 3
 
 /* The version of the library and of what comes with it. */
 #define BIVDRAZO_VERSION_TEXT "2.0.0"
@@ -41,6 +41,8 @@ enum {
     BIVDRAZO_TOO_MUCH = 11,
     /* A link stands in a link. */
     BIVDRAZO_NESTED = 12,
+    /* The events nest deeper than they may. */
+    BIVDRAZO_TOO_DEEP = 13,
 };
 
 /* Why events are refused. */

@@ -95,9 +95,9 @@ typedef struct bivdrazo_attributes {
 } bivdrazo_attributes;
 
 /*
- * How long a text may be, and how much work it may take; SIZE_MAX is no limit. What a call costs
- * goes by both, the number of events, the document's length and that of options' texts and of
- * names, though nothing proves it.
+ * How long a text may be, how much work it may take, and how deep its events may nest; SIZE_MAX is
+ * no limit, and of `depth` 0 is none either. What a call costs goes by the first two, the number of
+ * events, the document's length and that of options' texts and of names, though nothing proves it.
  *
  * `work` limits two sums, each by itself. What there is to read and to print is counted from the
  * events alone, before anything of the document is read: the lengths of texts and labels, by the
@@ -106,10 +106,13 @@ typedef struct bivdrazo_attributes {
  * is counted before anything is printed: for each link and image that leads to a definition what is
  * read in that one, and one for each of its events; for each footnote call five times its length,
  * four times that of the prefix of ids, and that of the label of the way back.
+ *
+ * `depth` limits how many nodes are open at once; it is looked at first.
  */
 typedef struct bivdrazo_limits {
-    size_t text; /* how many bytes the text may have */
-    size_t work; /* how much there may be to read and to print, and to use again */
+    size_t text;  /* how many bytes the text may have */
+    size_t work;  /* how much there may be to read and to print, and to use again */
+    size_t depth; /* how many nodes may be open at once; 0: any number */
 } bivdrazo_limits;
 
 /* A heading that got an id. Its text has no tags and is escaped: it may be set into
@@ -128,7 +131,7 @@ BIVDRAZO_ASSERT(sizeof(bivdrazo_text) == 24, "a text's size");
 BIVDRAZO_ASSERT(sizeof(bivdrazo_reference) == 32, "a reference's size");
 BIVDRAZO_ASSERT(sizeof(bivdrazo_options) == 128, "the options' size");
 BIVDRAZO_ASSERT(sizeof(bivdrazo_attributes) == 48, "the attributes' size");
-BIVDRAZO_ASSERT(sizeof(bivdrazo_limits) == 16, "the limits' size");
+BIVDRAZO_ASSERT(sizeof(bivdrazo_limits) == 24, "the limits' size");
 BIVDRAZO_ASSERT(offsetof(bivdrazo_answer, rule) == 4, "an answer's rule");
 BIVDRAZO_ASSERT(offsetof(bivdrazo_answer, index) == 8, "an answer's index");
 BIVDRAZO_ASSERT(offsetof(bivdrazo_answer, length) == 16, "an answer's length");
@@ -143,7 +146,7 @@ BIVDRAZO_ASSERT(offsetof(bivdrazo_options, gfm_footnote_number_ids) == 6,
 BIVDRAZO_ASSERT(offsetof(bivdrazo_options, gfm_footnote_back_label) == 8, "the first text");
 BIVDRAZO_ASSERT(offsetof(bivdrazo_options, gfm_footnote_label_tag_name) == 104, "the last text");
 BIVDRAZO_ASSERT(offsetof(bivdrazo_attributes, heading_ids) == 24, "the last attribute");
-BIVDRAZO_ASSERT(offsetof(bivdrazo_limits, work) == 8, "the last limit");
+BIVDRAZO_ASSERT(offsetof(bivdrazo_limits, depth) == 16, "the last limit");
 
 /* A text that is set: `bytes` isn't null. */
 static inline bivdrazo_text bivdrazo_text_of(const uint8_t *bytes, size_t length) {
@@ -179,7 +182,7 @@ static inline bivdrazo_attributes bivdrazo_attributes_none(void) {
 
 /* No limits. */
 static inline bivdrazo_limits bivdrazo_limits_none(void) {
-    bivdrazo_limits limits = {SIZE_MAX, SIZE_MAX};
+    bivdrazo_limits limits = {SIZE_MAX, SIZE_MAX, 0};
     return limits;
 }
 

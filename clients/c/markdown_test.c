@@ -331,7 +331,8 @@ static void test_failures(void) {
     options.base = text_of("\xFF");
     check(fails("a", 1, &options, BIVDRAZO_NO_OPTION, BIVDRAZO_MARKDOWN_OPTION_BASE),
           "a text that isn't UTF-8");
-    check(strcmp(bivdrazo_markdown_status_text(BIVDRAZO_MARKDOWN_FAILED), "the parser failed") == 0,
+    check(strcmp(bivdrazo_markdown_status_text(BIVDRAZO_MARKDOWN_NO_VERSION),
+                 "the options are of an unknown version") == 0,
           "a status");
     check(strcmp(bivdrazo_markdown_status_text(BIVDRAZO_MEMORY), "out of memory") == 0,
           "a status of the library");

@@ -131,7 +131,7 @@ static int read_script(const uint8_t *script, size_t length, struct job *job,
 
 /* Compiles the events within their text's length, which changes no answer, and within one less. */
 static void compare_within(struct job *job, const bivdrazo_answer *wanted, size_t room) {
-    bivdrazo_limits limits = {wanted->length, SIZE_MAX};
+    bivdrazo_limits limits = {wanted->length, SIZE_MAX, 0};
     struct guarded buffer;
     job->limits = &limits;
     const bivdrazo_answer answer = answer_of(job, room, &buffer);

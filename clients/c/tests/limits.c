@@ -1,4 +1,4 @@
-/* Tests of limits of the text and of the work. */
+/* Tests of limits of the text, of the work and of the nesting. */
 #include "test.h"
 
 /*
@@ -7,7 +7,7 @@
  */
 static int answers_within(size_t text_limit, size_t work_limit, size_t room, bivdrazo_answer wanted,
                           size_t wanted_turns) {
-    const bivdrazo_limits limits = {text_limit, work_limit};
+    const bivdrazo_limits limits = {text_limit, work_limit, 2};
     const uint8_t *bytes = (const uint8_t *)"Hi <b>";
     const bivdrazo_options options = bivdrazo_options_default();
     const bivdrazo_reference none = {bytes, 0, bytes, 0};
@@ -38,7 +38,7 @@ static void test_met_limits(void) {
     const bivdrazo_answer text = {BIVDRAZO_OK, 0, 0, 19};
     const bivdrazo_answer too_long = {BIVDRAZO_TOO_LONG, 0, 0, 0};
     const bivdrazo_answer too_much = {BIVDRAZO_TOO_MUCH, 0, 0, 0};
-    CHECK(none.text == SIZE_MAX && none.work == SIZE_MAX);
+    CHECK(none.text == SIZE_MAX && none.work == SIZE_MAX && none.depth == 0);
     CHECK(answers_within(SIZE_MAX, SIZE_MAX, 32, text, 1));
     CHECK(answers_within(19, 6, 19, text, 1));
     CHECK(answers_within(18, 6, 32, too_long, 1));
@@ -50,8 +50,8 @@ static void test_met_limits(void) {
 
 /* Limits over nothing, over what is refused, over what stands for none, and null. */
 static void test_limits_refused(void) {
-    const bivdrazo_limits least = {0, 0};
-    const bivdrazo_limits few = {SIZE_MAX, 5};
+    const bivdrazo_limits least = {0, 0, 1};
+    const bivdrazo_limits few = {SIZE_MAX, 5, 2};
     bivdrazo_event events[4];
     uint8_t *text;
     paragraph(events, 6);
@@ -86,7 +86,7 @@ static void wrap(bivdrazo_event *events, size_t *length, size_t start, uint16_t 
 
 /* A row of a table's body is five times as much work as the table has columns. */
 static void test_work(void) {
-    bivdrazo_limits limits = {SIZE_MAX, 30};
+    bivdrazo_limits limits = {SIZE_MAX, 30, 0};
     bivdrazo_event events[64];
     size_t length = 0;
     uint8_t *text;
@@ -110,9 +110,32 @@ static void test_work(void) {
     CHECK(answer.status == BIVDRAZO_TOO_MUCH && text == NULL);
 }
 
+/* Events that nest at the limit and deeper, also ones that are no document's. */
+static void test_depth(void) {
+    bivdrazo_limits limits = {0, 0, 9};
+    bivdrazo_event events[40];
+    size_t length = 0;
+    uint8_t *text;
+    for (int level = 0; level < 9; level++)
+        wrap(events, &length, 0, BIVDRAZO_NAME_BLOCK_QUOTE);
+    bivdrazo_answer answer =
+        bivdrazo_compile_within_alloc(events, length, NULL, 0, NULL, NULL, 0, &limits, &text);
+    CHECK(answer.status == BIVDRAZO_TOO_LONG && text == NULL);
+    limits.depth = 0;
+    answer = bivdrazo_compile_within_alloc(events, length, NULL, 0, NULL, NULL, 0, &limits, &text);
+    CHECK(answer.status == BIVDRAZO_TOO_LONG && text == NULL);
+    limits.depth = 8;
+    for (size_t few = 9; few <= length; few += 9) {
+        answer = bivdrazo_compile_within_alloc(events, few, NULL, 0, NULL, NULL, 0, &limits, &text);
+        CHECK(answer.status == BIVDRAZO_TOO_DEEP && answer.index == 0 && answer.rule == 0 && !text);
+    }
+    answer = bivdrazo_compile_within_alloc(events, 8, NULL, 0, NULL, NULL, 0, &limits, &text);
+    CHECK(answer.status == BIVDRAZO_REFUSED && answer.index == 8 && !text);
+}
+
 /* The call within limits is out of memory too, at limits that the text has exactly. */
 static void test_memory_of_limits(void) {
-    const bivdrazo_limits limits = {8, 1};
+    const bivdrazo_limits limits = {8, 1, 0};
     bivdrazo_event events[4];
     bivdrazo_answer answer = {BIVDRAZO_MEMORY, 0, 0, 0};
     size_t refused = 0;
@@ -133,5 +156,6 @@ void test_limits(void) {
     test_met_limits();
     test_limits_refused();
     test_work();
+    test_depth();
     test_memory_of_limits();
 }

@@ -15,6 +15,19 @@ static uint32_t status_of(const bivdrazo_event *events, size_t events_length, co
     return answer.status;
 }
 
+/* Of events in which an automatic link stands in a link. */
+static void test_has_nested_link(bivdrazo_event *events) {
+    bivdrazo_answer answer = bivdrazo_has_nested_link(events, 14);
+    CHECK(answer.status == BIVDRAZO_NESTED && answer.index == 0 && answer.length == 0);
+    events[3].name = events[4].name = BIVDRAZO_NAME_DATA;
+    answer = bivdrazo_has_nested_link(events, 14);
+    CHECK(answer.status == BIVDRAZO_OK && answer.index == 0 && answer.length == 0);
+    CHECK(bivdrazo_has_nested_link(events, 0).status == BIVDRAZO_OK);
+    events[5].kind = 3;
+    answer = bivdrazo_has_nested_link(events, 14);
+    CHECK(answer.status == BIVDRAZO_NO_EVENT && answer.index == 5);
+}
+
 void test_unnested(void) {
     bivdrazo_event plain[14];
     bivdrazo_options options = bivdrazo_options_default();
@@ -30,4 +43,5 @@ void test_unnested(void) {
     CHECK(answer.status == BIVDRAZO_TOO_SHORT && answer.length == 17 && buffer[0] == 7);
     plain[3].name = plain[4].name = BIVDRAZO_NAME_AUTOLINK_PROTOCOL;
     CHECK(status_of(plain, 14, "[a](b)", NULL, NULL) == BIVDRAZO_NESTED);
+    test_has_nested_link(plain);
 }

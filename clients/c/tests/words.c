@@ -20,7 +20,8 @@ static void test_status_texts(void) {
                  {BIVDRAZO_TOO_LONG, "the text is too long"},
                  {BIVDRAZO_TOO_MUCH, "there is too much work"},
                  {BIVDRAZO_NESTED, "a link stands in a link"},
-                 {BIVDRAZO_NESTED + 1, "an unknown status"},
+                 {BIVDRAZO_TOO_DEEP, "the events nest too deep"},
+                 {BIVDRAZO_TOO_DEEP + 1, "an unknown status"},
                  {UINT32_MAX, "an unknown status"}};
     for (size_t at = 0; at < sizeof texts / sizeof *texts; at++)
         CHECK(strcmp(bivdrazo_status_text(texts[at].status), texts[at].text) == 0);

@@ -29,9 +29,9 @@ bivdrazo.errors.Refused: event 3: ORDER
 Calls may be made from any number of threads, and run side by side.
 """
 
-from .calls import Event, compile, compile_unnested, compile_within, run
-from .errors import Error, Invalid, MarkdownError, Nested, Refused, TooLong, TooMuchWork
-from .errors import Unreadable
+from .calls import Event, compile, compile_unnested, compile_within, has_nested_link, run
+from .errors import Error, Invalid, Nested, Refused, TooDeep, TooLong
+from .errors import TooMuchWork, Unreadable
 from .markdown import Heading, contents, front_matter_of, markdown_to_html
 from .markdown import markdown_with_headings
 from .numbers import VERSION, Kind, LineEnding, Name, Rule
@@ -48,12 +48,12 @@ __all__ = [
     "Invalid",
     "Kind",
     "LineEnding",
-    "MarkdownError",
     "Name",
     "Nested",
     "Refused",
     "Rule",
     "SafeHtml",
+    "TooDeep",
     "TooLong",
     "TooMuchWork",
     "Unreadable",
@@ -63,6 +63,7 @@ __all__ = [
     "compile_within",
     "contents",
     "front_matter_of",
+    "has_nested_link",
     "markdown_to_html",
     "markdown_with_headings",
     "run",

@@ -8,7 +8,7 @@ import struct
 from collections.abc import Callable, Iterable, Mapping
 from typing import Any, NamedTuple
 
-from .errors import Invalid, TooLong, TooMuchWork, error_of
+from .errors import Invalid, TooDeep, TooLong, TooMuchWork, error_of
 from .library import LIBRARY, CAnswer, CEvent, CLimits, COptions, CReference, CText
 from .numbers import Kind, LineEnding, Name, Status
 from .references import REFERENCES
@@ -101,10 +101,11 @@ def compile_within(
     *,
     max_output: int | None = None,
     max_work: int | None = None,
+    max_depth: int | None = None,
     names: Mapping[str, str] | Iterable[tuple[str, str]] = (),
     **options: Any,
 ) -> str:
-    """As compile, whose other options it takes, where text and work are within bounds.
+    """As compile, whose other options it takes, where text, work and nesting are within bounds.
 
     >>> from bivdrazo import Event, Name, compile_within
     >>> events = [Event.enter(Name.DATA, 0), Event.exit(Name.DATA, 6)]
@@ -122,12 +123,15 @@ def compile_within(
     a definition what is read in that one, and one for each of its events; for each footnote call
     five times its length, four times that of the prefix of ids, and that of the label of the way
     back).
+    max_depth: how many nodes may be open at once; None or 0: any number.
 
-    Raises, beside what compile does, TooLong where the text is longer, and TooMuchWork where there
-    is more work, whether or not the events are a document, or where a document uses more again.
+    Raises, beside what compile does, TooDeep where the events nest deeper and else TooMuchWork
+    where there is more work, whether or not they are a document, or where a document uses more
+    again; TooLong where the text is longer.
     """
     given = options_of(**options)
-    limits = CLimits(bound_of("max_output", max_output), bound_of("max_work", max_work, "work"))
+    limits = CLimits(bound_of("max_output", max_output), bound_of("max_work", max_work, "work"),
+                     bound_of("max_depth", max_depth or 0, "nodes"))
     made, length = events_of(events)
     references = references_of(names)
     document = bytes_of("data", data)
@@ -177,6 +181,23 @@ def compile_unnested(
     ))
 
 
+def has_nested_link(events: Iterable[Event]) -> bool:
+    """Whether a link stands in a link, of events that are a document's; nothing is compiled. What
+    counts as a link is as of compile_unnested.
+
+    >>> from bivdrazo import Event, Name, has_nested_link
+    >>> has_nested_link([Event.enter(Name.LINK, 0), Event.exit(Name.LINK, 0)])
+    False
+
+    Raises Invalid where an event stands for none, MemoryError.
+    """
+    made, length = events_of(events)
+    answer = LIBRARY.bivdrazo_has_nested_link(made, length)
+    if answer.status not in (Status.OK, Status.NESTED):
+        raise error_of(answer.status, answer.index, answer.rule)
+    return bool(answer.status == Status.NESTED)
+
+
 def run(script: Bytes) -> str:
     """The HTML of an event script: lines of options and events, a line `--`, the document. It is a
     plain str, since a script may set options that aren't safe.
@@ -210,6 +231,8 @@ def answered(
         raise TooLong("output", limits.text)
     if limits is not None and answer.status == Status.TOO_MUCH:
         raise TooMuchWork(limits.work)
+    if limits is not None and answer.status == Status.TOO_DEEP:
+        raise TooDeep(limits.depth)
     if answer.status != Status.OK:
         raise error_of(answer.status, answer.index, answer.rule)
     return text_at(ctypes.addressof(buffer), answer.length)

@@ -19,11 +19,11 @@ TEXTS = {
     Status.TOO_LONG: "the text is too long",
     Status.TOO_MUCH: "there is too much work",
     Status.NESTED: "a link stands in a link",
+    Status.TOO_DEEP: "the events nest too deep",
     MarkdownStatus.INPUT_TOO_LONG: "the Markdown is too long",
     MarkdownStatus.OUTPUT_TOO_LONG: "the text is too long",
     MarkdownStatus.NOT_UTF8: "the Markdown isn't UTF-8",
     MarkdownStatus.NO_VERSION: "the options are of an unknown version",
-    MarkdownStatus.FAILED: "the parser failed",
     MarkdownStatus.TOO_MUCH_WORK: "there is too much work",
 }
 
@@ -103,6 +103,18 @@ class TooMuchWork(Error):
         return type(self), (self.limit,)
 
 
+class TooDeep(Error):
+    """The events nest deeper than `limit`."""
+
+    def __init__(self, limit: int) -> None:
+        super().__init__(f"the events nest deeper than {limit}")
+        self.limit = limit
+
+    def __reduce__(self) -> tuple[type, tuple[int]]:
+        """How it is pickled."""
+        return type(self), (self.limit,)
+
+
 class Nested(Error):
     """In the events' document a link stands in a link."""
 
@@ -112,10 +124,6 @@ class Nested(Error):
     def __reduce__(self) -> tuple[type, tuple[()]]:
         """How it is pickled."""
         return type(self), ()
-
-
-class MarkdownError(RuntimeError):
-    """The parser of Markdown failed: a fault that should be reported."""
 
 
 def error_of(status: int, index: int, rule: int) -> Exception:

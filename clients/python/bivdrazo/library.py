@@ -59,9 +59,9 @@ class COptions(ctypes.Structure):
 
 
 class CLimits(ctypes.Structure):
-    """How long a text may be, and how much work it may take."""
+    """How long a text may be, how much work it may take, and how deep its events may nest."""
 
-    _fields_ = [("text", ctypes.c_size_t), ("work", ctypes.c_size_t)]
+    _fields_ = [("text", ctypes.c_size_t), ("work", ctypes.c_size_t), ("depth", ctypes.c_size_t)]
 
 
 class CMarkdownOptions(ctypes.Structure):
@@ -109,6 +109,8 @@ def load() -> ctypes.CDLL:
     library.bivdrazo_compile_within.restype = CAnswer
     library.bivdrazo_compile_unnested.argtypes = library.bivdrazo_compile.argtypes
     library.bivdrazo_compile_unnested.restype = CAnswer
+    library.bivdrazo_has_nested_link.argtypes = [events, size]
+    library.bivdrazo_has_nested_link.restype = CAnswer
     library.bivdrazo_run.argtypes = [text, size, text, size]
     library.bivdrazo_run.restype = CAnswer
     for into in library.bivdrazo_markdown_into, library.bivdrazo_markdown_slugs_into:

@@ -10,7 +10,7 @@ from collections.abc import Iterable
 from typing import Any, Literal, NamedTuple
 
 from .calls import UNSET, text_of
-from .errors import MarkdownError, TooLong, TooMuchWork, error_of, text_of_status
+from .errors import TooLong, TooMuchWork, error_of
 from .library import LIBRARY, CAnswer, CMarkdownOptions
 from .numbers import MARKDOWN_OPTIONS, MARKDOWN_VERSION, DocumentHtml, MarkdownStatus, Status
 from .safe import SafeHtml
@@ -324,6 +324,4 @@ def markdown_error_of(answer: CAnswer, options: CMarkdownOptions, length: int) -
         return TooMuchWork(options.max_work if is_given else LEAST_WORK + WORK_OF_A_BYTE * length)
     if answer.status == Status.NO_OPTION:
         return ValueError(f"{MARKDOWN_OPTIONS[answer.index]}: no such value")
-    if answer.status == MarkdownStatus.FAILED:
-        return MarkdownError(text_of_status(MarkdownStatus.FAILED))
     return error_of(answer.status, answer.index, answer.rule)

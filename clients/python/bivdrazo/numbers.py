@@ -6,7 +6,7 @@ Written by clients/numbers/generate from numbers.txt. Don't edit it.
 import enum
 
 # The number of this interface: it changes when a layout or a number changes.
-VERSION = 2
+VERSION = 3
 
 # The version of the library and of what comes with it.
 VERSION_TEXT = "2.0.0"
@@ -81,6 +81,8 @@ class Status(enum.IntEnum):
     TOO_MUCH = 11
     # A link stands in a link.
     NESTED = 12
+    # The events nest deeper than they may.
+    TOO_DEEP = 13
 
 
 class Rule(enum.IntEnum):
@@ -331,8 +333,6 @@ class MarkdownStatus(enum.IntEnum):
     NOT_UTF8 = 34
     # The options have a version that the library doesn't know.
     NO_VERSION = 35
-    # What was made of the Markdown has a link in a link: a fault that should be reported.
-    FAILED = 36
     # There is more to read and to print than there may be.
     TOO_MUCH_WORK = 37
 

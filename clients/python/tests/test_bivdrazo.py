@@ -15,12 +15,14 @@ from bivdrazo import (
     Refused,
     Rule,
     SafeHtml,
+    TooDeep,
     TooLong,
     TooMuchWork,
     Unreadable,
     compile,
     compile_unnested,
     compile_within,
+    has_nested_link,
     run,
 )
 from bivdrazo.errors import error_of
@@ -182,6 +184,19 @@ class Limits(unittest.TestCase):
         with self.assertRaises(TooMuchWork):
             compile_within(paragraph(6)[:3], b"Hi <b>", max_work=5)
 
+    def test_too_deep(self):
+        deep = []
+        for _ in range(9):
+            deep = node(Name.BLOCK_QUOTE, deep)
+        texts = {compile_within(deep, b"", max_depth=bound) for bound in (9, 0, None, 1 << 70)}
+        self.assertEqual(len(texts), 1)
+        for events in (deep, deep[:9]):
+            with self.assertRaises(TooDeep) as caught:
+                compile_within(events, b"", max_work=0, max_depth=8)
+            self.assertEqual(str(caught.exception), "the events nest deeper than 8")
+            copy = pickle.loads(pickle.dumps(caught.exception))
+            self.assertEqual((type(copy), copy.limit), (TooDeep, 8))
+
     def test_work_of_references(self):
         def over(name, start, end, *children):
             return node(name, *children, start=start, end=end)
@@ -208,6 +223,8 @@ class Limits(unittest.TestCase):
         for bound, error in [(-1, ValueError), (True, TypeError), ("1", TypeError)]:
             with self.subTest(bound=bound), self.assertRaises(error):
                 self.within(max_work=bound)
+            with self.subTest(bound=bound), self.assertRaises(error):
+                self.within(max_depth=bound)
 
 
 class Unnested(unittest.TestCase):
@@ -234,6 +251,12 @@ class Unnested(unittest.TestCase):
         self.assertIn("<a", compile(nested, b"[a](b)"))
         with self.assertRaises(Nested):
             compile_unnested(nested, b"[a](b)")
+        self.assertTrue(has_nested_link(nested))
+        self.assertFalse(has_nested_link(self.link(Name.DATA)))
+        self.assertFalse(has_nested_link([]))
+        with self.assertRaises(Invalid) as invalid:
+            has_nested_link([*nested, Event(3, Name.DATA, 0)])
+        self.assertEqual(invalid.exception.index, len(nested))
         with self.assertRaises(ValueError) as caught:
             compile_unnested([], b"", allow_dangerous_html=True)
         self.assertNotIsInstance(caught.exception, Nested)
@@ -301,7 +324,7 @@ class Interface(unittest.TestCase):
 
     def test_sizes(self):
         sizes = [(CAnswer, 24), (CEvent, 16), (CText, 24), (CReference, 32), (COptions, 128),
-                 (CLimits, 16)]
+                 (CLimits, 24)]
         self.assertEqual([ctypes.sizeof(type_) for type_, _ in sizes], [size for _, size in sizes])
 
     def test_threads(self):

@@ -212,7 +212,6 @@ class Errors(unittest.TestCase):
         self.assertEqual(told(2, 3, 1), "Refused('event 3: ORDER')")
         self.assertEqual(told(5, 7), "ValueError('base: no such value')")
         self.assertEqual(told(7), "MemoryError('out of memory')")
-        self.assertEqual(told(36), "MarkdownError('the parser failed')")
         self.assertEqual(told(35), "RuntimeError('the options are of an unknown version')")
         self.assertEqual(told(37), "TooMuchWork('there is more work than 6')")
 

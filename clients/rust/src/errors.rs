@@ -3,8 +3,8 @@
 use crate::layouts::CAnswer;
 use crate::numbers::{
     self, Rule, STATUS_MEMORY, STATUS_NESTED, STATUS_NO_ATTRIBUTE, STATUS_NO_EVENT, STATUS_NO_LINE,
-    STATUS_NO_NAME, STATUS_NO_OPTION, STATUS_REFUSED, STATUS_TOO_LONG, STATUS_TOO_MUCH,
-    STATUS_UNSAFE,
+    STATUS_NO_NAME, STATUS_NO_OPTION, STATUS_REFUSED, STATUS_TOO_DEEP, STATUS_TOO_LONG,
+    STATUS_TOO_MUCH, STATUS_UNSAFE,
 };
 use crate::values::Limits;
 use std::error;
@@ -55,9 +55,11 @@ pub enum Error {
         /// How much there may be.
         limit: usize,
     },
-    /// The library's parser failed: in what it made of the Markdown a link stands in a link. It is a
-    /// fault that should be reported; no document is known that gets it.
-    Parser,
+    /// The events nest deeper than a limit permits.
+    TooDeep {
+        /// How many nodes may be open at once.
+        limit: usize,
+    },
     /// The library answered what this crate doesn't know: it is of another version.
     Unknown,
 }
@@ -89,7 +91,9 @@ impl fmt::Display for Error {
             Error::TooMuchWork { limit } => {
                 write!(formatter, "there is more work than {limit}")
             }
-            Error::Parser => write!(formatter, "the parser failed"),
+            Error::TooDeep { limit } => {
+                write!(formatter, "the events nest deeper than {limit}")
+            }
             Error::Unknown => write!(formatter, "a library of another version"),
         }
     }
@@ -102,6 +106,9 @@ pub(crate) fn error_within(answer: &CAnswer, limits: Limits) -> Error {
     match answer.status {
         STATUS_TOO_LONG => Error::OutputTooLong { limit: limits.text },
         STATUS_TOO_MUCH => Error::TooMuchWork { limit: limits.work },
+        STATUS_TOO_DEEP => Error::TooDeep {
+            limit: limits.depth,
+        },
         _ => error_of(answer),
     }
 }

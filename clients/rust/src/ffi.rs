@@ -1,13 +1,13 @@
 //! The library's calls, as C has them.
 
-use crate::errors::error_within;
+use crate::errors::{error_of, error_within};
 use crate::layouts::{
     bivdrazo_compile, bivdrazo_compile_attributed, bivdrazo_compile_unnested,
-    bivdrazo_compile_within, bivdrazo_run, bivdrazo_version, c_event, c_reference, c_text, CAnswer,
-    CAttributes, CLimits,
+    bivdrazo_compile_within, bivdrazo_has_nested_link, bivdrazo_run, bivdrazo_version, c_event,
+    c_reference, c_text, CAnswer, CAttributes, CLimits,
 };
 use crate::markdown::unescaped;
-use crate::numbers::{STATUS_OK, STATUS_TOO_SHORT};
+use crate::numbers::{STATUS_NESTED, STATUS_OK, STATUS_TOO_SHORT};
 use crate::options::c_options;
 use crate::{Attributes, Error, Event, Heading, Limits, Options, Rendered};
 use std::str;
@@ -72,6 +72,18 @@ pub(crate) fn compile_unnested(
     })
 }
 
+/// As `crate::has_nested_link`.
+pub(crate) fn has_nested_link(events: &[Event]) -> Result<bool, Error> {
+    let events = collect(events.iter().map(c_event))?;
+    // SAFETY: the pointer is that of a vector, goes with its length and isn't null.
+    let answer = unsafe { bivdrazo_has_nested_link(events.as_ptr(), events.len()) };
+    match answer.status {
+        STATUS_OK => Ok(false),
+        STATUS_NESTED => Ok(true),
+        _ => Err(error_of(&answer)),
+    }
+}
+
 /// As `crate::compile_within`.
 pub(crate) fn compile_within(
     events: &[Event],
@@ -86,6 +98,7 @@ pub(crate) fn compile_within(
     let c_limits = CLimits {
         text: limits.text,
         work: limits.work,
+        depth: limits.depth,
     };
     let room = first_size(events.len(), bytes.len());
     into_text(room, limits, |buffer| {

@@ -50,6 +50,7 @@ pub(crate) struct CAttributes {
 pub(crate) struct CLimits {
     pub(crate) text: usize,
     pub(crate) work: usize,
+    pub(crate) depth: usize,
 }
 
 #[repr(C)]
@@ -81,7 +82,7 @@ const _: () = assert!(size_of::<CText>() == 24);
 const _: () = assert!(size_of::<CReference>() == 32);
 const _: () = assert!(size_of::<COptions>() == 128);
 const _: () = assert!(size_of::<CAttributes>() == 48);
-const _: () = assert!(size_of::<CLimits>() == 16);
+const _: () = assert!(size_of::<CLimits>() == 24);
 const _: () = assert!(size_of::<CMarkdownOptions>() == 184);
 
 extern "C" {
@@ -131,6 +132,7 @@ extern "C" {
         buffer: *mut u8,
         buffer_length: usize,
     ) -> CAnswer;
+    pub(crate) fn bivdrazo_has_nested_link(events: *const CEvent, events_length: usize) -> CAnswer;
     pub(crate) fn bivdrazo_run(
         script: *const u8,
         script_length: usize,

@@ -119,14 +119,32 @@ pub fn compile_unnested(
     ffi::compile_unnested(events, bytes, options, names)
 }
 
-/// As [`compile`], where the text has at most as many bytes as it may have, and there is at most as
-/// much work.
+/// Whether a link stands in a link, of events that are a document's. Nothing is compiled.
+///
+/// What counts as a link is as of [`compile_unnested`].
 ///
 /// # Errors
 ///
-/// Those of [`compile`]; [`Error::OutputTooLong`] where the events are a document whose text is
-/// longer, and [`Error::TooMuchWork`] exactly where there is more work, whether or not they are
-/// one, but for want of memory.
+/// [`Error::Memory`].
+///
+/// ```
+/// use bivdrazo::{has_nested_link, Event, Name};
+///
+/// let events = [Event::enter(Name::Link, 0), Event::exit(Name::Link, 0)];
+/// assert_eq!(has_nested_link(&events), Ok(false));
+/// ```
+pub fn has_nested_link(events: &[Event]) -> Result<bool, Error> {
+    ffi::has_nested_link(events)
+}
+
+/// As [`compile`], where the text has at most as many bytes as it may have, there is at most as
+/// much work, and the events nest no deeper than they may.
+///
+/// # Errors
+///
+/// Those of [`compile`]; [`Error::TooDeep`] where the events nest deeper and else
+/// [`Error::TooMuchWork`] where there is more work, whether or not they are a document's, but for
+/// want of memory; [`Error::OutputTooLong`] where they are one's whose text is longer.
 ///
 /// ```
 /// use bivdrazo::{compile_within, Error, Event, Limits, Name, Options};
@@ -142,6 +160,10 @@ pub fn compile_unnested(
 /// assert_eq!(within(12, 6)?, "Hi &lt;b&gt;");
 /// assert_eq!(within(11, 6), Err(Error::OutputTooLong { limit: 11 }));
 /// assert_eq!(within(12, 5), Err(Error::TooMuchWork { limit: 5 }));
+/// let nested = [Event::enter(Name::BlockQuote, 0); 3];
+/// let limits = Limits::default().with_depth(2);
+/// let refused = compile_within(&nested, b"", &Options::default(), &[], limits);
+/// assert_eq!(refused, Err(Error::TooDeep { limit: 2 }));
 /// # Ok::<(), Error>(())
 /// ```
 pub fn compile_within(

@@ -5,7 +5,6 @@ pub(crate) const MARKDOWN_VERSION: u32 = 4;
 
 pub(crate) const STATUS_INPUT_TOO_LONG: u32 = 32;
 pub(crate) const STATUS_OUTPUT_TOO_LONG: u32 = 33;
-pub(crate) const STATUS_FAILED: u32 = 36;
 pub(crate) const STATUS_TOO_MUCH_WORK: u32 = 37;
 
 pub(crate) const HTML_TEXT: u8 = 0;

@@ -544,7 +544,7 @@ impl Rule {
 }
 
 /// The number of this interface: it changes when a layout or a number changes.
-pub const VERSION: u32 = 2;
+pub const VERSION: u32 = 3;
 
 /// The version of the library and of what comes with it.
 pub const VERSION_TEXT: &str = "2.0.0";
@@ -562,6 +562,7 @@ pub(crate) const STATUS_NO_ATTRIBUTE: u32 = 9;
 pub(crate) const STATUS_TOO_LONG: u32 = 10;
 pub(crate) const STATUS_TOO_MUCH: u32 = 11;
 pub(crate) const STATUS_NESTED: u32 = 12;
+pub(crate) const STATUS_TOO_DEEP: u32 = 13;
 pub(crate) const KIND_ENTER: u8 = 1;
 pub(crate) const KIND_EXIT: u8 = 2;
 pub(crate) const LINE_ENDING_LINE_FEED: u8 = 0;

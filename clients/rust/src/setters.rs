@@ -53,4 +53,5 @@ setters! { Attributes:
 setters! { Limits:
     with_text(text: usize) = text;
     with_work(work: usize) = work;
+    with_depth(depth: usize) = depth;
 }

@@ -2,8 +2,9 @@
 
 use crate::ffi::first_size;
 use crate::{
-    compile, compile_attributed, compile_unnested, compile_within, run, Attributes, Error, Event,
-    Limits, LineEnding, Name, Options, Rendered, Rule, REFERENCES, VERSION_TEXT,
+    compile, compile_attributed, compile_unnested, compile_within, has_nested_link, run,
+    Attributes, Error, Event, Limits, LineEnding, Name, Options, Rendered, Rule, REFERENCES,
+    VERSION_TEXT,
 };
 use std::thread;
 

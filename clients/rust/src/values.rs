@@ -114,10 +114,11 @@ pub struct Attributes {
     pub heading_ids: Option<String>,
 }
 
-/// How long a text may be, and how much work it may take. The default has no limits.
+/// How long a text may be, how much work it may take, and how deep its events may nest. The default
+/// has no limits.
 ///
-/// What a call costs goes by both, the number of events, the document's length and that of options'
-/// texts and of names, though nothing proves it. `work`
+/// What a call costs goes by the first two, the number of events, the document's length and that of
+/// options' texts and of names, though nothing proves it. `work`
 /// limits two sums, each by itself. What there is to read and to print is counted from the events
 /// alone, before anything of the document is read: the lengths of texts and labels, by the places
 /// of the events (of a parser's events the document's length at most, and that of its labels once
@@ -132,6 +133,8 @@ pub struct Limits {
     pub text: usize,
     /// How much there may be to read and to print, and to use again.
     pub work: usize,
+    /// How many nodes may be open at once; 0: any number.
+    pub depth: usize,
 }
 
 impl Default for Limits {
@@ -139,6 +142,7 @@ impl Default for Limits {
         Limits {
             text: usize::MAX,
             work: usize::MAX,
+            depth: 0,
         }
     }
 }

@@ -9,3 +9,4 @@ pub mod ListAnswerLemmas
 pub mod WithinLemmas
 pub mod WithinAnswers
 pub mod UnnestedLemmas
+pub mod LinksLemmas

@@ -1,5 +1,5 @@
 -- From what the compiler promises within limits to what C is handed, and what an answer says of it.
-use Rattle.std.proofs.Common.{◌≡◌, ◌⊎◌, inl, inr, ℕ, ◌<◌, ◌≤◌, List, [], ◌∷◌, map, Some}
+use Rattle.std.proofs.Common.{◌≡◌, inl, inr, ℕ, ◌<◌, ◌≤◌, List, [], ◌∷◌, map, Some}
 use Rattle.std.proofs.Common.{Result, Ok, Err}
 use Rattle.std.proofs.Common.{IfOk, IfErr, OnOk, refl, sym, ap, ◌∙◌, subst, arith}
 use Rattle.std.specs.Prelude.{IsErrAnd}
@@ -10,24 +10,18 @@ use Rattle.md_base.specs.Tree.{Forest}
 use Rattle.md_tree.specs.Grammar.{Handed, handed, IsChecked}
 use Rattle.md_tree.specs.Refusal.{IsRefusal, IsOutside, IsOrder, IsMdx, IsOfNode, IsLost}
 use Rattle.md_text.specs.declared.options.CompileOptions.{CompileOptions}
+use Rattle.md_depth.specs.Depth.{depth, height}
+use Rattle.md_depth.proofs.Nodes.{events-nest}
 use Rattle.md_html.specs.Work.{work}
 use Rattle.md_html.specs.Reuse.{reuse}
-use Rattle.md_html.specs.Within.{IsLonger, IsOver, IsTooMuchFor, OfTooLong, OfWithin}
+use Rattle.md_html.specs.Within.{IsLonger, IsOver, IsTooMuchFor, IsTooDeepFor, OfTooLong, OfWithin}
 use Rattle.md_html.specs.declared.within.Limits.{Limits}
 use Rattle.md_html.specs.declared.within.WithinError.{WithinError}
 use Rattle.md_html.specs.declared.within.WithinError.TheVariants as within
-use Rattle.md_abi.specs.Standing.{IsFirstWithout}
-use Rattle.md_abi.specs.Events.{event_of}
-use Rattle.md_abi.specs.References.{reference_of}
-use Rattle.md_abi.specs.Options.{StandsForNone}
-use Rattle.md_abi.specs.Rendered.{IsRefusedBy}
-use Rattle.md_abi.specs.Failures.{about, answer_of}
-use Rattle.md_abi.specs.Within.{IsRenderedWithin, IsTooLong, IsTooMuch, IsBounded}
-use Rattle.md_abi.specs.WithinFailures.{within_failure_of, answer_of_within, IsCompiledWithin}
+use Rattle.md_abi.specs.Within.{IsRenderedWithin, IsTooLong, IsTooMuch, IsBounded, IsShallow}
+use Rattle.md_abi.specs.Within.{NestsTooDeep, depth_limit}
+use Rattle.md_abi.specs.WithinFailures.{within_failure_of, IsCompiledWithin}
 use Rattle.md_abi.specs.WithinFailures.{IsTooLongOf, IsFailureWithin, OfRefused, ExplainsWithin}
-use Rattle.md_abi.specs.Buffer.{HandsOver, IsHandedOver}
-use Rattle.md_abi.specs.Answers.{IsOfWithin, TellsOfEvents}
-use Rattle.md_abi.specs.declared.answer.Answer.{Answer}
 use Rattle.md_abi.specs.declared.event.CEvent.{CEvent}
 use Rattle.md_abi.specs.declared.reference.CReference.{CReference}
 use Rattle.md_abi.specs.declared.option.COptions.{COptions}
@@ -35,9 +29,8 @@ use Rattle.md_abi.specs.declared.failure.Failure.{Failure}
 use Rattle.md_abi.specs.declared.failure.Failure.TheVariants as failure
 use Rattle.md_abi.specs.declared.within.CLimits.{CLimits}
 use Rattle.md_abi.specs.declared.within.WithinFailure.{WithinFailure}
-use Rattle.md_abi.specs.declared.within.WithinFailure.TheVariants.{TooLong, TooMuch, Failed}
-use Rattle.md_abi.proofs.AnswerLemmas.{never, failed, failure_hands_over, failure_of_compile}
-use Rattle.md_abi.proofs.AnswerLemmas.{failure_says, text_of_compile}
+use Rattle.md_abi.specs.declared.within.WithinFailure.TheVariants.{TooLong, TooMuch, TooDeep}
+use Rattle.md_abi.specs.declared.within.WithinFailure.TheVariants.{Failed}
 use Rattle.md_abi.proofs.GivenLemmas.{told_of, IsRead, rendered, explained}
 
 -- ---- the compiler's error as a failure
@@ -47,35 +40,42 @@ pub refusal_within : (given : Handed) (why : WithinError) → OfWithin (IsOrder 
     OfWithin (IsOutside given) why → OfWithin (IsRefusal given) why
 refusal_within given within.TooLong order mdx of_node lost outside = tt
 refusal_within given within.TooMuch order mdx of_node lost outside = tt
+refusal_within given within.TooDeep order mdx of_node lost outside = tt
 refusal_within given (within.Compile cause) order mdx of_node lost outside =
     record { order = order; mdx = mdx; of_node = of_node; lost = lost; outside = outside }
 
 failure_within : (given : Handed) (options : CompileOptions) (limits : Limits) (why : WithinError) →
-    IsTooMuchFor options given limits.work why →
+    IsTooDeepFor given.events limits.depth why → IsTooMuchFor options given limits.work why →
     OfTooLong (IsLonger options given limits.text) why →
     OfTooLong (IsChecked given) why → OfWithin (IsRefusal given) why →
     IsFailureWithin given options limits (within_failure_of why)
-failure_within given options limits within.TooLong much longer checked refusal =
-    record { grammatical = checked; longer = longer; bounded = much.0; reused = much.1 }
-failure_within given options limits within.TooMuch much longer checked refusal = much
-failure_within given options limits (within.Compile cause) much longer checked refusal =
-    (much, told_of given cause refusal)
+failure_within given options limits within.TooLong deep much longer checked refusal = record {
+  grammatical = checked;
+  longer = longer;
+  bounded = much.0;
+  shallow = deep;
+  reused = much.1;
+}
+failure_within given options limits within.TooMuch deep much longer checked refusal = (deep, much)
+failure_within given options limits within.TooDeep deep much longer checked refusal = deep
+failure_within given options limits (within.Compile cause) deep much longer checked refusal =
+    (deep, much, told_of given cause refusal)
 
 -- what its conversion gives
 pub told_within : {T : Type 0} (given : Handed) (options : CompileOptions) (limits : Limits)
     (why : WithinError) (r : Result T WithinFailure) →
     IsErrAnd r (λ made. made ≡ within_failure_of why) →
-    IsTooMuchFor options given limits.work why →
+    IsTooDeepFor given.events limits.depth why → IsTooMuchFor options given limits.work why →
     OfTooLong (IsLonger options given limits.text) why → OfTooLong (IsChecked given) why →
     OfWithin (IsRefusal given) why → IfErr r (IsFailureWithin given options limits)
-told_within given options limits why (Ok x) same much longer checked refusal = tt
-told_within given options limits why (Err made) same much longer checked refusal =
+told_within given options limits why (Ok x) same deep much longer checked refusal = tt
+told_within given options limits why (Err made) same deep much longer checked refusal =
     subst (IsFailureWithin given options limits) (sym same)
-    (failure_within given options limits why much longer checked refusal)
+    (failure_within given options limits why deep much longer checked refusal)
 
 -- ---- a list stands for one list alone
 
-some_once : {B : Type 0} (xs ys : List B) → map Some xs ≡ map Some ys → xs ≡ ys
+pub some_once : {B : Type 0} (xs ys : List B) → map Some xs ≡ map Some ys → xs ≡ ys
 some_once [] [] same = refl
 some_once [] (y ∷ ys) same = cc
 some_once (x ∷ xs) [] same = cc
@@ -116,6 +116,21 @@ module _ (events : List CEvent) (bytes : List ℕ) (options : COptions) (names :
       some_once slice much.read (sym read.events_stand ∙ much.events_stand) in
       omega (arith, little, same, much.more, ap work once)
 
+  deep_given : own.depth ≡ depth_limit limits.depth → own.depth < depth slice →
+      NestsTooDeep events limits
+  deep_given same deeper = record {
+    read = slice;
+    events_stand = read.events_stand;
+    deeper = omega (arith, deeper, same);
+  }
+
+  shallow_given : own.depth ≡ depth_limit limits.depth → depth slice ≤ own.depth →
+      IsShallow events limits
+  shallow_given same little deep =
+      let once : slice ≡ deep.read =
+      some_once slice deep.read (sym read.events_stand ∙ deep.events_stand) in
+      omega (arith, little, same, deep.deeper, ap depth once)
+
   long_given : own.text ≡ limits.text → own.work ≡ limits.work →
       IsTooLongOf (handed slice bytes pairs) given own →
       IsTooLong events bytes options names limits
@@ -133,39 +148,49 @@ module _ (events : List CEvent) (bytes : List ℕ) (options : COptions) (names :
         reused = omega (arith, long.reused document checked.flattened, same_work);
       }
 
-  explained_within : own.text ≡ limits.text → own.work ≡ limits.work → (why : WithinFailure) →
+  explained_within : own.text ≡ limits.text → own.work ≡ limits.work →
+      own.depth ≡ depth_limit limits.depth → (why : WithinFailure) →
       IsFailureWithin (handed slice bytes pairs) given own why →
       ExplainsWithin events bytes options names limits why
-  explained_within same same_work TooLong h =
-      (long_given same same_work h, bounded_given same_work h.bounded)
-  explained_within same same_work TooMuch h = much_given same_work h
-  explained_within same same_work (Failed cause) h =
-      (explained events bytes options names slice given pairs read cause h.1, of cause)
+  explained_within same same_work same_depth TooLong h = (
+    long_given same same_work h,
+    bounded_given same_work h.bounded,
+    shallow_given same_depth h.shallow,
+  )
+  explained_within same same_work same_depth TooMuch h =
+      (much_given same_work h.1, shallow_given same_depth h.0)
+  explained_within same same_work same_depth TooDeep h = deep_given same_depth h
+  explained_within same same_work same_depth (Failed cause) h =
+      (explained events bytes options names slice given pairs read cause h.2, of cause)
     where
-      of : (cause : Failure) → OfRefused (IsBounded events limits) cause
+      of : (cause : Failure) → OfRefused (IsBounded events limits × IsShallow events limits) cause
       of failure.Memory = tt
       of (failure.Event index) = tt
       of (failure.Name index) = tt
       of (failure.Option number) = tt
       of (failure.Line number) = tt
-      of (failure.Refused index rule) = bounded_given same_work h.0
+      of (failure.Refused index rule) =
+          (bounded_given same_work h.1, shallow_given same_depth h.0)
 
   pub text_within : {S : Type 0} (bytes_of : S → List ℕ) (r : Result S WithinFailure) →
-      own.text ≡ limits.text → own.work ≡ limits.work →
+      own.text ≡ limits.text → own.work ≡ limits.work → own.depth ≡ depth_limit limits.depth →
       IfOk r (λ text. IsCompiledWithin (handed slice bytes pairs) given own (bytes_of text)) →
       IfOk r (λ text. IsRenderedWithin events bytes options names limits (bytes_of text))
   unfolding rendered
-  text_within bytes_of (Ok text) same same_work h =
+  text_within bytes_of (Ok text) same same_work same_depth h =
       let document : Forest = h.compiled.grammatical.0 in
       let reused = h.reused document h.compiled.grammatical.1.flattened in
       let within : reuse given bytes document ≤ limits.work = omega (arith, reused, same_work) in
+      let nests : depth slice ≡ height document =
+      sym (ap depth h.compiled.grammatical.1.flattened) ∙ events-nest document in
       record {
         rendered =
             rendered events bytes options names slice given pairs read (bytes_of text) h.compiled;
         fits = omega (arith, h.fits, same);
         reused = within;
+        shallow = omega (arith, nests, h.shallow, same_depth);
       }
-  text_within bytes_of (Err why) same same_work h = tt
+  text_within bytes_of (Err why) same same_work same_depth h = tt
 
   pub bounded_within : {S : Type 0} (bytes_of : S → List ℕ) (r : Result S WithinFailure) →
       own.work ≡ limits.work →
@@ -174,9 +199,17 @@ module _ (events : List CEvent) (bytes : List ℕ) (options : COptions) (names :
   bounded_within bytes_of (Ok text) same h = bounded_given same h.bounded
   bounded_within bytes_of (Err why) same h = tt
 
+  pub shallow_within : {S : Type 0} (bytes_of : S → List ℕ) (r : Result S WithinFailure) →
+      own.depth ≡ depth_limit limits.depth →
+      IfOk r (λ text. IsCompiledWithin (handed slice bytes pairs) given own (bytes_of text)) →
+      OnOk r (IsShallow events limits)
+  shallow_within bytes_of (Ok text) same h = shallow_given same h.shallow
+  shallow_within bytes_of (Err why) same h = tt
+
   pub failure_given : {S : Type 0} (r : Result S WithinFailure) → own.text ≡ limits.text →
-      own.work ≡ limits.work →
+      own.work ≡ limits.work → own.depth ≡ depth_limit limits.depth →
       IfErr r (IsFailureWithin (handed slice bytes pairs) given own) →
       IfErr r (ExplainsWithin events bytes options names limits)
-  failure_given (Ok text) same same_work h = tt
-  failure_given (Err why) same same_work h = explained_within same same_work why h
+  failure_given (Ok text) same same_work same_depth h = tt
+  failure_given (Err why) same same_work same_depth h =
+      explained_within same same_work same_depth why h

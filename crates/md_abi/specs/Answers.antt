@@ -2,7 +2,7 @@
 use Rattle.std.specs.Prelude.{◌≡◌, ◌≢◌, ◌⊎◌, ℕ, ◌<◌, ◌≤◌}
 use Rattle.md_abi.specs.Numbers.{too_short, refused, no_line, no_option, no_event, no_memory}
 use Rattle.md_abi.specs.Numbers.{unsafe_options, no_attribute}
-use Rattle.md_abi.specs.Numbers.{too_long, too_much}
+use Rattle.md_abi.specs.Numbers.{too_long, too_much, nested, too_deep}
 use Rattle.md_abi.specs.declared.answer.Answer.{Answer}
 
 -- a rule is told only of a refusal, an index of what is refused or unreadable, a length of a text
@@ -33,9 +33,10 @@ pub record IsOfAttributed (answer : Answer) : Type 0 where
   pub no_option_place : answer.status ≡ unsafe_options → answer.index ≡ 0
   pub no_length : too_short < answer.status → answer.length ≡ 0
 
--- within limits no attribute is told of
+-- within limits no attribute is told of, and no link in a link
 pub record IsOfWithin (answer : Answer) : Type 0 where
-  pub known : answer.status ≤ too_much
+  pub known : answer.status ≤ too_deep
+  pub without_nested : answer.status ≢ nested
   pub without_lines : answer.status ≢ no_line
   pub without_attributes : no_memory < answer.status → too_long ≤ answer.status
   pub no_rule : answer.status ≢ refused → answer.rule ≡ 0
@@ -46,3 +47,7 @@ pub record IsOfWithin (answer : Answer) : Type 0 where
 -- the work was looked at, and more: a text, one that is too long, or a refused event is told of
 abbrev pub TellsOfEvents : ℕ → Type 0
 TellsOfEvents status = (status ≤ refused) ⊎ (status ≡ too_long)
+
+-- the nesting was looked at, and more: so, or too much work is told of
+abbrev pub TellsPastDepth : ℕ → Type 0
+TellsPastDepth status = TellsOfEvents status ⊎ (status ≡ too_much)

@@ -18,3 +18,4 @@ pub mod Within
 pub mod WithinFailures
 pub mod Unnested
 pub mod UnnestedFailures
+pub mod Links

@@ -59,6 +59,10 @@ too_much = 11
 abbrev pub nested : ℕ
 nested = 12
 
+-- the events nest deeper than they may
+abbrev pub too_deep : ℕ
+too_deep = 13
+
 -- ---- rules; 0 is none
 
 abbrev pub rule_number : Rule → ℕ

@@ -15,7 +15,7 @@ use crate::within::WithinFailure;
 use md_tree::Rule;
 
 /// The text is in the buffer.
-const OK: u32 = 0;
+pub(crate) const OK: u32 = 0;
 
 /// The buffer is too short.
 const TOO_SHORT: u32 = 1;
@@ -51,7 +51,10 @@ const TOO_LONG: u32 = 10;
 const TOO_MUCH: u32 = 11;
 
 /// A link stands in a link.
-const NESTED: u32 = 12;
+pub(crate) const NESTED: u32 = 12;
+
+/// The events nest deeper than they may.
+const TOO_DEEP: u32 = 13;
 
 /// What a call answers. A field of which the status says nothing is 0.
 #[repr(C)]
@@ -103,6 +106,7 @@ pub fn answer_to_within(failure: &WithinFailure) -> Answer
     match failure {
         WithinFailure::TooLong => about(TOO_LONG, 0),
         WithinFailure::TooMuch => about(TOO_MUCH, 0),
+        WithinFailure::TooDeep => about(TOO_DEEP, 0),
         WithinFailure::Failed(failure) => answer_to(failure),
     }
 }
@@ -118,7 +122,7 @@ pub fn answer_to_unnested(failure: &UnnestedFailure) -> Answer
 }
 
 /// The answer that tells only a status and an index.
-fn about(status: u32, index: usize) -> Answer
+pub(crate) fn about(status: u32, index: usize) -> Answer
     ensures { result ≡ record { status = status; rule = 0; index = index; length = 0 } }
 {
     Answer {

@@ -1,8 +1,8 @@
 //! From what C hands in to a text within limits.
 
-ghost use Rattle.std.specs.Prelude.{OnOk, IfOk, IfErr, string_bytes};
+ghost use Rattle.std.specs.Prelude.{◌≡◌, OnOk, IfOk, IfErr, string_bytes};
 ghost use Rattle.md_tree.specs.Grammar.{handed};
-ghost use Rattle.md_abi.specs.Within.{IsRenderedWithin, IsBounded};
+ghost use Rattle.md_abi.specs.Within.{IsRenderedWithin, IsBounded, IsShallow, depth_limit};
 ghost use Rattle.md_abi.specs.WithinFailures.{IsCompiledWithin, IsFailureWithin, ExplainsWithin};
 
 use crate::event::read_c_events;
@@ -15,7 +15,7 @@ use md_html::{Limits, WithinError, compile_within};
 use md_text::CompileOptions;
 use std::alloc::Global;
 
-/// How long a text may be, and how much work it may take.
+/// How long a text may be, how much work it may take, and how deep its events may nest.
 #[repr(C)]
 #[derive(Clone, Copy)]
 pub struct CLimits {
@@ -23,6 +23,8 @@ pub struct CLimits {
     pub text: usize,
     /// How much there may be to read and to print, and to use again.
     pub work: usize,
+    /// How many nodes may be open at once; 0 is no limit.
+    pub depth: usize,
 }
 
 /// Why a call has no text within limits to hand over.
@@ -32,6 +34,8 @@ pub enum WithinFailure {
     TooLong,
     /// There is more to read and to print, or to use again, than there may be.
     TooMuch,
+    /// The events nest deeper than they may.
+    TooDeep,
     /// There is no text at all.
     Failed(Failure),
 }
@@ -57,6 +61,7 @@ impl From<WithinError> for WithinFailure {
         match error {
             WithinError::TooLong => WithinFailure::TooLong,
             WithinError::TooMuch => WithinFailure::TooMuch,
+            WithinError::TooDeep => WithinFailure::TooDeep,
             WithinError::Compile(cause) => WithinFailure::Failed(Failure::from(cause)),
         }
     }
@@ -66,8 +71,8 @@ impl From<WithinError> for WithinFailure {
 ///
 /// # Errors
 ///
-/// Tells what stands for none, that there is too much work or the text is too long, the refusal of
-/// the compiler, or that it is out of memory.
+/// Tells what stands for none, that the events nest too deep, there is too much work or the text is
+/// too long, the refusal of the compiler, or that it is out of memory.
 pub fn compile_given_within(
     alloc: Global,
     given: CDocument,
@@ -76,6 +81,7 @@ pub fn compile_given_within(
     ensures ok { IfOk result (λ text. IsRenderedWithin given.entry.events.now given.entry.bytes.now
         given.entry.options.now given.entry.names.now limits.now (string_bytes text)) }
     ensures bounded { OnOk result (IsBounded given.entry.events.now limits.now) }
+    ensures shallow { OnOk result (IsShallow given.entry.events.now limits.now) }
     ensures err { IfErr result (ExplainsWithin given.entry.events.now given.entry.bytes.now
         given.entry.options.now given.entry.names.now limits.now) }
 {
@@ -85,6 +91,7 @@ pub fn compile_given_within(
     let limits = Limits {
         text: limits.text,
         work: limits.work,
+        depth: depth_limit(limits.depth),
     };
     let read = ReadDocument {
         events: events.as_slice(),
@@ -92,6 +99,13 @@ pub fn compile_given_within(
         names: names.as_slice(),
     };
     compile_read_within(alloc, read, &options, limits)
+}
+
+/// How many nodes may be open at once, where 0 is no limit.
+fn depth_limit(limit: usize) -> usize
+    ensures { result ≡ depth_limit limit }
+{
+    if limit == 0 { usize::MAX } else { limit }
 }
 
 /// What was read of a document.

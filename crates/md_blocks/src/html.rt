@@ -2,6 +2,7 @@
 
 use crate::marker::is_blank_from;
 use md_lines::{Class, Line, Place, is, read_tag};
+use memchr::memchr;
 
 /// Which of the kinds of HTML a block is: it says where it ends.
 #[derive(Clone, Copy, PartialEq, Eq)]
@@ -48,17 +49,36 @@ impl HtmlKind {
 
     /// Whether a block of this kind ends with a line; `false` where a blank line ends it.
     pub(crate) fn is_ended_by(self, line: &[u8]) -> bool {
+        if self.ends_at_blank_line() {
+            return false;
+        }
+        let mut at = 0;
+        while at < line.len() {
+            let Some(offset) = memchr(b'>', &line[at..]) else {
+                return false;
+            };
+            let end = at.saturating_add(offset);
+            if self.is_ended_behind(line.get(..end).unwrap_or(b"")) {
+                return true;
+            }
+            at = end.saturating_add(1).max(at + 1);
+        }
+        false
+    }
+
+    /// Whether a `>` behind a text ends a block of this kind.
+    fn is_ended_behind(self, text: &[u8]) -> bool {
         match self {
             HtmlKind::Raw => {
-                has_text(line, b"</script>")
-                    || has_text(line, b"</pre>")
-                    || has_text(line, b"</style>")
-                    || has_text(line, b"</textarea>")
+                ends_in(text, b"</script")
+                    || ends_in(text, b"</pre")
+                    || ends_in(text, b"</style")
+                    || ends_in(text, b"</textarea")
             }
-            HtmlKind::Comment => has_text(line, b"-->"),
-            HtmlKind::Instruction => has_text(line, b"?>"),
-            HtmlKind::Declaration => line.contains(&b'>'),
-            HtmlKind::Data => has_text(line, b"]]>"),
+            HtmlKind::Comment => text.ends_with(b"--"),
+            HtmlKind::Instruction => text.ends_with(b"?"),
+            HtmlKind::Declaration => true,
+            HtmlKind::Data => text.ends_with(b"]]"),
             HtmlKind::Block | HtmlKind::Tag => false,
         }
     }
@@ -103,24 +123,10 @@ fn is_tag_alone(text: &[u8]) -> bool {
     }
 }
 
-/// Whether a line has a text, whatever the case of its letters.
-fn has_text(line: &[u8], text: &[u8]) -> bool {
-    for at in 0..line.len() {
-        if begins_with(&line[at..], text) {
-            return true;
-        }
-    }
-    false
-}
-
-/// Whether a line begins with a text, whatever the case of its letters.
-#[inline(always)]
-fn begins_with(line: &[u8], text: &[u8]) -> bool {
-    if line.first() != text.first() {
-        return false;
-    }
-    match line.get(..text.len()) {
-        Some(part) => part.eq_ignore_ascii_case(text),
+/// Whether a text ends in a word, whatever the case of its letters.
+fn ends_in(text: &[u8], word: &[u8]) -> bool {
+    match text.get(text.len().saturating_sub(word.len())..) {
+        Some(end) => end.eq_ignore_ascii_case(word),
         None => false,
     }
 }

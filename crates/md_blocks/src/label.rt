@@ -1,5 +1,8 @@
 //! Labels in the form in which they are compared.
 
+ghost use Rattle.std.specs.Prelude.{◌≡◌, IfOk, IfSome, string_bytes};
+ghost use Rattle.md_base.specs.Identifier.{normalized};
+
 use md_base::normalize_identifier;
 use md_lines::{Line, Place};
 use std::alloc::{AllocError, Global};
@@ -37,7 +40,10 @@ pub(crate) fn folded_label(
 }
 
 /// A label in the form in which labels are compared; `None` where it isn't UTF-8.
-pub(crate) fn folded_bytes(alloc: Global, label: &[u8]) -> Result<Option<String>, AllocError> {
+pub(crate) fn folded_bytes(alloc: Global, label: &[u8]) -> Result<Option<String>, AllocError>
+    ensures { IfOk result (λ text. IfSome text (λ folded.
+        string_bytes folded ≡ normalized label.now)) }
+{
     match std::str::from_utf8(label) {
         Ok(text) => Ok(Some(normalize_identifier(alloc, text)?)),
         Err(_) => Ok(None),

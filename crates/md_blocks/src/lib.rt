@@ -4,6 +4,7 @@
 
 mod block;
 mod blocks;
+mod closing;
 mod code;
 mod containers;
 mod definition;

@@ -5,13 +5,13 @@ ghost use Rattle.std.specs.Prelude.{◌≡◌, ◌≤◌, vec_len, OnOk};
 use crate::block::{ContainerKind, Leaf, LineRange};
 use crate::blocks::Blocks;
 use crate::code::Fence;
-use crate::definition::{Definitions, read_definition};
+use crate::definition::Definitions;
 use crate::html::HtmlKind;
 use crate::nesting::{Nesting, Open};
 use crate::options::BlockOptions;
 use crate::position::Position;
 use crate::preamble::{front_matter, start_of};
-use md_lines::{Line, Place, Span, after_ending, line_end, trim_start};
+use md_lines::{Line, Span, after_ending, line_end};
 use std::alloc::{AllocError, Global};
 
 /// How many columns a line of code is indented by, and one that goes on in a footnote.
@@ -236,119 +236,6 @@ impl<'a> Pass<'a> {
     #[inline(always)]
     pub(crate) fn leaf_lines(&self) -> LineRange {
         LineRange::new(self.leaf_start, self.lines.len())
-    }
-
-    /// Closes the open leaf, and what is deeper than so many open blocks.
-    pub(crate) fn close_unmatched(&mut self, depth: usize) -> Result<(), AllocError>
-        ensures { OnOk result (vec_len self.new.nesting.stack ≤ depth) }
-    {
-        self.close_leaf()?;
-        self.nesting.close_to(depth, self.at)
-    }
-
-    /// Makes room for a child that is no item: what isn't matched is closed, and so is a list.
-    pub(crate) fn make_room(&mut self, depth: usize) -> Result<(), AllocError>
-        ensures { OnOk result (vec_len self.new.nesting.stack ≤ depth) }
-    {
-        self.close_unmatched(depth)?;
-        self.nesting.close_list(self.at)?;
-        self.put_blank_line()?;
-        self.nesting.note_child();
-        Ok(())
-    }
-
-    /// Puts a blank line that stands before a child of an item, or between two items.
-    #[inline]
-    pub(crate) fn put_blank_line(&mut self) -> Result<(), AllocError>
-        ensures { vec_len self.new.nesting.stack ≡ vec_len self.old.nesting.stack }
-    {
-        let Some(blank) = self.blank_line else {
-            return Ok(());
-        };
-        self.blank_line = None;
-        if self.nesting.depth() >= blank.depth && self.nesting.is_in_list() {
-            self.nesting.put(Leaf::BlankLine {
-                ending: blank.ending,
-            })?;
-        }
-        Ok(())
-    }
-
-    /// Takes the definitions off the paragraph's beginning; whether anything is left.
-    pub(crate) fn take_definitions(&mut self) -> Result<bool, AllocError>
-        ensures { self.new.nesting ≡ self.old.nesting }
-    {
-        'definitions: for _ in self.leaf_start..self.lines.len() {
-            let Some(line) = self.lines.get(self.leaf_start) else {
-                return Ok(false);
-            };
-            if self.bytes.get(line.start) != Some(&b'[') {
-                return Ok(true);
-            }
-            let start = Place {
-                line: self.leaf_start,
-                at: line.start,
-            };
-            match read_definition(
-                self.alloc,
-                self.bytes,
-                self.lines.as_slice(),
-                start,
-                &mut self.definitions,
-            )? {
-                Some(next) => self.leaf_start = next,
-                None => return Ok(true),
-            }
-        }
-        Ok(self.leaf_start < self.lines.len())
-    }
-
-    /// Puts the open leaf, if there is one, which is none then.
-    pub(crate) fn close_leaf(&mut self) -> Result<(), AllocError>
-        ensures { vec_len self.new.nesting.stack ≡ vec_len self.old.nesting.stack }
-    {
-        let leaf = self.leaf;
-        self.leaf = OpenLeaf::None;
-        let lines = self.leaf_lines();
-        match leaf {
-            OpenLeaf::None => Ok(()),
-            OpenLeaf::Paragraph => self.close_paragraph(),
-            OpenLeaf::Fenced { info, .. } => self.nesting.put(Leaf::FencedCode { info, lines }),
-            OpenLeaf::Math { start, .. } => self.nesting.put(Leaf::Math { start, lines }),
-            OpenLeaf::Indented => {
-                let lines = self.without_blank_end(lines);
-                self.nesting.put(Leaf::IndentedCode(lines))
-            }
-            OpenLeaf::Html(_) => self.nesting.put(Leaf::Html(lines)),
-            OpenLeaf::Table { columns } => self.nesting.put(Leaf::Table { columns, lines }),
-        }
-    }
-
-    /// Puts a paragraph behind its definitions.
-    fn close_paragraph(&mut self) -> Result<(), AllocError>
-        ensures { vec_len self.new.nesting.stack ≡ vec_len self.old.nesting.stack }
-    {
-        if self.take_definitions()? {
-            let lines = self.leaf_lines();
-            return self.nesting.put(Leaf::Paragraph(lines));
-        }
-        let at = match self.lines.last() {
-            Some(line) => line.end,
-            None => self.at,
-        };
-        self.nesting.put(Leaf::Definitions { at })
-    }
-
-    /// Lines without the blank ones at their end.
-    fn without_blank_end(&self, lines: LineRange) -> LineRange {
-        let mut end = lines.end;
-        while end > lines.start {
-            match self.lines.get(end - 1) {
-                Some(line) if trim_start(self.bytes, line.start, line.end) >= line.end => end -= 1,
-                _ => break,
-            }
-        }
-        LineRange::new(lines.start, end)
     }
 }
 

@@ -1,6 +1,6 @@
 //! A position in a line, by bytes and by columns.
 
-ghost use Rattle.std.specs.Prelude.{◌≡◌, ◌+◌, ◌≤◌, ◌<◌, length, IsSome};
+ghost use Rattle.std.specs.Prelude.{◌≡◌, ◌+◌, ◌≤◌, ◌<◌, ◌%◌, length, IsSome, true};
 
 use md_lines::Line;
 
@@ -127,7 +127,9 @@ impl<'a> Position<'a> {
 
     /// The line from the position on, with the spaces and tabs that are left.
     #[inline(always)]
-    pub(crate) fn rest(&self) -> Line {
+    pub(crate) fn rest(&self) -> Line
+        ensures columns { self.now.is_in_tab ≡ true → result.columns ≡ self.now.column % 4 }
+    {
         let columns = if self.is_in_tab {
             (self.column % TAB_STOP) as u8
         } else {

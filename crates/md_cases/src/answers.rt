@@ -79,7 +79,7 @@ fn is_same_within(answer: Result<String, WithinError>, wanted: &Result<String, R
     match answer {
         Ok(text) => Ok(text) == *wanted,
         Err(WithinError::Compile(cause)) => Err(RunError::from(cause)) == *wanted,
-        Err(WithinError::TooLong | WithinError::TooMuch) => false,
+        Err(WithinError::TooLong | WithinError::TooMuch | WithinError::TooDeep) => false,
     }
 }
 

@@ -3,7 +3,7 @@
 use crate::reading::Script;
 use md_html::{
     CompileError, Counted, Limits, WithinError, check, compile, compile_checked, compile_counted,
-    compile_within, reuse_of, work_of,
+    compile_within, depth_of, reuse_of, work_of,
 };
 use std::alloc::Global;
 
@@ -38,8 +38,8 @@ impl Script<'_> {
         compile_checked(alloc, &checked, &self.options).map_err(CompileError::from)
     }
 
-    /// What `compile_within` answers where a text may have so many bytes, and the work is
-    /// just what there is, or what is used again if that is more.
+    /// What `compile_within` answers where a text may have so many bytes, the work is just what
+    /// there is, or what is used again if that is more, and the depth is that of the events.
     pub(crate) fn compile_within(
         &self,
         alloc: Global,
@@ -53,6 +53,7 @@ impl Script<'_> {
         let limits = Limits {
             text,
             work: work_of(events).max(reuse),
+            depth: depth_of(events),
         };
         compile_within(alloc, events, self.document, &self.options, names, limits)
     }

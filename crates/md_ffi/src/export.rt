@@ -5,7 +5,7 @@ ghost use Rattle.md_script.specs.Run.{IsTextOf};
 ghost use Rattle.md_script.specs.Script.{IsReadable, IsFirstUnreadable};
 ghost use Rattle.md_abi.specs.Numbers.{refused, no_event, no_name, no_option, no_line};
 ghost use Rattle.md_abi.specs.Numbers.{unsafe_options, no_attribute};
-ghost use Rattle.md_abi.specs.Numbers.{too_long, too_much, nested};
+ghost use Rattle.md_abi.specs.Numbers.{too_long, too_much, too_deep, nested};
 ghost use Rattle.md_abi.specs.Standing.{IsFirstWithout};
 ghost use Rattle.md_abi.specs.Events.{event_of};
 ghost use Rattle.md_abi.specs.References.{reference_of};
@@ -13,19 +13,21 @@ ghost use Rattle.md_abi.specs.Options.{StandsForNone, KeepsImages};
 ghost use Rattle.md_abi.specs.Attributes.{StandsForNoAttribute};
 ghost use Rattle.md_abi.specs.Attributed.{IsAttributedText};
 ghost use Rattle.md_abi.specs.Rendered.{IsRendered, IsRefusedBy, IsRefusedIn};
-ghost use Rattle.md_abi.specs.Within.{IsRenderedWithin, IsTooLong, IsTooMuch, IsBounded};
+ghost use Rattle.md_abi.specs.Within.{IsRenderedWithin, IsTooLong, IsTooMuch, IsBounded, IsShallow};
+ghost use Rattle.md_abi.specs.Within.{NestsTooDeep};
 ghost use Rattle.md_abi.specs.Unnested.{IsUnnestedText, IsNestedIn, IsOfUnnested};
+ghost use Rattle.md_abi.specs.Links.{TellsOfLinks};
 ghost use Rattle.md_abi.specs.Buffer.{HandsOver};
 ghost use Rattle.md_abi.specs.Answers.{IsOfCompile, IsOfAttributed, IsOfRun};
-ghost use Rattle.md_abi.specs.Answers.{IsOfWithin, TellsOfEvents};
+ghost use Rattle.md_abi.specs.Answers.{IsOfWithin, TellsOfEvents, TellsPastDepth};
 ghost use Rattle.md_markdown_abi.specs.Text.{IsMarkdownText};
 ghost use Rattle.md_markdown_abi.specs.Front.{TellsOfFrontMatter};
 ghost use Rattle.md_markdown_abi.specs.Answers.{TellsOfMarkdown, IsOfMarkdown};
 
 use md_abi::{
     Answer, CAttributes, CDocument, CEvent, CLimits, COptions, CReference, Failure, answer_to,
-    answer_to_refusal, answer_to_unnested, answer_to_within, compile_attributed, compile_given,
-    compile_given_unnested, compile_given_within, hand_over, hand_over_listed,
+    answer_to_links, answer_to_refusal, answer_to_unnested, answer_to_within, compile_attributed,
+    compile_given, compile_given_unnested, compile_given_within, hand_over, hand_over_listed,
 };
 use md_markdown_abi::{
     CMarkdownOptions, answer_to_front_matter, answer_to_markdown, markdown_given,
@@ -34,7 +36,7 @@ use md_script::run;
 use std::alloc::Global;
 
 /// The version of what C sees: the layouts of structs, and every number.
-const VERSION: u32 = 2;
+const VERSION: u32 = 3;
 
 /// The HTML of a list of events over a document's bytes, into a buffer.
 ///
@@ -204,8 +206,8 @@ pub extern "C" fn bivdrazo_compile_unnested(
 }
 
 /// As [`bivdrazo_compile`], where the text has at most as many bytes as `limits` say, there is
-/// at most as much work, and no more is used again than that: what it costs goes by these, though
-/// no clause says so. Printing stops soon after the text is too long.
+/// at most as much work, no more is used again than that, and the events nest no deeper: what it
+/// costs goes by these, though no clause says so. Printing stops soon after the text is too long.
 ///
 /// The work is counted from the events alone: what is read of the bytes, by the places of the
 /// events; for each row of a table's body, five for each of its columns. What is used again is
@@ -224,10 +226,12 @@ pub extern "C" fn bivdrazo_compile_unnested(
 /// - 10: the text is longer than it may be.
 /// - 11: there is more work than there may be, whether or not the events are a document, or they
 ///   are a document that uses more again.
+/// - 13: the events nest deeper than they may, whether or not they are a document; where the limit
+///   is 0 they never do.
 ///
 /// With all but 0 the buffer is as it was. Which of 3 to 5 is told, if several are true, is left
-/// open. With 0, 1, 2 and 10 there isn't more work than there may be; with 0, 1 and 10 no more is
-/// used again either.
+/// open. With 0, 1, 2, 10 and 11 the events nest no deeper than they may; with 0, 1, 2 and 10 there
+/// isn't more work than there may be; with 0, 1 and 10 no more is used again either.
 #[unsafe(no_mangle)]
 pub extern "C" fn bivdrazo_compile_within(
     alloc: Global,
@@ -251,7 +255,9 @@ pub extern "C" fn bivdrazo_compile_within(
         IsTooLong events.now bytes.now options.now names.now limits.now }
     ensures too_much { result.status ≡ too_much →
         IsTooMuch events.now bytes.now options.now names.now limits.now }
+    ensures too_deep { result.status ≡ too_deep → NestsTooDeep events.now limits.now }
     ensures bounded { TellsOfEvents result.status → IsBounded events.now limits.now }
+    ensures shallow { TellsPastDepth result.status → IsShallow events.now limits.now }
     ensures fields { IsOfWithin result }
 {
     let given = CDocument {
@@ -264,6 +270,28 @@ pub extern "C" fn bivdrazo_compile_within(
         Ok(text) => hand_over(text.as_str(), buffer),
         Err(failure) => answer_to_within(&failure),
     }
+}
+
+/// Whether a link stands in a link, of which neither stands in an image, in the document for which
+/// the events stand; nothing is compiled. Links are also automatic ones that are none by letters
+/// alone, and calls of footnotes.
+///
+/// A C caller passes nothing for `alloc`, and for the slice a pointer, which isn't null, and a
+/// length.
+///
+/// # Statuses
+///
+/// - 0: no link stands in a link.
+/// - 12: a link stands in a link.
+/// - 3: the event at `index` isn't valid: its kind or its name has no such number.
+/// - 7: there is no more memory.
+///
+/// Of events that are no document's either of 0 and 12 is told.
+#[unsafe(no_mangle)]
+pub extern "C" fn bivdrazo_has_nested_link(alloc: Global, events: &[CEvent]) -> Answer
+    ensures { TellsOfLinks events.now result }
+{
+    answer_to_links(alloc, events)
 }
 
 /// The HTML of an event script, into a buffer.
@@ -299,7 +327,7 @@ pub extern "C" fn bivdrazo_run(alloc: Global, script: &[u8], buffer: &mut [u8]) 
 /// The version of what C sees.
 #[unsafe(no_mangle)]
 pub extern "C" fn bivdrazo_version() -> u32
-    ensures { result ≡ 2 }
+    ensures { result ≡ 3 }
 {
     VERSION
 }

@@ -4,7 +4,7 @@ use Rattle.std.proofs.Common.{subst, arith}
 use Rattle.md_base.specs.Tree.{Forest, flatten}
 use Rattle.md_base.specs.declared.event.Name.TheVariants.{Paragraph}
 use Rattle.md_base.specs.declared.event.Point.{Point}
-use Rattle.md_text.specs.Html.{any_attribute, HasOneReadingWith}
+use Rattle.md_text.specs.Html.{any_attribute, HasOneReadingWith, IsReading}
 use Rattle.md_text.specs.Ids.{HasDistinctIds}
 use Rattle.md_text.specs.Safe.{is_safe_link, is_safe_image}
 use Rattle.md_text.specs.declared.options.CompileOptions.{CompileOptions}
@@ -28,6 +28,10 @@ use Rattle.md_safe.proofs.Tokenized.{read-tokenized, link-tokens, image-tokens}
 use Rattle.md_safe.proofs.WholeTrees.{text-built}
 use Rattle.md_length.specs.Bound.{text_bound}
 use Rattle.md_length.proofs.Bounded.{text-bounded, bound-grows}
+use Rattle.md_depth.specs.Depth.{depth, height}
+use Rattle.md_depth.specs.Levels.{NestsWithin}
+use Rattle.md_depth.proofs.Nodes.{events-nest}
+use Rattle.md_depth.proofs.WholeMoves.{elements-nest}
 use Rattle.md_html.specs.Reuse.{reuse}
 use Rattle.md_html.specs.Within.{IsReuseWithin}
 use Rattle.md_html.specs.Work.{work}
@@ -113,3 +117,17 @@ bounded options given text limit read few meant worked reused =
           (work (flatten document) + reuse options given.bytes document) (2 * limit) within,
       ap (λ n. text_bound options given.names n (2 * limit)) size,
     )
+
+-- how deep its elements nest, where its events nest no deeper than a limit
+pub nested : (options : CompileOptions) (given : Handed) (text : List ℕ) (limit : ℕ) →
+    IsChecked given →
+    ((document : Forest) → flatten document ≡ given.events →
+    text ≡ meaning options given.names given.bytes document) → depth given.events ≤ limit →
+    KeepsGrammar options → NestsWithin (2 * limit + 5) text
+nested options given text limit read meant shallow keeps tree reading =
+    let document : Forest = read.0 in
+    let same : depth (flatten document) ≡ depth given.events = ap depth read.1.flattened in
+    let nests : depth (flatten document) ≡ height document = events-nest document in
+    let kept = elements-nest given.bytes given.names options document read.1.grammatical keeps tree
+    (subst (λ text. IsReading text tree) (meant document read.1.flattened) reading) in
+    omega (arith, same, nests, shallow, kept)

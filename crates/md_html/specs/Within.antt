@@ -1,15 +1,18 @@
 -- Why there is no text within limits.
 use Rattle.std.specs.Prelude.{◌≡◌, ◌⊎◌, ◌≤◌, ◌<◌, ℕ, List, length, codes}
+use Rattle.md_base.specs.declared.event.Event.{Event}
 use Rattle.md_base.specs.Tree.{Forest, flatten}
 use Rattle.md_text.specs.declared.options.CompileOptions.{CompileOptions}
 use Rattle.md_tree.specs.Grammar.{Handed, IsChecked}
 use Rattle.md_tree.specs.Names.{message_of}
 use Rattle.md_tree.specs.declared.rule.CompileError.{CompileError}
 use Rattle.md_meaning.specs.Meaning.{meaning}
+use Rattle.md_depth.specs.Depth.{depth}
 use Rattle.md_html.specs.Work.{work}
 use Rattle.md_html.specs.Reuse.{reuse}
 use Rattle.md_html.specs.declared.within.WithinError.{WithinError}
-use Rattle.md_html.specs.declared.within.WithinError.TheVariants.{TooLong, TooMuch, Compile}
+use Rattle.md_html.specs.declared.within.WithinError.TheVariants.{TooLong, TooMuch, TooDeep}
+use Rattle.md_html.specs.declared.within.WithinError.TheVariants.{Compile}
 
 -- of a document that the events flatten the meaning has more bytes than this
 abbrev pub IsLonger : CompileOptions → Handed → ℕ → Type 0
@@ -21,6 +24,7 @@ IsLonger options given limit =
 abbrev pub OfTooLong : Type 0 → WithinError → Type 0
 OfTooLong claim TooLong = claim
 OfTooLong claim TooMuch = Unit {0}
+OfTooLong claim TooDeep = Unit {0}
 OfTooLong claim (Compile cause) = Unit {0}
 
 -- the document that the events flatten uses no more again than this
@@ -37,10 +41,18 @@ IsOver options given limit =
     ⊎ (IsChecked given × ((document : Forest) → flatten document ≡ given.events →
     limit < reuse options given.bytes document))
 
+-- `TooDeep` says that the events nest deeper than this, and each other cause that they don't
+abbrev pub IsTooDeepFor : List Event → ℕ → WithinError → Type 0
+IsTooDeepFor events limit TooDeep = limit < depth events
+IsTooDeepFor events limit TooMuch = depth events ≤ limit
+IsTooDeepFor events limit TooLong = depth events ≤ limit
+IsTooDeepFor events limit (Compile cause) = depth events ≤ limit
+
 -- `TooMuch` says that one of the two is more than this; `TooLong` that neither is; a refusal of
--- the compiler that the first isn't
+-- the compiler that the first isn't; `TooDeep` says nothing of them
 abbrev pub IsTooMuchFor : CompileOptions → Handed → ℕ → WithinError → Type 0
 IsTooMuchFor options given limit TooMuch = IsOver options given limit
+IsTooMuchFor options given limit TooDeep = Unit {0}
 IsTooMuchFor options given limit TooLong =
     (work given.events ≤ limit) × IsReuseWithin options given limit
 IsTooMuchFor options given limit (Compile cause) = work given.events ≤ limit
@@ -49,10 +61,12 @@ IsTooMuchFor options given limit (Compile cause) = work given.events ≤ limit
 abbrev pub OfWithin : (CompileError → Type 0) → WithinError → Type 0
 OfWithin claim TooLong = Unit {0}
 OfWithin claim TooMuch = Unit {0}
+OfWithin claim TooDeep = Unit {0}
 OfWithin claim (Compile cause) = claim cause
 
 -- the line that an error prints
 abbrev pub within_line : WithinError → List ℕ
 within_line TooLong = codes "text too long"
 within_line TooMuch = codes "too much work"
+within_line TooDeep = codes "nested too deep"
 within_line (Compile cause) = message_of cause

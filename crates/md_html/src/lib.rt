@@ -4,6 +4,7 @@
 mod compiler;
 mod covered;
 mod definitions;
+mod depth;
 mod ending;
 pub mod laws;
 mod rendering;
@@ -31,4 +32,4 @@ pub use reuse::reuse_of;
 pub use safe_html::{SafeError, SafeHtml, compile_safe};
 pub use unnested::{UnnestedError, compile_unnested, has_nested_link};
 pub use within::{Limits, SafeWithinError, WithinError, compile_safe_within, compile_within};
-pub use work::{is_over, work_of};
+pub use work::{depth_of, is_over, work_of};

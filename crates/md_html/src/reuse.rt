@@ -37,7 +37,7 @@ use std::alloc::{AllocError, Global};
 /// ```
 /// let checked = check(alloc, &events, bytes, names)?;
 /// let work = work_of(&events).max(reuse_of(alloc, &checked, &options)?);
-/// let limits = Limits { text: 1 << 20, work };
+/// let limits = Limits { text: 1 << 20, work, depth: 256 };
 /// ```
 pub fn reuse_of(
     alloc: Global,

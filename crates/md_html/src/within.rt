@@ -1,6 +1,7 @@
-//! Texts within limits: how long a text may be, and how much work it may take.
+//! Texts within limits: how long a text may be, how much work it may take, and how deep its events
+//! may nest.
 
-ghost use Rattle.std.specs.Prelude.{◌≡◌, ◌*◌, ◌≤◌, ◌<◌, OnOk, IfOk, IfErr, true, false, length};
+ghost use Rattle.std.specs.Prelude.{◌≡◌, ◌+◌, ◌*◌, ◌≤◌, ◌<◌, OnOk, IfOk, IfErr, true, false, length};
 ghost use Rattle.std.specs.Prelude.{string_bytes};
 ghost use Rattle.md_base.specs.Reference.{name_table};
 ghost use Rattle.md_base.specs.Tree.{Forest, flatten};
@@ -17,14 +18,17 @@ ghost use Rattle.md_safe.specs.Links.{has_nested_link};
 ghost use Rattle.md_safe.specs.Built.{IsBuiltAsRead};
 ghost use Rattle.md_safe.specs.Options.{KeepsGrammar, KeepsLinks, KeepsImages, KeepsIds};
 ghost use Rattle.md_length.specs.Bound.{text_bound};
+ghost use Rattle.md_depth.specs.Depth.{depth};
+ghost use Rattle.md_depth.specs.Levels.{NestsWithin};
 ghost use Rattle.md_html.specs.Work.{work};
 ghost use Rattle.md_html.specs.Within.{IsLonger, IsReuseWithin, OfTooLong, IsTooMuchFor, OfWithin};
+ghost use Rattle.md_html.specs.Within.{IsTooDeepFor};
 ghost use Rattle.md_html.specs.SafeWithin.{IsUnsafeFor, OfLimits};
 
 use crate::rendering_within::render_within;
 use crate::reuse::is_reuse_over;
 use crate::safe_html::{SafeHtml, are_safe};
-use crate::work::is_over;
+use crate::work::measure;
 use md_base::Event;
 use md_text::CompileOptions;
 use md_tree::{CompileError, check};
@@ -32,7 +36,7 @@ use std::alloc::{AllocError, Global};
 use std::fmt;
 use thiserror::Error;
 
-/// How long a text may be, and how much work it may take.
+/// How long a text may be, how much work it may take, and how deep its events may nest.
 #[derive(Clone, Copy, Debug, PartialEq, Eq)]
 pub struct Limits {
     /// How many bytes the text may have.
@@ -44,6 +48,8 @@ pub struct Limits {
     /// leads to a definition the length of that one, and what footnote calls print). The limit
     /// holds for each of the two by itself.
     pub work: usize,
+    /// How many nodes may be open at once, as [`depth_of`](crate::depth_of) counts them.
+    pub depth: usize,
 }
 
 /// Why there is no text within limits.
@@ -53,6 +59,8 @@ pub enum WithinError {
     TooLong,
     /// There is more to read and to print, or to use again, than there may be.
     TooMuch,
+    /// The events nest deeper than they may.
+    TooDeep,
     /// The compiler refuses the events, or memory runs out.
     Compile(CompileError),
 }
@@ -67,6 +75,7 @@ impl fmt::Display for WithinError {
         match self {
             WithinError::TooLong => write!(f, "text too long"),
             WithinError::TooMuch => write!(f, "too much work"),
+            WithinError::TooDeep => write!(f, "nested too deep"),
             WithinError::Compile(error) => write!(f, "{error}"),
         }
     }
@@ -104,15 +113,16 @@ impl From<AllocError> for WithinError {
 ///
 /// # Errors
 ///
-/// [`WithinError::TooMuch`] where there is more work than `limits.work`, before anything else is
-/// looked at, and where the events are a document's that uses more again than that;
-/// [`WithinError::TooLong`] only where they are a document's whose text has more than
-/// `limits.text` bytes; else the refusal of [`compile`](crate::compile).
+/// [`WithinError::TooDeep`] exactly where the events nest deeper than `limits.depth`, before
+/// anything else is looked at; [`WithinError::TooMuch`] where else there is more work than
+/// `limits.work`, and where the events are a document's that uses more again than that;
+/// [`WithinError::TooLong`] only where they are a document's whose text has more than `limits.text`
+/// bytes; else the refusal of [`compile`](crate::compile).
 ///
 /// # Examples
 ///
 /// ```
-/// let limits = Limits { text: 1 << 20, work: 1 << 23 };
+/// let limits = Limits { text: 1 << 20, work: 1 << 23, depth: 256 };
 /// let html = compile_within(alloc, &events, bytes, &CompileOptions::gfm(), names, limits)?;
 /// ```
 pub fn compile_within(
@@ -125,6 +135,9 @@ pub fn compile_within(
 ) -> Result<String, WithinError>
     ensures within { IfOk result (λ text. length (string_bytes text) ≤ limits.text) }
     ensures work { OnOk result (work events.now ≤ limits.work) }
+    ensures depth { OnOk result (depth events.now ≤ limits.depth) }
+    ensures nesting { IfOk result (λ text. KeepsGrammar options.now
+        → NestsWithin (2 * limits.depth + 5) (string_bytes text)) }
     ensures reuse { OnOk result (IsReuseWithin options.now
         (handed events.now bytes.now names.now) limits.work) }
     ensures bounded { IfOk result (λ text. length (string_bytes text) ≤ text_bound options.now
@@ -152,6 +165,7 @@ pub fn compile_within(
     ensures distinct_ids { IfOk result
         (λ text. KeepsIds options.now → HasDistinctIds (string_bytes text)) }
 
+    ensures too_deep { IfErr result (IsTooDeepFor events.now limits.depth) }
     ensures too_much { IfErr result (IsTooMuchFor options.now
         (handed events.now bytes.now names.now) limits.work) }
     ensures too_long { IfErr result
@@ -164,7 +178,11 @@ pub fn compile_within(
     ensures of_node { IfErr result (OfWithin (IsOfNode (handed events.now bytes.now names.now))) }
     ensures lost { IfErr result (OfWithin (IsLost (handed events.now bytes.now names.now))) }
 {
-    if is_over(events, limits.work) {
+    let measured = measure(events);
+    if measured.depth > limits.depth {
+        return Err(WithinError::TooDeep);
+    }
+    if measured.is_over(limits.work) {
         return Err(WithinError::TooMuch);
     }
     let checked = check(alloc, events, bytes, names)?;
@@ -222,7 +240,7 @@ impl From<WithinError> for SafeWithinError {
 /// # Examples
 ///
 /// ```
-/// let limits = Limits { text: 1 << 20, work: 1 << 23 };
+/// let limits = Limits { text: 1 << 20, work: 1 << 23, depth: 256 };
 /// let html = compile_safe_within(alloc, &events, bytes, &CompileOptions::gfm(), names, limits)?;
 /// ```
 pub fn compile_safe_within(
@@ -235,6 +253,8 @@ pub fn compile_safe_within(
 ) -> Result<SafeHtml, SafeWithinError>
     ensures within { IfOk result (λ html. length html ≤ limits.text) }
     ensures work { OnOk result (work events.now ≤ limits.work) }
+    ensures depth { OnOk result (depth events.now ≤ limits.depth) }
+    ensures nesting { IfOk result (λ html. NestsWithin (2 * limits.depth + 5) html) }
     ensures reuse { OnOk result (IsReuseWithin options.now
         (handed events.now bytes.now names.now) limits.work) }
     ensures bounded { IfOk result (λ html. length html ≤ text_bound options.now
@@ -251,6 +271,7 @@ pub fn compile_safe_within(
     ensures distinct_ids { IfOk result
         (λ html. options.now.gfm_footnote_number_ids ≡ true → HasDistinctIds html) }
 
+    ensures too_deep { IfErr result (OfLimits (IsTooDeepFor events.now limits.depth)) }
     ensures too_much { IfErr result (OfLimits (IsTooMuchFor options.now
         (handed events.now bytes.now names.now) limits.work)) }
     ensures too_long { IfErr result (OfLimits (OfTooLong (IsLonger options.now

@@ -1,12 +1,15 @@
-//! How much a list of events gives to read and to print.
+//! How much a list of events gives to read and to print, and how deep they nest: counted in one
+//! pass.
 
-ghost use Rattle.std.specs.Prelude.{◌≡◌, ◌+◌, ◌-◌, ◌*◌, ◌^◌, ◌<◌, min, true, false};
+ghost use Rattle.std.specs.Prelude.{◌≡◌, ◌+◌, ◌-◌, ◌*◌, ◌^◌, ◌<◌, ℕ, min, true, false};
 ghost use Rattle.std.specs.Prelude.{if◌then◌else◌, nat_lt};
 ghost use Rattle.md_html.specs.Work.{is_read, exits, is_row, columns_after, cells, work};
 ghost use Rattle.md_html.specs.Work.{read_length};
 ghost use Rattle.md_html.specs.Counting.{capped, is_read_standing};
+ghost use Rattle.md_depth.specs.Depth.{depth};
 
 use crate::covered::Progress;
+use crate::depth::Levels;
 use md_base::{Event, Kind, Name};
 use md_pattern::{Reading, Standing, standing_of};
 
@@ -20,12 +23,12 @@ use md_pattern::{Reading, Standing, standing_of};
 /// # Examples
 ///
 /// ```
-/// let limits = Limits { text: 1 << 20, work: work_of(&events) };
+/// let limits = Limits { text: 1 << 20, work: work_of(&events), depth: 256 };
 /// ```
 pub fn work_of(events: &[Event]) -> usize
     ensures { result ≡ min (work events.now) (2 ^ 64 - 1) }
 {
-    measure(events).min(usize::MAX as u128) as usize
+    measure(events).work.min(usize::MAX as u128) as usize
 }
 
 /// Whether a list of events gives more to read and to print than a limit.
@@ -38,15 +41,51 @@ pub fn work_of(events: &[Event]) -> usize
 pub fn is_over(events: &[Event], limit: usize) -> bool
     ensures { result ≡ nat_lt limit (work events.now) }
 {
-    measure(events) > limit as u128
+    measure(events).is_over(limit)
 }
 
-/// The work, or the greatest number where it is more.
-fn measure(events: &[Event]) -> u128
-    ensures { result ≡ capped (work events.now) }
+/// How deep a list of events nests: the greatest number of nodes that are open at once. Of a
+/// document's events that is how many of its nodes at most lie in one another.
+///
+/// # Examples
+///
+/// ```
+/// let limits = Limits { text: 1 << 20, work: 1 << 23, depth: depth_of(&events) };
+/// ```
+pub fn depth_of(events: &[Event]) -> usize
+    ensures { result ≡ depth events.now }
+{
+    tally_of(events).depth
+}
+
+/// What a list of events takes.
+#[derive(Clone, Copy)]
+pub(crate) struct Measured {
+    /// The work, or the greatest number where it is more.
+    pub(crate) work: u128,
+    /// How deep they nest.
+    pub(crate) depth: usize,
+}
+
+impl Measured {
+    /// Whether the work is more than a limit.
+    pub(crate) fn is_over(self, limit: usize) -> bool
+        ensures { (given : ℕ) → self.work ≡ capped given → result ≡ nat_lt limit given }
+    {
+        self.work > limit as u128
+    }
+}
+
+/// Measures events.
+pub(crate) fn measure(events: &[Event]) -> Measured
+    ensures work { result.work ≡ capped (work events.now) }
+    ensures depth { result.depth ≡ depth events.now }
 {
     let tally = tally_of(events);
-    tally.read.saturating_add(tally.cells)
+    Measured {
+        work: tally.read.saturating_add(tally.cells),
+        depth: tally.depth,
+    }
 }
 
 /// What is counted of events.
@@ -56,14 +95,18 @@ struct Tally {
     read: u128,
     /// What the cells of tables count.
     cells: u128,
+    /// How deep they nest.
+    depth: usize,
 }
 
 /// Counts events.
 fn tally_of(events: &[Event]) -> Tally
     ensures read { result.read ≡ capped (read_length events.now) }
     ensures cells { result.cells ≡ capped (cells 0 events.now) }
+    ensures depth { result.depth ≡ depth events.now }
 {
     let mut progress = Progress::new();
+    let mut levels = Levels::new();
     let mut columns = 0;
     let mut cells: u128 = 0;
     let mut rest = events;
@@ -71,11 +114,13 @@ fn tally_of(events: &[Event]) -> Tally
         progress = progress.after(event, is_read(event.name));
         cells = cells.saturating_add(cells_exited(columns, event));
         columns = columns_after(columns, event);
+        levels = levels.after(event);
         rest = following;
     }
     Tally {
         read: progress.length,
         cells,
+        depth: levels.deepest,
     }
 }
 

@@ -1,14 +1,17 @@
 //! Brackets: links, images and calls of footnotes.
 
-use crate::leaf::Leaf;
+ghost use Rattle.std.specs.Prelude.{◌≡◌, OnOk, false, vec_len};
+
 use crate::reader::Reader;
-use crate::token::Mark;
-use md_blocks::Definition;
 use md_lines::{Cursor, Place, Span, Title, read_destination, read_label, read_title};
+use md_marks::{Leaf, Mark};
 use std::alloc::AllocError;
 
 /// The most bytes that a label has.
 const MOST_OF_LABEL: usize = 999;
+
+/// So many brackets are open at most: what would be a deeper one is text.
+const MOST_OPEN: usize = 96;
 
 /// A bracket that is open.
 #[derive(Clone, Copy, Debug, PartialEq, Eq)]
@@ -29,8 +32,8 @@ pub(crate) struct Bracket {
 pub(crate) enum Target {
     /// To what stands behind it.
     Resource(Span, Option<Title>),
-    /// To a definition.
-    Definition(Definition),
+    /// To the definition with an index.
+    Definition(usize),
 }
 
 /// Where a link or an image leads, and the place after it.
@@ -52,6 +55,10 @@ impl<'a> Reader<'a> {
             line: here.line,
             at: here.at.saturating_add(length),
         };
+        if self.brackets.len() >= MOST_OPEN {
+            self.deeper = self.deeper.saturating_add(1);
+            return Ok(inside);
+        }
         self.end_text(here.at, inside.at)?;
         if let Some(outer) = self.brackets.last_mut() {
             outer.has_bracket = true;
@@ -74,10 +81,14 @@ impl<'a> Reader<'a> {
         leaf: &Leaf,
         here: Place,
     ) -> Result<Place, AllocError> {
-        self.end_text(here.at, here.at)?;
+        if self.deeper > 0 {
+            self.deeper = self.deeper.saturating_sub(1);
+            return Ok(here);
+        }
         let Some(open) = self.brackets.pop() else {
             return Ok(here);
         };
+        self.end_text(here.at, here.at)?;
         let is_inactive = !open.is_image && self.brackets.len() < self.inactive;
         self.inactive = self.inactive.min(self.brackets.len());
         if is_inactive {
@@ -132,24 +143,28 @@ impl<'a> Reader<'a> {
     /// Makes a link or an image of an open bracket and what stands in it.
     fn put_link(
         &mut self,
-        open: &Bracket,
+        bracket: &Bracket,
         here: Place,
         found: &Found,
-    ) -> Result<Place, AllocError> {
+    ) -> Result<Place, AllocError>
+        ensures inactive { bracket.now.is_image ≡ false → OnOk result
+            (self.new.inactive ≡ vec_len self.new.brackets) }
+    {
         let end = found.end;
         let index = self.targets.len();
         self.targets.push(found.target)?;
-        let (start_mark, end_mark) = if open.is_image {
+        let (start_mark, end_mark) = if bracket.is_image {
             (Mark::ImageStart, Mark::ImageEnd)
         } else {
             (Mark::LinkStart, Mark::LinkEnd)
         };
-        if let Some(token) = self.tokens.get_mut(open.token) {
+        if let Some(token) = self.tokens.get_mut(bracket.token) {
             token.mark = start_mark;
         }
         self.push(end_mark, here.at, end.at, index)?;
-        self.delimiters.resolve(&mut self.tokens, open.delimiters)?;
-        if !open.is_image {
+        self.delimiters
+            .resolve(&mut self.tokens, bracket.delimiters)?;
+        if !bracket.is_image {
             self.inactive = self.brackets.len();
         }
         self.from = end.at;
@@ -203,7 +218,7 @@ impl<'a> Reader<'a> {
             .definitions
             .find(self.alloc, leaf.bytes, leaf.lines, from, to)?;
         Ok(found.map(|definition| Found {
-            target: Target::Definition(definition),
+            target: Target::Definition(definition.index),
             end,
         }))
     }

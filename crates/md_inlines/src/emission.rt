@@ -2,19 +2,21 @@
 
 ghost use Rattle.std.specs.Prelude.{◌≡◌, OnOk, false};
 
-use crate::bare_links::{BareLink, address, is_www, url, www};
 use crate::brackets::Target;
-use crate::leaf::Leaf;
 use crate::links::write_label_start;
 use crate::options::InlineOptions;
 use crate::reader::Reader;
 use crate::source::Source;
-use crate::strings::{write_data, write_reference};
-use crate::token::{Mark, Token};
-use crate::writer::Writer;
+use crate::strings::write_reference;
 use md_base::Name;
-use md_lines::{Class, is};
+use md_blocks::Definitions;
+use md_marks::{BareLink, Leaf, Mark, Token, address, domain_end, is_www, url, www};
+use md_writer::Writer;
 use std::alloc::AllocError;
+
+/// So many of emphasis, strong and strikethrough stand in one another at most: what would be a
+/// deeper one is text.
+const MOST_SPANS: usize = 96;
 
 /// What stands around a token.
 #[derive(Drop)]
@@ -23,12 +25,15 @@ pub(crate) struct Around<'e> {
     pub(crate) source: &'e Source<'e>,
     options: InlineOptions,
     pub(crate) targets: &'e [Target],
+    pub(crate) definitions: &'e Definitions,
     /// Whether texts may hold bare links that aren't tokens.
     has_late_links: bool,
     /// How many links are open.
     pub(crate) links: usize,
     /// How many images are open.
     images: usize,
+    /// How many of emphasis, strong and strikethrough are open, with those that are text.
+    spans: usize,
 }
 
 /// Writes the events of the tokens that a reader made of a leaf.
@@ -43,15 +48,17 @@ pub(crate) fn write_tokens(
         source,
         options: reader.options,
         targets: reader.targets.as_slice(),
+        definitions: reader.definitions,
         has_late_links: reader.has_late_links,
         links: 0,
         images: 0,
+        spans: 0,
     };
     // The text that isn't written yet.
     let mut start = 0;
     let mut end = 0;
     for token in reader.tokens.iter() {
-        match token.mark {
+        match around.mark_of(token) {
             Mark::Text if token.start == end => end = token.end,
             Mark::Text => {
                 around.write_text(writer, start, end)?;
@@ -71,6 +78,28 @@ pub(crate) fn write_tokens(
 }
 
 impl<'e> Around<'e> {
+    /// What a token is where it stands: an end of a span that stands too deep is text.
+    #[inline(always)]
+    fn mark_of(&mut self, token: &Token) -> Mark {
+        let depth = match token.mark {
+            Mark::EmphasisStart | Mark::StrongStart | Mark::StrikethroughStart => {
+                let depth = self.spans;
+                self.spans = depth.saturating_add(1);
+                depth
+            }
+            Mark::EmphasisEnd | Mark::StrongEnd | Mark::StrikethroughEnd => {
+                self.spans = self.spans.saturating_sub(1);
+                self.spans
+            }
+            mark => return mark,
+        };
+        if depth < MOST_SPANS {
+            token.mark
+        } else {
+            Mark::Text
+        }
+    }
+
     /// Writes a token that is no text.
     fn write_token(&mut self, writer: &mut Writer, token: &Token) -> Result<(), AllocError> {
         let (start, end) = (token.start, token.end);
@@ -139,7 +168,7 @@ impl<'e> Around<'e> {
         if self.has_late_links && self.links == 0 && self.images == 0 {
             self.write_text_with_links(writer, start, end)
         } else {
-            write_data(writer, start, end)
+            writer.data(start, end)
         }
     }
 
@@ -166,7 +195,7 @@ impl<'e> Around<'e> {
             }
             match bare_link(text, from, at) {
                 Some(link) => {
-                    write_data(writer, from, link.start)?;
+                    writer.data(from, link.start)?;
                     writer.leaf(link.name, link.start, link.end)?;
                     from = link.end;
                     at = link.end.max(at + 1);
@@ -179,7 +208,7 @@ impl<'e> Around<'e> {
                 }
             }
         }
-        write_data(writer, from, end)
+        writer.data(from, end)
     }
 
     /// Writes a node whose data may go over lines.
@@ -223,16 +252,4 @@ fn bare_link(text: &[u8], low: usize, at: usize) -> Option<BareLink> {
         Some(_) => www(text, low, at, high),
         None => None,
     }
-}
-
-/// Where a domain ends that goes on at a place.
-fn domain_end(text: &[u8], at: usize) -> usize {
-    let rest = text.get(at..).unwrap_or(b"");
-    let length = rest
-        .iter()
-        .take_while(|byte| {
-            is(**byte, Class::Alphanumeric) || matches!(**byte, b'.' | b'-' | b'_')
-        })
-        .count();
-    at.saturating_add(length)
 }

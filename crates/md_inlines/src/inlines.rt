@@ -1,16 +1,16 @@
 //! The inline pass over the leaves of a document.
 
 use crate::emission::write_tokens;
-use crate::leaf::Leaf;
 use crate::options::InlineOptions;
 use crate::reader::Reader;
 use crate::source::Source;
 use crate::strings::write_string;
 use crate::targets::write_definition;
-use crate::writer::Writer;
 use md_blocks::Definitions;
 use md_lines::{Line, Span};
+use md_marks::Leaf;
 use md_urls::Base;
+use md_writer::Writer;
 use std::alloc::{AllocError, Global};
 
 /// The inline pass over a document: its bytes, all its lines, and the definitions of its links and

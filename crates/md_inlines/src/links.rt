@@ -4,10 +4,11 @@ use crate::brackets::Target;
 use crate::emission::Around;
 use crate::strings::{has_reference, write_url};
 use crate::targets::{Destination, write_destination, write_title};
-use crate::token::Token;
-use crate::writer::Writer;
 use md_base::Name;
+use md_blocks::Definition;
 use md_lines::{Line, Title};
+use md_marks::Token;
+use md_writer::Writer;
 use std::alloc::AllocError;
 
 impl<'e> Around<'e> {
@@ -88,20 +89,34 @@ impl<'e> Around<'e> {
                 self.write_resource(writer, destination, *title, self.leaf.lines)?;
                 writer.exit(Name::Resource, token.end)?;
             }
-            Some(Target::Definition(definition)) if definition.is_long => {
-                writer.refer_to(definition.index)?;
-                let label = definition.label;
-                writer.leaf(Name::ReferenceString, label.start, label.end)?;
-            }
-            Some(Target::Definition(definition)) => {
-                writer.enter(Name::Resource, after)?;
-                let destination = Destination::defined(definition);
-                self.write_resource(writer, destination, definition.title, self.source.lines)?;
-                writer.exit(Name::Resource, token.end)?;
+            Some(Target::Definition(index)) => {
+                if let Some(definition) = self.definitions.list().get(*index) {
+                    self.write_defined(writer, definition, after, token.end)?;
+                }
             }
             None => {}
         }
         writer.exit(name, token.end)
+    }
+
+    /// Writes where a link or an image leads by a definition: what that has, or its label where
+    /// it is long.
+    fn write_defined(
+        &self,
+        writer: &mut Writer,
+        definition: &Definition,
+        start: usize,
+        end: usize,
+    ) -> Result<(), AllocError> {
+        if definition.is_long {
+            writer.refer_to(definition.index)?;
+            let label = definition.label;
+            return writer.leaf(Name::ReferenceString, label.start, label.end);
+        }
+        writer.enter(Name::Resource, start)?;
+        let destination = Destination::defined(definition);
+        self.write_resource(writer, destination, definition.title, self.source.lines)?;
+        writer.exit(Name::Resource, end)
     }
 
     /// Writes a destination and a title, which stands in such lines.

@@ -2,10 +2,10 @@
 
 ghost use Rattle.std.specs.Prelude.{◌<◌, length};
 
-use crate::references::reference_length;
-use crate::writer::Writer;
 use md_base::Name;
 use md_lines::{Class, is};
+use md_references::reference_length;
+use md_writer::Writer;
 use std::alloc::AllocError;
 
 /// Writes the events of a text of escapes and references.
@@ -45,7 +45,7 @@ fn write_decoded(
             at += 1;
             continue;
         }
-        write_data(writer, from, at)?;
+        writer.data(from, at)?;
         from = at.saturating_add(length);
         if text[at] == b'&' {
             write_reference(writer, bytes, at, from)?;
@@ -54,7 +54,7 @@ fn write_decoded(
             at = from.saturating_add(1);
         }
     }
-    write_data(writer, from, end)
+    writer.data(from, end)
 }
 
 /// How long the reference is that begins at a place, or the backslash there that escapes what
@@ -86,14 +86,6 @@ pub(crate) fn has_reference(text: &[u8]) -> bool {
         }
     }
     false
-}
-
-/// Writes a text as it is, if it has any byte.
-pub(crate) fn write_data(writer: &mut Writer, start: usize, end: usize) -> Result<(), AllocError> {
-    if start < end {
-        writer.leaf(Name::Data, start, end)?;
-    }
-    Ok(())
 }
 
 /// Writes the events of a character reference.

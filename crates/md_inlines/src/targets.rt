@@ -1,12 +1,12 @@
 //! Where links and images lead: destinations, titles and definitions.
 
 use crate::source::Source;
-use crate::strings::{write_data, write_string};
-use crate::urls::{Url, url_of};
-use crate::writer::Writer;
+use crate::strings::write_string;
+use crate::urls::url_of;
 use md_base::Name;
 use md_blocks::Definition;
 use md_lines::{Line, Span, Title};
+use md_writer::{Url, Writer};
 use std::alloc::AllocError;
 
 /// The destination of a link, an image or a definition.
@@ -72,8 +72,8 @@ pub(crate) fn write_destination(
     }
     writer.enter(name, place.start)?;
     match url_of(writer, source, destination)? {
-        Url::Added(url) => write_data(writer, url.start, url.end)?,
-        _ if destination.is_plain => write_data(writer, place.start, place.end)?,
+        Url::Added(url) => writer.data(url.start, url.end)?,
+        _ if destination.is_plain => writer.data(place.start, place.end)?,
         _ => write_string(writer, source.bytes, place.start, place.end)?,
     }
     writer.exit(name, place.end)

@@ -1,24 +1,13 @@
 //! URLs that are read against a base.
 
-use crate::references::text_of_reference;
 use crate::source::Source;
 use crate::strings::code_length;
 use crate::targets::Destination;
-use crate::writer::Writer;
 use md_lines::Span;
+use md_references::text_of_reference;
 use md_urls::Base;
+use md_writer::{Url, Writer};
 use std::alloc::{AllocError, Global};
-
-/// What became of a URL.
-#[derive(Clone, Copy, Debug, PartialEq, Eq)]
-pub(crate) enum Url {
-    /// It wasn't read yet.
-    Unread,
-    /// It stays as it is.
-    Own,
-    /// It stands behind the document.
-    Added(Span),
-}
 
 /// What becomes of a destination's URL where there is a base. That of a definition is read once.
 pub(crate) fn url_of(

@@ -1,5 +1,5 @@
 -- A text that the compiler gives is made of a document over these bytes.
-use Rattle.std.proofs.Common.{◌≡◌, ◌++◌, ◌∙◌, ℕ, Bool, List, [], Result, Ok, Err, IfOk, refl}
+use Rattle.std.proofs.Common.{◌≡◌, ◌++◌, ℕ, Bool, List, [], refl}
 use Rattle.std.proofs.Common.{inl, inr, subst, sym}
 use Rattle.std.proofs.lemmas.List.{append-nil}
 use Rattle.std.specs.Borrow.{Bor}
@@ -11,6 +11,7 @@ use Rattle.md_tree.specs.Grammar.{IsChecked, handed}
 use Rattle.md_meaning.specs.Meaning.{meaning}
 use Rattle.md_safe.specs.Options.{KeepsImages}
 use Rattle.md_markdown.specs.Made.{IsMadeOf, IsMadeOver, MayBeAdded}
+use Rattle.md_markdown.specs.Parsed.{IsMadeOfEither}
 
 -- what a checked list of events means is made of the document that it flattens
 pub made : (events : List Event) (bytes text : List ℕ)
@@ -27,22 +28,12 @@ made events bytes text names options safe checked means = record {
   means = means checked.0 checked.1.flattened;
 }
 
--- what is made over the document's own bytes
-pub of_own : {E : Type 0} (has_base : Bool) (document bytes : List ℕ) (r : Result (List ℕ) E) →
-    bytes ≡ document → IfOk r (IsMadeOver bytes) → IfOk r (IsMadeOf has_base document)
-of_own has_base document bytes (Ok text) same over = (
-  [],
-  (
-    inr (inl refl),
-    subst (λ bytes. IsMadeOver bytes text) (same ∙ sym (append-nil document)) over,
-  ),
-)
-of_own has_base document bytes (Err why) same over = tt
-
--- what is made over these and what was added behind them
-pub of_joined : {E : Type 0} (has_base : Bool) (document added whole : List ℕ)
-    (r : Result (List ℕ) E) → MayBeAdded has_base added → whole ≡ document ++ added →
-    IfOk r (IsMadeOver whole) → IfOk r (IsMadeOf has_base document)
-of_joined has_base document added whole (Ok text) may same over =
-    (added, (may, subst (λ bytes. IsMadeOver bytes text) same over))
-of_joined has_base document added whole (Err why) may same over = tt
+-- a text over the bytes that were read, the document's and what was added behind them, or over the
+-- document's own alone
+pub of_either : (has_base : Bool) (document added bytes text : List ℕ) →
+    MayBeAdded has_base added → bytes ≡ document ++ added → IsMadeOfEither bytes document text →
+    IsMadeOf has_base document text
+of_either has_base document added bytes text may same (inl over) =
+    (added, (may, subst (λ b. IsMadeOver b text) same over))
+of_either has_base document added bytes text may same (inr over) =
+    ([], (inr (inl refl), subst (λ b. IsMadeOver b text) (sym (append-nil document)) over))

@@ -1,1 +1,3 @@
 pub mod Made
+pub mod Plain
+pub mod Parsed

@@ -1,21 +1,26 @@
 //! Markdown to HTML.
 
-ghost use Rattle.std.specs.Prelude.{◌≡◌, ◌≤◌, ◌++◌, OnOk, IfOk, true, is_some, length};
+ghost use Rattle.std.specs.Prelude.{◌≡◌, ◌≤◌, ◌++◌, IfOk, IfErr, true, is_some, length};
+ghost use Rattle.md_base.specs.Tree.{Forest};
+ghost use Rattle.md_meaning.specs.Meaning.{meaning};
 ghost use Rattle.md_safe.specs.Contents.{IsContained};
 ghost use Rattle.md_safe.specs.Built.{IsBuiltAsRead};
-ghost use Rattle.md_text.specs.Ids.{HasDistinctIds};
+ghost use Rattle.md_safe.specs.Options.{KeepsImages};
 ghost use Rattle.md_safe.specs.Tokenized.{IsSafelyTokenized};
-ghost use Rattle.md_markdown.specs.Made.{IsMadeOf, IsMadeOver, MayBeAdded};
+ghost use Rattle.md_text.specs.Ids.{HasDistinctIds};
+ghost use Rattle.md_markdown.specs.Made.{IsMadeOf, MayBeAdded, OfTooLong, IsLonger};
+ghost use Rattle.md_markdown.specs.Plain.{plain_text};
+ghost use Rattle.md_markdown.specs.Parsed.{IsUnnestedIn, IsMadeOfEither, given_by};
 
-use crate::error::{MarkdownError, MarkdownWithinError};
+use crate::error::{MarkdownWithinError, is_memory, of_limits};
 use crate::events::write_events;
 use crate::options::MarkdownOptions;
+use crate::plain::{Within, compile_plain, compile_plain_within};
+use md_base::Event;
 use md_blocks::parse_blocks;
-use md_html::{
-    Limits, SafeError, SafeHtml, SafeWithinError, UnnestedError, compile_safe_within,
-    compile_unnested, has_nested_link,
-};
+use md_html::{Limits, SafeHtml, compile_safe_within, compile_unnested, has_nested_link};
 use md_inlines::Writer;
+use md_text::CompileOptions;
 use std::alloc::{AllocError, Global};
 
 /// The HTML of a Markdown document, which is safe to set into a page: it has one reading in the
@@ -23,11 +28,13 @@ use std::alloc::{AllocError, Global};
 /// element stands where it may; wherever flow content may be set, the HTML Standard's tree
 /// construction builds the tree that it is read as.
 ///
+/// Each document has a text. If the compiler refused what was made of a document, or a link stood
+/// in a link there, which would be a fault of this crate and of which no document is known, its
+/// text would be one paragraph with all its characters.
+///
 /// # Errors
 ///
-/// [`MarkdownError::Memory`] where memory runs out. No document is known that gets another one:
-/// [`MarkdownError::Refused`] where the compiler refuses what was made of the document, and
-/// [`MarkdownError::Nested`] where a link stands in a link there.
+/// Only where memory runs out.
 ///
 /// # Examples
 ///
@@ -39,7 +46,7 @@ pub fn markdown(
     alloc: Global,
     text: &str,
     options: &MarkdownOptions,
-) -> Result<SafeHtml, MarkdownError>
+) -> Result<SafeHtml, AllocError>
     ensures made { IfOk result (IsMadeOf (is_some options.now.base) text.now) }
     ensures tokens { IfOk result IsSafelyTokenized }
     ensures contained { IfOk result IsContained }
@@ -49,40 +56,17 @@ pub fn markdown(
 {
     let bytes = text.as_bytes();
     let writer = events_of(alloc, bytes, options)?;
+    let compile_options = options.for_compiler(alloc)?;
     if writer.added.is_empty() {
-        return compile(alloc, &writer, bytes, options);
+        return compile_or_plain(alloc, &Parsed::new(&writer, bytes), text, &compile_options);
     }
     let whole = joined(alloc, bytes, added(&writer, options))?;
-    compile(alloc, &writer, whole.as_slice(), options)
-}
-
-/// The HTML of events over bytes.
-fn compile(
-    alloc: Global,
-    writer: &Writer,
-    bytes: &[u8],
-    options: &MarkdownOptions,
-) -> Result<SafeHtml, MarkdownError>
-    ensures made { IfOk result (λ html. IsMadeOver bytes.now html) }
-    ensures tokens { IfOk result IsSafelyTokenized }
-    ensures contained { IfOk result IsContained }
-    ensures tree { IfOk result IsBuiltAsRead }
-    ensures distinct_ids { IfOk result
-        (λ html. options.now.number_ids ≡ true → HasDistinctIds html) }
-{
-    let compile_options = options.for_compiler(alloc)?;
-    match compile_unnested(
+    compile_or_plain(
         alloc,
-        writer.events.as_slice(),
-        bytes,
+        &Parsed::new(&writer, whole.as_slice()),
+        text,
         &compile_options,
-        writer.names(),
-    ) {
-        Ok(html) => Ok(html),
-        Err(UnnestedError::Nested) => Err(MarkdownError::Nested),
-        Err(UnnestedError::Safe(SafeError::Compile(error))) => Err(MarkdownError::from(error)),
-        Err(UnnestedError::Safe(SafeError::Options)) => unreachable!(),
-    }
+    )
 }
 
 /// The HTML of a Markdown document as [`markdown`] gives it, where it is within limits: what a
@@ -90,9 +74,9 @@ fn compile(
 ///
 /// # Errors
 ///
-/// [`MarkdownWithinError::TooMuch`] where there is more work than `limits.work`,
-/// [`MarkdownWithinError::TooLong`] where the text has more than `limits.text` bytes; else the
-/// error of [`markdown`].
+/// [`MarkdownWithinError::TooMuch`] where there is more work than `limits.work`, or more is used
+/// again than that; [`MarkdownWithinError::TooLong`] where the text has more than `limits.text`
+/// bytes; or that memory runs out.
 ///
 /// # Examples
 ///
@@ -113,42 +97,123 @@ pub fn markdown_within(
     ensures tree { IfOk result IsBuiltAsRead }
     ensures distinct_ids { IfOk result
         (λ html. options.now.number_ids ≡ true → HasDistinctIds html) }
+
+    ensures too_long { IfErr result
+        (OfTooLong (IsLonger (IsMadeOf (is_some options.now.base) text.now) limits.text)) }
 {
     let bytes = text.as_bytes();
     let writer = events_of(alloc, bytes, options)?;
+    let compile_options = options.for_compiler(alloc)?;
+    let within = Within {
+        options: &compile_options,
+        limits,
+    };
     if writer.added.is_empty() {
-        return compile_within(alloc, &writer, bytes, options, limits);
+        return compile_or_plain_within(alloc, &Parsed::new(&writer, bytes), text, &within);
     }
     let whole = joined(alloc, bytes, added(&writer, options))?;
-    compile_within(alloc, &writer, whole.as_slice(), options, limits)
+    compile_or_plain_within(
+        alloc,
+        &Parsed::new(&writer, whole.as_slice()),
+        text,
+        &within,
+    )
 }
 
-/// The HTML of events over bytes, where it is within limits.
-fn compile_within(
+/// What was made of a document: events over bytes, and the names of character references in it.
+#[derive(Clone, Copy)]
+struct Parsed<'a> {
+    events: &'a [Event],
+    bytes: &'a [u8],
+    names: &'a [(&'a str, &'a str)],
+}
+
+impl<'a> Parsed<'a> {
+    /// What was written of a document, over bytes.
+    fn new(writer: &'a Writer, bytes: &'a [u8]) -> Parsed<'a>
+        ensures { result.bytes.now ≡ bytes.now }
+    {
+        Parsed {
+            events: writer.events.as_slice(),
+            bytes,
+            names: writer.names(),
+        }
+    }
+}
+
+/// The HTML of what was made of a document, if it is a document of the event grammar in which no
+/// link stands in a link; else that of the document as it is written.
+fn compile_or_plain(
     alloc: Global,
-    writer: &Writer,
-    bytes: &[u8],
-    options: &MarkdownOptions,
-    limits: Limits,
-) -> Result<SafeHtml, MarkdownWithinError>
-    ensures within { IfOk result (λ html. length html ≤ limits.text) }
-    ensures made { IfOk result (λ html. IsMadeOver bytes.now html) }
+    parsed: &Parsed,
+    text: &str,
+    options: &CompileOptions,
+) -> Result<SafeHtml, AllocError>
+    requires safe { KeepsImages options.now }
+    ensures kept { IfOk result (λ html. (document : Forest)
+        → IsUnnestedIn (given_by parsed.now) document
+        → html ≡ meaning options.now (given_by parsed.now).names parsed.now.bytes.now document) }
+    ensures plain { IfOk result (λ html. ((document : Forest)
+        → IsUnnestedIn (given_by parsed.now) document → ⊥)
+        → html ≡ plain_text text.now) }
+    ensures made { IfOk result (IsMadeOfEither parsed.now.bytes.now text.now) }
     ensures tokens { IfOk result IsSafelyTokenized }
     ensures contained { IfOk result IsContained }
     ensures tree { IfOk result IsBuiltAsRead }
     ensures distinct_ids { IfOk result
-        (λ html. options.now.number_ids ≡ true → HasDistinctIds html) }
+        (λ html. options.now.gfm_footnote_number_ids ≡ true → HasDistinctIds html) }
 {
-    let compile_options = options.for_compiler(alloc)?;
-    let names = writer.names();
-    let events = writer.events.as_slice();
-    if has_nested_link(events) {
-        return Err(MarkdownWithinError::Markdown(MarkdownError::Nested));
-    }
-    match compile_safe_within(alloc, events, bytes, &compile_options, names, limits) {
+    match compile_unnested(alloc, parsed.events, parsed.bytes, options, parsed.names) {
         Ok(html) => Ok(html),
-        Err(SafeWithinError::Within(error)) => Err(MarkdownWithinError::from(error)),
-        Err(SafeWithinError::Options) => unreachable!(),
+        Err(error) if is_memory(&error) => Err(AllocError),
+        Err(_) => compile_plain(alloc, text, options),
+    }
+}
+
+/// The same where it is within limits.
+fn compile_or_plain_within(
+    alloc: Global,
+    parsed: &Parsed,
+    text: &str,
+    within: &Within,
+) -> Result<SafeHtml, MarkdownWithinError>
+    requires safe { KeepsImages within.now.options.now }
+    ensures within { IfOk result (λ html. length html ≤ within.now.limits.text) }
+    ensures kept { IfOk result (λ html. (document : Forest)
+        → IsUnnestedIn (given_by parsed.now) document
+        → html ≡ meaning within.now.options.now (given_by parsed.now).names parsed.now.bytes.now
+        document) }
+    ensures plain { IfOk result (λ html. ((document : Forest)
+        → IsUnnestedIn (given_by parsed.now) document → ⊥)
+        → html ≡ plain_text text.now) }
+    ensures made { IfOk result (IsMadeOfEither parsed.now.bytes.now text.now) }
+    ensures tokens { IfOk result IsSafelyTokenized }
+    ensures contained { IfOk result IsContained }
+    ensures tree { IfOk result IsBuiltAsRead }
+    ensures distinct_ids { IfOk result
+        (λ html. within.now.options.now.gfm_footnote_number_ids ≡ true → HasDistinctIds html) }
+
+    ensures too_long { IfErr result
+        (OfTooLong (IsLonger (IsMadeOfEither parsed.now.bytes.now text.now)
+        within.now.limits.text)) }
+{
+    if has_nested_link(parsed.events) {
+        return compile_plain_within(alloc, text, within);
+    }
+    let (options, limits) = (within.options, within.limits);
+    match compile_safe_within(
+        alloc,
+        parsed.events,
+        parsed.bytes,
+        options,
+        parsed.names,
+        limits,
+    ) {
+        Ok(html) => Ok(html),
+        Err(error) => match of_limits(&error) {
+            Some(cause) => Err(cause),
+            None => compile_plain_within(alloc, text, within),
+        },
     }
 }
 

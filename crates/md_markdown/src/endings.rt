@@ -1,7 +1,7 @@
 //! Line endings of a document.
 
 ghost use Rattle.std.specs.Prelude.{◌≡◌, OnOk};
-ghost use Rattle.md_inlines.specs.Written.{IsLeafBehind};
+ghost use Rattle.md_writer.specs.Written.{IsLeafBehind};
 ghost use Rattle.md_base.specs.declared.event.Name.TheVariants.{BlankLineEnding};
 
 use md_base::Name;

@@ -10,11 +10,12 @@ mod front;
 mod html;
 mod leaves;
 mod options;
+mod plain;
 mod prefixes;
 mod table;
 
 pub use compiling::{events_of, markdown, markdown_within};
-pub use error::{MarkdownError, MarkdownWithinError};
+pub use error::MarkdownWithinError;
 pub use front::front_matter_of;
 pub use md_html::{Limits, SafeHtml};
 pub use options::{DocumentHtml, MarkdownOptions};

@@ -1,6 +1,6 @@
 -- What an answer about Markdown says, from the text or the failure that it tells.
 use Rattle.std.proofs.Common.{◌≡◌, ◌≢◌, ℕ, ◌≤◌, List, length, refl, sym, ap, ◌∙◌, subst}
-use Rattle.std.proofs.Common.{inl, inr, arith}
+use Rattle.std.proofs.Common.{inl, inr, arith, ◌⊎◌}
 use Rattle.md_abi.specs.Failures.{answer_of}
 use Rattle.md_abi.specs.Buffer.{HandsOver, IsHandedOver, IsListHandedOver}
 use Rattle.md_abi.specs.declared.answer.Answer.{Answer}
@@ -14,7 +14,7 @@ use Rattle.md_markdown_abi.specs.Answers.{TellsOfMarkdown, IsOfMarkdown}
 use Rattle.md_markdown_abi.specs.declared.option.CMarkdownOptions.{CMarkdownOptions}
 use Rattle.md_markdown_abi.specs.declared.failure.MarkdownFailure.{MarkdownFailure}
 use Rattle.md_markdown_abi.specs.declared.failure.MarkdownFailure.TheVariants as variant
-use variant.{NoVersion, InputTooLong, NotUtf8, OutputTooLong, TooMuchWork, Nested, Failed}
+use variant.{NoVersion, InputTooLong, NotUtf8, OutputTooLong, TooMuchWork, Failed}
 
 -- ---- what is handed over with a failure
 pub markdown_hands_over :
@@ -30,7 +30,6 @@ markdown_hands_over claim old why answer is =
     of (NotUtf8 index) = failed (claim index) old (tell 34 index 0) (omega arith)
     of OutputTooLong = failed (claim 0) old (tell 33 0 0) (omega arith)
     of TooMuchWork = failed (claim 0) old (tell 37 0 0) (omega arith)
-    of Nested = failed (claim 0) old (tell 36 0 0) (omega arith)
     of (Failed cause) =
         failure_hands_over (claim (answer_of cause).index) old cause (answer_of cause) refl
 
@@ -41,8 +40,9 @@ module _ (bytes : List ℕ) (options : CMarkdownOptions) where
       answer.status ≢ 34 → IsRead bytes options → TellsOfMarkdown bytes options answer
   of_read answer version option input utf8 read = record {
     other_version = λ is. absurd (version is);
-    version = λ _. read.readable.version;
+    version = λ _. read.readable.options_read.version;
     no_option = λ is. absurd (option is);
+    readable = λ _. read.readable.options_read.readable;
     too_long = λ is. absurd (input is);
     counted = λ is. absurd (input is);
     fits = λ _. read.readable.fits;
@@ -56,25 +56,25 @@ module _ (bytes : List ℕ) (options : CMarkdownOptions) where
     other_version = never 7 35 refl;
     version = λ _. h;
     no_option = never 7 5 refl;
+    readable = λ past. absurd (past.memory refl);
     too_long = never 7 32 refl;
     counted = never 7 32 refl;
-    fits = λ past. absurd (past.memory refl);
+    fits = λ past. absurd (past.options.memory refl);
     invalid_from = never 7 34 refl;
-    utf8 = λ past. absurd (past.memory refl);
+    utf8 = λ past. absurd (past.options.memory refl);
   }
   of_fault (failure.Option number) h = record {
     other_version = never 5 35 refl;
     version = λ _. h.0;
     no_option = λ _. h.1;
+    readable = λ past. absurd (past.option refl);
     too_long = never 5 32 refl;
     counted = never 5 32 refl;
-    fits = λ past. absurd (past.option refl);
+    fits = λ past. absurd (past.options.option refl);
     invalid_from = never 5 34 refl;
-    utf8 = λ past. absurd (past.option refl);
+    utf8 = λ past. absurd (past.options.option refl);
   }
-  of_fault (failure.Refused index rule) h =
-      of_read (answer_of (failure.Refused index rule)) (never 2 35 refl) (never 2 5 refl)
-      (never 2 32 refl) (never 2 34 refl) h
+  of_fault (failure.Refused index rule) h = absurd h
   of_fault (failure.Event index) h = absurd h
   of_fault (failure.Name index) h = absurd h
   of_fault (failure.Line number) h = absurd h
@@ -85,16 +85,18 @@ module _ (bytes : List ℕ) (options : CMarkdownOptions) where
     other_version = λ _. h;
     version = λ other. absurd (other refl);
     no_option = never 35 5 refl;
+    readable = λ past. absurd (past.version refl);
     too_long = never 35 32 refl;
     counted = never 35 32 refl;
-    fits = λ past. absurd (past.version refl);
+    fits = λ past. absurd (past.options.version refl);
     invalid_from = never 35 34 refl;
-    utf8 = λ past. absurd (past.version refl);
+    utf8 = λ past. absurd (past.options.version refl);
   }
   of_failure (InputTooLong size) h = record {
     other_version = never 32 35 refl;
-    version = λ _. h.0;
+    version = λ _. h.0.version;
     no_option = never 32 5 refl;
+    readable = λ _. h.0.readable;
     too_long = λ _. h.1.1;
     counted = λ _. h.1.0;
     fits = λ past. absurd (past.input refl);
@@ -103,8 +105,9 @@ module _ (bytes : List ℕ) (options : CMarkdownOptions) where
   }
   of_failure (NotUtf8 index) h = record {
     other_version = never 34 35 refl;
-    version = λ _. h.0.version;
+    version = λ _. h.0.options_read.version;
     no_option = never 34 5 refl;
+    readable = λ _. h.0.options_read.readable;
     too_long = never 34 32 refl;
     counted = never 34 32 refl;
     fits = λ _. h.0.fits;
@@ -115,8 +118,6 @@ module _ (bytes : List ℕ) (options : CMarkdownOptions) where
       (never 33 32 refl) (never 33 34 refl) h
   of_failure TooMuchWork h = of_read (tell 37 0 0) (never 37 35 refl) (never 37 5 refl)
       (never 37 32 refl) (never 37 34 refl) h
-  of_failure Nested h = of_read (tell 36 0 0) (never 36 35 refl) (never 36 5 refl)
-      (never 36 32 refl) (never 36 34 refl) h
   of_failure (Failed cause) h = of_fault cause h
 
   pub markdown_tells : (why : MarkdownFailure) (answer : Answer) → answer ≡ answer_of_markdown why →
@@ -134,34 +135,28 @@ module _ (bytes : List ℕ) (options : CMarkdownOptions) where
   fault_fields : (why : Failure) → ExplainsFault bytes options why → IsOfMarkdown (answer_of why)
   fault_fields failure.Memory h = record {
     known = inr (inr (inl refl));
-    no_rule = λ _. refl;
+    no_rule = refl;
     within = λ _. omega arith;
     no_place = λ _ _. refl;
     no_length = λ _ _. refl;
   }
   fault_fields (failure.Option number) h = record {
     known = inr (inl refl);
-    no_rule = λ _. refl;
+    no_rule = refl;
     within = λ less. absurd (omega (arith, less));
     no_place = λ more _. absurd (omega (arith, more));
     no_length = λ _ _. refl;
   }
-  fault_fields (failure.Refused index rule) h = record {
-    known = inl (omega arith);
-    no_rule = λ other. absurd (other refl);
-    within = λ less. absurd (omega (arith, less));
-    no_place = λ more _. absurd (omega (arith, more));
-    no_length = λ _ _. refl;
-  }
+  fault_fields (failure.Refused index rule) h = absurd h
   fault_fields (failure.Event index) h = absurd h
   fault_fields (failure.Name index) h = absurd h
   fault_fields (failure.Line number) h = absurd h
 
-  told_fields : (status index size : ℕ) → 32 ≤ status → status ≤ 37 →
+  told_fields : (status index size : ℕ) → 32 ≤ status → (status ≤ 35) ⊎ (status ≡ 37) →
       (status ≢ 34 → index ≡ 0) → (status ≢ 32 → size ≡ 0) → IsOfMarkdown (tell status index size)
   told_fields status index size many few place counted = record {
     known = inr (inr (inr (many, few)));
-    no_rule = λ _. refl;
+    no_rule = refl;
     within = λ less. absurd (omega (arith, less, many));
     no_place = λ _. place;
     no_length = λ _. counted;
@@ -173,14 +168,13 @@ module _ (bytes : List ℕ) (options : CMarkdownOptions) where
     where
       of : (why : MarkdownFailure) → ExplainsMarkdown bytes options why →
           IsOfMarkdown (answer_of_markdown why)
-      of NoVersion h = told_fields 35 0 0 (omega arith) (omega arith) (λ _. refl) (λ _. refl)
-      of (InputTooLong size) h = told_fields 32 0 size (omega arith) (omega arith) (λ _. refl)
+      of NoVersion h = told_fields 35 0 0 (omega arith) (inl (omega arith)) (λ _. refl) (λ _. refl)
+      of (InputTooLong size) h = told_fields 32 0 size (omega arith) (inl (omega arith)) (λ _. refl)
           (λ other. absurd (other refl))
-      of (NotUtf8 index) h = told_fields 34 index 0 (omega arith) (omega arith)
+      of (NotUtf8 index) h = told_fields 34 index 0 (omega arith) (inl (omega arith))
           (λ other. absurd (other refl)) (λ _. refl)
-      of OutputTooLong h = told_fields 33 0 0 (omega arith) (omega arith) (λ _. refl) (λ _. refl)
-      of TooMuchWork h = told_fields 37 0 0 (omega arith) (omega arith) (λ _. refl) (λ _. refl)
-      of Nested h = told_fields 36 0 0 (omega arith) (omega arith) (λ _. refl) (λ _. refl)
+      of OutputTooLong h = told_fields 33 0 0 (omega arith) (inl (omega arith)) (λ _. refl) (λ _. refl)
+      of TooMuchWork h = told_fields 37 0 0 (omega arith) (inr refl) (λ _. refl) (λ _. refl)
       of (Failed cause) h = fault_fields cause h
 
 -- of a text and its list
@@ -188,7 +182,7 @@ text_of_markdown : (status start size : ℕ) → status ≤ 1 → start ≤ size
     IsOfMarkdown (tell status start size)
 text_of_markdown status start size few within = record {
   known = inl (omega (arith, few));
-  no_rule = λ _. refl;
+  no_rule = refl;
   within = λ _. within;
   no_place = λ more _. absurd (omega (arith, more, few));
   no_length = λ many _. absurd (omega (arith, many, few));

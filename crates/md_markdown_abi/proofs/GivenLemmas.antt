@@ -22,19 +22,17 @@ use Rattle.md_abi.specs.declared.failure.Failure.{Failure}
 use Rattle.md_abi.specs.declared.failure.Failure.TheVariants as failure
 use Rattle.md_markdown.specs.Made.{IsMadeOf}
 use Rattle.md_markdown.specs.declared.options.MarkdownOptions.{MarkdownOptions}
-use Rattle.md_markdown.specs.declared.error.MarkdownError.{MarkdownError}
-use Rattle.md_markdown.specs.declared.error.MarkdownError.TheVariants as markdown
 use Rattle.md_markdown.specs.declared.error.MarkdownWithinError.{MarkdownWithinError}
 use Rattle.md_markdown.specs.declared.error.MarkdownWithinError.TheVariants as within
 use Rattle.md_markdown_abi.specs.Numbers.{markdown_version}
 use Rattle.md_markdown_abi.specs.Options.{HasMarkdownOptions, readable_fields}
-use Rattle.md_markdown_abi.specs.Text.{IsMarkdownText, IsRead}
-use Rattle.md_markdown_abi.specs.Failures.{failure_of_error, failure_within, IsOptionFault}
+use Rattle.md_markdown_abi.specs.Text.{IsMarkdownText, AreRead, IsRead}
+use Rattle.md_markdown_abi.specs.Failures.{failure_within, IsOptionFault}
 use Rattle.md_markdown_abi.specs.Failures.{IsDocumentFault, ExplainsMarkdown}
 use Rattle.md_markdown_abi.specs.declared.option.CMarkdownOptions.{CMarkdownOptions}
 use Rattle.md_markdown_abi.specs.declared.failure.MarkdownFailure.{MarkdownFailure}
 use Rattle.md_markdown_abi.specs.declared.failure.MarkdownFailure.TheVariants as variant
-use variant.{NoVersion, InputTooLong, NotUtf8, OutputTooLong, TooMuchWork, Nested, Failed}
+use variant.{NoVersion, InputTooLong, NotUtf8, OutputTooLong, TooMuchWork, Failed}
 
 -- ---- a text
 
@@ -134,25 +132,18 @@ module _ (bytes : List ℕ) (given : CMarkdownOptions) where
   option_fault version (failure.Line number) fault = absurd fault
   option_fault version (failure.Refused index rule) fault = absurd fault
 
-  pub document_fault : given.version ≡ markdown_version → (why : MarkdownFailure) →
+  pub document_fault : AreRead given → (why : MarkdownFailure) →
       IsDocumentFault bytes given.max_input why → ExplainsMarkdown bytes given why
-  document_fault version NoVersion fault = absurd fault
-  document_fault version (InputTooLong size) fault = (version, fault)
-  document_fault version (NotUtf8 index) fault =
-      (record { version = version; fits = fault.0 }, fault.1)
-  document_fault version OutputTooLong fault = absurd fault
-  document_fault version TooMuchWork fault = absurd fault
-  document_fault version Nested fault = absurd fault
-  document_fault version (Failed cause) fault = absurd fault
-
-  error_told : IsRead bytes given → (why : MarkdownError) →
-      ExplainsMarkdown bytes given (failure_of_error why)
-  error_told read markdown.Memory = read.readable.version
-  error_told read (markdown.Refused index rule) = read
-  error_told read markdown.Nested = read
+  document_fault read NoVersion fault = absurd fault
+  document_fault read (InputTooLong size) fault = (read, fault)
+  document_fault read (NotUtf8 index) fault =
+      (record { options_read = read; fits = fault.0 }, fault.1)
+  document_fault read OutputTooLong fault = absurd fault
+  document_fault read TooMuchWork fault = absurd fault
+  document_fault read (Failed cause) fault = absurd fault
 
   pub within_told : IsRead bytes given → (why : MarkdownWithinError) →
       ExplainsMarkdown bytes given (failure_within why)
   within_told read within.TooLong = read
   within_told read within.TooMuch = read
-  within_told read (within.Markdown cause) = error_told read cause
+  within_told read within.Memory = read.readable.options_read.version

@@ -1,18 +1,22 @@
 -- What an answer about Markdown tells, by its status, and which of its fields tell something.
 use Rattle.std.specs.Prelude.{◌≡◌, ◌≢◌, ◌⊎◌, ℕ, ◌<◌, ◌≤◌, List, length}
 use Rattle.std.specs.Str.{IsUtf8, IsValidUpTo}
-use Rattle.md_abi.specs.Numbers.{too_short, refused, no_option, no_memory}
+use Rattle.md_abi.specs.Numbers.{too_short, no_option, no_memory}
 use Rattle.md_abi.specs.declared.answer.Answer.{Answer}
 use Rattle.md_markdown_abi.specs.Numbers.{markdown_version, input_too_long}
 use Rattle.md_markdown_abi.specs.Numbers.{not_utf8, no_version, too_much_work}
-use Rattle.md_markdown_abi.specs.Options.{StandsForNone}
+use Rattle.md_markdown_abi.specs.Options.{StandsForNone, AreReadable}
 use Rattle.md_markdown_abi.specs.declared.option.CMarkdownOptions.{CMarkdownOptions}
 
--- a status with which the document was found not to be too long
-pub record IsPastLength (status : ℕ) : Type 0 where
+-- a status with which each option was read
+pub record IsPastOptions (status : ℕ) : Type 0 where
   pub version : status ≢ no_version
   pub option : status ≢ no_option
   pub memory : status ≢ no_memory
+
+-- a status with which the document was found not to be too long
+pub record IsPastLength (status : ℕ) : Type 0 where
+  pub options : IsPastOptions status
   pub input : status ≢ input_too_long
 
 -- what an answer tells besides a text: another version, an option that stands for none, a document
@@ -22,6 +26,7 @@ pub record TellsOfMarkdown (bytes : List ℕ) (options : CMarkdownOptions) (answ
   pub other_version : answer.status ≡ no_version → options.version ≢ markdown_version
   pub version : answer.status ≢ no_version → options.version ≡ markdown_version
   pub no_option : answer.status ≡ no_option → StandsForNone options answer.index
+  pub readable : IsPastOptions answer.status → AreReadable options
   pub too_long : answer.status ≡ input_too_long → options.max_input < length bytes
   pub counted : answer.status ≡ input_too_long → answer.length ≡ length bytes
   pub fits : IsPastLength answer.status → length bytes ≤ options.max_input
@@ -31,13 +36,13 @@ pub record TellsOfMarkdown (bytes : List ℕ) (options : CMarkdownOptions) (answ
 -- a status of a call with Markdown
 abbrev pub IsMarkdownStatus : ℕ → Type 0
 IsMarkdownStatus status =
-    (status ≤ refused) ⊎ ((status ≡ no_option) ⊎ ((status ≡ no_memory)
-    ⊎ ((input_too_long ≤ status) × (status ≤ too_much_work))))
+    (status ≤ too_short) ⊎ ((status ≡ no_option) ⊎ ((status ≡ no_memory)
+    ⊎ ((input_too_long ≤ status) × ((status ≤ no_version) ⊎ (status ≡ too_much_work)))))
 
--- an index is told of a text, an event, an option or a byte; a length of a text or a document
+-- an index is told of a text, an option or a byte; a length of a text or a document
 pub record IsOfMarkdown (answer : Answer) : Type 0 where
   pub known : IsMarkdownStatus answer.status
-  pub no_rule : answer.status ≢ refused → answer.rule ≡ 0
+  pub no_rule : answer.rule ≡ 0
   pub within : answer.status ≤ too_short → answer.index ≤ answer.length
   pub no_place : no_option < answer.status → answer.status ≢ not_utf8 → answer.index ≡ 0
   pub no_length : too_short < answer.status → answer.status ≢ input_too_long → answer.length ≡ 0

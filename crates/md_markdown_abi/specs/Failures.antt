@@ -5,30 +5,22 @@ use Rattle.md_abi.specs.Failures.{answer_of}
 use Rattle.md_abi.specs.declared.answer.Answer.{Answer}
 use Rattle.md_abi.specs.declared.failure.Failure.{Failure}
 use Rattle.md_abi.specs.declared.failure.Failure.TheVariants as failure
-use Rattle.md_markdown.specs.declared.error.MarkdownError.{MarkdownError}
-use Rattle.md_markdown.specs.declared.error.MarkdownError.TheVariants as markdown
 use Rattle.md_markdown.specs.declared.error.MarkdownWithinError.{MarkdownWithinError}
 use Rattle.md_markdown.specs.declared.error.MarkdownWithinError.TheVariants as within
 use Rattle.md_markdown_abi.specs.Numbers.{markdown_version, input_too_long, output_too_long}
-use Rattle.md_markdown_abi.specs.Numbers.{not_utf8, no_version, failed, too_much_work}
+use Rattle.md_markdown_abi.specs.Numbers.{not_utf8, no_version, too_much_work}
 use Rattle.md_markdown_abi.specs.Options.{StandsForNone}
-use Rattle.md_markdown_abi.specs.Text.{IsReadable, IsRead}
+use Rattle.md_markdown_abi.specs.Text.{AreRead, IsReadable, IsRead}
 use Rattle.md_markdown_abi.specs.declared.option.CMarkdownOptions.{CMarkdownOptions}
 use Rattle.md_markdown_abi.specs.declared.failure.MarkdownFailure.{MarkdownFailure}
 use Rattle.md_markdown_abi.specs.declared.failure.MarkdownFailure.TheVariants as variant
-use variant.{NoVersion, InputTooLong, NotUtf8, OutputTooLong, TooMuchWork, Nested, Failed}
+use variant.{NoVersion, InputTooLong, NotUtf8, OutputTooLong, TooMuchWork, Failed}
 
--- the error of a text as a failure
-abbrev pub failure_of_error : MarkdownError → MarkdownFailure
-failure_of_error markdown.Memory = Failed failure.Memory
-failure_of_error (markdown.Refused index rule) = Failed (failure.Refused index rule)
-failure_of_error markdown.Nested = Nested
-
--- that of a text within limits
+-- why there is no text within limits, as a failure
 abbrev pub failure_within : MarkdownWithinError → MarkdownFailure
 failure_within within.TooLong = OutputTooLong
 failure_within within.TooMuch = TooMuchWork
-failure_within (within.Markdown cause) = failure_of_error cause
+failure_within within.Memory = Failed failure.Memory
 
 -- a status, an index and a length
 abbrev pub tell : ℕ → ℕ → ℕ → Answer
@@ -41,27 +33,23 @@ answer_of_markdown (InputTooLong size) = tell input_too_long 0 size
 answer_of_markdown (NotUtf8 index) = tell not_utf8 index 0
 answer_of_markdown OutputTooLong = tell output_too_long 0 0
 answer_of_markdown TooMuchWork = tell too_much_work 0 0
-answer_of_markdown Nested = tell failed 0 0
 answer_of_markdown (Failed cause) = answer_of cause
 
--- why there is no text, where an option, memory or the parser is at fault
+-- why there is no text, where an option or memory is at fault
 abbrev pub ExplainsFault : List ℕ → CMarkdownOptions → Failure → Type 0
 ExplainsFault bytes options failure.Memory = options.version ≡ markdown_version
 ExplainsFault bytes options (failure.Option number) =
     (options.version ≡ markdown_version) × StandsForNone options number
-ExplainsFault bytes options (failure.Refused index rule) = IsRead bytes options
 ExplainsFault bytes options _ = ⊥
 
 -- why there is no text of a document
 abbrev pub ExplainsMarkdown : List ℕ → CMarkdownOptions → MarkdownFailure → Type 0
 ExplainsMarkdown bytes options NoVersion = options.version ≢ markdown_version
 ExplainsMarkdown bytes options (InputTooLong size) =
-    (options.version ≡ markdown_version) × ((size ≡ length bytes)
-    × (options.max_input < length bytes))
+    AreRead options × ((size ≡ length bytes) × (options.max_input < length bytes))
 ExplainsMarkdown bytes options (NotUtf8 index) = IsReadable bytes options × IsValidUpTo bytes index
 ExplainsMarkdown bytes options OutputTooLong = IsRead bytes options
 ExplainsMarkdown bytes options TooMuchWork = IsRead bytes options
-ExplainsMarkdown bytes options Nested = IsRead bytes options
 ExplainsMarkdown bytes options (Failed cause) = ExplainsFault bytes options cause
 
 -- there is no memory, or a field that stands for no option is named

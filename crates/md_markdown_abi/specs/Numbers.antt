@@ -21,10 +21,6 @@ not_utf8 = 34
 abbrev pub no_version : ℕ
 no_version = 35
 
--- what was made of the document has a link in a link
-abbrev pub failed : ℕ
-failed = 36
-
 -- there is more work than there may be
 abbrev pub too_much_work : ℕ
 too_much_work = 37

@@ -1,6 +1,6 @@
 -- The options of Markdown that C's stand for.
 use Rattle.std.specs.Prelude.{◌≡◌, ℕ, ◌==◌, ◌+◌, ◌-◌, ◌*◌, ◌^◌, min, Bool, false, if◌then◌else◌}
-use Rattle.std.specs.Prelude.{List, [], ◌∷◌}
+use Rattle.std.specs.Prelude.{List, [], ◌∷◌, replicate, true}
 use Rattle.std.specs.Prelude.{Option, Some, None, is_some, option_map, slice_get, string_bytes}
 use Rattle.md_abi.specs.Options.{flag_of, text_of}
 use Rattle.md_markdown.specs.declared.options.DocumentHtml.{DocumentHtml}
@@ -53,6 +53,10 @@ readable_fields given =
     is_some (flag_of given.footnotes) ∷
     is_some (flag_of given.tables) ∷
     []
+
+-- each field stands for an option
+abbrev pub AreReadable : CMarkdownOptions → Type 0
+AreReadable given = readable_fields given ≡ replicate 14 true
 
 -- the field with this number stands for no option
 abbrev pub StandsForNone : CMarkdownOptions → ℕ → Type 0

@@ -12,6 +12,7 @@ use Rattle.md_abi.specs.Attributes.{asked, with_rel}
 use Rattle.md_abi.specs.Attributed.{IsListedAfter}
 use Rattle.md_markdown.specs.Made.{IsMadeOf}
 use Rattle.md_markdown_abi.specs.Numbers.{markdown_version}
+use Rattle.md_markdown_abi.specs.Options.{AreReadable}
 use Rattle.md_markdown_abi.specs.declared.option.CMarkdownOptions.{CMarkdownOptions}
 
 -- of the document there is a text, made of it and safe: it is tokenized as it is read, each element
@@ -34,9 +35,14 @@ pub record IsMarkdownText (bytes : List ℕ) (options : CMarkdownOptions) (start
   pub built : IsBuiltAsWritten (take start whole)
   pub fits : start ≤ options.max_output
 
--- the options are laid out as they are read, and the document has no more bytes than it may
-pub record IsReadable (bytes : List ℕ) (options : CMarkdownOptions) : Type 0 where
+-- the options are laid out as they are read, and each field stands for one
+pub record AreRead (options : CMarkdownOptions) : Type 0 where
   pub version : options.version ≡ markdown_version
+  pub readable : AreReadable options
+
+-- the options are read, and the document has no more bytes than it may
+pub record IsReadable (bytes : List ℕ) (options : CMarkdownOptions) : Type 0 where
+  pub options_read : AreRead options
   pub fits : length bytes ≤ options.max_input
 
 -- besides, the document is UTF-8

@@ -21,9 +21,6 @@ pub(crate) const NOT_UTF8: u32 = 34;
 /// The options are of another version.
 const NO_VERSION: u32 = 35;
 
-/// What was made of the document can't be printed.
-const FAILED: u32 = 36;
-
 /// There is more work than there may be.
 const TOO_MUCH_WORK: u32 = 37;
 
@@ -37,7 +34,6 @@ pub fn answer_to_markdown(failure: &MarkdownFailure) -> Answer
         MarkdownFailure::NotUtf8(index) => tell(NOT_UTF8, *index, 0),
         MarkdownFailure::OutputTooLong => tell(OUTPUT_TOO_LONG, 0, 0),
         MarkdownFailure::TooMuchWork => tell(TOO_MUCH_WORK, 0, 0),
-        MarkdownFailure::Nested => tell(FAILED, 0, 0),
         MarkdownFailure::Failed(failure) => answer_to(failure),
     }
 }

@@ -1,7 +1,7 @@
 //! Why there is no text of a document.
 
 use md_abi::Failure;
-use md_markdown::{MarkdownError, MarkdownWithinError};
+use md_markdown::MarkdownWithinError;
 use std::alloc::AllocError;
 
 /// Why a call has no text of a document to hand over.
@@ -17,9 +17,7 @@ pub enum MarkdownFailure {
     OutputTooLong,
     /// There is more to read and to print, or to use again, than there may be.
     TooMuchWork,
-    /// A link stands in a link: a fault of the parser.
-    Nested,
-    /// Of an option, of memory, or a refusal, which is a fault of the parser.
+    /// Of an option, or of memory.
     Failed(Failure),
 }
 
@@ -46,23 +44,6 @@ impl From<AllocError> for MarkdownFailure {
     }
 }
 
-impl From<MarkdownError> for MarkdownFailure {
-    ghost use Rattle.std.specs.Prelude.{◌≡◌};
-    ghost use Rattle.md_markdown_abi.specs.Failures.{failure_of_error};
-
-    ghost from_gives = { λ error made. made ≡ failure_of_error error };
-
-    fn from(error: MarkdownError) -> MarkdownFailure {
-        match error {
-            MarkdownError::Memory => MarkdownFailure::Failed(Failure::Memory),
-            MarkdownError::Refused { index, rule } => {
-                MarkdownFailure::Failed(Failure::Refused { index, rule })
-            }
-            MarkdownError::Nested => MarkdownFailure::Nested,
-        }
-    }
-}
-
 impl From<MarkdownWithinError> for MarkdownFailure {
     ghost use Rattle.std.specs.Prelude.{◌≡◌};
     ghost use Rattle.md_markdown_abi.specs.Failures.{failure_within};
@@ -73,7 +54,7 @@ impl From<MarkdownWithinError> for MarkdownFailure {
         match error {
             MarkdownWithinError::TooLong => MarkdownFailure::OutputTooLong,
             MarkdownWithinError::TooMuch => MarkdownFailure::TooMuchWork,
-            MarkdownWithinError::Markdown(cause) => MarkdownFailure::from(cause),
+            MarkdownWithinError::Memory => MarkdownFailure::Failed(Failure::Memory),
         }
     }
 }

@@ -4,7 +4,7 @@ use Rattle.std.specs.Prelude.{IsErrAnd}
 use Rattle.md_base.specs.declared.event.Event.{Event}
 use Rattle.md_tree.specs.Grammar.{Handed, IsChecked}
 use Rattle.md_tree.specs.Refusal.{IsRefusal, IsOrder, IsMdx, IsOfNode, IsLost, IsOutside}
-use Rattle.md_html.specs.Within.{IsLonger, IsTooMuchFor, OfTooLong, OfWithin}
+use Rattle.md_html.specs.Within.{IsLonger, IsTooMuchFor, IsTooDeepFor, OfTooLong, OfWithin}
 use Rattle.md_html.specs.declared.within.Limits.{Limits}
 use Rattle.md_html.specs.declared.within.WithinError.{WithinError}
 use Rattle.md_html.specs.declared.within.WithinError.TheVariants as within
@@ -20,32 +20,44 @@ pub refusal_within : (given : Handed) (why : WithinError) → OfWithin (IsOrder 
     OfWithin (IsOutside given) why → OfWithin (IsRefusal given) why
 refusal_within given within.TooLong order mdx of_node lost outside = tt
 refusal_within given within.TooMuch order mdx of_node lost outside = tt
+refusal_within given within.TooDeep order mdx of_node lost outside = tt
 refusal_within given (within.Compile cause) order mdx of_node lost outside =
     record { order = order; mdx = mdx; of_node = of_node; lost = lost; outside = outside }
 
 explained : (events : List Event) (bytes : List ℕ) (options : CompileOptions) (limits : Limits)
-    (why : WithinError) → IsTooMuchFor options (document_of events bytes) limits.work why →
+    (why : WithinError) → IsTooDeepFor events limits.depth why →
+    IsTooMuchFor options (document_of events bytes) limits.work why →
     OfTooLong (IsLonger options (document_of events bytes) limits.text) why →
     OfTooLong (IsChecked (document_of events bytes)) why →
     OfWithin (IsRefusal (document_of events bytes)) why →
     ExplainsEventsWithin events bytes options limits (run_within_error_of why)
-explained events bytes options limits within.TooLong much longer checked refusal =
-    record { grammatical = checked; longer = longer; bounded = much.0; reused = much.1 }
-explained events bytes options limits within.TooMuch much longer checked refusal = much
-explained events bytes options limits (within.Compile cause) much longer checked refusal =
-    (much, refused events bytes cause refusal)
+explained events bytes options limits within.TooLong deep much longer checked refusal = record {
+  grammatical = checked;
+  longer = longer;
+  bounded = much.0;
+  shallow = deep;
+  reused = much.1;
+}
+explained events bytes options limits within.TooMuch deep much longer checked refusal =
+    (deep, much)
+explained events bytes options limits within.TooDeep deep much longer checked refusal = deep
+explained events bytes options limits (within.Compile cause) deep much longer checked refusal =
+    (deep, much, refused events bytes cause refusal)
 
 -- what the conversion of the compiler's error gives
 pub told_within : {T : Type 0} (r : Result T RunWithinError) (why : WithinError)
     (given events : List Event) (bytes : List ℕ) (options : CompileOptions) (limits : Limits) →
     given ≡ events → IsErrAnd r (λ made. made ≡ run_within_error_of why) →
+    IsTooDeepFor given limits.depth why →
     IsTooMuchFor options (document_of given bytes) limits.work why →
     OfTooLong (IsLonger options (document_of given bytes) limits.text) why →
     OfTooLong (IsChecked (document_of given bytes)) why →
     OfWithin (IsRefusal (document_of given bytes)) why →
     IfErr r (λ error. ExplainsEventsWithin events bytes options limits error)
-told_within (Ok x) why given events bytes options limits same h much longer checked refusal = tt
-told_within (Err made) why given events bytes options limits same h much longer checked refusal =
+told_within (Ok x) why given events bytes options limits same h deep much longer checked refusal =
+    tt
+told_within (Err made) why given events bytes options limits same h deep much longer checked
+    refusal =
     subst (λ es. ExplainsEventsWithin es bytes options limits made) same
     (subst (λ error. ExplainsEventsWithin given bytes options limits error) (sym h)
-    (explained given bytes options limits why much longer checked refusal))
+    (explained given bytes options limits why deep much longer checked refusal))

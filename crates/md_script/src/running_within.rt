@@ -19,6 +19,8 @@ pub enum RunWithinError {
     TooLong,
     /// There is more to read and to print, or to use again, than there may be.
     TooMuch,
+    /// The events nest deeper than they may.
+    TooDeep,
     /// The script gives no text.
     Run(RunError),
 }
@@ -28,7 +30,8 @@ impl RunWithinError {
     ghost use Rattle.md_script.specs.Within.{within_status};
 
     /// The status with which a program ends: that of the script's error, 5 for a text that is too
-    /// long, 6 for too much work. [`ServeError`](crate::ServeError) has 4.
+    /// long, 6 for too much work, 7 for events that nest too deep.
+    /// [`ServeError`](crate::ServeError) has 4.
     ///
     /// # Examples
     ///
@@ -36,6 +39,7 @@ impl RunWithinError {
     /// assert_eq!(RunWithinError::Run(RunError::Line(1)).status(), 2);
     /// assert_eq!(RunWithinError::TooLong.status(), 5);
     /// assert_eq!(RunWithinError::TooMuch.status(), 6);
+    /// assert_eq!(RunWithinError::TooDeep.status(), 7);
     /// ```
     pub fn status(&self) -> u8
         ensures { result ≡ within_status self.now }
@@ -43,6 +47,7 @@ impl RunWithinError {
         match self {
             RunWithinError::TooLong => 5,
             RunWithinError::TooMuch => 6,
+            RunWithinError::TooDeep => 7,
             RunWithinError::Run(error) => error.status(),
         }
     }
@@ -58,6 +63,7 @@ impl fmt::Display for RunWithinError {
         match self {
             RunWithinError::TooLong => f.write_str("text too long"),
             RunWithinError::TooMuch => f.write_str("too much work"),
+            RunWithinError::TooDeep => f.write_str("nested too deep"),
             RunWithinError::Run(error) => fmt::Display::fmt(error, f),
         }
     }
@@ -84,28 +90,31 @@ impl From<WithinError> for RunWithinError {
         match error {
             WithinError::TooLong => RunWithinError::TooLong,
             WithinError::TooMuch => RunWithinError::TooMuch,
+            WithinError::TooDeep => RunWithinError::TooDeep,
             WithinError::Compile(cause) => RunWithinError::Run(RunError::from(cause)),
         }
     }
 }
 
-/// Reads a script and compiles what it stands for, where its text and its work are within limits.
+/// Reads a script and compiles what it stands for, where its text, its work and its nesting are
+/// within limits.
 ///
 /// # Errors
 ///
-/// `RunWithinError::TooMuch` where the script can be read and gives more work than `limits.work`,
-/// or is a document's that uses more again than that; `RunWithinError::TooLong` only where its text
+/// `RunWithinError::TooDeep` where the script can be read and its events nest deeper than
+/// `limits.depth`; `RunWithinError::TooMuch` where else it gives more work than `limits.work`, or
+/// is a document's that uses more again than that; `RunWithinError::TooLong` only where its text
 /// has more bytes than `limits.text`; else as [`run`](crate::run).
 ///
 /// # Examples
 ///
 /// ```
 /// let script = b"+ThematicBreak 0\n-ThematicBreak 3\n--\n***\n";
-/// let html = run_within(alloc, script, Limits { text: 6, work: 0 })?;
+/// let html = run_within(alloc, script, Limits { text: 6, work: 0, depth: 1 })?;
 /// assert_eq!(html.as_str(), "<hr />");
 ///
 /// // One byte less.
-/// let refused = run_within(alloc, script, Limits { text: 5, work: 0 });
+/// let refused = run_within(alloc, script, Limits { text: 5, work: 0, depth: 1 });
 /// // Err(RunWithinError::TooLong)
 /// ```
 pub fn run_within(alloc: Global, input: &[u8], limits: Limits) -> Result<String, RunWithinError>

@@ -1,5 +1,6 @@
 -- What a URL is made of, and what one is that is read against a base.
-use Rattle.std.specs.Prelude.{◌≡◌, ◌++◌, ℕ, List, [], Option, Some, None, codes}
+use Rattle.std.specs.Prelude.{◌≡◌, ◌++◌, ◌||◌, ℕ, List, [], Option, Some, None, codes}
+use Rattle.std.specs.Prelude.{Bool, IsTrue, bytes_eq}
 use Rattle.std.specs.Borrow.{Bor}
 use Rattle.md_urls.specs.declared.parts.Parts.{Parts}
 
@@ -19,9 +20,14 @@ url_of guard parts =
     before parts.scheme (codes ":") ++ (behind (codes "//") parts.authority ++ (guard
     ++ (parts.path.now ++ (behind (codes "?") parts.query ++ behind (codes "#") parts.fragment))))
 
--- behind a text stands the URL of these parts
+-- what may stand before a path, so that it isn't read as an authority (3.3) or a scheme (4.2)
+abbrev pub is_guard : List ℕ → Bool
+is_guard text = bytes_eq text [] || bytes_eq text (codes "/.") || bytes_eq text (codes "./")
+
+-- behind a text stands the URL of these parts, with a guard or none
 abbrev pub IsBehind : Parts → List ℕ → List ℕ → Type 0
-IsBehind parts old new = (guard : List ℕ) × (new ≡ old ++ url_of guard parts)
+IsBehind parts old new = (guard : List ℕ) × IsTrue (is_guard guard)
+    × (new ≡ old ++ url_of guard parts)
 
 -- behind a text stands a URL of a base's scheme
 abbrev pub IsOfScheme : Parts → List ℕ → List ℕ → Type 0

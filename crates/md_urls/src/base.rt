@@ -4,7 +4,7 @@ ghost use Rattle.std.specs.Prelude.{◌≡◌, IfOk, IsTrue, false};
 ghost use Rattle.md_urls.specs.Urls.{IsOfScheme};
 
 use crate::parts::Parts;
-use crate::path::merged;
+use crate::path::{merged, without_dots};
 use std::alloc::{AllocError, Global};
 
 /// The URL against which others are read. It may be relative itself: what is read against it is
@@ -56,7 +56,14 @@ impl<'a> Base<'a> {
         let scheme = self.parts.scheme;
         let authority = self.parts.authority;
         if parts.authority.is_some() {
-            Parts { scheme, ..parts }.push_onto(text)?;
+            let path = without_dots(alloc, parts.path)?;
+            let path = path.as_slice();
+            Parts {
+                scheme,
+                path,
+                ..parts
+            }
+            .push_onto(text)?;
         } else if parts.path.is_empty() {
             let path = self.parts.path;
             Parts {

@@ -1,7 +1,7 @@
 //! The parts of a URL.
 
-ghost use Rattle.std.specs.Prelude.{◌≡◌, ◌++◌, OnOk};
-ghost use Rattle.md_urls.specs.Urls.{IsBehind, before, behind};
+ghost use Rattle.std.specs.Prelude.{◌≡◌, ◌++◌, OnOk, IsTrue};
+ghost use Rattle.md_urls.specs.Urls.{IsBehind, before, behind, is_guard};
 
 use std::alloc::AllocError;
 
@@ -53,7 +53,9 @@ impl<'a> Parts<'a> {
 
     /// What stands before the path so that it is read as one: as it stands its beginning would be
     /// an authority (3.3), or a scheme (4.2).
-    fn before_path(&self) -> &'static [u8] {
+    fn before_path(&self) -> &'static [u8]
+        ensures { IsTrue (is_guard result.now) }
+    {
         if self.authority.is_some() {
             return b"";
         }

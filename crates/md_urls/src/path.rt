@@ -18,9 +18,12 @@ pub(crate) fn merged(alloc: Global, base: &Parts, path: &[u8]) -> Result<Vec<u8>
     without_dots(alloc, whole.as_slice())
 }
 
-/// A path without its parts `.` and `..` (5.2.4). One that isn't absolute stays so, and isn't
-/// empty.
-fn without_dots(alloc: Global, path: &[u8]) -> Result<Vec<u8>, AllocError> {
+/// A path without its parts `.` and `..` (5.2.4). One that isn't absolute stays so, and only an
+/// empty one becomes empty.
+pub(crate) fn without_dots(alloc: Global, path: &[u8]) -> Result<Vec<u8>, AllocError> {
+    if path.is_empty() {
+        return Ok(Vec::new(alloc));
+    }
     let is_absolute = path.starts_with(b"/");
     let mut kept: Vec<&[u8]> = Vec::new(alloc);
     for part in path.split(|byte| *byte == b'/') {

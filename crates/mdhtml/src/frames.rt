@@ -1,6 +1,6 @@
 //! Documents, alone or one after another.
 
-use md_markdown::{MarkdownError, MarkdownOptions, SafeHtml, markdown};
+use md_markdown::{MarkdownOptions, SafeHtml, markdown};
 use std::alloc::Global;
 use std::io::{self, Error, ErrorKind, Write};
 use std::str;
@@ -70,7 +70,7 @@ fn split_frame(input: &[u8]) -> io::Result<Option<(&[u8], &[u8])>> {
     }
 }
 
-/// The text of a document, where it has one.
+/// The text of a document, where that is UTF-8.
 fn text_of(
     alloc: Global,
     document: &[u8],
@@ -81,7 +81,6 @@ fn text_of(
     };
     match markdown(alloc, text, options) {
         Ok(html) => Ok(Some(html)),
-        Err(MarkdownError::Refused { .. } | MarkdownError::Nested) => Ok(None),
-        Err(MarkdownError::Memory) => Err(Error::from(ErrorKind::OutOfMemory)),
+        Err(_) => Err(Error::from(ErrorKind::OutOfMemory)),
     }
 }

@@ -6,7 +6,7 @@
 //! `--hard-breaks`, `--number-ids`, `--html=text`, `--html=left-out`, `--html=without-comments`,
 //! `--base=URL`, `--footnote-prefix=TEXT`, and `--frames`: standard input is then documents one
 //! after another, each behind how many bytes it has and a line feed, and each text stands behind
-//! `0`, a space, its length and a line feed. A document with no text is told by `1 0`.
+//! `0`, a space, its length and a line feed. A document that is no UTF-8 is told by `1 0`.
 //!
 //! If there is no HTML, it writes one line to standard error, and ends with status 1.
 #![tactic(auto)]

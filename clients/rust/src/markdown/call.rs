@@ -8,7 +8,7 @@ use crate::layouts::{
     CMarkdownOptions,
 };
 use crate::markdown_numbers::{
-    MARKDOWN_VERSION, STATUS_FAILED, STATUS_INPUT_TOO_LONG, STATUS_OUTPUT_TOO_LONG,
+    MARKDOWN_VERSION, STATUS_INPUT_TOO_LONG, STATUS_OUTPUT_TOO_LONG,
     STATUS_TOO_MUCH_WORK,
 };
 use crate::numbers::{STATUS_NO_OPTION, STATUS_OK, STATUS_TOO_SHORT};
@@ -103,7 +103,6 @@ fn error_under(answer: &CAnswer, length: usize, options: &MarkdownOptions) -> Er
         STATUS_TOO_MUCH_WORK => Error::TooMuchWork {
             limit: options.max_work.unwrap_or_else(|| default_work(length)),
         },
-        STATUS_FAILED => Error::Parser,
         STATUS_NO_OPTION => Error::Unknown,
         _ => error_of(answer),
     }
@@ -166,8 +165,7 @@ mod tests {
         let limit = default_work(3);
         let too_much = Error::TooMuchWork { limit };
         assert_eq!(of(STATUS_TOO_MUCH_WORK, &options), too_much);
-        assert_eq!(of(STATUS_FAILED, &options), Error::Parser);
-        for status in [STATUS_NO_OPTION, 34, 35] {
+        for status in [STATUS_NO_OPTION, 34, 35, 36] {
             assert_eq!(of(status, &options), Error::Unknown);
         }
     }

@@ -143,9 +143,8 @@ pub fn default_work(input_len: usize) -> usize {
 /// # Errors
 ///
 /// [`Error::InputTooLong`], [`Error::OutputTooLong`] and [`Error::TooMuchWork`] where a bound of
-/// the options is passed, [`Error::Memory`] where the library finds no memory. [`Error::Parser`]
-/// and [`Error::Refused`] would be a fault of the library: no document is known that gets one of
-/// them.
+/// the options is passed, [`Error::Memory`] where the library finds no memory. No document is
+/// refused.
 ///
 /// ```
 /// use bivdrazo::{markdown_to_html, MarkdownOptions};

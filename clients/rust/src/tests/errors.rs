@@ -62,7 +62,6 @@ fn texts_of_errors() {
             "the text has more than 7 bytes",
         ),
         (Error::TooMuchWork { limit: 8 }, "there is more work than 8"),
-        (Error::Parser, "the parser failed"),
         (Error::Unknown, "a library of another version"),
     ] {
         assert_eq!(error.to_string(), text);

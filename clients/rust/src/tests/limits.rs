@@ -1,4 +1,4 @@
-//! Limits of the text and of the work.
+//! Limits of the text, of the work and of the nesting.
 
 use super::*;
 
@@ -8,7 +8,7 @@ fn within(events: &[Event], bytes: &[u8], text: usize, work: usize) -> Result<St
         bytes,
         &Options::default(),
         &[],
-        Limits { text, work },
+        Limits::default().with_text(text).with_work(work),
     )
 }
 
@@ -21,7 +21,8 @@ fn limits() {
         Limits::default(),
         Limits {
             text: most,
-            work: most
+            work: most,
+            depth: 0
         }
     );
     assert_eq!(of(most, most), Ok(text.clone()));
@@ -32,6 +33,26 @@ fn limits() {
     assert_eq!(of(most, 5), Err(Error::TooMuchWork { limit: 5 }));
     assert_eq!(of(0, 0), Err(Error::TooMuchWork { limit: 0 }));
     assert_eq!(within(&[], b"", 0, 0), Ok(String::new()));
+}
+
+#[test]
+fn nesting() {
+    let deep = |levels, depth| {
+        let events = (0..levels).fold(Vec::new(), |events, _| {
+            node(Name::BlockQuote, 0, 0, &events)
+        });
+        let limits = Limits::default().with_depth(depth);
+        compile_within(&events, b"", &Options::default(), &[], limits).map(|_| ())
+    };
+    assert_eq!(deep(9, 9), Ok(()));
+    assert_eq!(deep(9, 0), Ok(()));
+    assert_eq!(deep(9, 8), Err(Error::TooDeep { limit: 8 }));
+    let open = vec![Event::enter(Name::Paragraph, 0); 2];
+    let limits = Limits::default().with_work(0).with_depth(1);
+    assert_eq!(
+        compile_within(&open, b"", &Options::default(), &[], limits),
+        Err(Error::TooDeep { limit: 1 })
+    );
 }
 
 #[test]

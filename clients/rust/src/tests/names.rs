@@ -43,6 +43,8 @@ fn nested_links() {
     let nested = around(&around(&[]));
     assert_eq!(unnested(&around(&[])), Ok("<a href=\"\"></a>".to_string()));
     assert_eq!(unnested(&nested), Err(Error::Nested));
+    assert_eq!(has_nested_link(&nested), Ok(true));
+    assert_eq!(has_nested_link(&around(&[])), Ok(false));
     assert!(with_defaults(&nested, b"").is_ok());
 }
 

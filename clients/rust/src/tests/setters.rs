@@ -71,4 +71,5 @@ fn attributes_and_limits() {
     });
     sets(Limits::default().with_text(1), |it| it.text = 1);
     sets(Limits::default().with_work(1), |it| it.work = 1);
+    sets(Limits::default().with_depth(1), |it| it.depth = 1);
 }

@@ -5,15 +5,15 @@ use super::log::{Log, again};
 use super::rows::{Row, Wanted, documents};
 use md_html::{
     CompileError, CompileOptions, Limits, SafeHtml, SafeWithinError, WithinError, check,
-    compile_safe_within, compile_within, reuse_of, work_of,
+    compile_safe_within, compile_within, depth_of, reuse_of, work_of,
 };
 use std::alloc::Global;
 
 /// No limit.
 const NONE: usize = usize::MAX;
 
-/// Makes these calls over each document: at its exact length and work, or what it uses again if
-/// that is more; at one less of each; and at the least and the greatest limits.
+/// Makes these calls over each document: at its exact length, work, or what it uses again if that
+/// is more, and depth; at one less of each; and at the least and the greatest limits.
 pub fn ask_each(alloc: Global, log: &mut Log) {
     for rows in documents() {
         ask_rows(alloc, log, rows);
@@ -32,17 +32,20 @@ fn ask_row(alloc: Global, log: &mut Log, row: &Row) {
     let (length, work) = (length_of(&row.wanted), work_of(row.events));
     let reuse = reused(alloc, log, row);
     let work = work.max(reuse);
+    let depth = depth_of(row.events);
     let limits = [
-        (length, work),
-        (length.saturating_sub(1), work),
-        (length, work.saturating_sub(1)),
-        (0, NONE),
-        (NONE, NONE),
+        (length, work, depth),
+        (length.saturating_sub(1), work, depth),
+        (length, work.saturating_sub(1), depth),
+        (length, work, depth.saturating_sub(1)),
+        (0, NONE, NONE),
+        (NONE, NONE, NONE),
     ];
-    for (text, work) in &limits {
+    for (text, work, depth) in &limits {
         let limits = Limits {
             text: *text,
             work: *work,
+            depth: *depth,
         };
         ask_limits(alloc, log, &Asked { row, reuse }, limits);
     }
@@ -107,16 +110,19 @@ fn is_kept(text: &str, asked: &Asked, limits: Limits) -> bool {
     is_text(text, &asked.row.wanted)
         && text.len() <= limits.text
         && work_of(asked.row.events) <= limits.work
+        && depth_of(asked.row.events) <= limits.depth
         && asked.reuse <= limits.work
 }
 
 /// Whether an error is wanted within limits.
 fn is_right(error: &WithinError, asked: &Asked, limits: Limits) -> bool {
     let wanted = &asked.row.wanted;
-    let is_over = work_of(asked.row.events) > limits.work;
+    let is_deep = depth_of(asked.row.events) > limits.depth;
+    let is_over = is_deep || work_of(asked.row.events) > limits.work;
     let is_reused = asked.reuse > limits.work;
     match error {
-        WithinError::TooMuch => is_over || is_reused,
+        WithinError::TooDeep => is_deep,
+        WithinError::TooMuch => !is_deep && (is_over || is_reused),
         WithinError::TooLong => !is_over && !is_reused && length_of(wanted) > limits.text,
         WithinError::Compile(cause) => !is_over && is_refusal(cause, wanted),
     }

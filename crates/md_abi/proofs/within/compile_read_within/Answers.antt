@@ -10,5 +10,5 @@ returns-in_err-compile_within-clause-err c =
     let error = c.in_err-compile_within.field-0.0 in
     let given = handed c.args.read.events.now c.args.read.bytes.now c.args.read.names.now in
     told_within given c.args.options.now c.args.limits error c.from_residual.result
-    c.from_residual.ensures.1 why.too_much why.too_long why.long_grammatical
+    c.from_residual.ensures.1 why.too_deep why.too_much why.too_long why.long_grammatical
     (refusal_within given error why.order why.mdx why.of_node why.lost why.outside)

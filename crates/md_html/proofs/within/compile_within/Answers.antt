@@ -7,10 +7,11 @@ use Rattle.std.specs.Prelude.{Option, Some, IfSome}
 use Rattle.md_base.specs.Tree.{Forest, flatten}
 use Rattle.md_tree.specs.Grammar.{Handed, IsChecked, handed}
 use Rattle.md_meaning.specs.Meaning.{meaning}
+use Rattle.md_depth.specs.Depth.{depth}
 use Rattle.md_html.specs.Work.{work}
 use Rattle.md_html.specs.Reuse.{reuse}
 use Rattle.md_html.specs.Within.{IsLonger, IsReuseWithin}
-use Rattle.md_html.proofs.Promises.{promises, bounded}
+use Rattle.md_html.proofs.Promises.{promises, bounded, nested}
 use Rattle.md_html.proofs.within.compile_within.Goals as goal
 
 some-at : {X : Type 0} (P : X → Type 0) (o : Option X) (x : X) → o ≡ Some x → IfSome o P → P x
@@ -30,7 +31,9 @@ returns-in-Some c =
     let kept = promises c.args.options.now given text read few meant in
     let worked : work given.events ≤ c.args.limits.work =
     ltb-false c.args.limits.work (work c.args.events.now)
-    (sym c.is_over.ensures ∙ c.if-is_over.false) in
+    (sym (c.is_over.ensures (work c.args.events.now) c.measure-measured.ensures.work)
+    ∙ c.if-is_over.false) in
+    let shallow : depth given.events ≤ c.args.limits.depth = search rules in
     let reused : IsReuseWithin c.args.options.now given c.args.limits.work =
     subst (λ (given : Handed). IsReuseWithin c.args.options.now given c.args.limits.work)
     c.in_ok-checked.ensures.ok (λ document flat. ltb-false _ _
@@ -38,7 +41,9 @@ returns-in-Some c =
     record {
       within =
           some-at _ c.in_ok-text.field-0 c.in-Some.text c.in-Some.is c.in_ok-text.ensures.within;
-      work = search rules;
+      work = worked;
+      depth = shallow;
+      nesting = nested c.args.options.now given text c.args.limits.depth read meant shallow;
       reuse = reused;
       bounded =
           bounded c.args.options.now given text c.args.limits.work read few meant worked reused;
@@ -53,6 +58,7 @@ returns-in-Some c =
       safe_link_tokens = kept.safe_link_tokens;
       safe_image_tokens = kept.safe_image_tokens;
       distinct_ids = kept.distinct_ids;
+      too_deep = search rules;
       too_much = search rules;
       too_long = search rules;
       long_grammatical = search rules;
@@ -77,7 +83,8 @@ returns-then-branch-clause-too_much c =
 pub returns-clause-too_much : goal.returns-clause-too_much
 returns-clause-too_much c = (
   ltb-false c.args.limits.work (work c.args.events.now)
-      (sym c.is_over.ensures ∙ c.if-is_over.false),
+      (sym (c.is_over.ensures (work c.args.events.now) c.measure-measured.ensures.work)
+      ∙ c.if-is_over.false),
   subst (λ (given : Handed). IsReuseWithin c.args.options.now given c.args.limits.work)
       c.in_ok-checked.ensures.ok (λ document flat. ltb-false _ _
       (sym (c.in_ok-is_reuse_over.ensures document flat) ∙ c.if-branch.false)),

@@ -1,8 +1,9 @@
 -- At each turn: what is counted and what is still to come are what is counted of all; no count
 -- passes the events gone over.
-use Rattle.std.proofs.Common.{◌≡◌, ◌+◌, ◌-◌, ◌^◌, ◌≤◌, length}
+use Rattle.std.proofs.Common.{◌≡◌, ◌+◌, ◌-◌, ◌^◌, ◌≤◌, max, length}
 use Rattle.md_html.specs.Work.{read_length, cells}
 use Rattle.md_html.specs.Counting.{capped}
+use Rattle.md_depth.specs.Depth.{deepest, depth}
 use Rattle.md_html.proofs.Counting.{read_from}
 use Rattle.md_html.proofs.work.tally_of.Given as goal
 
@@ -15,6 +16,9 @@ invariant-loop-event l = record {
   read_fits : l.progress.length ≤ 2 ^ 128 - 1;
   cells_fit : l.cells ≤ 2 ^ 128 - 1;
   few_columns : l.columns + length l.rest ≤ length l.events;
+  depth : max l.levels.deepest (deepest l.levels.opened l.rest) ≡ depth l.events;
+  opened : l.levels.opened ≤ l.levels.deepest;
+  few_opened : l.levels.opened + length l.rest ≤ length l.events;
 }
 
 abbrev pub decreases-loop-event : goal.decreases-loop-event

@@ -11,7 +11,7 @@ returns-in_err-compile_within-clause-err c =
     let given = c.as_slice.result.now in
     let bytes = c.args.script.now.document.now in
     told_within c.from_residual.result error given _ bytes c.args.script.now.options c.args.limits
-    c.as_slice.ensures.value c.from_residual.ensures.1 why.too_much why.too_long
-    why.long_grammatical
+    c.as_slice.ensures.value c.from_residual.ensures.1 why.too_deep why.too_much
+    why.too_long why.long_grammatical
     (refusal_within (document_of given bytes) error why.order why.mdx why.of_node why.lost
     why.outside)

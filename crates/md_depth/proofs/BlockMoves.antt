@@ -1,0 +1,297 @@
+-- Blocks leave no element open, and open two at most beside what their children open.
+use Rattle.std.specs.List.{list_all, list_any, flat_map}
+use Rattle.std.proofs.Common.{◌≡◌, ℕ, ◌+◌, ◌≤◌, zero, suc, Bool, true, false, not}
+use Rattle.std.proofs.Common.{cond, List, [], ◌∷◌, ◌++◌, refl, sym, subst, inl, inr, arith}
+use Rattle.std.proofs.Common.{codes, drop}
+use Rattle.std.specs.Prelude.{Option, Some, None, bytes_eq, count_by, slice_get}
+use Rattle.std.specs.Option.{option_map_or}
+use Rattle.std.specs.Fmt.{digits}
+use Rattle.md_base.proofs.Lies.{lie}
+use Rattle.md_base.specs.declared.event.AlignKind.{AlignKind}
+use Rattle.md_base.specs.declared.event.AlignKind.TheVariants as align
+use Rattle.md_base.specs.declared.event.Position.{Position}
+use Rattle.md_base.specs.declared.event.Name.{Name}
+use Rattle.md_base.specs.declared.event.Name.TheVariants as name_variants
+use name_variants.{BlockQuote, ListOrdered, ListUnordered, ListItem, Paragraph, ThematicBreak}
+use name_variants.{HeadingAtx, HeadingSetextUnderlineSequence, CodeIndented, CodeFenced, MathFlow}
+use name_variants.{HtmlFlow, GfmTable, GfmTableHead, GfmTableBody, GfmTableRow, GfmTableCell}
+use Rattle.md_base.specs.Is.{is as named}
+use Rattle.md_base.specs.Children.{spine_names}
+use Rattle.md_base.specs.NameTests.{is_chunk}
+use Rattle.md_text.proofs.HtmlNames.{no_angle, escaped-angle}
+use Rattle.md_text.proofs.HtmlAngles.{all-append}
+use Rattle.md_meaning.specs.Meaning.At.{At, text_in}
+use Rattle.md_meaning.specs.Meaning.Around.{is_tight}
+use Rattle.md_meaning.specs.Meaning.Finds.{number_in_list}
+use Rattle.md_meaning.specs.Meaning.Layout.{Piece, Text, Needed, layout, said, on_own_line}
+use Rattle.md_meaning.specs.Meaning.Layout.{when}
+use Rattle.md_meaning.specs.Meaning.Means.{prints}
+use Rattle.md_meaning.specs.Meaning.Blocks.{without_zeros, ends_in_line, heading_tag}
+use Rattle.md_meaning.specs.Meaning.Blocks.{heading, atx_rank, underline_rank, code_end, runs_out}
+use Rattle.md_meaning.specs.Meaning.Blocks.{is_unclosed, fenced}
+use Rattle.md_meaning.specs.Meaning.Spans.{is_at}
+use Rattle.md_meaning.specs.Meaning.Tables.{align_attribute, cell_of}
+use Rattle.md_shape.specs.Underlined.{is_underline}
+use Rattle.md_shape.specs.Built.{Blocks, is_digit}
+use Rattle.md_safe.proofs.Texts.{Escaped, zeros-escaped}
+use Rattle.md_safe.proofs.Laid.{adds-weaker}
+use Rattle.md_safe.proofs.RawElements.{IsRaw, IsInfo, code_tag, math_tag}
+use Rattle.md_safe.proofs.Spot.{Setting, IsFitAt, Prints, Inside}
+use Rattle.md_safe.proofs.FlowNodes.{is_flow, setext-fits}
+use Rattle.md_depth.proofs.Machine.{Leads, leads-open, leads-close, leads-append, leads-quiet}
+use Rattle.md_depth.proofs.Moves as moves
+use Rattle.md_depth.proofs.Moves.{Moves, ◌▸◌, none, needed, forced, adds-quiet, more, laid, plain}
+use Rattle.md_depth.proofs.Moves.{part, IsOpening, IsClosing, open_tag, close_tag, void_tag, kept}
+use Rattle.md_depth.proofs.Moves.{open_line, close_line, when_needed, when_forced}
+use Rattle.md_depth.proofs.SpanMoves.{Room, Below}
+
+-- ---- headings
+
+heading-opens : (rank : ℕ) → 1 ≤ rank → rank ≤ 6 → IsOpening (heading_tag (codes "<h") rank)
+unfolding digits
+heading-opens zero low high = absurd (omega (arith, low))
+heading-opens (suc zero) low high = λ l t. refl
+heading-opens (suc (suc zero)) low high = λ l t. refl
+heading-opens (suc (suc (suc zero))) low high = λ l t. refl
+heading-opens (suc (suc (suc (suc zero)))) low high = λ l t. refl
+heading-opens (suc (suc (suc (suc (suc zero))))) low high = λ l t. refl
+heading-opens (suc (suc (suc (suc (suc (suc zero)))))) low high = λ l t. refl
+heading-opens (suc (suc (suc (suc (suc (suc (suc rank))))))) low high =
+    absurd (omega (arith, high))
+
+heading-closes : (rank : ℕ) → 1 ≤ rank → rank ≤ 6 → IsClosing (heading_tag (codes "</h") rank)
+unfolding digits
+heading-closes zero low high = absurd (omega (arith, low))
+heading-closes (suc zero) low high = λ l t. refl
+heading-closes (suc (suc zero)) low high = λ l t. refl
+heading-closes (suc (suc (suc zero))) low high = λ l t. refl
+heading-closes (suc (suc (suc (suc zero)))) low high = λ l t. refl
+heading-closes (suc (suc (suc (suc (suc zero))))) low high = λ l t. refl
+heading-closes (suc (suc (suc (suc (suc (suc zero)))))) low high = λ l t. refl
+heading-closes (suc (suc (suc (suc (suc (suc (suc rank))))))) low high =
+    absurd (omega (arith, high))
+
+heading-moves : (e : List ℕ) (n m rank : ℕ) → Escaped e → suc m ≤ n → 1 ≤ rank → rank ≤ 6 →
+    (inner : List Piece) → Moves e m 0 0 inner → Moves e n 0 0 (heading rank inner)
+heading-moves e n m rank h room low high inner a =
+    open_line e n 0 (heading_tag (codes "<h") rank) h (heading-opens rank low high)
+    (omega (arith, room))
+    ▸ more e 1 m n inner (omega (arith, room)) a
+    ▸ close_tag e n 0 (heading_tag (codes "</h") rank) (heading-closes rank low high)
+
+-- ---- lists
+
+digits_of : (bytes : List ℕ) (found : Option Position) →
+    option_map_or (λ place. list_all is_digit (text_in bytes place)) found true ≡ true →
+    list_all is_digit (option_map_or (text_in bytes) found (codes "1")) ≡ true
+digits_of bytes None fits = refl
+digits_of bytes (Some place) fits = fits
+
+start-moves : (e : List ℕ) (n a : ℕ) (number : List ℕ) → Escaped number → (one : Bool) →
+    Moves e n a a (when (not one) (Text (codes " start=\"") ∷ Text number ∷ Text (codes "\"") ∷ []))
+start-moves e n a number h true = none e n a
+start-moves e n a number h false =
+    part e n a (codes " start=\"") refl ▸ plain e n a number h ▸ part e n a (codes "\"") refl
+
+item-end : (e : List ℕ) (n : ℕ) → Escaped e → (holds : Bool) →
+    Moves e n 1 1 (cond holds [] (Needed ∷ []))
+item-end e n h true = none e n 1
+item-end e n h false = needed e n 1 h
+
+-- ---- code
+
+info-quiet : (tag x : List ℕ) → IsInfo tag x → list_all no_angle x ≡ true
+info-quiet tag x (inl is) = subst (λ x. list_all no_angle x ≡ true) (sym is) refl
+info-quiet tag x (inr is) =
+    subst (λ x. list_all no_angle x ≡ true) (sym is.1)
+    (all-append (codes " class=\"language-") (is.0 ++ codes "\"") refl
+    (all-append is.0 (codes "\"") (escaped-angle is.0 is.2) refl))
+
+code-opens : (e : List ℕ) (n : ℕ) → suc 1 ≤ n → (second : List ℕ) → IsOpening second →
+    Moves e n 0 2 (Text (codes "<pre>" ++ second) ∷ [])
+code-opens e n room second opens =
+    moves.text e n 0 2 (codes "<pre>" ++ second)
+    (leads-append 0 1 2 n (codes "<pre>") second
+    (leads-open 0 n (codes "<pre>") (λ l t. refl) (omega (arith, room)))
+    (leads-open 1 n second opens room))
+
+code-closes : (e : List ℕ) (n : ℕ) → Moves e n 2 0 (said (codes "</code></pre>"))
+code-closes e n =
+    moves.text e n 2 0 (codes "</code></pre>")
+    (leads-append 2 1 0 n (codes "</code>") (codes "</pre>")
+    (leads-close 1 n (codes "</code>") (λ l t. refl))
+    (leads-close 0 n (codes "</pre>") (λ l t. refl)))
+
+end-moves : (e : List ℕ) (n : ℕ) (t : At) → Escaped e → Moves e n 2 0 (code_end t)
+end-moves e n t h =
+    when_needed e n 2 h (list_any is_chunk (spine_names t.children)) ▸ code-closes e n
+
+fenced-moves : (s : Setting) (t : At) (n : ℕ) → suc 1 ≤ n → (tag second : List ℕ) →
+    tag ≡ codes "<pre>" ++ second → IsOpening second → (inner : List Piece) →
+    Prints s (IsRaw s.p tag) inner → Moves s.given.ending n 0 0 (fenced t tag inner)
+fenced-moves s t n room tag second is opens inner a =
+    let e : List ℕ = s.given.ending in
+    let inside : Moves e n 2 2 inner =
+    adds-quiet e n 2 inner (adds-weaker e (IsRaw s.p tag) (λ x. list_all no_angle x ≡ true) inner
+    (λ x raw. subst (λ x. list_all no_angle x ≡ true) (sym raw.whole)
+    (all-append raw.attributes (62 ∷ raw.body) (info-quiet tag raw.attributes raw.info)
+    (escaped-angle raw.body raw.escaped))) a) in
+    let first : Moves e n 0 2 (Text tag ∷ []) =
+    subst (λ tag. Moves e n 0 2 (Text tag ∷ [])) (sym is) (code-opens e n room second opens) in
+    (needed e n 0 s.ending ▸ first) ▸ inside ▸ when_forced e n 2 s.ending (runs_out t)
+    ▸ end-moves e n t s.ending ▸ when_needed e n 0 s.ending (is_unclosed t)
+
+-- ---- blocks with tags or raw text
+
+pub flow-moves : (s : Setting) (t : At) (m n : ℕ) → Room m n → (name : Name) →
+    is_flow name ≡ true → IsFitAt s t name →
+    (is_underline name ≡ true → (k : ℕ) × (suc k ≤ n) × Leads 0 0 k t.before.heading) →
+    (inner : List Piece) → Inside s t Blocks name inner → Below s m name inner →
+    Moves s.given.ending n 0 0 (prints s.given t name inner)
+flow-moves s t m n room BlockQuote is fit head inner a below =
+    let e : List ℕ = s.given.ending in
+    open_line e n 0 (codes "<blockquote>") s.ending (λ l t. refl) (omega (arith, room))
+    ▸ more e 1 m n inner (omega (arith, room)) (below refl)
+    ▸ close_line e n 0 (codes "</blockquote>") s.ending (λ l t. refl)
+flow-moves s t m n room ListOrdered is fit head inner a below =
+    let e : List ℕ = s.given.ending in
+    let first : List ℕ =
+    option_map_or (text_in s.given.bytes) (number_in_list t.children) (codes "1") in
+    let number : Escaped (without_zeros first) =
+    zeros-escaped first (digits_of s.given.bytes (number_in_list t.children) fit) in
+    open_line e n 0 (codes "<ol") s.ending (λ l t. refl) (omega (arith, room))
+    ▸ start-moves e n 1 (without_zeros first) number (bytes_eq (without_zeros first) (codes "1"))
+    ▸ part e n 1 (codes ">") refl ▸ more e 1 m n inner (omega (arith, room)) (below refl)
+    ▸ forced e n 1 s.ending ▸ close_tag e n 0 (codes "</ol>") (λ l t. refl)
+flow-moves s t m n room ListUnordered is fit head inner a below =
+    let e : List ℕ = s.given.ending in
+    open_line e n 0 (codes "<ul>") s.ending (λ l t. refl) (omega (arith, room))
+    ▸ more e 1 m n inner (omega (arith, room)) (below refl)
+    ▸ forced e n 1 s.ending ▸ close_tag e n 0 (codes "</ul>") (λ l t. refl)
+flow-moves s t m n room ListItem is fit head inner a below =
+    let e : List ℕ = s.given.ending in
+    open_line e n 0 (codes "<li>") s.ending (λ l t. refl) (omega (arith, room))
+    ▸ more e 1 m n inner (omega (arith, room)) (below refl)
+    ▸ item-end e n s.ending (ends_in_line t) ▸ close_tag e n 0 (codes "</li>") (λ l t. refl)
+flow-moves s t m n room Paragraph is fit head inner a below = by (is_tight t.around.container)
+  where
+    e : List ℕ
+    e = s.given.ending
+
+    by : (tight : Bool) → Moves e n 0 0
+        (cond tight inner (on_own_line (codes "<p>") ++ (inner ++ said (codes "</p>"))))
+    by true = more e 0 m n inner (omega (arith, room)) (below refl)
+    by false =
+        open_line e n 0 (codes "<p>") s.ending (λ l t. refl) (omega (arith, room))
+        ▸ more e 1 m n inner (omega (arith, room)) (below refl)
+        ▸ close_tag e n 0 (codes "</p>") (λ l t. refl)
+flow-moves s t m n room ThematicBreak is fit head inner a below =
+    needed s.given.ending n 0 s.ending
+    ▸ void_tag s.given.ending n 0 (codes "<hr />") (λ l t. refl) (omega (arith, room))
+flow-moves s t m n room HeadingAtx is fit head inner a below =
+    heading-moves s.given.ending n m (atx_rank t) s.ending (omega (arith, room)) fit.0 fit.1 inner
+    (below refl)
+flow-moves s t m n room HeadingSetextUnderlineSequence is fit head inner a below =
+    let e : List ℕ = s.given.ending in
+    let waits = head refl in
+    let rank = setext-fits (is_at 45 s.given.bytes t.place.start.index) in
+    heading-moves e n waits.0 (underline_rank s.given t) s.ending waits.1 rank.0 rank.1
+    (said t.before.heading) (moves.text e waits.0 0 0 t.before.heading waits.2)
+flow-moves s t m n room CodeIndented is fit head inner a below =
+    let e : List ℕ = s.given.ending in
+    (needed e n 0 s.ending ▸ code-opens e n (omega (arith, room)) (codes "<code>") (λ l t. refl))
+    ▸ more e 2 m n inner (omega (arith, room)) (below refl) ▸ end-moves e n t s.ending
+flow-moves s t m n room CodeFenced is fit head inner a below =
+    fenced-moves s t n (omega (arith, room)) code_tag (codes "<code") refl (λ l t. refl) inner a
+flow-moves s t m n room MathFlow is fit head inner a below =
+    fenced-moves s t n (omega (arith, room)) math_tag
+    (codes "<code class=\"language-math math-display\"") refl (λ l t. refl) inner a
+flow-moves s t m n room HtmlFlow is fit head inner a below =
+    needed s.given.ending n 0 s.ending
+    ▸ more s.given.ending 0 m n inner (omega (arith, room)) (below refl)
+flow-moves s t m n room _ is fit head inner a below = lie is
+
+-- ---- tables
+
+align-quiet : (kind : AlignKind) → list_all no_angle (align_attribute kind) ≡ true
+align-quiet align.None = refl
+align-quiet align.Left = refl
+align-quiet align.Right = refl
+align-quiet align.Center = refl
+
+cell-moves : (e : List ℕ) (n a k : ℕ) → Escaped e → (in_head : Bool) (x : List ℕ) →
+    Leads 0 0 k x → suc (a + k) ≤ n → (kind : AlignKind) → Moves e n a a (cell_of in_head x kind)
+cell-moves e n a k h in_head x f room kind =
+    open_line e n a (cond in_head (codes "<th") (codes "<td")) h (opens in_head)
+    (omega (arith, room))
+    ▸ part e n (suc a) (align_attribute kind) (align-quiet kind)
+    ▸ part e n (suc a) (codes ">") refl ▸ kept e n (suc a) k x f (omega (arith, room))
+    ▸ close_tag e n a (cond in_head (codes "</th>") (codes "</td>")) (closes in_head)
+  where
+    opens : (in_head : Bool) → IsOpening (cond in_head (codes "<th") (codes "<td"))
+    opens true = λ l t. refl
+    opens false = λ l t. refl
+
+    closes : (in_head : Bool) → IsClosing (cond in_head (codes "</th>") (codes "</td>"))
+    closes true = λ l t. refl
+    closes false = λ l t. refl
+
+cells-moves : (e : List ℕ) (n a : ℕ) → Escaped e → (in_head : Bool) → suc a ≤ n →
+    (kinds : List AlignKind) → Moves e n a a (flat_map (cell_of in_head []) kinds)
+cells-moves e n a h in_head room [] = none e n a
+cells-moves e n a h in_head room (kind ∷ kinds) =
+    cell-moves e n a 0 h in_head [] (leads-quiet 0 0 [] refl) (omega (arith, room)) kind
+    ▸ cells-moves e n a h in_head room kinds
+
+abbrev pub is_tabular : Name → Bool
+is_tabular name = elim name [
+  | GfmTable ↦ true
+  | GfmTableHead ↦ true
+  | GfmTableBody ↦ true
+  | GfmTableRow ↦ true
+  | GfmTableCell ↦ true
+  | _ ↦ false
+]
+
+pub table-moves : (s : Setting) (t : At) (m n : ℕ) → Room m n → (name : Name) →
+    is_tabular name ≡ true → (inner : List Piece) → Below s m name inner →
+    Moves s.given.ending n 0 0 (prints s.given t name inner)
+table-moves s t m n room GfmTable is inner below =
+    let e : List ℕ = s.given.ending in
+    open_line e n 0 (codes "<table>") s.ending (λ l t. refl) (omega (arith, room))
+    ▸ more e 1 m n inner (omega (arith, room)) (below refl)
+    ▸ close_line e n 0 (codes "</table>") s.ending (λ l t. refl)
+table-moves s t m n room GfmTableHead is inner below =
+    let e : List ℕ = s.given.ending in
+    open_line e n 0 (codes "<thead>") s.ending (λ l t. refl) (omega (arith, room))
+    ▸ more e 1 m n inner (omega (arith, room)) (below refl)
+    ▸ close_line e n 0 (codes "</thead>") s.ending (λ l t. refl)
+table-moves s t m n room GfmTableBody is inner below =
+    let e : List ℕ = s.given.ending in
+    open_tag e n 0 (codes "<tbody>") (λ l t. refl) (omega (arith, room))
+    ▸ more e 1 m n inner (omega (arith, room)) (below refl)
+    ▸ close_line e n 0 (codes "</tbody>") s.ending (λ l t. refl)
+table-moves s t m n room GfmTableRow is inner below =
+    let e : List ℕ = s.given.ending in
+    let kinds : List AlignKind =
+    drop (count_by (named GfmTableCell) (spine_names t.children)) t.before.columns in
+    open_line e n 0 (codes "<tr>") s.ending (λ l t. refl) (omega (arith, room))
+    ▸ more e 1 m n inner (omega (arith, room)) (below refl)
+    ▸ cells-moves e n 1 s.ending t.around.in_head (omega (arith, room)) kinds
+    ▸ close_line e n 0 (codes "</tr>") s.ending (λ l t. refl)
+table-moves s t m n room GfmTableCell is inner below =
+    by (slice_get t.before.columns (count_by (named GfmTableCell) t.before.spine))
+  where
+    e : List ℕ
+    e = s.given.ending
+
+    x : List ℕ
+    x = layout e inner
+
+    by : (kind : Option AlignKind) → Moves e n 0 0
+        (option_map_or (λ kind. cell_of t.around.in_head x kind) kind [])
+    by None = none e n 0
+    by (Some kind) =
+        cell-moves e n 0 m s.ending t.around.in_head x (laid e m inner (below refl))
+        (omega (arith, room)) kind
+table-moves s t m n room _ is inner below = lie is

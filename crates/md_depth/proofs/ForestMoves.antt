@@ -1,0 +1,259 @@
+-- What blocks mean leaves no element open, and opens no more than twice as many as nodes lie in one
+-- another: one induction over them. Of other contents it is known that they open none.
+use Rattle.std.proofs.Common.{◌≡◌, ℕ, ◌-◌, ◌*◌, ◌≤◌, suc, max, Bool, true, false, ◌||◌}
+use Rattle.std.proofs.Common.{cond, List, [], ◌∷◌, ◌++◌, refl, sym, ap, ◌∙◌, subst, arith}
+use Rattle.std.proofs.Common.{append-nil}
+use Rattle.std.specs.Prelude.{Option, Some, None, unwrap_or}
+use Rattle.std.proofs.lemmas.Bool.{cond_both}
+use Rattle.md_base.proofs.Lies.{lie}
+use Rattle.md_base.specs.declared.event.Name.{Name}
+use Rattle.md_base.specs.declared.event.Name.TheVariants as name_variants
+use name_variants.{Other, BlockQuotePrefix, SpaceOrTab, HeadingSetextText, GfmFootnoteDefinition}
+use Rattle.md_base.specs.Is.{is as named}
+use Rattle.md_base.specs.Tree.{Forest, Empty, Node}
+use Rattle.md_base.specs.Children.{or_else}
+use Rattle.md_base.specs.NameTests.{is_transparent}
+use Rattle.md_meaning.specs.declared.context.Surroundings.{Surroundings}
+use Rattle.md_meaning.specs.Meaning.At.{Footnote, Before, At, identifier_of}
+use Rattle.md_meaning.specs.Meaning.Layout.{layout, when}
+use Rattle.md_meaning.specs.Meaning.Nodes.{Outcome, found_at, before_next, outcome}
+use Rattle.md_shape.specs.Built.{Blocks, is_part, is_source, may_stand, content_of}
+use Rattle.md_shape.specs.Built.{content_inside, content_after_node, content_past, content_after}
+use Rattle.md_shape.specs.Built.{IsBuilt}
+use Rattle.md_safe.proofs.Contents.{stays-after}
+use Rattle.md_safe.proofs.Insides.{is_blocks}
+use Rattle.md_safe.proofs.Following.{second}
+use Rattle.md_safe.proofs.Nodes.{not_part}
+use Rattle.md_safe.proofs.Findings.{AreFound}
+use Rattle.md_safe.proofs.Forests.{Ready, Means, ready-inside, ready-after, means, found-at}
+use Rattle.md_safe.proofs.Forests.{inside-means}
+use Rattle.md_safe.proofs.Spot.{Setting, Inside}
+use Rattle.md_safe.proofs.Costs.{Document, read_in, Place, here_of, inner_around, inner_before}
+use Rattle.md_safe.proofs.Costs.{inner_of, at_of}
+use Rattle.md_safe.proofs.PlainCosts.{is_blocks-same, no_footnotes}
+use Rattle.md_depth.specs.Depth.{height}
+use Rattle.md_depth.proofs.Machine.{Leads, leads-quiet, leads-kept}
+use Rattle.md_depth.proofs.Moves.{Moves, ◌▸◌, none, laid}
+use Rattle.md_depth.proofs.NodeMoves.{node-moves}
+
+-- a heading that waits for its underline opens fewer
+abbrev pub Waits : ℕ → List ℕ → Type 0
+Waits n x = Leads 0 0 (n - 1) x
+
+abbrev WaitsIn : ℕ → Option (List ℕ) → Type 0
+WaitsIn n None = Unit {0}
+WaitsIn n (Some x) = Waits n x
+
+-- so many are open in the texts of some footnotes
+abbrev pub TextsLead : ℕ → List Footnote → Type 0
+TextsLead n [] = Unit {0}
+TextsLead n (footnote ∷ others) = Leads 0 0 n footnote.text × TextsLead n others
+
+pub texts-append : (n : ℕ) (xs ys : List Footnote) → TextsLead n xs → TextsLead n ys →
+    TextsLead n (xs ++ ys)
+texts-append n [] ys a b = b
+texts-append n (x ∷ xs) ys a b = (a.0, texts-append n xs ys a.1 b)
+
+texts-more : (m n : ℕ) (xs : List Footnote) → m ≤ n → TextsLead m xs → TextsLead n xs
+texts-more m n [] few a = tt
+texts-more m n (x ∷ xs) few a =
+    (leads-kept 0 m n x.text a.0 (omega (arith, few)), texts-more m n xs few a.1)
+
+-- what nodes print, a heading that is found, and the texts of footnotes
+pub record Opens (d : Document) (n : ℕ) (made : Outcome) : Type 0 where
+  pub prints : Moves d.given.ending n 0 0 made.pieces
+  pub heading : WaitsIn n made.found.heading
+  pub texts : TextsLead n made.footnotes
+
+-- what is known where some blocks stand
+pub record Fits (d : Document) (around : Surroundings) (before : Before) (n : ℕ)
+    (forest : Forest) : Type 0 where
+  pub built : IsBuilt d.given.bytes Blocks forest
+  pub ready : Ready (read_in d) around before Blocks
+  pub waits : Waits n before.heading
+  pub room : 2 * height forest ≤ n
+
+after-blocks : (name : Name) (children : Forest) → content_after_node Blocks name children ≡ Blocks
+after-blocks name children =
+    cond_both (is_transparent name) (content_after Blocks children) Blocks (λ c. c ≡ Blocks)
+    (λ _. stays-after (λ content. content ≡ Blocks)
+    (λ content name e. ap (λ content. content_past content name) e)
+    Blocks children refl) (λ _. refl)
+
+waits-both : (n : ℕ) (later first : Option (List ℕ)) → WaitsIn n later → WaitsIn n first →
+    WaitsIn n (or_else later first)
+waits-both n None first a b = b
+waits-both n (Some x) first a b = a
+
+waits-next : (n : ℕ) (found : Option (List ℕ)) (before : List ℕ) → WaitsIn n found →
+    Waits n before → Waits n (unwrap_or found before)
+waits-next n None before a b = b
+waits-next n (Some x) before a b = a
+
+-- the node's own footnote, if it is one
+abbrev own : Document → Place → Name → Footnote
+own d p name = record {
+  identifier = identifier_of d.given.bytes p.children;
+  text = layout d.given.ending (inner_of d p name).pieces;
+}
+
+footnote-blocks : (name : Name) → named GfmFootnoteDefinition name ≡ true →
+    is_blocks (content_of name Blocks) ≡ true
+footnote-blocks GfmFootnoteDefinition is = refl
+footnote-blocks _ is = lie is
+
+-- a node that is looked through means what its children mean
+through : (d : Document) (p : Place) (name : Name) (n : ℕ) → is_transparent name ≡ true →
+    Opens d n (inner_of d p name) → Opens d n (here_of d p name)
+through d p (Other number) n is b = record {
+  prints = b.prints;
+  heading = b.heading;
+  texts = subst (TextsLead n) (sym (append-nil (inner_of d p (Other number)).footnotes)) b.texts;
+}
+through d p BlockQuotePrefix n is b = record {
+  prints = b.prints;
+  heading = b.heading;
+  texts = subst (TextsLead n) (sym (append-nil (inner_of d p BlockQuotePrefix).footnotes)) b.texts;
+}
+through d p SpaceOrTab n is b = record {
+  prints = b.prints;
+  heading = b.heading;
+  texts = subst (TextsLead n) (sym (append-nil (inner_of d p SpaceOrTab).footnotes)) b.texts;
+}
+through d p _ n is b = lie is
+
+-- the heading that a node is found to be
+heading-here : (t : At) (name : Name) (n : ℕ) (x : List ℕ) → is_transparent name ≡ false →
+    (is_blocks (content_of name Blocks) ≡ true → Waits n x) → WaitsIn n (found_at t name x).heading
+heading-here t HeadingSetextText n x solid h = h refl
+heading-here t (Other number) n x solid h = lie (sym solid)
+heading-here t BlockQuotePrefix n x solid h = lie (sym solid)
+heading-here t SpaceOrTab n x solid h = lie (sym solid)
+heading-here t _ n x solid h = tt
+
+-- a node that isn't looked through
+solid : (d : Document) (p : Place) (name : Name) (n : ℕ) → is_transparent name ≡ false →
+    suc (suc (n - 2)) ≤ n → IsBuilt d.given.bytes Blocks (Node name p.start p.end p.children p.rest)
+    → Ready (read_in d) p.around p.before Blocks → Waits n p.before.heading →
+    Means (read_in d) (inner_around d p name) (content_inside Blocks name) p.children
+    (inner_of d p name) →
+    (is_blocks (content_of name Blocks) ≡ true → Opens d (n - 2) (inner_of d p name)) →
+    Opens d n (here_of d p name)
+solid d p name n e room built ready waits known below =
+    let s : Setting = read_in d in
+    let t : At = at_of d p name in
+    let inner : Outcome = inner_of d p name in
+    let stands = second (is_transparent name) (may_stand Blocks name) e built.0 in
+    let a : Inside s t Blocks name inner.pieces =
+    inside-means s t Blocks name inner e built.0 built.1 built.2 known in
+    record {
+      prints = node-moves s t (n - 2) n room name ready.suits e
+          (not_part (is_part name || is_source name) stands) built.1
+          (λ _. (n - 1, omega (arith, room), waits)) known.found.resource inner.pieces a
+          (λ is. (below is).prints);
+      heading = heading-here t name n (layout d.given.ending inner.pieces) e (λ is.
+          leads-kept 0 (n - 2) (n - 1) (layout d.given.ending inner.pieces)
+          (laid d.given.ending (n - 2) inner.pieces (below is).prints) (omega (arith, room)));
+      texts = texts-append n inner.footnotes
+          (when (named GfmFootnoteDefinition name) (own d p name ∷ []))
+          (inside (is_blocks (content_of name Blocks)) refl)
+          (cond_both (named GfmFootnoteDefinition name) (own d p name ∷ []) [] (TextsLead n)
+          (λ is. (
+            leads-kept 0 (n - 2) n (layout d.given.ending inner.pieces)
+                (laid d.given.ending (n - 2) inner.pieces (below (footnote-blocks name is)).prints)
+                (omega (arith, room)),
+            tt,
+          )) (λ _. tt));
+    }
+  where
+    inside : (blocks : Bool) → is_blocks (content_of name Blocks) ≡ blocks →
+        TextsLead n (inner_of d p name).footnotes
+    inside true is = texts-more (n - 2) n (inner_of d p name).footnotes (omega (arith, room))
+        (below is).texts
+    inside false is =
+        let same : is_blocks (content_inside Blocks name) ≡ is_blocks (content_of name Blocks) =
+        ap (λ b. is_blocks (cond b Blocks (content_of name Blocks))) e in
+        subst (TextsLead n) (sym (no_footnotes d (content_inside Blocks name) p.children
+        (inner_around d p name) (inner_before p name) (same ∙ is) built.2)) tt
+
+-- what some blocks mean
+pub opens : (d : Document) (forest : Forest) (around : Surroundings) (before : Before) (n : ℕ) →
+    Fits d around before n forest → Opens d n (outcome d.given around before forest)
+opens d Empty around before n f =
+    record { prints = none d.given.ending n 0; heading = tt; texts = tt }
+opens d (Node name start end children rest) around before n f =
+    let p : Place = record {
+      around = around;
+      before = before;
+      start = start;
+      end = end;
+      children = children;
+      rest = rest;
+    } in
+    let t : At = at_of d p name in
+    let here : Outcome = here_of d p name in
+    let next : Before = before_next t name here in
+    let others : Outcome = outcome d.given around next rest in
+    let within : Ready (read_in d) (inner_around d p name) (inner_before p name)
+    (content_inside Blocks name) =
+    ready-inside (read_in d) around before Blocks name children f.built.0 f.ready in
+    let known : Means (read_in d) (inner_around d p name) (content_inside Blocks name) children
+    (inner_of d p name) =
+    means (read_in d) children (inner_around d p name) (inner_before p name)
+    (content_inside Blocks name) f.built.2 within in
+    let found : AreFound (read_in d) Blocks here.found =
+    found-at (read_in d) t Blocks name (inner_of d p name).pieces f.built.0 f.built.1 f.ready.suits
+    f.built.2 known.prints known.found in
+    let below : (k : ℕ) → 2 * height children ≤ k → Waits k (inner_before p name).heading →
+    is_blocks (content_inside Blocks name) ≡ true → Opens d k (inner_of d p name) =
+    λ k room waits is.
+    opens d children (inner_around d p name) (inner_before p name) k (record {
+      built = subst (λ c. IsBuilt d.given.bytes c children)
+          (is_blocks-same (content_inside Blocks name) is) f.built.2;
+      ready = subst (Ready (read_in d) (inner_around d p name) (inner_before p name))
+          (is_blocks-same (content_inside Blocks name) is) within;
+      waits = waits;
+      room = room;
+    }) in
+    let one : Opens d n here =
+    by (is_transparent name) refl p n f.room f.built f.ready f.waits known below in
+    let later : Opens d n others =
+    opens d rest around next n (record {
+      built = subst (λ c. IsBuilt d.given.bytes c rest) (after-blocks name children) f.built.3;
+      ready = subst (Ready (read_in d) around next) (after-blocks name children)
+          (ready-after (read_in d) t Blocks name here f.built.0 f.built.2 found f.ready);
+      waits = waits-next n here.found.heading before.heading one.heading f.waits;
+      room = least (height children) (height rest) n f.room;
+    }) in
+    record {
+      prints = one.prints ▸ later.prints;
+      heading = waits-both n others.found.heading here.found.heading later.heading one.heading;
+      texts = texts-append n here.footnotes others.footnotes one.texts later.texts;
+    }
+  where
+    least : (a b n : ℕ) → 2 * max (suc a) b ≤ n → 2 * b ≤ n
+    least a b n room = omega (arith, room)
+
+    by : (through_it : Bool) → is_transparent name ≡ through_it → (p : Place) (n : ℕ) →
+        2 * max (suc (height p.children)) (height p.rest) ≤ n →
+        IsBuilt d.given.bytes Blocks (Node name p.start p.end p.children p.rest) →
+        Ready (read_in d) p.around p.before Blocks → Waits n p.before.heading →
+        Means (read_in d) (inner_around d p name) (content_inside Blocks name) p.children
+        (inner_of d p name) →
+        ((k : ℕ) → 2 * height p.children ≤ k → Waits k (inner_before p name).heading →
+        is_blocks (content_inside Blocks name) ≡ true → Opens d k (inner_of d p name)) →
+        Opens d n (here_of d p name)
+    by true e p n room built ready waits known below =
+        let same : (inner_before p name).heading ≡ p.before.heading =
+        ap (λ b. cond b p.before.heading []) e in
+        let blocks : is_blocks (content_inside Blocks name) ≡ true =
+        ap (λ b. is_blocks (cond b Blocks (content_of name Blocks))) e in
+        through d p name n e
+        (below n (omega (arith, room)) (subst (Waits n) (sym same) waits) blocks)
+    by false e p n room built ready waits known below =
+        let same : (inner_before p name).heading ≡ [] = ap (λ b. cond b p.before.heading []) e in
+        let inside : is_blocks (content_inside Blocks name) ≡ is_blocks (content_of name Blocks) =
+        ap (λ b. is_blocks (cond b Blocks (content_of name Blocks))) e in
+        let none : Waits (n - 2) [] = leads-quiet 0 ((n - 2) - 1) [] refl in
+        solid d p name n e (omega (arith, room)) built ready waits known (λ is.
+        below (n - 2) (omega (arith, room)) (subst (Waits (n - 2)) (sym same) none) (inside ∙ is))

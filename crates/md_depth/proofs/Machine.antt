@@ -1,0 +1,131 @@
+-- How many elements are open in a text, told byte by byte: a tag begins with `<`, an end tag with
+-- `</`, and a void tag with `<br`, `<hr` or `<i`. What else stands in a tag has no `<`.
+use Rattle.std.specs.List.{list_all}
+use Rattle.std.proofs.Common.{◌≡◌, ℕ, ◌+◌, ◌≤◌, ◌==◌, zero, suc, max, Bool, true, false, not, cond}
+use Rattle.std.proofs.Common.{List, [], ◌∷◌, ◌++◌, refl, ap, sym, ◌∙◌, arith}
+use Rattle.std.proofs.lemmas.Bool.{and_parts}
+use Rattle.md_base.proofs.Lies.{lie}
+use Rattle.md_text.proofs.HtmlNames.{no_angle}
+
+-- where a text is read: anywhere, behind `<`, behind `<b`, behind `<h`, or behind `<` twice
+pub data Spot : Type 0 where
+  Out : Spot
+  Begun : Spot
+  OfB : Spot
+  OfH : Spot
+  Bad : Spot
+
+-- besides, how many elements are open, and how many were at most
+pub record State : Type 0 where
+  pub spot : Spot
+  pub level : ℕ
+  pub top : ℕ
+
+abbrev pub at : ℕ → ℕ → State
+at level top = record { spot = Out; level = level; top = top }
+
+abbrev pub lower : ℕ → ℕ
+lower zero = 0
+lower (suc n) = n
+
+abbrev pub opened : State → State
+opened s = record { spot = Out; level = suc s.level; top = max s.top (suc s.level) }
+
+abbrev pub voided : State → State
+voided s = record { spot = Out; level = s.level; top = max s.top (suc s.level) }
+
+abbrev pub closed : State → State
+closed s = record { spot = Out; level = lower s.level; top = s.top }
+
+abbrev pub to : Spot → State → State
+to spot s = record { spot = spot; level = s.level; top = s.top }
+
+-- behind a first letter that a void tag may have
+abbrev pub second : State → ℕ → State
+second s byte = cond (byte == 114) (voided s) (cond (byte == 60) (to Bad s) (opened s))
+
+abbrev pub stepped : Spot → State → ℕ → State
+stepped Out s byte = cond (byte == 60) (to Begun s) s
+stepped Begun s byte = cond (byte == 47) (closed s) (cond (byte == 98) (to OfB s)
+    (cond (byte == 104) (to OfH s) (cond (byte == 105) (voided s)
+    (cond (byte == 60) (to Bad s) (opened s)))))
+stepped OfB s byte = second s byte
+stepped OfH s byte = second s byte
+stepped Bad s byte = s
+
+abbrev pub step : State → ℕ → State
+step s byte = stepped s.spot s byte
+
+abbrev pub run : State → List ℕ → State
+run s [] = s
+run s (byte ∷ bytes) = run (step s byte) bytes
+
+pub run-append : (s : State) (x y : List ℕ) → run s (x ++ y) ≡ run (run s x) y
+run-append s [] y = refl
+run-append s (byte ∷ x) y = run-append (step s byte) x y
+
+-- what has no `<` changes nothing
+pub quiet : (x : List ℕ) → list_all no_angle x ≡ true → (l t : ℕ) → run (at l t) x ≡ at l t
+quiet [] h l t = refl
+quiet (byte ∷ x) h l t =
+    let p = and_parts (no_angle byte) (list_all no_angle x) h in
+    by (byte == 60) p.0 ∙ quiet x p.1 l t
+  where
+    by : (is : Bool) → not is ≡ true →
+        run (cond is (to Begun (at l t)) (at l t)) x ≡ run (at l t) x
+    by true h = lie h
+    by false h = refl
+
+-- a text leads from so many open elements to so many, above those that are open around it, and no
+-- more than so many are open in it
+pub record Leads (a b n : ℕ) (x : List ℕ) : Type 0 where
+  pub leads : (l t : ℕ) → l + n ≤ t → run (at (l + a) t) x ≡ at (l + b) t
+
+pub leads-quiet : (a n : ℕ) (x : List ℕ) → list_all no_angle x ≡ true → Leads a a n x
+leads-quiet a n x h = record { leads = λ l t few. quiet x h (l + a) t }
+
+pub leads-append : (a b c n : ℕ) (x y : List ℕ) → Leads a b n x → Leads b c n y →
+    Leads a c n (x ++ y)
+leads-append a b c n x y f g = record {
+  leads = λ l t few.
+      run-append (at (l + a) t) x y ∙ ap (λ s. run s y) (f.leads l t few) ∙ g.leads l t few;
+}
+
+-- a start tag, as each computes
+pub leads-open : (a n : ℕ) (x : List ℕ) →
+    ((l t : ℕ) → run (at l t) x ≡ at (suc l) (max t (suc l))) → suc a ≤ n → Leads a (suc a) n x
+leads-open a n x computes fits = record {
+  leads = λ l t few.
+      let level : suc (l + a) ≡ l + suc a = omega arith in
+      let top : max t (suc (l + a)) ≡ t = omega (arith, few, fits) in
+      computes (l + a) t ∙ ap (λ level. at level (max t (suc (l + a)))) level
+      ∙ ap (λ top. at (l + suc a) top) top;
+}
+
+-- an end tag
+pub leads-close : (a n : ℕ) (x : List ℕ) → ((l t : ℕ) → run (at (suc l) t) x ≡ at l t) →
+    Leads (suc a) a n x
+leads-close a n x computes = record {
+  leads = λ l t few.
+      let level : l + suc a ≡ suc (l + a) = omega arith in
+      ap (λ level. run (at level t) x) level ∙ computes (l + a) t;
+}
+
+-- a void tag
+pub leads-void : (a n : ℕ) (x : List ℕ) →
+    ((l t : ℕ) → run (at l t) x ≡ at l (max t (suc l))) → suc a ≤ n → Leads a a n x
+leads-void a n x computes fits = record {
+  leads = λ l t few.
+      let top : max t (suc (l + a)) ≡ t = omega (arith, few, fits) in
+      computes (l + a) t ∙ ap (λ top. at (l + a) top) top;
+}
+
+-- a text that keeps what is open, where some are open
+pub leads-kept : (a m n : ℕ) (x : List ℕ) → Leads 0 0 m x → a + m ≤ n → Leads a a n x
+leads-kept a m n x f fits = record {
+  leads = λ l t few.
+      let none : (l + a) + 0 ≡ l + a = omega arith in
+      let room : (l + a) + m ≤ t = omega (arith, few, fits) in
+      ap (λ level. run (at level t) x) (sym none) ∙ f.leads (l + a) t room
+      ∙ ap (λ level. at level t) none;
+}

@@ -1,0 +1,79 @@
+-- A node among blocks leaves no element open, and opens two at most beside what its children open.
+use Rattle.std.proofs.Common.{◌≡◌, ℕ, ◌≤◌, suc, Bool, true, false, not, ◌||◌, List, refl, sym}
+use Rattle.std.proofs.Common.{◌∙◌, ap, subst, inl, inr, arith}
+use Rattle.std.proofs.lemmas.Bool.{or_cases}
+use Rattle.md_base.proofs.Lies.{lie}
+use Rattle.md_base.specs.declared.event.Name.{Name}
+use Rattle.md_base.specs.NameTests.{is_transparent}
+use Rattle.md_meaning.specs.Meaning.At.{At}
+use Rattle.md_meaning.specs.Meaning.Layout.{Piece}
+use Rattle.md_meaning.specs.Meaning.Means.{prints}
+use Rattle.md_shape.specs.Underlined.{is_underline}
+use Rattle.md_shape.specs.Built.{Blocks, is_part, is_source, is_autolink}
+use Rattle.md_safe.proofs.Texts.{Escaped}
+use Rattle.md_safe.proofs.Spot.{Setting, IsFitAt, IsGoodTarget, Inside}
+use Rattle.md_safe.proofs.StringNodes.{is_text, text-node}
+use Rattle.md_safe.proofs.SpanNodes.{is_shown}
+use Rattle.md_safe.proofs.FlowNodes.{is_flow, is_leaf, leaf-escaped}
+use Rattle.md_safe.proofs.BlockNodes.{is_hidden, hidden-prints, is_silent, silent-prints}
+use Rattle.md_safe.proofs.BlockNodes.{silent-block}
+use Rattle.md_depth.proofs.Machine.{Leads}
+use Rattle.md_depth.proofs.Moves.{Moves, none, more, adds-escaped}
+use Rattle.md_depth.proofs.SpanMoves.{Room, Below, span-moves, autolink-moves}
+use Rattle.md_depth.proofs.BlockMoves.{flow-moves, is_tabular, table-moves}
+
+-- what is looked through, stands in other nodes alone, or prints more or less than its children
+abbrev is_marked : Name → Bool
+is_marked name =
+    is_transparent name || ((is_part name || is_source name) || (is_text name || (is_shown name
+    || (is_autolink name || (is_flow name || (is_leaf name || (is_hidden name
+    || is_tabular name)))))))
+
+marks : (name : Name) → is_silent name ≡ not (is_marked name)
+marks name = refl
+
+pub node-moves : (s : Setting) (t : At) (m n : ℕ) → Room m n → (name : Name) →
+    t.around.is_escaping ≡ true → is_transparent name ≡ false →
+    (is_part name || is_source name) ≡ false → IsFitAt s t name →
+    (is_underline name ≡ true → (k : ℕ) × (suc k ≤ n) × Leads 0 0 k t.before.heading) →
+    IsGoodTarget t.found.resource → (inner : List Piece) → Inside s t Blocks name inner →
+    Below s m name inner → Moves s.given.ending n 0 0 (prints s.given t name inner)
+node-moves s t m n room name e solid whole fit head good inner a below = by (is_marked name) refl
+  where
+    ending : List ℕ
+    ending = s.given.ending
+
+    by : (marked : Bool) → is_marked name ≡ marked →
+        Moves ending n 0 0 (prints s.given t name inner)
+    by false h =
+        let is : is_silent name ≡ true = ap not h in
+        subst (Moves ending n 0 0) (sym (silent-prints s.given t name is inner))
+        (more ending 0 m n inner (omega (arith, room)) (below (silent-block name is).0))
+    by true h = elim (or_cases (is_transparent name) _ h) [
+      | inl is ↦ lie (sym solid ∙ is)
+      | inr c ↦ elim (or_cases (is_part name || is_source name) _ c) [
+        | inl is ↦ lie (sym whole ∙ is)
+        | inr c ↦ elim (or_cases (is_text name) _ c) [
+          | inl is ↦ adds-escaped ending n 0 (prints s.given t name inner)
+              (text-node s t Escaped name (λ x h. h e) is fit inner)
+          | inr c ↦ elim (or_cases (is_shown name) _ c) [
+            | inl is ↦ span-moves s t m n room name e is good inner a below
+            | inr c ↦ elim (or_cases (is_autolink name) _ c) [
+              | inl is ↦ autolink-moves s t m n room name is inner
+              | inr c ↦ elim (or_cases (is_flow name) _ c) [
+                | inl is ↦ flow-moves s t m n room name is fit head inner a below
+                | inr c ↦ elim (or_cases (is_leaf name) _ c) [
+                  | inl is ↦ adds-escaped ending n 0 (prints s.given t name inner)
+                      (leaf-escaped s t name e is fit inner)
+                  | inr c ↦ elim (or_cases (is_hidden name) (is_tabular name) c) [
+                    | inl is ↦ subst (Moves ending n 0 0)
+                        (sym (hidden-prints s.given t name is inner)) (none ending n 0)
+                    | inr is ↦ table-moves s t m n room name is inner below
+                  ]
+                ]
+              ]
+            ]
+          ]
+        ]
+      ]
+    ]

@@ -1,0 +1,217 @@
+-- The elements of a reading are open in its text, as the bytes tell it: so what keeps to a bound on
+-- how many are open has a reading that nests no deeper.
+use Rattle.std.specs.Str.{bytes_eq}
+use Rattle.std.specs.Prelude.{IsTrue}
+use Rattle.std.specs.List.{list_all}
+use Rattle.std.specs.Cmp.Lexicographic.{bytes_decides}
+use Rattle.std.proofs.Common.{◌≡◌, ℕ, ◌+◌, ◌≤◌, suc, max, Bool, true, false, not, ◌&&◌, List, []}
+use Rattle.std.proofs.Common.{◌∷◌, ◌++◌, refl, ap, sym, ◌∙◌, subst, arith, inl, inr}
+use Rattle.std.proofs.lemmas.Bool.{and_parts, or_cases}
+use Rattle.md_base.proofs.Lies.{lie}
+use Rattle.md_base.specs.Identifier.{is_nonempty}
+use Rattle.md_text.specs.References.{is_escaped}
+use Rattle.md_text.specs.Html.{Forest, Empty, Text, Void, Element, Attribute, written}
+use Rattle.md_text.specs.Html.{written_attributes, are_attributes, elements, void_tags, is_tag}
+use Rattle.md_text.specs.Html.{is_forest, begins_with_text, IsReading}
+use Rattle.md_text.proofs.HtmlNames.{no_angle, is_name_byte, escaped-angle}
+use Rattle.md_text.proofs.HtmlNames.{element-tidy, void-tidy}
+use Rattle.md_text.proofs.HtmlAngles.{name-angle, tag-angle}
+use Rattle.md_depth.specs.Levels.{levels}
+use Rattle.md_depth.proofs.Machine.{State, at, Begun, to, run, run-append, quiet, Leads}
+
+-- something holds of the name of each of some tags
+abbrev Each : (List ℕ → Type 0) → List (List ℕ × List (List ℕ)) → Type 0
+Each holds [] = Unit {0}
+Each holds (rule ∷ rules) = holds rule.0 × Each holds rules
+
+of-tag : (holds : List ℕ → Type 0) (rules : List (List ℕ × List (List ℕ))) (name : List ℕ)
+    (attributes : List Attribute) → Each holds rules → is_tag rules name attributes ≡ true →
+    holds name
+of-tag holds [] name attributes each is = lie is
+of-tag holds (rule ∷ rules) name attributes each is =
+    elim (or_cases (bytes_eq rule.0 name && are_attributes rule.1 attributes)
+    (is_tag rules name attributes) is) [
+      | inl here ↦ subst holds ((bytes_decides rule.0 name).0
+          (and_parts (bytes_eq rule.0 name) (are_attributes rule.1 attributes) here).0) each.0
+      | inr later ↦ of-tag holds rules name attributes each.1 later
+    ]
+
+-- behind `<` a name opens an element, or is that of a void tag
+abbrev Opens : List ℕ → Type 0
+Opens name = (l t : ℕ) → run (to Begun (at l t)) name ≡ at (suc l) (max t (suc l))
+
+abbrev Voids : List ℕ → Type 0
+Voids name = (l t : ℕ) → run (to Begun (at l t)) name ≡ at l (max t (suc l))
+
+elements-open : Each Opens elements
+elements-open = (
+  λ l t. refl,
+  (
+    λ l t. refl,
+    (
+      λ l t. refl,
+      (
+        λ l t. refl,
+        (
+          λ l t. refl,
+          (
+            λ l t. refl,
+            (
+              λ l t. refl,
+              (
+                λ l t. refl,
+                (
+                  λ l t. refl,
+                  (
+                    λ l t. refl,
+                    (
+                      λ l t. refl,
+                      (
+                        λ l t. refl,
+                        (
+                          λ l t. refl,
+                          (
+                            λ l t. refl,
+                            (
+                              λ l t. refl,
+                              (
+                                λ l t. refl,
+                                (
+                                  λ l t. refl,
+                                  (
+                                    λ l t. refl,
+                                    (
+                                      λ l t. refl,
+                                      (
+                                        λ l t. refl,
+                                        (
+                                          λ l t. refl,
+                                          (
+                                            λ l t. refl,
+                                            (
+                                              λ l t. refl,
+                                              (
+                                                λ l t. refl,
+                                                (λ l t. refl, tt),
+                                              ),
+                                            ),
+                                          ),
+                                        ),
+                                      ),
+                                    ),
+                                  ),
+                                ),
+                              ),
+                            ),
+                          ),
+                        ),
+                      ),
+                    ),
+                  ),
+                ),
+              ),
+            ),
+          ),
+        ),
+      ),
+    ),
+  ),
+)
+
+tags-void : Each Voids void_tags
+tags-void =
+    (λ l t. refl, (λ l t. refl, (λ l t. refl, (λ l t. refl, tt))))
+
+-- what follows a text that has no `<`
+rest-angle : (x y : List ℕ) → list_all no_angle (x ++ y) ≡ true → list_all no_angle y ≡ true
+rest-angle [] y h = h
+rest-angle (b ∷ x) y h =
+    rest-angle x y (and_parts (no_angle b) (list_all no_angle (x ++ y)) h).1
+
+-- some text without `<`, and then another
+past : (x y : List ℕ) (l t : ℕ) → list_all no_angle x ≡ true →
+    run (at l t) (x ++ y) ≡ run (at l t) y
+past x y l t h = run-append (at l t) x y ∙ ap (λ s. run s y) (quiet x h l t)
+
+-- a tag up to its end
+tag : (name : List ℕ) (attributes : List Attribute) (end rest : List ℕ) (l t : ℕ) (s : State)
+    (level top : ℕ) → s ≡ at level top → run (to Begun (at l t)) name ≡ s →
+    list_all no_angle (name ++ (written_attributes attributes ++ end)) ≡ true →
+    run (at l t) (60 ∷ (name ++ (written_attributes attributes ++ (end ++ rest))))
+    ≡ run (at level top) rest
+tag name attributes end rest l t s level top is after h =
+    let around = rest-angle name (written_attributes attributes ++ end) h in
+    let more : list_all no_angle end ≡ true =
+    rest-angle (written_attributes attributes) end around in
+    run-append (to Begun (at l t)) name (written_attributes attributes ++ (end ++ rest))
+    ∙ ap (λ s. run s (written_attributes attributes ++ (end ++ rest))) (after ∙ is)
+    ∙ past (written_attributes attributes) (end ++ rest) level top
+    (first-angle (written_attributes attributes) end around)
+    ∙ past end rest level top more
+  where
+    first-angle : (x y : List ℕ) → list_all no_angle (x ++ y) ≡ true → list_all no_angle x ≡ true
+    first-angle [] y h = refl
+    first-angle (b ∷ x) y h =
+        let p = and_parts (no_angle b) (list_all no_angle (x ++ y)) h in
+        both (no_angle b) (list_all no_angle x) p.0 (first-angle x y p.1)
+      where
+        both : (a b : Bool) → a ≡ true → b ≡ true → (a && b) ≡ true
+        both true b h g = g
+        both false b h g = h
+
+levels-open : (l t inner rest : ℕ) →
+    max (max (max t (suc l)) (suc l + inner)) (l + rest) ≡ max t (l + max (suc inner) rest)
+levels-open l t inner rest = omega arith
+
+levels-void : (l t rest : ℕ) → max (max t (suc l)) (l + rest) ≡ max t (l + max 1 rest)
+levels-void l t rest = omega arith
+
+-- a text of a forest opens as many as nest in it, and closes them
+pub opens : (forest : Forest) → is_forest forest ≡ true → (l t : ℕ) → l ≤ t →
+    run (at l t) (written forest) ≡ at l (max t (l + levels forest))
+opens Empty h l t low = ap (λ top. at l top) none
+  where
+    none : t ≡ max t (l + 0)
+    none = omega arith
+opens (Text bytes rest) h l t low =
+    let p = and_parts (is_nonempty bytes && is_escaped bytes && not (begins_with_text rest))
+    (is_forest rest) h in
+    let q = and_parts (is_nonempty bytes && is_escaped bytes) (not (begins_with_text rest)) p.0 in
+    let r = and_parts (is_nonempty bytes) (is_escaped bytes) q.0 in
+    past bytes (written rest) l t (escaped-angle bytes r.1) ∙ opens rest p.1 l t low
+opens (Void name attributes rest) h l t low =
+    let p = and_parts (is_tag void_tags name attributes) (is_forest rest) h in
+    let end : List ℕ = 32 ∷ 47 ∷ 62 ∷ [] in
+    tag name attributes end (written rest) l t (at l (max t (suc l))) l (max t (suc l)) refl
+    (of-tag Voids void_tags name attributes tags-void p.0 l t)
+    (tag-angle name attributes end (void-tidy name attributes p.0) refl)
+    ∙ opens rest p.1 l (max t (suc l)) (omega arith) ∙ ap (λ top. at l top) (levels-void l t (levels rest))
+opens (Element name attributes inner rest) h l t low =
+    let p = and_parts (is_tag elements name attributes && is_forest inner) (is_forest rest) h in
+    let q = and_parts (is_tag elements name attributes) (is_forest inner) p.0 in
+    let tidy = element-tidy name attributes q.0 in
+    let end : List ℕ = 62 ∷ [] in
+    let close : List ℕ = 60 ∷ 47 ∷ (name ++ (62 ∷ written rest)) in
+    let letters : list_all no_angle name ≡ true =
+    name-angle name (and_parts (is_nonempty name) (list_all is_name_byte name) tidy.0).1 in
+    let top : ℕ = max (max t (suc l)) (suc l + levels inner) in
+    tag name attributes end (written inner ++ close) l t (at (suc l) (max t (suc l))) (suc l)
+    (max t (suc l)) refl (of-tag Opens elements name attributes elements-open q.0 l t)
+    (tag-angle name attributes end tidy refl)
+    ∙ run-append (at (suc l) (max t (suc l))) (written inner) close
+    ∙ ap (λ s. run s close) (opens inner q.1 (suc l) (max t (suc l)) (omega arith))
+    ∙ past name (62 ∷ written rest) l top letters ∙ opens rest p.1 l top (omega arith)
+    ∙ ap (λ top. at l top) (levels-open l t (levels inner) (levels rest))
+
+-- a text in which no more are open has a reading that nests no deeper
+pub levels-kept : (n : ℕ) (x : List ℕ) (forest : Forest) → IsReading x forest → Leads 0 0 n x →
+    levels forest ≤ n
+levels-kept n x forest reading f =
+    let kept = f.leads 0 n (omega arith) in
+    let all = opens forest (is-true reading.in_grammar) 0 n (omega arith) in
+    let same : n ≡ max n (0 + levels forest) =
+    ap (λ s. s.top) (sym kept ∙ ap (λ x. run (at 0 n) x) (sym reading.written_so) ∙ all) in
+    omega (arith, same)
+  where
+    is-true : {b : Bool} → IsTrue b → b ≡ true
+    is-true h = h

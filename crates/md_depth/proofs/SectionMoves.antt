@@ -1,0 +1,249 @@
+-- The section of footnotes leaves no element open, and opens five at most beside what the texts of
+-- footnotes open.
+use Rattle.std.proofs.Common.{◌≡◌, ℕ, ◌+◌, ◌-◌, ◌≤◌, ◌==◌, zero, suc, Bool, true, false, not, cond}
+use Rattle.std.proofs.Common.{List, [], ◌∷◌, ◌++◌, length, take, drop, refl, ap, sym, ◌∙◌, subst}
+use Rattle.std.proofs.Common.{arith, append_assoc, codes, length-drop}
+use Rattle.std.specs.Prelude.{Option, Some, None, option_map, find, bytes_eq, string_bytes}
+use Rattle.std.specs.Option.{option_map_or}
+use Rattle.std.specs.List.{flat_map}
+use Rattle.std.specs.Fmt.{decimal}
+use Rattle.std.proofs.lemmas.List.{take-append-drop, drop-append-le}
+use Rattle.std.proofs.lemmas.Slice.Eq.{bytes_eq-Decides}
+use Rattle.md_text.specs.declared.options.CompileOptions.{CompileOptions}
+use Rattle.md_text.proofs.EncodeLaws.{is_escaped-encoded}
+use Rattle.md_meaning.specs.Meaning.At.{Footnote, Given}
+use Rattle.md_meaning.specs.Meaning.Layout.{Piece, Text, Needed, Forced}
+use Rattle.md_meaning.specs.Meaning.Footnotes.{option_or, id_of, call_id, backreference}
+use Rattle.md_meaning.specs.Meaning.Footnotes.{backreferences, unended_length, body, item}
+use Rattle.md_meaning.specs.Meaning.Footnotes.{section_start, section, distinct, place_among}
+use Rattle.md_meaning.specs.Meaning.Footnotes.{count_of}
+use Rattle.md_safe.proofs.Texts.{Escaped, decimal-escaped}
+use Rattle.md_safe.proofs.Calls.{label-escaped, id-escaped, call_id-escaped}
+use Rattle.md_safe.proofs.Section.{tag_of, attributes_of, heading_label_of, text_among}
+use Rattle.md_text.proofs.HtmlNames.{escaped-angle}
+use Rattle.md_depth.proofs.Machine.{Leads, leads-quiet, leads-append, leads-open, leads-close}
+use Rattle.md_depth.proofs.Machine.{run}
+use Rattle.md_depth.proofs.Moves as moves
+use Rattle.md_depth.proofs.Moves.{Moves, ◌▸◌, none, needed, forced, plain, part, open_tag, close_tag}
+use Rattle.md_depth.proofs.Moves.{open_line, close_line, kept}
+use Rattle.md_depth.proofs.Insertion.{leads-put}
+use Rattle.md_depth.proofs.ForestMoves.{TextsLead}
+
+-- ---- the ways back
+
+back-escaped : (options : CompileOptions) →
+    Escaped (option_or (option_map string_bytes options.gfm_footnote_back_label)
+    (codes "Back to content"))
+back-escaped options = by (option_map string_bytes options.gfm_footnote_back_label)
+  where
+    by : (label : Option (List ℕ)) → Escaped (option_or label (codes "Back to content"))
+    by None = refl
+    by (Some x) = is_escaped-encoded x
+
+which-leads : (occurrence : ℕ) (one : Bool) →
+    Leads 1 1 2 (cond one [] (codes "<sup>" ++ (decimal occurrence ++ codes "</sup>")))
+which-leads occurrence true = leads-quiet 1 2 [] refl
+which-leads occurrence false =
+    leads-append 1 2 1 2 (codes "<sup>") (decimal occurrence ++ codes "</sup>")
+    (leads-open 1 2 (codes "<sup>") (λ l t. refl) (omega arith))
+    (leads-append 2 2 1 2 (decimal occurrence) (codes "</sup>")
+    (leads-quiet 2 2 (decimal occurrence)
+    (escaped-angle (decimal occurrence) (decimal-escaped occurrence)))
+    (leads-close 1 2 (codes "</sup>") (λ l t. refl)))
+
+back-leads : (options : CompileOptions) (identifier : List ℕ) (number occurrence : ℕ) →
+    Leads 0 0 2 (backreference options identifier number occurrence)
+back-leads options identifier number occurrence =
+    let id : List ℕ = call_id options identifier number occurrence in
+    let label : List ℕ = option_or (option_map string_bytes options.gfm_footnote_back_label)
+    (codes "Back to content") in
+    leads-append 0 1 0 2 (codes "<a href=\"#") _
+    (leads-open 0 2 (codes "<a href=\"#") (λ l t. refl) (omega arith))
+    (leads-append 1 1 0 2 id _
+    (leads-quiet 1 2 id
+    (escaped-angle id (call_id-escaped options identifier number occurrence)))
+    (leads-append 1 1 0 2 (codes "\" data-footnote-backref=\"\" aria-label=\"") _
+    (leads-quiet 1 2 (codes "\" data-footnote-backref=\"\" aria-label=\"") refl)
+    (leads-append 1 1 0 2 label _ (leads-quiet 1 2 label (escaped-angle label (back-escaped options)))
+    (leads-append 1 1 0 2 (codes "\" class=\"data-footnote-backref\">") _
+    (leads-quiet 1 2 (codes "\" class=\"data-footnote-backref\">") refl)
+    (leads-append 1 1 0 2 (226 ∷ 134 ∷ 169 ∷ []) _
+    (leads-quiet 1 2 (226 ∷ 134 ∷ 169 ∷ []) refl)
+    (leads-append 1 1 0 2 _ (codes "</a>") (which-leads occurrence (occurrence == 1))
+    (leads-close 0 2 (codes "</a>") (λ l t. refl))))))))
+
+backs-lead : (options : CompileOptions) (identifier : List ℕ) (number count : ℕ) →
+    Leads 0 0 2 (backreferences options identifier number count)
+backs-lead options identifier number zero = leads-quiet 0 2 [] refl
+backs-lead options identifier number (suc count) =
+    leads-append 0 0 0 2 (backreferences options identifier number count) _
+    (backs-lead options identifier number count)
+    (leads-append 0 0 0 2 (cond (count == 0) [] (codes " ")) _ (between (count == 0))
+    (back-leads options identifier number (suc count)))
+  where
+    between : (first : Bool) → Leads 0 0 2 (cond first [] (codes " "))
+    between true = leads-quiet 0 2 [] refl
+    between false = leads-quiet 0 2 (codes " ") refl
+
+-- ---- a footnote's text with the ways back
+
+spaced : (back : List ℕ) → Leads 0 0 2 back → Leads 0 0 2 (32 ∷ back)
+spaced back f = leads-append 0 0 0 2 (32 ∷ []) back (leads-quiet 0 2 (32 ∷ []) refl) f
+
+-- where a paragraph ends it, its end tag is cut off whole
+cut-off : (x : List ℕ) →
+    bytes_eq (drop (unended_length x - 4) (take (unended_length x) x)) (codes "</p>") ≡ true →
+    (z : List ℕ) × (drop (unended_length x - 4) x ≡ 60 ∷ z)
+cut-off x h =
+    let m : ℕ = unended_length x in
+    let n : ℕ = m - 4 in
+    let tag : drop n (take m x) ≡ codes "</p>" =
+    (bytes_eq-Decides (drop n (take m x)) (codes "</p>")).0 h in
+    let fits : n ≤ length (take m x) = omega (arith, length-drop n (take m x), ap length tag) in
+    let last : drop n x ≡ codes "</p>" ++ drop m x =
+    ap (λ y. drop n y) (sym (take-append-drop m x)) ∙ drop-append-le n (take m x) (drop m x) fits
+    ∙ ap (λ y. y ++ drop m x) tag in
+    (47 ∷ 112 ∷ 62 ∷ drop m x, last)
+
+body-moves : (e : List ℕ) (n a k : ℕ) → Escaped e → (x back : List ℕ) → Leads 0 0 k x →
+    Leads 0 0 2 back → a + (k + 2) ≤ n → Moves e n a a (body x back)
+body-moves e n a k h x back f g room =
+    by (bytes_eq (drop end (take (unended_length x) x)) (codes "</p>")) refl
+  where
+    end : ℕ
+    end = unended_length x - 4
+
+    by : (is : Bool) → bytes_eq (drop (unended_length x - 4) (take (unended_length x) x))
+        (codes "</p>") ≡ is →
+        Moves e n a a (cond is (Text (take (unended_length x - 4) x) ∷ Text (codes " ") ∷ Text back
+        ∷ Text (drop (unended_length x - 4) x) ∷ []) (Text x ∷ Needed ∷ Text back ∷ []))
+    by true is =
+        let y : List ℕ = take (unended_length x - 4) x in
+        let z = cut-off x is in
+        let whole : x ≡ y ++ (60 ∷ z.0) =
+        sym (take-append-drop (unended_length x - 4) x) ∙ ap (λ z. y ++ z) z.1 in
+        let put : Leads 0 0 (k + 2) (y ++ ((32 ∷ back) ++ (60 ∷ z.0))) =
+        leads-put k 2 y (32 ∷ back) z.0 (subst (Leads 0 0 k) whole f) (spaced back g) in
+        joined y back (drop (unended_length x - 4) x)
+        (subst (λ z. Leads 0 0 (k + 2) (y ++ ((32 ∷ back) ++ z))) (sym z.1) put)
+      where
+        joined : (y back z : List ℕ) → Leads 0 0 (k + 2) (y ++ ((32 ∷ back) ++ z)) →
+            Moves e n a a (Text y ∷ Text (codes " ") ∷ Text back ∷ Text z ∷ [])
+        joined y back z f = texts-joined y (codes " ") back z
+            (kept e n a (k + 2) (y ++ (codes " " ++ (back ++ z))) f room)
+          where
+            texts-joined : (y s b z : List ℕ) → Moves e n a a (Text (y ++ (s ++ (b ++ z))) ∷ []) →
+                Moves e n a a (Text y ∷ Text s ∷ Text b ∷ Text z ∷ [])
+            texts-joined y s b z f = record {
+              moves = λ st text l t few before.
+                  ap (run st) (regrouped text y s b z) ∙ f.moves st text l t few before;
+            }
+              where
+                regrouped : (text y s b z : List ℕ) →
+                    (((text ++ y) ++ s) ++ b) ++ z ≡ text ++ (y ++ (s ++ (b ++ z)))
+                regrouped text y s b z = simp append_assoc
+    by false is =
+        kept e n a k x f (omega (arith, room)) ▸ needed e n a h
+        ▸ kept e n a 2 back g (omega (arith, room))
+
+-- ---- an item, and all
+
+item-moves : (e : List ℕ) (n a k : ℕ) → Escaped e → (given : Given) (footnotes : List Footnote)
+    (identifier : List ℕ) → Leads 0 0 k (text_among footnotes identifier) →
+    suc a + (k + 2) ≤ n → Moves e n a a (item given footnotes identifier)
+item-moves e n a k h given footnotes identifier f room =
+    let number : ℕ = place_among (distinct given.calls) identifier in
+    let count : ℕ = count_of given.calls identifier in
+    let id : List ℕ = id_of given.options (codes "fn-") identifier number in
+    forced e n a h ▸ open_tag e n a (codes "<li id=\"") (λ l t. refl) (omega (arith, room))
+    ▸ plain e n (suc a) id (id-escaped given.options (codes "fn-") identifier number refl)
+    ▸ part e n (suc a) (codes "\">") refl ▸ forced e n (suc a) h
+    ▸ body-moves e n (suc a) k h (text_among footnotes identifier)
+    (backreferences given.options identifier number count) f
+    (backs-lead given.options identifier number count) room
+    ▸ close_line e n a (codes "</li>") h (λ l t. refl)
+
+found-leads : (k : ℕ) (footnotes : List Footnote) (identifier : List ℕ) → TextsLead k footnotes →
+    Leads 0 0 k (text_among footnotes identifier)
+found-leads k [] identifier h = leads-quiet 0 k [] refl
+found-leads k (footnote ∷ others) identifier h = by (bytes_eq footnote.identifier identifier)
+    (found-leads k others identifier h.1)
+  where
+    by : (is : Bool) → Leads 0 0 k (text_among others identifier) →
+        Leads 0 0 k (option_map_or (λ footnote. footnote.text) (cond is (Some footnote)
+        (find (λ footnote. bytes_eq footnote.identifier identifier) others)) [])
+    by true later = h.0
+    by false later = later
+
+items-move : (e : List ℕ) (n a k : ℕ) → Escaped e → (given : Given) (footnotes : List Footnote) →
+    TextsLead k footnotes → suc a + (k + 2) ≤ n → (identifiers : List (List ℕ)) →
+    Moves e n a a (flat_map (item given footnotes) identifiers)
+items-move e n a k h given footnotes f room [] = none e n a
+items-move e n a k h given footnotes f room (identifier ∷ identifiers) =
+    item-moves e n a k h given footnotes identifier (found-leads k footnotes identifier f) room
+    ▸ items-move e n a k h given footnotes f room identifiers
+
+-- the heading as it is usually written
+abbrev head_of : List ℕ → List ℕ → List ℕ → List Piece
+head_of tag attributes label =
+    Text (codes "<section data-footnotes=\"\" class=\"footnotes\"><") ∷ Text tag
+    ∷ Text (codes " id=\"footnote-label\" ") ∷ Text attributes ∷ Text (codes ">") ∷ Text label
+    ∷ Text (codes "</") ∷ Text tag ∷ Text (codes ">") ∷ []
+
+two-texts : (e : List ℕ) (n a b : ℕ) (x y : List ℕ) → Moves e n a b (Text (x ++ y) ∷ []) →
+    Moves e n a b (Text x ∷ Text y ∷ [])
+two-texts e n a b x y f = record {
+  moves = λ s text l t few before.
+      ap (run s) (append_assoc text x y) ∙ f.moves s text l t few before;
+}
+
+head-moves : (e : List ℕ) (n : ℕ) → 2 ≤ n → (label : List ℕ) → Escaped label →
+    Moves e n 0 1 (head_of (codes "h2") (codes "class=\"sr-only\"") label)
+head-moves e n room label h =
+    let first : suc 0 ≤ n = omega (arith, room) in
+    two-texts e n 0 2 (codes "<section data-footnotes=\"\" class=\"footnotes\"><") (codes "h2")
+    (moves.text e n 0 2 (codes "<section data-footnotes=\"\" class=\"footnotes\"><h2")
+    (leads-append 0 1 2 n (codes "<section data-footnotes=\"\" class=\"footnotes\">") (codes "<h2")
+    (leads-open 0 n (codes "<section data-footnotes=\"\" class=\"footnotes\">") (λ l t. refl) first)
+    (leads-open 1 n (codes "<h2") (λ l t. refl) room)))
+    ▸ part e n 2 (codes " id=\"footnote-label\" ") refl ▸ part e n 2 (codes "class=\"sr-only\"") refl
+    ▸ part e n 2 (codes ">") refl ▸ plain e n 2 label h
+    ▸ two-texts e n 2 1 (codes "</") (codes "h2")
+    (close_tag e n 1 (codes "</h2") (λ l t. refl)) ▸ part e n 1 (codes ">") refl
+
+start-moves : (e : List ℕ) (n : ℕ) → 2 ≤ n → Escaped e → (options : CompileOptions) →
+    options.gfm_footnote_label_tag_name ≡ None → options.gfm_footnote_label_attributes ≡ None →
+    Moves e n 0 2 (section_start options)
+start-moves e n room h options no_tag no_attributes =
+    let tag : tag_of options ≡ codes "h2" =
+    ap (λ o. option_or (option_map string_bytes o) (codes "h2")) no_tag in
+    let attributes : attributes_of options ≡ codes "class=\"sr-only\"" =
+    ap (λ o. option_map_or string_bytes o (codes "class=\"sr-only\"")) no_attributes in
+    let head : Moves e n 0 1 (head_of (tag_of options) (attributes_of options)
+    (heading_label_of options)) =
+    subst (λ tag. Moves e n 0 1 (head_of tag (attributes_of options) (heading_label_of options)))
+    (sym tag) (subst (λ attributes. Moves e n 0 1 (head_of (codes "h2") attributes
+    (heading_label_of options))) (sym attributes)
+    (head-moves e n room (heading_label_of options) (label-escaped options))) in
+    needed e n 0 h ▸ head ▸ forced e n 1 h
+    ▸ open_tag e n 1 (codes "<ol>") (λ l t. refl) room
+
+pub section-moves : (e : List ℕ) (n k : ℕ) → Escaped e → (given : Given) →
+    given.options.gfm_footnote_label_tag_name ≡ None →
+    given.options.gfm_footnote_label_attributes ≡ None → (footnotes : List Footnote) →
+    TextsLead k footnotes → k + 5 ≤ n → Moves e n 0 0 (section given footnotes)
+section-moves e n k h given no_tag no_attributes footnotes f room =
+    by (not (length given.calls == 0))
+  where
+    items : List Piece
+    items = flat_map (item given footnotes) (distinct given.calls)
+
+    by : (some : Bool) → Moves e n 0 0 (cond some (section_start given.options
+        ++ (flat_map (item given footnotes) (distinct given.calls) ++ (Forced ∷ Text (codes "</ol>")
+        ∷ Forced ∷ Text (codes "</section>") ∷ Forced ∷ []))) [])
+    by true =
+        start-moves e n (omega (arith, room)) h given.options no_tag no_attributes
+        ▸ items-move e n 2 k h given footnotes f (omega (arith, room)) (distinct given.calls)
+        ▸ forced e n 2 h ▸ close_tag e n 1 (codes "</ol>") (λ l t. refl) ▸ forced e n 1 h
+        ▸ close_tag e n 0 (codes "</section>") (λ l t. refl) ▸ forced e n 0 h
+    by false = none e n 0

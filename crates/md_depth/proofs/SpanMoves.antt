@@ -1,0 +1,297 @@
+-- Spans leave no element open, and open two at most beside what their children open.
+use Rattle.std.specs.List.{list_all}
+use Rattle.std.proofs.Common.{◌≡◌, ℕ, ◌≤◌, suc, Bool, true, false, not, ◌||◌, cond}
+use Rattle.std.proofs.Common.{List, [], ◌∷◌, ◌++◌, refl, sym, subst, inl, inr, arith, codes}
+use Rattle.std.specs.Prelude.{Option, Some, None}
+use Rattle.std.specs.Fmt.{decimal}
+use Rattle.std.proofs.lemmas.Bool.{cond_both, or_cases}
+use Rattle.md_base.proofs.Lies.{lie}
+use Rattle.md_base.specs.declared.event.Name.{Name}
+use Rattle.md_base.specs.declared.event.Name.TheVariants as name_variants
+use name_variants.{Link, Image, HardBreakEscape, HardBreakTrailing, GfmTaskListItemCheck}
+use name_variants.{GfmFootnoteCall, AutolinkEmail, AutolinkProtocol, GfmAutolinkLiteralEmail}
+use name_variants.{GfmAutolinkLiteralMailto, GfmAutolinkLiteralProtocol, GfmAutolinkLiteralWww}
+use name_variants.{GfmAutolinkLiteralXmpp}
+use Rattle.md_text.specs.declared.options.CompileOptions.{CompileOptions}
+use Rattle.md_text.specs.Encode.{encoded}
+use Rattle.md_text.specs.Url.{sanitized, sanitized_with, link_protocols, image_protocols}
+use Rattle.md_text.proofs.HtmlNames.{no_angle}
+use Rattle.md_text.proofs.EncodeLaws.{is_escaped-encoded}
+use Rattle.md_text.proofs.EscapedLemmas.{sanitized-escaped, sanitized_with-escaped}
+use Rattle.md_meaning.specs.Meaning.At.{Target, At, text_in, identifier_of}
+use Rattle.md_meaning.specs.Meaning.Layout.{Piece, Text, layout, said, when}
+use Rattle.md_meaning.specs.Meaning.Means.{prints}
+use Rattle.md_meaning.specs.Meaning.Spans.{span, task_start, code, trimmed, without_escapes}
+use Rattle.md_meaning.specs.Meaning.Media.{url, href, src, title_attribute, anchor, picture}
+use Rattle.md_meaning.specs.Meaning.Media.{leads_to, autolink}
+use Rattle.md_meaning.specs.Meaning.Footnotes.{id_of, call_id, place_among, distinct, count_of}
+use Rattle.md_shape.specs.Built.{Blocks, content_of, is_autolink}
+use Rattle.md_safe.proofs.Texts.{Escaped, pipes-escaped, trimmed-escaped, decimal-escaped}
+use Rattle.md_safe.proofs.Laid.{adds-weaker}
+use Rattle.md_safe.proofs.Media.{IsEscapedTitle}
+use Rattle.md_safe.proofs.Calls.{id-escaped, call_id-escaped, call_tags}
+use Rattle.md_safe.proofs.Elements.{IsDone}
+use Rattle.md_safe.proofs.Insides.{is_blocks}
+use Rattle.md_safe.proofs.Spot.{Setting, Prints, Inside, IsGoodTarget, target-title}
+use Rattle.md_safe.proofs.SpanNodes.{is_single, is_shown, text-holds}
+use Rattle.md_safe.proofs.SpanSorts.{pair_tag, is_pair, by_pair, pair-prints, is_code}
+use Rattle.md_safe.proofs.SpanSorts.{is_math, code_opening, code-prints, code-text}
+use Rattle.md_depth.proofs.Machine.{Leads, leads-open, leads-close, leads-append}
+use Rattle.md_depth.proofs.Moves as moves
+use Rattle.md_depth.proofs.Moves.{Moves, ◌▸◌, none, adds-quiet, more, laid, plain, part, IsOpening}
+use Rattle.md_depth.proofs.Moves.{IsClosing, open_tag, close_tag, void_tag, kept}
+
+-- room for two more than so many
+abbrev pub Room : ℕ → ℕ → Type 0
+Room m n = suc (suc m) ≤ n
+
+around : (e : List ℕ) (m n : ℕ) → Room m n → (in_image : Bool) (o c : List ℕ) → IsOpening o →
+    IsClosing c → (inner : List Piece) → Moves e m 0 0 inner →
+    Moves e n 0 0 (cond in_image inner (said o ++ (inner ++ said c)))
+around e m n room true o c opens closes inner a = more e 0 m n inner (omega (arith, room)) a
+around e m n room false o c opens closes inner a =
+    open_tag e n 0 o opens (omega (arith, room)) ▸ more e 1 m n inner (omega (arith, room)) a
+    ▸ close_tag e n 0 c closes
+
+-- ---- links and images
+
+url-escaped : (any : Bool) (protocols : List (List ℕ)) (destination : List ℕ) →
+    Escaped (url any protocols destination)
+url-escaped any protocols destination =
+    cond_both any (sanitized destination) (sanitized_with protocols destination) Escaped
+    (λ _. sanitized-escaped destination) (λ _. sanitized_with-escaped protocols destination)
+
+title-moves : (e : List ℕ) (n a : ℕ) (title : Option (List ℕ)) → IsEscapedTitle title →
+    Moves e n a a (title_attribute title)
+title-moves e n a None h = none e n a
+title-moves e n a (Some x) h =
+    part e n a (codes " title=\"") refl ▸ plain e n a x h ▸ part e n a (codes "\"") refl
+
+anchor-moves : (e : List ℕ) (m n : ℕ) → Room m n → (options : CompileOptions) (target : Target) →
+    IsEscapedTitle target.title → (label : List ℕ) → Leads 0 0 m label →
+    Moves e n 0 0 (anchor options target label)
+anchor-moves e m n room options target title label f =
+    open_tag e n 0 (codes "<a href=\"") (λ l t. refl) (omega (arith, room))
+    ▸ plain e n 1 (href options target.destination)
+    (url-escaped _ link_protocols target.destination)
+    ▸ part e n 1 (codes "\"") refl ▸ title-moves e n 1 target.title title
+    ▸ part e n 1 (codes ">") refl ▸ kept e n 1 m label f (omega (arith, room))
+    ▸ close_tag e n 0 (codes "</a>") (λ l t. refl)
+
+picture-moves : (e : List ℕ) (m n : ℕ) → Room m n → (options : CompileOptions) (target : Target) →
+    IsEscapedTitle target.title → (label : List ℕ) → Escaped label →
+    Moves e n 0 0 (picture options target label)
+picture-moves e m n room options target title label h =
+    void_tag e n 0 (codes "<img src=\"") (λ l t. refl) (omega (arith, room))
+    ▸ plain e n 0 (src options target.destination)
+    (url-escaped _ image_protocols target.destination)
+    ▸ part e n 0 (codes "\" alt=\"") refl ▸ plain e n 0 label h ▸ part e n 0 (codes "\"") refl
+    ▸ title-moves e n 0 target.title title ▸ part e n 0 (codes " />") refl
+
+-- ---- code
+
+code-moves : (e : List ℕ) (m n : ℕ) → Room m n → (t : At) (math : Bool) (x : List ℕ) → Escaped x →
+    Moves e n 0 0 (code t (code_opening math) x)
+code-moves e m n room t math x h = by t.around.in_image
+  where
+    unescaped : List ℕ
+    unescaped = cond t.around.in_table (without_escapes x) x
+
+    shown : List ℕ
+    shown = trimmed unescaped
+
+    all : Escaped shown
+    all = trimmed-escaped unescaped (cond_both t.around.in_table (without_escapes x) x Escaped
+        (λ _. pipes-escaped x h) (λ _. h))
+
+    opens : (math : Bool) → IsOpening (code_opening math)
+    opens true = λ l t. refl
+    opens false = λ l t. refl
+
+    by : (in_image : Bool) → Moves e n 0 0
+        (cond in_image (said shown) (Text (code_opening math) ∷ Text shown ∷ Text (codes "</code>")
+        ∷ []))
+    by true = plain e n 0 shown all
+    by false =
+        open_tag e n 0 (code_opening math) (opens math) (omega (arith, room))
+        ▸ plain e n 1 shown all ▸ close_tag e n 0 (codes "</code>") (λ l t. refl)
+
+-- ---- calls, breaks and tasks
+
+call-moves : (e : List ℕ) (m n : ℕ) → Room m n → (options : CompileOptions)
+    (identifier : List ℕ) (number occurrence : ℕ) →
+    Moves e n 0 0 (call_tags options identifier number occurrence)
+call-moves e m n room options identifier number occurrence =
+    let first : suc 0 ≤ n = omega (arith, room) in
+    let second : suc 1 ≤ n = omega (arith, room) in
+    moves.text e n 0 2 (codes "<sup><a href=\"#")
+    (leads-append 0 1 2 n (codes "<sup>") (codes "<a href=\"#")
+    (leads-open 0 n (codes "<sup>") (λ l t. refl) first)
+    (leads-open 1 n (codes "<a href=\"#") (λ l t. refl) second))
+    ▸ plain e n 2 (id_of options (codes "fn-") identifier number)
+    (id-escaped options (codes "fn-") identifier number refl)
+    ▸ part e n 2 (codes "\" id=\"") refl
+    ▸ plain e n 2 (call_id options identifier number occurrence)
+    (call_id-escaped options identifier number occurrence)
+    ▸ part e n 2 (codes "\" data-footnote-ref=\"\" aria-describedby=\"footnote-label\">") refl
+    ▸ plain e n 2 (decimal number) (decimal-escaped number)
+    ▸ moves.text e n 2 0 (codes "</a></sup>")
+    (leads-append 2 1 0 n (codes "</a>") (codes "</sup>")
+    (leads-close 1 n (codes "</a>") (λ l t. refl)) (leads-close 0 n (codes "</sup>") (λ l t. refl)))
+
+unless : (e : List ℕ) (n : ℕ) (in_image : Bool) (pieces : List Piece) → Moves e n 0 0 pieces →
+    Moves e n 0 0 (when (not in_image) pieces)
+unless e n true pieces a = none e n 0
+unless e n false pieces a = a
+
+break-moves : (e : List ℕ) (m n : ℕ) → Room m n → (in_image : Bool) →
+    Moves e n 0 0 (when (not in_image) (said (codes "<br />")))
+break-moves e m n room in_image = unless e n in_image (said (codes "<br />"))
+    (void_tag e n 0 (codes "<br />") (λ l t. refl) (omega (arith, room)))
+
+done-quiet : (in_image : Bool) (x : List ℕ) → IsDone in_image x → list_all no_angle x ≡ true
+done-quiet in_image x (inl is) = subst (λ x. list_all no_angle x ≡ true) (sym is) refl
+done-quiet in_image x (inr is) = subst (λ x. list_all no_angle x ≡ true) (sym is.1) refl
+
+task-moves : (s : Setting) (t : At) (m n : ℕ) → Room m n → (inner : List Piece) →
+    Prints s (IsDone t.around.in_image) inner →
+    Moves s.given.ending n 0 0 (span t (task_start s.given) inner (said (codes "/>")))
+task-moves s t m n room inner a = by t.around.in_image
+  where
+    mark : Moves s.given.ending n 0 0 inner
+    mark = adds-quiet s.given.ending n 0 inner (adds-weaker s.given.ending
+        (IsDone t.around.in_image) (λ x. list_all no_angle x ≡ true) inner
+        (done-quiet t.around.in_image) a)
+
+    checkable : (b : Bool) → Moves s.given.ending n 0 0
+        (when (not b) (said (codes "disabled=\"\" ")))
+    checkable true = none s.given.ending n 0
+    checkable false = part s.given.ending n 0 (codes "disabled=\"\" ") refl
+
+    by : (in_image : Bool) →
+        Moves s.given.ending n 0 0 (cond in_image inner (task_start s.given
+        ++ (inner ++ said (codes "/>"))))
+    by true = mark
+    by false =
+        (void_tag s.given.ending n 0 (codes "<input type=\"checkbox\" ") (λ l t. refl)
+        (omega (arith, room)) ▸ checkable s.given.options.gfm_task_list_item_checkable)
+        ▸ mark ▸ part s.given.ending n 0 (codes "/>") refl
+
+-- ---- each span
+
+abbrev pub Below : Setting → ℕ → Name → List Piece → Type 0
+Below s m name inner = is_blocks (content_of name Blocks) ≡ true → Moves s.given.ending m 0 0 inner
+
+pair-moves : (s : Setting) (t : At) (m n : ℕ) → Room m n → (name : Name) → is_pair name ≡ true →
+    (inner : List Piece) → Below s m name inner →
+    Moves s.given.ending n 0 0 (prints s.given t name inner)
+pair-moves s t m n room name is inner below =
+    let e : List ℕ = s.given.ending in
+    let tag : List ℕ = pair_tag name in
+    subst (Moves e n 0 0) (sym (pair-prints s.given t name is inner))
+    (around e m n room t.around.in_image (60 ∷ (tag ++ (62 ∷ []))) (60 ∷ 47 ∷ (tag ++ (62 ∷ [])))
+    (by_pair (λ tag. IsOpening (60 ∷ (tag ++ (62 ∷ [])))) (λ l t. refl) (λ l t. refl)
+    (λ l t. refl) name is)
+    (by_pair (λ tag. IsClosing (60 ∷ 47 ∷ (tag ++ (62 ∷ [])))) (λ l t. refl) (λ l t. refl)
+    (λ l t. refl) name is) inner (below (blocks name is)))
+  where
+    blocks : (name : Name) → is_pair name ≡ true → is_blocks (content_of name Blocks) ≡ true
+    blocks name_variants.Emphasis is = refl
+    blocks name_variants.Strong is = refl
+    blocks name_variants.GfmStrikethrough is = refl
+    blocks _ is = lie is
+
+single-moves : (s : Setting) (t : At) (m n : ℕ) → Room m n → (name : Name) →
+    is_single name ≡ true → IsGoodTarget t.found.resource → (inner : List Piece) →
+    Inside s t Blocks name inner → Below s m name inner →
+    Moves s.given.ending n 0 0 (prints s.given t name inner)
+single-moves s t m n room Link is good inner a below = by t.around.in_image
+  where
+    label : List ℕ
+    label = layout s.given.ending inner
+
+    f : Leads 0 0 m label
+    f = laid s.given.ending m inner (below refl)
+
+    by : (in_image : Bool) → Moves s.given.ending n 0 0 (cond in_image (said label)
+        (anchor s.given.options (leads_to s.given t) label))
+    by true = kept s.given.ending n 0 m label f (omega (arith, room))
+    by false = anchor-moves s.given.ending m n room s.given.options (leads_to s.given t)
+        (target-title s t good) label f
+single-moves s t m n room Image is good inner a below = by t.around.in_image
+  where
+    label : List ℕ
+    label = layout s.given.ending inner
+
+    h : Escaped label
+    h = text-holds s Escaped inner a
+
+    by : (in_image : Bool) → Moves s.given.ending n 0 0 (cond in_image (said label)
+        (picture s.given.options (leads_to s.given t) label))
+    by true = plain s.given.ending n 0 label h
+    by false = picture-moves s.given.ending m n room s.given.options (leads_to s.given t)
+        (target-title s t good) label h
+single-moves s t m n room HardBreakEscape is good inner a below =
+    break-moves s.given.ending m n room t.around.in_image
+single-moves s t m n room HardBreakTrailing is good inner a below =
+    break-moves s.given.ending m n room t.around.in_image
+single-moves s t m n room GfmTaskListItemCheck is good inner a below =
+    task-moves s t m n room inner a
+single-moves s t m n room GfmFootnoteCall is good inner a below =
+    let identifier : List ℕ = identifier_of s.given.bytes t.children in
+    let number : ℕ = place_among (distinct s.given.calls) identifier in
+    let occurrence : ℕ = suc (count_of t.calls identifier) in
+    unless s.given.ending n t.around.in_image
+    (call_tags s.given.options identifier number occurrence)
+    (call-moves s.given.ending m n room s.given.options identifier number occurrence)
+single-moves s t m n room _ is good inner a below = lie is
+
+pub span-moves : (s : Setting) (t : At) (m n : ℕ) → Room m n → (name : Name) →
+    t.around.is_escaping ≡ true → is_shown name ≡ true → IsGoodTarget t.found.resource →
+    (inner : List Piece) → Inside s t Blocks name inner → Below s m name inner →
+    Moves s.given.ending n 0 0 (prints s.given t name inner)
+span-moves s t m n room name e is good inner a below = elim (or_cases (is_pair name) _ is) [
+  | inl is ↦ pair-moves s t m n room name is inner below
+  | inr c ↦ elim (or_cases (is_code name) (is_single name) c) [
+    | inl is ↦ subst (Moves s.given.ending n 0 0) (sym (code-prints s.given t name is inner))
+        (code-moves s.given.ending m n room t (is_math name) (layout s.given.ending inner)
+        (code-text s t Blocks name e is inner a))
+    | inr is ↦ single-moves s t m n room name is good inner a below
+  ]
+]
+
+link-moves : (s : Setting) (t : At) (m n : ℕ) → Room m n → (prefix : List ℕ) (plainly : Bool) →
+    Moves s.given.ending n 0 0 (autolink s.given t plainly prefix)
+link-moves s t m n room prefix plainly = by plainly
+  where
+    x : List ℕ
+    x = text_in s.given.bytes t.place
+
+    led : Target
+    led = record { destination = prefix ++ x; title = None }
+
+    by : (plainly : Bool) → Moves s.given.ending n 0 0 (cond plainly (said (encoded true x))
+        (anchor s.given.options led (encoded true x)))
+    by true = plain s.given.ending n 0 (encoded true x) (is_escaped-encoded x)
+    by false = anchor-moves s.given.ending m n room s.given.options led tt (encoded true x)
+        (laid s.given.ending m (said (encoded true x))
+        (plain s.given.ending m 0 (encoded true x) (is_escaped-encoded x)))
+
+pub autolink-moves : (s : Setting) (t : At) (m n : ℕ) → Room m n → (name : Name) →
+    is_autolink name ≡ true → (inner : List Piece) →
+    Moves s.given.ending n 0 0 (prints s.given t name inner)
+autolink-moves s t m n room AutolinkEmail is inner =
+    link-moves s t m n room (codes "mailto:") t.around.in_image
+autolink-moves s t m n room AutolinkProtocol is inner =
+    link-moves s t m n room [] t.around.in_image
+autolink-moves s t m n room GfmAutolinkLiteralEmail is inner =
+    link-moves s t m n room (codes "mailto:") (t.around.in_image || t.around.in_link)
+autolink-moves s t m n room GfmAutolinkLiteralMailto is inner =
+    link-moves s t m n room [] (t.around.in_image || t.around.in_link)
+autolink-moves s t m n room GfmAutolinkLiteralProtocol is inner =
+    link-moves s t m n room [] (t.around.in_image || t.around.in_link)
+autolink-moves s t m n room GfmAutolinkLiteralWww is inner =
+    link-moves s t m n room (codes "http://") (t.around.in_image || t.around.in_link)
+autolink-moves s t m n room GfmAutolinkLiteralXmpp is inner =
+    link-moves s t m n room [] (t.around.in_image || t.around.in_link)
+autolink-moves s t m n room _ is inner = lie is

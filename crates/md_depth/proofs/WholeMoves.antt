@@ -1,0 +1,77 @@
+-- In the reading of a document's meaning elements nest no deeper than twice as deep as nodes, and
+-- five levels more.
+use Rattle.std.proofs.Common.{ℕ, ◌+◌, ◌*◌, List, [], ◌++◌, refl, arith}
+use Rattle.md_base.specs.Tree.{Forest}
+use Rattle.md_text.specs.Html.{any_attribute}
+use Rattle.md_text.specs.declared.options.CompileOptions.{CompileOptions}
+use Rattle.md_tree.specs.Grammar.{IsGrammatical}
+use Rattle.md_meaning.specs.Meaning.{meaning, ending_at}
+use Rattle.md_meaning.specs.Meaning.Around.{outermost}
+use Rattle.md_meaning.specs.Meaning.At.{Given}
+use Rattle.md_meaning.specs.Meaning.Before.{nothing_before}
+use Rattle.md_meaning.specs.Meaning.Finds.{first_ending}
+use Rattle.md_meaning.specs.Meaning.Footnotes.{section}
+use Rattle.md_meaning.specs.Meaning.Layout.{layout}
+use Rattle.md_meaning.specs.Meaning.Nodes.{Outcome, outcome}
+use Rattle.md_shape.specs.Built.{Blocks, IsBuilt}
+use Rattle.md_shape.proofs.Grammatical.{grammatical-built}
+use Rattle.md_safe.specs.Options.{KeepsGrammar}
+use Rattle.md_safe.proofs.Costs.{Document, read_in}
+use Rattle.md_safe.proofs.Prepared.{outermost-ready, reads-whole, prepared}
+use Rattle.md_depth.specs.Depth.{height}
+use Rattle.md_depth.specs.Levels.{NestsWithin}
+use Rattle.md_depth.proofs.Machine.{Leads, leads-quiet}
+use Rattle.md_depth.proofs.Moves.{◌▸◌, more, laid}
+use Rattle.md_depth.proofs.ForestMoves.{Opens, opens}
+use Rattle.md_depth.proofs.SectionMoves.{section-moves}
+use Rattle.md_depth.proofs.Reading.{levels-kept}
+
+-- a document and its section
+document-leads : (d : Document) (document : Forest) → IsBuilt d.given.bytes Blocks document →
+    KeepsGrammar d.given.options →
+    Leads 0 0 (2 * height document + 5) (layout d.given.ending
+    ((outcome d.given outermost nothing_before document).pieces
+    ++ section d.given (outcome d.given outermost nothing_before document).footnotes))
+document-leads d document built keeps =
+    let all : Outcome = outcome d.given outermost nothing_before document in
+    let n : ℕ = 2 * height document in
+    let known : Opens d n all = opens d document outermost nothing_before n (record {
+      built = built;
+      ready = outermost-ready (read_in d) (reads-whole any_attribute (λ value. refl));
+      waits = leads-quiet 0 _ [] refl;
+      room = omega arith;
+    }) in
+    laid d.given.ending (n + 5) (all.pieces ++ section d.given all.footnotes)
+    (more d.given.ending 0 n (n + 5) all.pieces (omega arith) known.prints
+    ▸ section-moves d.given.ending (n + 5) n d.ending d.given keeps.usual_tag
+    keeps.usual_attributes all.footnotes known.texts (omega arith))
+
+pub elements-nest : (bytes : List ℕ) (names : List (List ℕ × List ℕ)) (options : CompileOptions)
+    (document : Forest) → IsGrammatical bytes names document → KeepsGrammar options →
+    NestsWithin (2 * height document + 5) (meaning options names bytes document)
+elements-nest bytes names options document grammatical keeps tree reading =
+    let built : IsBuilt bytes Blocks document =
+    grammatical-built bytes names document grammatical in
+    let known = prepared bytes names options document built keeps in
+    let ending : List ℕ = ending_at options bytes (first_ending document) in
+    let alone : Given = record {
+      bytes = bytes;
+      names = names;
+      options = options;
+      ending = ending;
+      calls = [];
+      definitions = [];
+    } in
+    let called : Given =
+    record alone { calls = (outcome alone outermost nothing_before document).calls } in
+    let given : Given = record called {
+      definitions = (outcome called outermost nothing_before document).definitions;
+    } in
+    let d : Document = record {
+      given = given;
+      html = keeps.escapes_html;
+      ending = known.0;
+      titles = known.1;
+    } in
+    levels-kept (2 * height document + 5) (meaning options names bytes document) tree reading
+    (document-leads d document built keeps)

@@ -1,0 +1,14 @@
+-- How deep the elements of HTML nest.
+use Rattle.std.specs.Prelude.{ℕ, ◌≤◌, suc, max, List}
+use Rattle.md_text.specs.Html.{Forest, Empty, Text, Void, Element, IsReading}
+
+-- how many elements at most lie in one another; a void tag is one
+abbrev pub levels : Forest → ℕ
+levels Empty = 0
+levels (Text bytes rest) = levels rest
+levels (Void name attributes rest) = max 1 (levels rest)
+levels (Element name attributes inner rest) = max (suc (levels inner)) (levels rest)
+
+-- in what a text is read as no more elements lie in one another than this
+abbrev pub NestsWithin : ℕ → List ℕ → Type 0
+NestsWithin bound text = (tree : Forest) → IsReading text tree → levels tree ≤ bound

@@ -1,0 +1,3 @@
+-- How deep events, nodes and elements nest.
+pub mod Depth
+pub mod Levels

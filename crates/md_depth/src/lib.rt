@@ -1,0 +1,4 @@
+//! How deep events and nodes nest.
+#![tactic(auto)]
+
+pub mod laws;

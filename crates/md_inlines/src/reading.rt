@@ -1,0 +1,240 @@
+//! What each mark begins: a method for each.
+
+use crate::reader::Reader;
+use md_base::Name;
+use md_lines::{Class, Place, is};
+use md_marks::{
+    Delimiter, Leaf, Mark, autolink_at, class_after, class_before, domain_end, flanks, is_www,
+    run_length, url, www,
+};
+use md_references::reference_length;
+use std::alloc::AllocError;
+
+impl<'a> Reader<'a> {
+    /// A full stop: it may be that of `www.`.
+    pub(crate) fn read_dot(&mut self, leaf: &Leaf, here: Place) -> Result<Place, AllocError> {
+        let low = self.from.max(leaf.start(here.line));
+        let may_begin = self.options.bare_links && here.at >= self.no_www_before;
+        if !may_begin || !is_www(leaf.bytes, low, here.at) {
+            return Ok(here);
+        }
+        if self.is_in_link() {
+            self.has_late_links = true;
+            return Ok(here);
+        }
+        let end = leaf.end(here.line);
+        match www(leaf.bytes, low, here.at, end) {
+            Some(link) => self.put(here.line, Mark::BareWww, link.start, link.end),
+            None => {
+                self.no_www_before = domain_end(leaf.until_end(here.line), here.at);
+                Ok(here)
+            }
+        }
+    }
+
+    /// A colon: it may be that of a URL.
+    pub(crate) fn read_colon(&mut self, leaf: &Leaf, here: Place) -> Result<Place, AllocError> {
+        if !self.options.bare_links || !leaf.rest(here).starts_with(b"://") {
+            return Ok(here);
+        }
+        if self.is_in_link() {
+            self.has_late_links = true;
+            return Ok(here);
+        }
+        let low = self.from.max(leaf.start(here.line));
+        match url(leaf.bytes, low, here.at, leaf.end(here.line)) {
+            Some(link) => self.put(here.line, Mark::BareUrl, link.start, link.end),
+            None => Ok(here),
+        }
+    }
+
+    /// Adds a token of a line, with the text before it: the place after it.
+    fn put(
+        &mut self,
+        line: usize,
+        mark: Mark,
+        start: usize,
+        end: usize,
+    ) -> Result<Place, AllocError> {
+        self.end_text(start, end)?;
+        self.push(mark, start, end, line)?;
+        Ok(Place { line, at: end })
+    }
+
+    /// Whether a bracket is open that may begin a link.
+    fn is_in_link(&self) -> bool {
+        self.brackets.len() > self.inactive
+    }
+
+    /// A backslash: an escape, or a break at the end of a line.
+    pub(crate) fn read_escape(&mut self, leaf: &Leaf, here: Place) -> Result<Place, AllocError> {
+        let after = here.at.saturating_add(1);
+        if let Some(byte) = leaf.rest(here).get(1) {
+            if !is(*byte, Class::Punctuation) {
+                return Ok(here);
+            }
+            self.end_text(here.at, after)?;
+            return Ok(Place {
+                line: here.line,
+                at: after.saturating_add(1),
+            });
+        }
+        if leaf.is_last(here.line) {
+            return Ok(here);
+        }
+        let next_line = here.line.saturating_add(1);
+        let next = leaf.start(next_line);
+        self.end_text(here.at, next)?;
+        self.push(Mark::BreakEscape, here.at, after, 0)?;
+        self.push(
+            Mark::LineEnding,
+            leaf.end(here.line),
+            leaf.next(here.line),
+            0,
+        )?;
+        Ok(Place {
+            line: next_line,
+            at: next,
+        })
+    }
+
+    /// Backticks: code, where as many follow.
+    pub(crate) fn read_code(&mut self, leaf: &Leaf, here: Place) -> Result<Place, AllocError> {
+        let length = run_length(leaf.rest(here), b'`');
+        let inside = Place {
+            line: here.line,
+            at: here.at.saturating_add(length),
+        };
+        match self.ticks.find(leaf, inside, length)? {
+            Some(end) => self.put_between(Mark::Code, here, inside, end, length),
+            None => Ok(inside),
+        }
+    }
+
+    /// `$` or `$$`: math, where the same follows.
+    pub(crate) fn read_math(&mut self, leaf: &Leaf, here: Place) -> Result<Place, AllocError> {
+        if !self.options.math {
+            return Ok(here);
+        }
+        let rest = leaf.rest(here);
+        let length = run_length(rest, b'$');
+        let inside = Place {
+            line: here.line,
+            at: here.at.saturating_add(length),
+        };
+        let may_begin = match rest.get(length) {
+            Some(byte) => length == 2 || (length == 1 && !is(*byte, Class::Space)),
+            None => length == 2,
+        };
+        if !may_begin {
+            return Ok(inside);
+        }
+        match self.dollars.find(leaf, inside, length == 2) {
+            Some(end) => self.put_between(Mark::Math, here, inside, end, length),
+            None => Ok(inside),
+        }
+    }
+
+    /// Adds a token between two marks of so many bytes: the place after the second.
+    fn put_between(
+        &mut self,
+        mark: Mark,
+        here: Place,
+        inside: Place,
+        end: Place,
+        length: usize,
+    ) -> Result<Place, AllocError> {
+        let after = end.at.saturating_add(length);
+        self.end_text(here.at, after)?;
+        self.push(mark, inside.at, end.at, here.line)?;
+        Ok(Place {
+            line: end.line,
+            at: after,
+        })
+    }
+
+    /// `&`: it may begin a character reference.
+    pub(crate) fn read_reference(&mut self, leaf: &Leaf, here: Place) -> Result<Place, AllocError> {
+        match reference_length(leaf.rest(here)) {
+            Some(length) => {
+                let end = here.at.saturating_add(length);
+                self.put(here.line, Mark::Reference, here.at, end)
+            }
+            None => Ok(here),
+        }
+    }
+
+    /// `<`: it may begin a link between angle brackets, or HTML.
+    pub(crate) fn read_angle(&mut self, leaf: &Leaf, here: Place) -> Result<Place, AllocError> {
+        if let Some(link) = autolink_at(leaf.rest(here)) {
+            let mark = match link.name {
+                Name::AutolinkEmail => Mark::Address,
+                _ => Mark::Url,
+            };
+            let start = here.at.saturating_add(1);
+            let after = here.at.saturating_add(link.length);
+            self.end_text(here.at, after)?;
+            self.push(mark, start, after.saturating_sub(1), 0)?;
+            return Ok(Place {
+                line: here.line,
+                at: after,
+            });
+        }
+        match self.endings.find(leaf, here) {
+            Some(end) => {
+                self.end_text(here.at, end.at)?;
+                self.push(Mark::Html, here.at, end.at, here.line)?;
+                Ok(end)
+            }
+            None => Ok(here),
+        }
+    }
+
+    /// A run of `*`, `_` or `~`.
+    pub(crate) fn read_delimiter(
+        &mut self,
+        leaf: &Leaf,
+        here: Place,
+        byte: u8,
+    ) -> Result<Place, AllocError> {
+        let rest = leaf.rest(here);
+        let length = run_length(rest, byte);
+        let end = here.at.saturating_add(length);
+        let before = class_before(leaf.before(here));
+        let after = class_after(rest.get(length..).unwrap_or(b""));
+        let (opens, closes) = flanks(byte, length, before, after);
+        if opens || closes {
+            self.end_text(here.at, end)?;
+            let token = self.tokens.len();
+            for at in here.at..end {
+                self.push(Mark::Text, at, at + 1, 0)?;
+            }
+            self.delimiters.push(Delimiter {
+                token,
+                length,
+                used: 0,
+                available: length,
+                byte,
+                opens,
+                closes,
+            })?;
+        }
+        Ok(Place {
+            line: here.line,
+            at: end,
+        })
+    }
+
+    /// `!`: it may begin an image.
+    pub(crate) fn read_image_start(
+        &mut self,
+        leaf: &Leaf,
+        here: Place,
+    ) -> Result<Place, AllocError> {
+        if matches!(leaf.rest(here).get(1), Some(b'[')) {
+            self.open_bracket(here, true)
+        } else {
+            Ok(here)
+        }
+    }
+}

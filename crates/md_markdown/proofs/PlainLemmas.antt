@@ -1,0 +1,248 @@
+-- A document that is shown as it is written is one of the grammar, whatever its text is.
+use Rattle.std.proofs.Common.{◌≡◌, ◌∙◌, ℕ, zero, suc, ◌-◌, List, [], ◌∷◌, ◌++◌, true}
+use Rattle.std.proofs.Common.{false, ◌&&◌, if◌then◌else◌, refl, ap, sym, subst, length, nat_le, Some}
+use Rattle.std.proofs.Common.{inl, Result, Ok, Err, IfErr}
+use Rattle.std.proofs.Common.{None, take, replicate, All, codes}
+use Rattle.std.specs.Option.{unwrap_or}
+use Rattle.std.specs.Str.{IsUtf8}
+use Rattle.std.specs.Borrow.{Bor}
+use Rattle.std.proofs.lemmas.Str.{is_utf8-from_IsUtf8}
+use Rattle.std.proofs.lemmas.Bool.{le-leb, true≢false}
+use Rattle.std.proofs.lemmas.Option.{none-some}
+use Rattle.std.proofs.lemmas.List.Elements.{All-cons, All-nil}
+use Rattle.std.proofs.Math.Nat.{le_refl, sub-zero}
+use Rattle.std.proofs.Math.Dec.{leb-zero}
+use Rattle.md_base.specs.declared.event.Event.{Event}
+use Rattle.md_base.specs.Reference.{name_table}
+use Rattle.md_base.specs.Place.{text_between, text_when, fits}
+use Rattle.md_base.specs.Tree.{Forest, flatten}
+use Rattle.md_pattern.specs.Spine.{Matches}
+use Rattle.md_pattern.specs.declared.kinds.Symbol.TheVariants as symbol
+use Rattle.md_pattern.specs.declared.kinds.Role.TheVariants as role
+use Rattle.md_text.specs.Encode.{encoded}
+use Rattle.md_text.specs.declared.options.CompileOptions.{CompileOptions}
+use Rattle.md_tree.specs.Grammar.{IsChecked, IsGrammatical, handed}
+use Rattle.md_tree.specs.Mentions.{IsResolved, mentions_of}
+use Rattle.md_tree.specs.Refusal.{IsOutside}
+use Rattle.md_tree.specs.Rules.{broken_by}
+use Rattle.md_tree.specs.declared.mention.Mention.{Mention}
+use Rattle.md_tree.specs.declared.mention.Mention.TheVariants.{Nothing}
+use Rattle.md_tree.specs.declared.rule.CompileError.TheVariants as refusal
+use Rattle.md_tree.proofs.ClosedNodes.{not_childless}
+use Rattle.md_meaning.specs.Meaning.{meaning}
+use Rattle.md_safe.specs.Options.{KeepsImages}
+use Rattle.md_html.specs.Safe.{IsRefusedFor, OfCompile}
+use Rattle.md_html.specs.Unnested.{AreNested, OfSafe, OfNested}
+use Rattle.md_html.specs.Within as given
+use given.{OfWithin}
+use Rattle.md_html.specs.SafeWithin.{IsUnsafeFor, OfLimits}
+use Rattle.md_html.specs.declared.safe_html.SafeError.TheVariants as safe
+use Rattle.md_html.specs.declared.unnested.UnnestedError.{UnnestedError}
+use Rattle.md_html.specs.declared.unnested.UnnestedError.TheVariants as unnested
+use Rattle.md_html.specs.declared.within.WithinError.TheVariants as within
+use Rattle.md_html.specs.declared.within.SafeWithinError.{SafeWithinError}
+use Rattle.md_html.specs.declared.within.SafeWithinError.TheVariants as safe_within
+use Rattle.md_markdown.specs.Made.{IsMadeOver, IsLonger, OfTooLong}
+use Rattle.md_markdown.specs.declared.error.MarkdownWithinError.{MarkdownWithinError}
+use Rattle.md_markdown.specs.declared.error.MarkdownWithinError.TheVariants as error
+use Rattle.md_markdown.specs.Parsed.{is_memory, of_limits, IsMadeOfEither}
+use Rattle.md_markdown.specs.Plain.{plain, plain_text, at}
+
+pub takes-all : (bytes : List ℕ) → take (length bytes) bytes ≡ bytes
+takes-all [] = refl
+takes-all (byte ∷ bytes) = ap (λ rest. byte ∷ rest) (takes-all bytes)
+
+pub fits-all : (bytes : List ℕ) → fits bytes (at 0) (at (length bytes)) ≡ true
+fits-all bytes =
+    ap (λ reached. nat_le 0 (length bytes) && reached)
+    (le-leb (length bytes) (length bytes) (le_refl (length bytes)))
+    ∙ ap (λ begun. begun && true) (leb-zero (length bytes))
+
+-- all of a document's bytes are read
+pub reads-all : (bytes : List ℕ) → IsUtf8 bytes →
+    text_between bytes (at 0) (at (length bytes)) ≡ Some bytes
+reads-all bytes utf8 =
+    ap (λ fitting. text_when fitting (take (length bytes - 0) bytes)) (fits-all bytes)
+    ∙ ap (λ size. text_when true (take size bytes)) (sub-zero (length bytes))
+    ∙ ap (λ text. text_when true text) (takes-all bytes)
+    ∙ ap (λ readable. if readable then Some bytes else None) (is_utf8-from_IsUtf8 bytes utf8)
+
+-- nothing that is mentioned has to be resolved
+nothing : (bytes : List ℕ) (mentions : List Mention) (count : ℕ) →
+    All (IsResolved bytes mentions) (replicate count Nothing)
+nothing bytes mentions zero = All-nil (IsResolved bytes mentions)
+nothing bytes mentions (suc count) =
+    All-cons (IsResolved bytes mentions) Nothing (replicate count Nothing) tt
+    (nothing bytes mentions count)
+
+text_alone : Matches role.Phrasing (symbol.Text ∷ [])
+text_alone = (
+  symbol.Text ∷ [],
+  ([], [], refl, refl, refl),
+  (symbol.Text ∷ [], [], refl, refl, tt, refl),
+)
+
+block_alone : Matches role.Flow (symbol.Block ∷ [])
+block_alone = (
+  symbol.Block ∷ [],
+  ([], [], refl, refl, refl),
+  (symbol.Block ∷ [], [], refl, refl, tt, refl),
+)
+
+pub grammatical : (bytes : List ℕ) (names : List (List ℕ × List ℕ)) → IsUtf8 bytes →
+    IsGrammatical bytes names (plain (length bytes))
+grammatical bytes names utf8 = record {
+  shape = (
+    (
+      (not_childless role.Flow refl, text_alone),
+      ((not_childless role.Phrasing refl, ([], refl, refl)), tt, tt),
+      tt,
+    ),
+    block_alone,
+  );
+  rules = (
+    refl,
+    (ap (λ read. broken_by read (λ text. None)) (reads-all bytes utf8), tt, tt),
+    tt,
+  );
+  resolved = nothing bytes (mentions_of (plain (length bytes))) 4;
+}
+
+-- its text is that of the document, escaped, in one paragraph
+pub means : (options : CompileOptions) (bytes : List ℕ) → IsUtf8 bytes →
+    meaning options [] bytes (plain (length bytes)) ≡ plain_text bytes
+means options bytes utf8 =
+    ap (λ read. codes "<p>" ++ encoded true (unwrap_or read []) ++ codes "</p>")
+    (reads-all bytes utf8)
+
+-- what is claimed of a text that is too long, of the document's error
+pub long_told : (claimed also longer : Type 0) (why : SafeWithinError)
+    (cause : MarkdownWithinError) → (claimed → also → longer) →
+    OfLimits (given.OfTooLong claimed) why → OfLimits (given.OfTooLong also) why →
+    of_limits why ≡ Some cause → OfTooLong longer cause
+long_told claimed also longer safe_within.Options cause make claim more is =
+    absurd (none-some cause is)
+long_told claimed also longer (safe_within.Within within.TooLong) cause make claim more is =
+    subst (OfTooLong longer) (ap (λ read. unwrap_or read error.Memory) is) (make claim more)
+long_told claimed also longer (safe_within.Within within.TooMuch) cause make claim more is =
+    subst (OfTooLong longer) (ap (λ read. unwrap_or read error.Memory) is) tt
+long_told claimed also longer (safe_within.Within (within.Compile refusal.Memory)) cause make claim
+    more is = subst (OfTooLong longer) (ap (λ read. unwrap_or read error.Memory) is) tt
+long_told claimed also longer (safe_within.Within (within.Compile (refusal.Event index rule))) cause
+    make claim more is = absurd (none-some cause is)
+
+-- and where events are a document's, over these bytes
+pub long_over : (events : List Event) (bytes text : List ℕ)
+    (names : List (Bor (List ℕ) × Bor (List ℕ))) (options : CompileOptions) (limit : ℕ)
+    (why : SafeWithinError) (cause : MarkdownWithinError) → KeepsImages options →
+    OfLimits (given.OfTooLong (given.IsLonger options (handed events bytes names) limit)) why →
+    OfLimits (given.OfTooLong (IsChecked (handed events bytes names))) why →
+    of_limits why ≡ Some cause → OfTooLong (IsLonger (IsMadeOfEither bytes text) limit) cause
+long_over events bytes text names options limit why cause safe claim checked is =
+    long_told (given.IsLonger options (handed events bytes names) limit)
+    (IsChecked (handed events bytes names)) (IsLonger (IsMadeOfEither bytes text) limit) why cause
+    (λ long read. (
+      meaning options (name_table names) bytes read.0,
+      (
+        inl (record {
+          document = read.0;
+          names = name_table names;
+          options = options;
+          safe = safe;
+          grammatical = read.1.grammatical;
+          means = refl;
+        }),
+        long read.0 read.1.flattened,
+      ),
+    )) claim checked is
+
+-- what is longer still is so where more is claimed of it
+pub long_widened : {T : Type 0} (r : Result T MarkdownWithinError)
+    (claim wider : List ℕ → Type 0) (limit : ℕ) → ((text : List ℕ) → claim text → wider text) →
+    IfErr r (OfTooLong (IsLonger claim limit)) → IfErr r (OfTooLong (IsLonger wider limit))
+long_widened (Ok x) claim wider limit widen long = tt
+long_widened (Err error.TooLong) claim wider limit widen long =
+    (long.0, (widen long.0 long.1.0, long.1.1))
+long_widened (Err error.TooMuch) claim wider limit widen long = tt
+long_widened (Err error.Memory) claim wider limit widen long = tt
+
+-- its events, over bytes that are a text's
+module _ (events : List Event) (bytes text : List ℕ)
+    (same : events ≡ flatten (plain (length text))) (value : bytes ≡ text)
+    (utf8 : IsUtf8 text) where
+  checked : (names : List (Bor (List ℕ) × Bor (List ℕ))) → IsChecked (handed events bytes names)
+  checked names = (
+    plain (length text),
+    record {
+      flattened = sym same;
+      grammatical = subst (λ b. IsGrammatical b (name_table names) (plain (length text))) (sym value)
+          (grammatical text (name_table names) utf8);
+    },
+  )
+
+  -- what they mean
+  pub shown : (options : CompileOptions) (html : List ℕ) →
+      ((document : Forest) → flatten document ≡ events →
+      html ≡ meaning options [] bytes document) → html ≡ plain_text text
+  shown options html meant =
+      meant (plain (length text)) (sym same)
+      ∙ ap (λ b. meaning options [] b (plain (length text))) value ∙ means options text utf8
+
+  pub made : (options : CompileOptions) (html : List ℕ) → KeepsImages options →
+      ((document : Forest) → flatten document ≡ events →
+      html ≡ meaning options [] bytes document) → IsMadeOver text html
+  made options html safe meant = record {
+    document = plain (length text);
+    names = [];
+    options = options;
+    safe = safe;
+    grammatical = grammatical text [] utf8;
+    means = meant (plain (length text)) (sym same)
+        ∙ ap (λ b. meaning options [] b (plain (length text))) value;
+  }
+
+  -- they have a text, so that nothing but memory can be missing
+  pub never : (options : CompileOptions) (why : UnnestedError) → KeepsImages options →
+      OfNested (AreNested events) why → OfSafe (IsRefusedFor options) why →
+      OfSafe (OfCompile (IsOutside (handed events bytes []))) why → is_memory why ≡ false → ⊥
+  never options unnested.Nested safe nested refused outside other =
+      true≢false (sym (nested (plain (length text)) (sym same)))
+  never options (unnested.Safe safe.Options) kept nested refused outside other = refused kept
+  never options (unnested.Safe (safe.Compile refusal.Memory)) kept nested refused outside other =
+      true≢false other
+  never options (unnested.Safe (safe.Compile (refusal.Event index rule))) kept nested refused
+      outside other = outside (checked [])
+
+  pub never_within : (options : CompileOptions) (why : SafeWithinError) → KeepsImages options →
+      IsUnsafeFor options why → OfLimits (OfWithin (IsOutside (handed events bytes []))) why →
+      of_limits why ≡ None → ⊥
+  never_within options safe_within.Options kept refused outside other = refused kept
+  never_within options (safe_within.Within within.TooLong) kept refused outside other = none-some _ (sym other)
+  never_within options (safe_within.Within within.TooMuch) kept refused outside other = none-some _ (sym other)
+  never_within options (safe_within.Within (within.Compile refusal.Memory)) kept refused outside
+      other = none-some _ (sym other)
+  never_within options (safe_within.Within (within.Compile (refusal.Event index rule))) kept
+      refused outside other = outside (checked [])
+
+  -- a text that is too long is that of the document
+  pub longer : (options : CompileOptions) (limit : ℕ) (why : SafeWithinError)
+      (cause : MarkdownWithinError) → KeepsImages options →
+      OfLimits (given.OfTooLong (given.IsLonger options (handed events bytes []) limit)) why →
+      of_limits why ≡ Some cause → OfTooLong (IsLonger (IsMadeOver text) limit) cause
+  longer options limit why cause safe claim is =
+      let claimed = given.IsLonger options (handed events bytes []) limit in
+      long_told claimed claimed (IsLonger (IsMadeOver text) limit) why cause
+      (λ long _. (
+        meaning options [] bytes (plain (length text)),
+        (
+          record {
+            document = plain (length text);
+            names = [];
+            options = options;
+            safe = safe;
+            grammatical = grammatical text [] utf8;
+            means = ap (λ b. meaning options [] b (plain (length text))) value;
+          },
+          long (plain (length text)) (sym same),
+        ),
+      )) claim claim is

@@ -1,0 +1,35 @@
+-- The paragraph is a document of the grammar, whose text is known.
+use Rattle.std.proofs.Common.{sym, ◌∙◌, refl, length}
+use Rattle.md_markdown.specs.Plain.{plain}
+use Rattle.md_markdown.proofs.PlainLemmas.{shown, made, never_within, longer}
+use Rattle.md_markdown.proofs.plain.compile_plain_within.Goals as goal
+
+pub unreachable-requires : goal.unreachable-requires
+unreachable-requires c =
+    never_within c.plain_events-events.result c.as_bytes.result.now c.args.text.now
+    c.plain_events-events.ensures c.as_bytes.ensures.value c.utf8.text
+    c.args.within.now.options.now c.in-Err.error c.requires.safe c.in-Err.ensures.options
+    c.in-Err.ensures.outside (sym c.of_limits.ensures ∙ c.in-None.is)
+
+pub returns-in-Ok-clause-text : goal.returns-in-Ok-clause-text
+returns-in-Ok-clause-text c =
+    shown c.plain_events-events.result c.as_bytes.result.now c.args.text.now
+    c.plain_events-events.ensures c.as_bytes.ensures.value c.utf8.text c.args.within.now.options.now
+    c.in-Ok.html c.in-Ok.ensures.meaning
+
+pub returns-in-Ok-clause-made : goal.returns-in-Ok-clause-made
+returns-in-Ok-clause-made c =
+    made c.plain_events-events.result c.as_bytes.result.now c.args.text.now
+    c.plain_events-events.ensures c.as_bytes.ensures.value c.utf8.text
+    c.args.within.now.options.now c.in-Ok.html c.requires.safe c.in-Ok.ensures.meaning
+
+pub returns-in-Ok-clause-tree : goal.returns-in-Ok-clause-tree
+returns-in-Ok-clause-tree c =
+    c.in-Ok.ensures.tree (plain (length c.args.text.now)) (sym c.plain_events-events.ensures) refl
+
+pub returns-in-Some-clause-too_long : goal.returns-in-Some-clause-too_long
+returns-in-Some-clause-too_long c =
+    longer c.plain_events-events.result c.as_bytes.result.now c.args.text.now
+    c.plain_events-events.ensures c.as_bytes.ensures.value c.utf8.text
+    c.args.within.now.options.now c.args.within.now.limits.text c.in-Err.error c.in-Some.cause c.requires.safe
+    c.in-Err.ensures.too_long (sym c.of_limits.ensures ∙ c.in-Some.is)

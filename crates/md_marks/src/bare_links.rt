@@ -1,0 +1,271 @@
+//! Bare URLs and addresses in texts, as GitHub flavored Markdown has them.
+
+ghost use Rattle.std.specs.Prelude.{◌≤◌, length};
+
+use md_base::Name;
+use md_lines::{Class, is};
+
+/// A bare link: the event's name, and its place.
+#[derive(Clone, Copy, Debug, PartialEq, Eq)]
+pub struct BareLink {
+    pub name: Name,
+    pub start: usize,
+    pub end: usize,
+}
+
+/// The link with `://` at `colon`, which begins at `low` or later and ends before `high`. One by
+/// `ftp`, which GFM has too, is text: no safe text keeps that protocol.
+pub fn url(bytes: &[u8], low: usize, colon: usize, high: usize) -> Option<BareLink> {
+    let rest = bytes.get(colon..high)?.strip_prefix(b"://")?;
+    let before = bytes.get(low..colon)?;
+    let letters = before
+        .iter()
+        .rev()
+        .take(6)
+        .take_while(|byte| byte.is_ascii_alphabetic());
+    let start = colon.checked_sub(letters.count())?;
+    let scheme = bytes.get(start..colon)?;
+    if !scheme.eq_ignore_ascii_case(b"http") && !scheme.eq_ignore_ascii_case(b"https") {
+        return None;
+    }
+    domain_length(rest, false)?;
+    let end = link_end(bytes, start, high)?;
+    let is_long = end > colon.saturating_add(3);
+    is_long.then_some(BareLink {
+        name: Name::GfmAutolinkLiteralProtocol,
+        start,
+        end,
+    })
+}
+
+/// The link that begins with `www.`, whose first full stop is at `dot`. It begins at `low` or later
+/// and ends before `high`.
+pub fn www(bytes: &[u8], low: usize, dot: usize, high: usize) -> Option<BareLink> {
+    if !is_www(bytes, low, dot) {
+        return None;
+    }
+    let start = dot.checked_sub(3)?;
+    if !may_begin(bytes, start) {
+        return None;
+    }
+    domain_length(bytes.get(start..high)?, true)?;
+    let end = link_end(bytes, start, high)?;
+    let is_long = end > dot.saturating_add(1);
+    is_long.then_some(BareLink {
+        name: Name::GfmAutolinkLiteralWww,
+        start,
+        end,
+    })
+}
+
+/// Whether `www` stands before `dot`, not before `low`.
+pub fn is_www(bytes: &[u8], low: usize, dot: usize) -> bool {
+    let before = bytes.get(low..dot).unwrap_or(b"");
+    match before.len().checked_sub(3) {
+        Some(start) => match before.get(start..) {
+            Some(word) => word.eq_ignore_ascii_case(b"www"),
+            None => false,
+        },
+        None => false,
+    }
+}
+
+/// Whether a link that begins with `www.` may begin at `start`, by the byte before it.
+fn may_begin(bytes: &[u8], start: usize) -> bool {
+    let before = bytes.get(..start).unwrap_or(b"");
+    match before.last() {
+        None => true,
+        Some(byte) => matches!(
+            *byte,
+            b' ' | b'\t' | b'\n' | b'\r' | b'*' | b'_' | b'~' | b'(' | b'|' | b'[' | b'>'
+        ),
+    }
+}
+
+/// The link whose `@` is at `at`. It begins at `low` or later and ends before `high`.
+pub fn address(bytes: &[u8], low: usize, at: usize, high: usize) -> Option<BareLink> {
+    let before = bytes.get(low..at)?;
+    let name_length = before
+        .iter()
+        .rev()
+        .take_while(|byte| {
+            byte.is_ascii_alphanumeric() || matches!(**byte, b'.' | b'+' | b'-' | b'_')
+        })
+        .count();
+    if name_length == 0 {
+        return None;
+    }
+    let start = at.checked_sub(name_length)?;
+    let rest = bytes.get(at..high)?.get(1..)?;
+    let host_length = host_length(rest)?;
+    let head = bytes.get(low..start)?;
+    let end = at.saturating_add(1).saturating_add(host_length);
+    if ends_in(head, b"mailto:") {
+        return Some(BareLink {
+            name: Name::GfmAutolinkLiteralMailto,
+            start: start.saturating_sub(7),
+            end,
+        });
+    }
+    if ends_in(head, b"xmpp:") {
+        return Some(BareLink {
+            name: Name::GfmAutolinkLiteralXmpp,
+            start: start.saturating_sub(5),
+            end: end.saturating_add(resource_length(rest, host_length)),
+        });
+    }
+    Some(BareLink {
+        name: Name::GfmAutolinkLiteralEmail,
+        start,
+        end,
+    })
+}
+
+/// Whether a text ends in a word, whatever the case of its letters.
+fn ends_in(text: &[u8], word: &[u8]) -> bool {
+    let start = text.len().saturating_sub(word.len());
+    match text.get(start..) {
+        Some(end) => end.eq_ignore_ascii_case(word),
+        None => false,
+    }
+}
+
+/// How long the host of an address is with which a text begins.
+fn host_length(text: &[u8]) -> Option<usize> {
+    let mut has_dot = false;
+    let mut length = text.len();
+    for (index, byte) in text.iter().enumerate() {
+        match *byte {
+            b'.' if is_alphanumeric_at(text, index, 1) => has_dot = true,
+            b'-' | b'_' => {}
+            other if other.is_ascii_alphanumeric() => {}
+            _ => {
+                length = index;
+                break;
+            }
+        }
+    }
+    let last = text.get(..length)?.last()?;
+    (has_dot && last.is_ascii_alphabetic()).then_some(length)
+}
+
+/// Whether a letter or a digit stands so many bytes after a place.
+fn is_alphanumeric_at(text: &[u8], index: usize, after: usize) -> bool {
+    match text.get(index.saturating_add(after)) {
+        Some(byte) => byte.is_ascii_alphanumeric(),
+        None => false,
+    }
+}
+
+/// How long the resource of an address of XMPP is, with its slash, that begins at `from`.
+fn resource_length(text: &[u8], from: usize) -> usize {
+    let Some(rest) = text.get(from..) else {
+        return 0;
+    };
+    let Some(resource) = rest.strip_prefix(b"/") else {
+        return 0;
+    };
+    let length = resource
+        .iter()
+        .take_while(|byte| byte.is_ascii_alphanumeric() || matches!(**byte, b'@' | b'.'))
+        .count();
+    match resource.get(..length) {
+        Some(text) if !text.is_empty() => trimmed_length(text).saturating_add(1),
+        _ => 0,
+    }
+}
+
+/// How long the domain is with which a text begins: letters, digits, `-`, `_` and full stops, with
+/// no `_` in the last two parts.
+fn domain_length(text: &[u8], needs_dot: bool) -> Option<usize> {
+    let mut has_dot = false;
+    let mut is_last_marked = false;
+    let mut is_one_before_marked = false;
+    let mut length = text.len();
+    for (index, byte) in text.iter().enumerate() {
+        match *byte {
+            b'_' => is_last_marked = true,
+            b'.' => {
+                is_one_before_marked = is_last_marked;
+                is_last_marked = false;
+                has_dot = true;
+            }
+            b'-' => {}
+            other if other.is_ascii_alphanumeric() || other >= 128 => {}
+            _ => {
+                length = index;
+                break;
+            }
+        }
+    }
+    let is_domain = !is_last_marked && !is_one_before_marked && (has_dot || !needs_dot);
+    (is_domain && length > 0).then_some(length)
+}
+
+/// Where a link from `start` ends: before white space, `<` or `high`, and before marks that belong
+/// to the text around it.
+fn link_end(bytes: &[u8], start: usize, high: usize) -> Option<usize> {
+    let rest = bytes.get(start..high)?;
+    let length = rest
+        .iter()
+        .take_while(|byte| !matches!(**byte, b' ' | b'\t' | b'\n' | b'\r' | b'<'))
+        .count();
+    let link = rest.get(..length)?;
+    Some(start.saturating_add(trimmed_length(link)))
+}
+
+/// How long a link is without the marks at its end that belong to the text around it: punctuation,
+/// closing parentheses that it doesn't open, and a character reference.
+fn trimmed_length(link: &[u8]) -> usize
+    ensures { result ≤ length link.now }
+{
+    let opened = link.iter().filter(|byte| **byte == b'(').count();
+    let mut closed = link.iter().filter(|byte| **byte == b')').count();
+    let mut end = link.len();
+    while end > 0 {
+        let last = end - 1;
+        match link.get(last) {
+            Some(b'?' | b'!' | b'.' | b',' | b':' | b'*' | b'_' | b'~' | b'\'' | b'"') => {
+                end = last;
+            }
+            Some(b')') if closed > opened => {
+                closed = closed.saturating_sub(1);
+                end = last;
+            }
+            Some(b';') => end = last.saturating_sub(reference_length(link, last)),
+            _ => break,
+        }
+    }
+    end
+}
+
+/// How long the character reference is, without its `;`, that ends before `last`; 0 if none does.
+fn reference_length(link: &[u8], last: usize) -> usize {
+    let Some(text) = link.get(..last) else {
+        return 0;
+    };
+    let letters = text
+        .iter()
+        .rev()
+        .take_while(|byte| byte.is_ascii_alphabetic())
+        .count();
+    let before = text.len().saturating_sub(letters);
+    let is_reference = letters > 0 && matches!(text.get(..before), Some([.., b'&']));
+    if is_reference {
+        letters.saturating_add(1)
+    } else {
+        0
+    }
+}
+
+/// Where a domain ends that goes on at a place.
+pub fn domain_end(text: &[u8], at: usize) -> usize {
+    let rest = text.get(at..).unwrap_or(b"");
+    let length = rest
+        .iter()
+        .take_while(|byte| {
+            is(**byte, Class::Alphanumeric) || matches!(**byte, b'.' | b'-' | b'_')
+        })
+        .count();
+    at.saturating_add(length)
+}

@@ -1,0 +1,90 @@
+//! The lines of a leaf.
+
+use md_lines::{Line, Place, trim_end};
+
+/// A leaf of the document: its lines, of which the last one ends before the spaces at its end.
+#[derive(Clone, Copy)]
+pub struct Leaf<'a> {
+    pub bytes: &'a [u8],
+    pub lines: &'a [Line],
+    /// Where the text of the last line ends.
+    last: usize,
+}
+
+impl<'a> Leaf<'a> {
+    /// The leaf of such lines.
+    pub fn new(bytes: &'a [u8], lines: &'a [Line]) -> Leaf<'a> {
+        let last = match lines.last() {
+            Some(line) => trim_end(bytes, line.start, line.end),
+            None => 0,
+        };
+        Leaf { bytes, lines, last }
+    }
+
+    /// Where it begins.
+    pub fn first(&self) -> Place {
+        Place {
+            line: 0,
+            at: self.start(0),
+        }
+    }
+
+    /// Where a line begins.
+    #[inline(always)]
+    pub fn start(&self, line: usize) -> usize {
+        match self.lines.get(line) {
+            Some(line) => line.start,
+            None => 0,
+        }
+    }
+
+    /// Where the text of a line ends.
+    #[inline(always)]
+    pub fn end(&self, line: usize) -> usize {
+        match self.lines.get(line) {
+            Some(each) if !self.is_last(line) => each.end,
+            _ => self.last,
+        }
+    }
+
+    /// Where the line after a line begins, with that line's ending before it.
+    #[inline(always)]
+    pub fn next(&self, line: usize) -> usize {
+        match self.lines.get(line) {
+            Some(line) => line.next,
+            None => 0,
+        }
+    }
+
+    /// Whether no line comes after a line.
+    #[inline(always)]
+    pub fn is_last(&self, line: usize) -> bool {
+        line.saturating_add(1) >= self.lines.len()
+    }
+
+    /// The document up to where the text of a line ends.
+    #[inline(always)]
+    pub fn until_end(&self, line: usize) -> &'a [u8] {
+        self.bytes.get(..self.end(line)).unwrap_or(b"")
+    }
+
+    /// The text of a line from a place in it on.
+    #[inline(always)]
+    pub fn rest(&self, place: Place) -> &'a [u8] {
+        self.bytes
+            .get(place.at..self.end(place.line))
+            .unwrap_or(b"")
+    }
+
+    /// The text of a line before a place in it.
+    pub fn before(&self, place: Place) -> &'a [u8] {
+        self.bytes
+            .get(self.start(place.line)..place.at)
+            .unwrap_or(b"")
+    }
+}
+
+/// How often a byte stands at the beginning of a text, one after another.
+pub fn run_length(text: &[u8], byte: u8) -> usize {
+    text.iter().take_while(|each| **each == byte).count()
+}

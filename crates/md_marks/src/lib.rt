@@ -1,0 +1,23 @@
+//! The marks of a leaf's text: where the next one stands, which runs of delimiters are a pair, and
+//! where that ends what a mark begins.
+#![tactic(auto)]
+
+mod autolinks;
+mod bare_links;
+mod characters;
+mod closings;
+mod delimiters;
+mod html;
+mod leaf;
+mod marks;
+mod token;
+
+pub use autolinks::{Autolink, autolink_at};
+pub use bare_links::{BareLink, address, domain_end, is_www, url, www};
+pub use characters::{CharacterClass, class_after, class_before, flanks};
+pub use closings::{Dollars, Ticks};
+pub use delimiters::{Delimiter, Delimiters};
+pub use html::Endings;
+pub use leaf::{Leaf, run_length};
+pub use marks::next_mark;
+pub use token::{Mark, Token, push_token};

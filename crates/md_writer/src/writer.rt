@@ -1,0 +1,233 @@
+//! Events one after another.
+
+ghost use Rattle.std.specs.Prelude.{◌≡◌, ◌≤◌, ◌<◌, ◌++◌, ◌∷◌, [], OnOk};
+ghost use Rattle.md_base.specs.declared.event.Name.TheVariants.{Data};
+ghost use Rattle.md_base.specs.Tree.{entering, exiting};
+ghost use Rattle.md_writer.specs.Written.{point_at};
+
+use md_base::{Event, Kind, Name, Point};
+use md_lines::Span;
+use md_references::UsedNames;
+use std::alloc::{AllocError, Global};
+
+/// What became of a URL.
+#[derive(Clone, Copy, Debug, PartialEq, Eq)]
+pub enum Url {
+    /// It wasn't read yet.
+    Unread,
+    /// It stays as it is.
+    Own,
+    /// It stands behind the document.
+    Added(Span),
+}
+
+/// The events of a document, as they are written one after another, and what goes with them. Places
+/// are byte indices into the document and what was added behind it; of a point only its index and
+/// its columns of a tab are set.
+#[derive(Drop)]
+pub struct Writer {
+    /// The events so far.
+    pub events: Vec<Event>,
+    /// The bytes that were added behind the document's.
+    pub added: Vec<u8>,
+    /// How many bytes the document has.
+    length: usize,
+    names: UsedNames,
+    /// Of each definition whether something refers to it by its label.
+    are_referred: Vec<bool>,
+    /// Of each definition what became of its URL.
+    urls: Vec<Url>,
+}
+
+impl Writer {
+    /// No event yet, of a document of so many bytes.
+    pub fn new(alloc: Global, length: usize) -> Writer
+        ensures events { result.events.items ≡ [] }
+        ensures added { result.added.items ≡ [] }
+    {
+        Writer {
+            events: Vec::new(alloc),
+            added: Vec::new(alloc),
+            length,
+            names: UsedNames::new(alloc),
+            are_referred: Vec::new(alloc),
+            urls: Vec::new(alloc),
+        }
+    }
+
+    /// Where the next byte stands that is added behind the document.
+    pub fn end(&self) -> usize {
+        self.length.saturating_add(self.added.len())
+    }
+
+    /// Adds bytes behind the document: where they stand.
+    ///
+    /// # Errors
+    ///
+    /// Only where memory runs out.
+    pub fn add(&mut self, bytes: &[u8]) -> Result<Span, AllocError>
+        ensures events { self.new.events.items ≡ self.old.events.items }
+        ensures added { OnOk result (self.new.added.items ≡ self.old.added.items ++ bytes.now) }
+    {
+        let start = self.end();
+        self.added.extend_from_slice(bytes)?;
+        Ok(Span::new(start, self.end()))
+    }
+
+    /// What became of the URL of the definition with an index.
+    pub fn url_of(&self, index: usize) -> Url {
+        self.urls.get(index).copied().unwrap_or(Url::Unread)
+    }
+
+    /// Notes what became of the URL of the definition with an index.
+    ///
+    /// # Errors
+    ///
+    /// Only where memory runs out.
+    pub fn note_url(&mut self, index: usize, url: Url) -> Result<(), AllocError> {
+        if self.urls.len() <= index {
+            self.urls.resize(index.saturating_add(1), Url::Unread)?;
+        }
+        if let Some(noted) = self.urls.get_mut(index) {
+            *noted = url;
+        }
+        Ok(())
+    }
+
+    /// Makes room for so many more events.
+    ///
+    /// # Errors
+    ///
+    /// Only where memory runs out.
+    pub fn reserve(&mut self, count: usize) -> Result<(), AllocError>
+        ensures { self.new.events.items ≡ self.old.events.items }
+    {
+        self.events.reserve(count)
+    }
+
+    /// The names of the character references so far, each once, with what it stands for.
+    pub fn names(&self) -> &[(&'static str, &'static str)] {
+        self.names.as_slice()
+    }
+
+    /// Notes that a character reference has this name.
+    ///
+    /// # Errors
+    ///
+    /// Only where memory runs out.
+    pub fn use_name(&mut self, name: &[u8]) -> Result<(), AllocError> {
+        self.names.add(name)
+    }
+
+    /// Notes that something refers to the definition with an index by its label.
+    ///
+    /// # Errors
+    ///
+    /// Only where memory runs out.
+    pub fn refer_to(&mut self, index: usize) -> Result<(), AllocError> {
+        if self.are_referred.len() <= index {
+            self.are_referred.resize(index.saturating_add(1), false)?;
+        }
+        if let Some(is_referred) = self.are_referred.get_mut(index) {
+            *is_referred = true;
+        }
+        Ok(())
+    }
+
+    /// Whether something refers to the definition with an index by its label.
+    pub fn is_referred(&self, index: usize) -> bool {
+        self.are_referred.get(index).copied().unwrap_or(false)
+    }
+
+    /// Enters a node.
+    ///
+    /// # Errors
+    ///
+    /// Only where memory runs out.
+    #[inline(always)]
+    pub fn enter(&mut self, name: Name, at: usize) -> Result<(), AllocError>
+        ensures { OnOk result (self.new.events.items
+            ≡ self.old.events.items ++ entering name (point_at at 0) ∷ []) }
+    {
+        self.put(Kind::Enter, name, at, 0)
+    }
+
+    /// Exits a node.
+    ///
+    /// # Errors
+    ///
+    /// Only where memory runs out.
+    #[inline(always)]
+    pub fn exit(&mut self, name: Name, at: usize) -> Result<(), AllocError>
+        ensures { OnOk result (self.new.events.items
+            ≡ self.old.events.items ++ exiting name (point_at at 0) ∷ []) }
+    {
+        self.put(Kind::Exit, name, at, 0)
+    }
+
+    /// Enters and exits a node.
+    ///
+    /// # Errors
+    ///
+    /// Only where memory runs out.
+    #[inline(always)]
+    pub fn leaf(&mut self, name: Name, start: usize, end: usize) -> Result<(), AllocError>
+        ensures { OnOk result (self.new.events.items ≡ self.old.events.items
+            ++ entering name (point_at start 0) ∷ exiting name (point_at end 0) ∷ []) }
+    {
+        self.enter(name, start)?;
+        self.exit(name, end)
+    }
+
+    /// Writes a text as it is, if it has any byte.
+    ///
+    /// # Errors
+    ///
+    /// Only where memory runs out.
+    #[inline]
+    pub fn data(&mut self, start: usize, end: usize) -> Result<(), AllocError>
+        ensures some { start < end → OnOk result (self.new.events.items ≡ self.old.events.items
+            ++ entering Data (point_at start 0) ∷ exiting Data (point_at end 0) ∷ []) }
+        ensures none { end ≤ start → OnOk result
+            (self.new.events.items ≡ self.old.events.items) }
+    {
+        if start < end {
+            self.leaf(Name::Data, start, end)?;
+        }
+        Ok(())
+    }
+
+    /// Enters and exits a node that begins so many columns after the beginning of a tab.
+    ///
+    /// # Errors
+    ///
+    /// Only where memory runs out.
+    pub fn leaf_in_tab(
+        &mut self,
+        name: Name,
+        start: usize,
+        columns: u8,
+        end: usize,
+    ) -> Result<(), AllocError>
+        ensures { OnOk result (self.new.events.items ≡ self.old.events.items
+            ++ entering name (point_at start columns) ∷ exiting name (point_at end 0) ∷ []) }
+    {
+        self.put(Kind::Enter, name, start, columns as usize)?;
+        self.exit(name, end)
+    }
+
+    #[inline(always)]
+    fn put(&mut self, kind: Kind, name: Name, index: usize, vs: usize) -> Result<(), AllocError>
+        ensures { OnOk result (self.new.events.items ≡ self.old.events.items
+            ++ record { kind = kind; name = name; point = point_at index vs } ∷ []) }
+    {
+        let point = Point {
+            line: 1,
+            column: 1,
+            index,
+            vs,
+        };
+        self.events.push(Event { kind, name, point })?;
+        Ok(())
+    }
+}
