@@ -37,6 +37,8 @@ struct Found {
     anchors: BTreeMap<String, (PathBuf, String)>,
     /// The ids of the page itself.
     ids: HashSet<String>,
+    /// What is wrong with its front matter.
+    fault: Option<&'static str>,
 }
 
 /// Makes the pages of a folder. Nothing is written before each document was read once, and it is
@@ -101,6 +103,9 @@ impl Site<'_> {
         }
         for (source, found) in &read {
             let name = self.name(source);
+            let fault = found.fault.iter();
+            let fault = fault.map(|fault| format!("{name}: {fault}"));
+            outcome.lost.extend(fault);
             let lost = found.lost.iter().map(|url| (url, "a link leads nowhere"));
             let without = self.lost_anchors(found, &read);
             let without = without.map(|url| (url, "a link leads to no such id"));
@@ -135,6 +140,7 @@ impl Site<'_> {
         let read = render::read(self.arguments, &self.folder.join(source))?;
         let mut found = Found {
             ids: read.ids(),
+            fault: read.fault,
             ..Found::default()
         };
         let read = read.with_urls(self.arguments, |url| {
