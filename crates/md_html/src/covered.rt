@@ -39,13 +39,24 @@ impl Progress {
         ensures length { result.length
             ≡ capped (self.length + self.depth * (event.now.point.index - self.index)) }
     {
-        let step = event.point.index.saturating_sub(self.index);
-        let passed = product(self.depth, step);
+        let index = event.point.index;
         Progress {
-            index: event.point.index,
+            index,
             depth: moved(self.depth, event.kind, counts),
-            length: self.length.saturating_add(passed),
+            length: self.length_up_to(index),
         }
+    }
+
+    /// The lengths so far and those up to an index. Mostly no node that counts is open.
+    #[inline(always)]
+    fn length_up_to(self, index: usize) -> u128
+        ensures { result ≡ capped (self.length + self.depth * (index - self.index)) }
+    {
+        if self.depth == 0 {
+            return self.length;
+        }
+        let passed = product(self.depth, index.saturating_sub(self.index));
+        self.length.saturating_add(passed)
     }
 }
 

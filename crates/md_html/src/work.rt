@@ -112,7 +112,7 @@ fn tally_of(events: &[Event]) -> Tally
     let mut rest = events;
     while let Some((event, following)) = rest.split_first() {
         progress = progress.after(event, is_read(event.name));
-        cells = cells.saturating_add(cells_exited(columns, event));
+        cells = cells_after(cells, columns, event);
         columns = columns_after(columns, event);
         levels = levels.after(event);
         rest = following;
@@ -124,14 +124,17 @@ fn tally_of(events: &[Event]) -> Tally
     }
 }
 
-/// What the cells of the row count that an event exits, if it does.
+/// What cells count so far, and those of the row that an event exits, if it does.
 #[inline(always)]
-fn cells_exited(columns: usize, event: &Event) -> u128
-    ensures { result ≡ (if exits is_row event.now then 5 * columns else 0) }
+fn cells_after(cells: u128, columns: usize, event: &Event) -> u128
+    ensures { result
+        ≡ capped (cells + (if exits is_row event.now then 5 * columns else 0)) }
 {
     match event.kind {
-        Kind::Exit if matches!(event.name, Name::GfmTableRow) => 5 * columns as u128,
-        _ => 0,
+        Kind::Exit if matches!(event.name, Name::GfmTableRow) => {
+            cells.saturating_add(5 * columns as u128)
+        }
+        _ => cells,
     }
 }
 

@@ -126,6 +126,8 @@ long_told claimed also longer (safe_within.Within within.TooLong) cause make cla
     subst (OfTooLong longer) (ap (λ read. unwrap_or read error.Memory) is) (make claim more)
 long_told claimed also longer (safe_within.Within within.TooMuch) cause make claim more is =
     subst (OfTooLong longer) (ap (λ read. unwrap_or read error.Memory) is) tt
+long_told claimed also longer (safe_within.Within within.TooDeep) cause make claim more is =
+    absurd (none-some cause is)
 long_told claimed also longer (safe_within.Within (within.Compile refusal.Memory)) cause make claim
     more is = subst (OfTooLong longer) (ap (λ read. unwrap_or read error.Memory) is) tt
 long_told claimed also longer (safe_within.Within (within.Compile (refusal.Event index rule))) cause

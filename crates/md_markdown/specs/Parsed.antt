@@ -1,7 +1,8 @@
 -- What was made of a document, and of what its text is made. No public contract speaks of it.
-use Rattle.std.specs.Prelude.{◌≡◌, ◌⊎◌, ℕ, Bool, true, false, List, Option, Some, None}
+use Rattle.std.specs.Prelude.{◌≡◌, ◌⊎◌, ◌≤◌, ℕ, Bool, true, false, List, Option, Some, None}
 use Rattle.md_base.specs.Tree.{Forest}
 use Rattle.md_tree.specs.Grammar.{Handed, IsReadAs, handed}
+use Rattle.md_depth.specs.Depth.{height}
 use Rattle.md_safe.specs.Links.{has_nested_link}
 use Rattle.md_tree.specs.declared.rule.CompileError.TheVariants as refusal
 use Rattle.md_html.specs.declared.safe_html.SafeError.TheVariants as safe
@@ -19,10 +20,12 @@ use Rattle.md_markdown.specs.declared.compiling.Parsed.{Parsed}
 abbrev pub given_by : Parsed → Handed
 given_by parsed = handed parsed.events.now parsed.bytes.now parsed.names.now
 
--- a document of the grammar that the events flatten, in which no link stands in a link
-pub record IsUnnestedIn (given : Handed) (document : Forest) : Type 0 where
+-- a document of the grammar that the events flatten, in which no link stands in a link, and whose
+-- nodes nest no deeper than this
+pub record IsShown (given : Handed) (most : ℕ) (document : Forest) : Type 0 where
   pub read : IsReadAs given document
   pub unnested : has_nested_link false document ≡ false
+  pub nested : height document ≤ most
 
 -- the text is made over the bytes of events, or over the document's own
 abbrev pub IsMadeOfEither : List ℕ → List ℕ → List ℕ → Type 0

@@ -1,7 +1,8 @@
 //! Markdown to HTML.
 
-ghost use Rattle.std.specs.Prelude.{◌≡◌, ◌≤◌, ◌++◌, IfOk, IfErr, true, is_some, length};
+ghost use Rattle.std.specs.Prelude.{◌≡◌, ◌≤◌, ◌+◌, ◌*◌, ◌++◌, IfOk, IfErr, true, is_some, length};
 ghost use Rattle.md_base.specs.Tree.{Forest};
+ghost use Rattle.md_depth.specs.Levels.{NestsWithin};
 ghost use Rattle.md_meaning.specs.Meaning.{meaning};
 ghost use Rattle.md_safe.specs.Contents.{IsContained};
 ghost use Rattle.md_safe.specs.Built.{IsBuiltAsRead};
@@ -10,7 +11,8 @@ ghost use Rattle.md_safe.specs.Tokenized.{IsSafelyTokenized};
 ghost use Rattle.md_text.specs.Ids.{HasDistinctIds};
 ghost use Rattle.md_markdown.specs.Made.{IsMadeOf, MayBeAdded, OfTooLong, IsLonger};
 ghost use Rattle.md_markdown.specs.Plain.{plain_text};
-ghost use Rattle.md_markdown.specs.Parsed.{IsUnnestedIn, IsMadeOfEither, given_by};
+ghost use Rattle.md_markdown.specs.Depth.{most_depth};
+ghost use Rattle.md_markdown.specs.Parsed.{IsShown, IsMadeOfEither, given_by};
 
 use crate::error::{MarkdownWithinError, is_memory, of_limits};
 use crate::events::write_events;
@@ -18,10 +20,17 @@ use crate::options::MarkdownOptions;
 use crate::plain::{Within, compile_plain, compile_plain_within};
 use md_base::Event;
 use md_blocks::parse_blocks;
-use md_html::{Limits, SafeHtml, compile_safe_within, compile_unnested, has_nested_link};
+use md_depth::laws::elements_nest_as_the_nodes;
+use md_html::{
+    Limits, SafeHtml, compile_safe_within, compile_unnested, depth_of, has_nested_link,
+};
 use md_inlines::Writer;
 use md_text::CompileOptions;
 use std::alloc::{AllocError, Global};
+
+/// How deep the nodes of a document may nest: its elements then nest at most 485 deep, which is
+/// below the 512 beyond which browsers flatten.
+pub const MAX_DEPTH: usize = 240;
 
 /// The HTML of a Markdown document, which is safe to set into a page: it has one reading in the
 /// HTML grammar, in which each link and each image has no protocol or a permitted one, and each
@@ -29,8 +38,8 @@ use std::alloc::{AllocError, Global};
 /// construction builds the tree that it is read as.
 ///
 /// Each document has a text. If the compiler refused what was made of a document, or a link stood
-/// in a link there, which would be a fault of this crate and of which no document is known, its
-/// text would be one paragraph with all its characters.
+/// in a link there, or it nested deeper than [`MAX_DEPTH`], which would be a fault of this crate
+/// and of which no document is known, its text would be one paragraph with all its characters.
 ///
 /// # Errors
 ///
@@ -51,6 +60,7 @@ pub fn markdown(
     ensures tokens { IfOk result IsSafelyTokenized }
     ensures contained { IfOk result IsContained }
     ensures tree { IfOk result IsBuiltAsRead }
+    ensures nesting { IfOk result (NestsWithin (2 * most_depth + 5)) }
     ensures distinct_ids { IfOk result
         (λ html. options.now.number_ids ≡ true → HasDistinctIds html) }
 {
@@ -75,13 +85,13 @@ pub fn markdown(
 /// # Errors
 ///
 /// [`MarkdownWithinError::TooMuch`] where there is more work than `limits.work`, or more is used
-/// again than that; [`MarkdownWithinError::TooLong`] where the text has more than `limits.text`
+/// again than that (what nests deeper than `limits.depth` is no error, but shown as it is written); [`MarkdownWithinError::TooLong`] where the text has more than `limits.text`
 /// bytes; or that memory runs out.
 ///
 /// # Examples
 ///
 /// ```
-/// let limits = Limits { text: 1 << 20, work: 1 << 23 };
+/// let limits = Limits { text: 1 << 20, work: 1 << 23, depth: usize::MAX };
 /// let html = markdown_within(alloc, "*a*", &MarkdownOptions::default(), limits)?;
 /// ```
 pub fn markdown_within(
@@ -95,6 +105,7 @@ pub fn markdown_within(
     ensures tokens { IfOk result IsSafelyTokenized }
     ensures contained { IfOk result IsContained }
     ensures tree { IfOk result IsBuiltAsRead }
+    ensures nesting { IfOk result (NestsWithin (2 * most_depth + 5)) }
     ensures distinct_ids { IfOk result
         (λ html. options.now.number_ids ≡ true → HasDistinctIds html) }
 
@@ -106,7 +117,10 @@ pub fn markdown_within(
     let compile_options = options.for_compiler(alloc)?;
     let within = Within {
         options: &compile_options,
-        limits,
+        limits: Limits {
+            depth: limits.depth.min(MAX_DEPTH),
+            ..limits
+        },
     };
     if writer.added.is_empty() {
         return compile_or_plain_within(alloc, &Parsed::new(&writer, bytes), text, &within);
@@ -142,7 +156,8 @@ impl<'a> Parsed<'a> {
 }
 
 /// The HTML of what was made of a document, if it is a document of the event grammar in which no
-/// link stands in a link; else that of the document as it is written.
+/// link stands in a link, and nests no deeper than [`MAX_DEPTH`]; else that of the document as it
+/// is written.
 fn compile_or_plain(
     alloc: Global,
     parsed: &Parsed,
@@ -151,18 +166,23 @@ fn compile_or_plain(
 ) -> Result<SafeHtml, AllocError>
     requires safe { KeepsImages options.now }
     ensures kept { IfOk result (λ html. (document : Forest)
-        → IsUnnestedIn (given_by parsed.now) document
+        → IsShown (given_by parsed.now) most_depth document
         → html ≡ meaning options.now (given_by parsed.now).names parsed.now.bytes.now document) }
     ensures plain { IfOk result (λ html. ((document : Forest)
-        → IsUnnestedIn (given_by parsed.now) document → ⊥)
+        → IsShown (given_by parsed.now) most_depth document → ⊥)
         → html ≡ plain_text text.now) }
     ensures made { IfOk result (IsMadeOfEither parsed.now.bytes.now text.now) }
     ensures tokens { IfOk result IsSafelyTokenized }
     ensures contained { IfOk result IsContained }
     ensures tree { IfOk result IsBuiltAsRead }
+    ensures nesting { IfOk result (NestsWithin (2 * most_depth + 5)) }
     ensures distinct_ids { IfOk result
         (λ html. options.now.gfm_footnote_number_ids ≡ true → HasDistinctIds html) }
 {
+    if depth_of(parsed.events) > MAX_DEPTH {
+        return compile_plain(alloc, text, options);
+    }
+    elements_nest_as_the_nodes();
     match compile_unnested(alloc, parsed.events, parsed.bytes, options, parsed.names) {
         Ok(html) => Ok(html),
         Err(error) if is_memory(&error) => Err(AllocError),
@@ -178,18 +198,20 @@ fn compile_or_plain_within(
     within: &Within,
 ) -> Result<SafeHtml, MarkdownWithinError>
     requires safe { KeepsImages within.now.options.now }
+    requires depth { within.now.limits.depth ≤ most_depth }
     ensures within { IfOk result (λ html. length html ≤ within.now.limits.text) }
     ensures kept { IfOk result (λ html. (document : Forest)
-        → IsUnnestedIn (given_by parsed.now) document
+        → IsShown (given_by parsed.now) within.now.limits.depth document
         → html ≡ meaning within.now.options.now (given_by parsed.now).names parsed.now.bytes.now
         document) }
     ensures plain { IfOk result (λ html. ((document : Forest)
-        → IsUnnestedIn (given_by parsed.now) document → ⊥)
+        → IsShown (given_by parsed.now) within.now.limits.depth document → ⊥)
         → html ≡ plain_text text.now) }
     ensures made { IfOk result (IsMadeOfEither parsed.now.bytes.now text.now) }
     ensures tokens { IfOk result IsSafelyTokenized }
     ensures contained { IfOk result IsContained }
     ensures tree { IfOk result IsBuiltAsRead }
+    ensures nesting { IfOk result (NestsWithin (2 * most_depth + 5)) }
     ensures distinct_ids { IfOk result
         (λ html. within.now.options.now.gfm_footnote_number_ids ≡ true → HasDistinctIds html) }
 

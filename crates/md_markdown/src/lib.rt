@@ -14,7 +14,7 @@ mod plain;
 mod prefixes;
 mod table;
 
-pub use compiling::{events_of, markdown, markdown_within};
+pub use compiling::{MAX_DEPTH, events_of, markdown, markdown_within};
 pub use error::MarkdownWithinError;
 pub use front::front_matter_of;
 pub use md_html::{Limits, SafeHtml};

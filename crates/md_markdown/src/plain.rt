@@ -1,17 +1,21 @@
 //! A document that is shown as it is written.
 
-ghost use Rattle.std.specs.Prelude.{◌≡◌, ◌≤◌, IfOk, IfErr, true, length};
+ghost use Rattle.std.specs.Prelude.{◌≡◌, ◌≤◌, ◌+◌, ◌*◌, IfOk, IfErr, true, length};
 ghost use Rattle.md_base.specs.Tree.{flatten};
 ghost use Rattle.md_safe.specs.Built.{IsBuiltAsRead};
 ghost use Rattle.md_safe.specs.Contents.{IsContained};
 ghost use Rattle.md_safe.specs.Options.{KeepsImages};
 ghost use Rattle.md_safe.specs.Tokenized.{IsSafelyTokenized};
 ghost use Rattle.md_text.specs.Ids.{HasDistinctIds};
+ghost use Rattle.md_depth.specs.Levels.{NestsWithin};
+ghost use Rattle.md_markdown.specs.Depth.{most_depth};
 ghost use Rattle.md_markdown.specs.Made.{IsMadeOver, OfTooLong, IsLonger};
 ghost use Rattle.md_markdown.specs.Plain.{at, plain, plain_text};
 
+use crate::compiling::MAX_DEPTH;
 use crate::error::{MarkdownWithinError, is_memory, of_limits};
 use md_base::{Event, Kind, Name, Point};
+use md_depth::laws::elements_nest_as_the_nodes;
 use md_html::{Limits, SafeHtml, compile_safe_within, compile_unnested};
 use md_text::CompileOptions;
 use std::alloc::{AllocError, Global};
@@ -39,9 +43,11 @@ pub(crate) fn compile_plain(
     ensures tokens { IfOk result IsSafelyTokenized }
     ensures contained { IfOk result IsContained }
     ensures tree { IfOk result IsBuiltAsRead }
+    ensures nesting { IfOk result (NestsWithin (2 * most_depth + 5)) }
     ensures distinct_ids { IfOk result
         (λ html. options.now.gfm_footnote_number_ids ≡ true → HasDistinctIds html) }
 {
+    elements_nest_as_the_nodes();
     let events = plain_events(text.len());
     match compile_unnested(alloc, &events, text.as_bytes(), options, &[]) {
         Ok(html) => Ok(html),
@@ -68,6 +74,7 @@ pub(crate) fn compile_plain_within(
     ensures tokens { IfOk result IsSafelyTokenized }
     ensures contained { IfOk result IsContained }
     ensures tree { IfOk result IsBuiltAsRead }
+    ensures nesting { IfOk result (NestsWithin (2 * most_depth + 5)) }
     ensures distinct_ids { IfOk result
         (λ html. within.now.options.now.gfm_footnote_number_ids ≡ true → HasDistinctIds html) }
 
@@ -75,7 +82,11 @@ pub(crate) fn compile_plain_within(
         (OfTooLong (IsLonger (IsMadeOver text.now) within.now.limits.text)) }
 {
     let events = plain_events(text.len());
-    let (options, limits) = (within.options, within.limits);
+    let options = within.options;
+    let limits = Limits {
+        depth: MAX_DEPTH,
+        ..within.limits
+    };
     match compile_safe_within(alloc, &events, text.as_bytes(), options, &[], limits) {
         Ok(html) => Ok(html),
         Err(error) => match of_limits(&error) {
