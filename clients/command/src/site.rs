@@ -87,7 +87,7 @@ impl Site<'_> {
     fn look<'a>(&'a self, outcome: &mut Outcome) -> (Vec<&'a Path>, BTreeSet<PathBuf>) {
         let sources: Vec<&Path> = self.tree.pages.iter().map(|path| &**path).collect();
         let work = |&source: &&'a Path| {
-            let found = told(&self.name(source), || Ok(self.read(source)?.1));
+            let found = told(&self.name(source), || self.found(source));
             found.map(|found| (source, found))
         };
         let all: Vec<Result<_, Failed>> = sources.par_iter().map(work).collect();
@@ -123,13 +123,20 @@ impl Site<'_> {
         found: &'a Found,
         read: &'a BTreeMap<&Path, Found>,
     ) -> impl Iterator<Item = &'a String> {
-        let is_asked = self.arguments.has_heading_ids();
-        let anchors = found.anchors.iter().filter(move |_| is_asked);
-        let lost = anchors.filter(move |(_, (page, id))| {
+        let lost = found.anchors.iter().filter(move |(_, (page, id))| {
             let page = read.get(&**page);
             page.map_or(false, |page| !page.ids.contains(id))
         });
         lost.map(|(url, _)| url)
+    }
+
+    /// What the links of a document lead to, and its ids, where these are looked at.
+    fn found(&self, source: &Path) -> Result<Found, Failure> {
+        let (read, mut found) = self.read(source)?;
+        if self.arguments.has_heading_ids() {
+            found.ids = read.ids();
+        }
+        Ok(found)
     }
 
     /// Reads a document; its links to other documents lead to their pages.
@@ -138,14 +145,17 @@ impl Site<'_> {
             return Err("a link that leads to no file of the folder".into());
         }
         let read = render::read(self.arguments, &self.folder.join(source))?;
+        let is_asked = self.arguments.has_heading_ids();
         let mut found = Found {
-            ids: read.ids(),
             fault: read.fault,
             ..Found::default()
         };
         let read = read.with_urls(self.arguments, |url| {
-            if let Some(anchor) = links::anchor(url, source, &self.tree) {
-                found.anchors.insert(url.to_string(), anchor);
+            if is_asked {
+                let anchor = links::anchor(url, source, &self.tree);
+                found
+                    .anchors
+                    .extend(anchor.map(|anchor| (url.to_string(), anchor)));
             }
             match links::target(url, source, &self.tree) {
                 Target::Page(url) => return Some(url),
