@@ -3,7 +3,8 @@
 
     bench/api.py
 
-Of md_base, md_text, md_tree, md_html, md_script, md_page, md_slugs and md_markdown: the names at the root and
+Of md_base, md_text, md_tree, md_html, md_script, md_page, md_slugs and md_markdown: the names at
+the root and
 the methods of the types among them are those of the crate's list, and of the table at the end, and
 no others.
 md_html hands on exactly the names of the lists of md_base, md_text and md_tree. The C headers have
@@ -17,7 +18,8 @@ import re
 import sys
 
 ROOT = pathlib.Path(__file__).resolve().parents[1]
-CRATES = ["md_base", "md_text", "md_tree", "md_html", "md_script", "md_page", "md_slugs", "md_markdown"]
+CRATES = ["md_base", "md_text", "md_tree", "md_html", "md_script", "md_page", "md_slugs",
+          "md_markdown"]
 BELOW_HTML = ["md_base", "md_text", "md_tree"]
 # Crates whose own list has what they hand on of a crate below.
 HANDED_ON = {"md_script": "md_html", "md_markdown": "md_html"}

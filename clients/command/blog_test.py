@@ -21,7 +21,7 @@ tags: [a, b]
 
 # Part {number}
 
-![a picture](../images/{number}.png "p") and a note[^n], [next]({next}.md#part-1), [home][].
+![a picture](../images/{number}.png "p") and a note[^n], [next]({next}.md#part-{next}), [home][].
 
 | a | b |
 |---|:-:|
@@ -89,8 +89,8 @@ def main(render, folder):
     folder = pathlib.Path(folder).resolve()
     source, site = folder / "source", folder / "site"
     write(source)
-    command = [render, "--lang", "en", "--number-ids", "--heading-ids", "part-", "--out-dir", site,
-               source]
+    command = [render, "--lang", "en", "--number-ids", "--heading-ids", "slug", "--toc", "--out-dir",
+               site, source]
     told = []
     for more in [], ["--all"]:
         done = subprocess.run(command + more, capture_output=True, text=True, check=True)
@@ -107,7 +107,8 @@ def main(render, folder):
     tags = set(pages[site / "posts/3.html"].tags)
     assert {"table", "img", "section", "h1", "h2"} <= tags, tags
     text = (site / "posts/3.html").read_text(encoding="utf-8")
-    assert "tags:" not in text and '<h1 id="part-1">Part 3</h1>' in text, text
+    assert "tags:" not in text and '<h1 id="part-3">Part 3</h1>' in text, text
+    assert '<nav><ul>\n<li><a href="#part-3">Part 3</a></li>\n</ul>\n</nav>' in text, text
     print("a blog of ten pages: passed")
 
 

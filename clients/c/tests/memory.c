@@ -1,6 +1,8 @@
 /* Tests of calls for memory: in how many turns a text is made, and each call refused. */
 #include "test.h"
 
+#include "bivdrazo_markdown.h"
+
 /* A text that fits into the first size is made in one turn. */
 static void test_first_turn(void) {
     bivdrazo_event events[4];
@@ -62,6 +64,38 @@ static void test_refused_memory(void) {
     CHECK(answer.status == BIVDRAZO_OK && answer.index == 0 && refused > 10);
 }
 
+/* The same of Markdown whose headings get ids that are made of their texts. */
+static void test_refused_memory_of_slugs(void) {
+    static const char document[] = "# A *b*\n\n# a b\n\n# a b\n\n[c](d)[^e]\n\n[^e]: f\n";
+    bivdrazo_markdown_options options = bivdrazo_markdown_options_default();
+    bivdrazo_answer answer = {BIVDRAZO_MEMORY, 0, 0, 0};
+    size_t refused = 0;
+    uint8_t buffer[2048];
+    options.rel = bivdrazo_text_of((const uint8_t *)"ugc", 3);
+    options.heading_ids = bivdrazo_text_of((const uint8_t *)"g", 1);
+    while (answer.status == BIVDRAZO_MEMORY && refused < 10000) {
+        buffer[0] = 7;
+        calls_left = refused++;
+        answer = bivdrazo_markdown_slugs_into((const uint8_t *)document, sizeof document - 1,
+                                              &options, buffer, sizeof buffer);
+        calls_left = SIZE_MAX;
+        CHECK(answer.status == BIVDRAZO_OK || (answer.status == BIVDRAZO_MEMORY && buffer[0] == 7));
+    }
+    CHECK(answer.status == BIVDRAZO_OK && refused > 20);
+    const uint8_t *at = buffer + answer.index;
+    const uint8_t *const end = buffer + answer.length;
+    bivdrazo_heading heading;
+    const char *id = NULL;
+    size_t length = 0;
+    for (size_t number = 1; number <= 3; number++)
+        CHECK(bivdrazo_next_heading(&at, end, &heading) && heading.number == number);
+    CHECK(!bivdrazo_next_heading(&at, end, &heading));
+    CHECK(bivdrazo_next_id(&at, end, &id, &length) && length == 4 && memcmp(id, "ga-b", 4) == 0);
+    CHECK(bivdrazo_next_id(&at, end, &id, &length) && length == 6 && memcmp(id, "ga-b-1", 6) == 0);
+    CHECK(bivdrazo_next_id(&at, end, &id, &length) && length == 6 && memcmp(id, "ga-b-2", 6) == 0);
+    CHECK(!bivdrazo_next_id(&at, end, &id, &length));
+}
+
 /* The wrappers answer out of memory too, and keep nothing. */
 static void test_memory_of_wrappers(void) {
     bivdrazo_event events[4];
@@ -83,5 +117,6 @@ void test_memory(void) {
     test_first_turn();
     test_second_turn();
     test_refused_memory();
+    test_refused_memory_of_slugs();
     test_memory_of_wrappers();
 }

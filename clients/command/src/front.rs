@@ -10,9 +10,23 @@ const YAML: &str = "---";
 const YAML_END: &str = "...";
 const TOML: &str = "+++";
 
-/// The title that a document's front matter has, and how many bytes the front matter takes: none,
-/// where there is none or it has no end.
-pub fn front_matter(document: &str) -> (Option<String>, usize) {
+/// What is told of front matter that can't be read.
+const NO_END: &str = "the front matter has no end";
+const NO_TITLE: &str = "the title in the front matter can't be read";
+
+/// The front matter of a document.
+#[derive(Debug, Default, PartialEq)]
+pub struct Front {
+    /// Its title, where it has one that can be read.
+    pub title: Option<String>,
+    /// How many bytes it takes: none, where there is none or it has no end.
+    pub end: usize,
+    /// What is wrong with it.
+    pub fault: Option<&'static str>,
+}
+
+/// The front matter that a document begins with.
+pub fn front_matter(document: &str) -> Front {
     let text = document.strip_prefix('\u{feff}').unwrap_or(document);
     let (first, rest) = cut_line(text);
     let (inner, is_yaml) = match first.trim_end() {
@@ -21,12 +35,43 @@ pub fn front_matter(document: &str) -> (Option<String>, usize) {
             true,
         ),
         TOML => (before(rest, TOML, TOML), false),
-        _ => return (None, 0),
+        _ => return Front::default(),
     };
     match inner {
-        Some(inner) => (title_of(inner, is_yaml), end_after(inner, document)),
-        None => (None, 0),
+        Some(inner) => {
+            let title = title_of(inner, is_yaml);
+            let has_none = title.is_none() && names_title(inner, is_yaml);
+            Front {
+                title,
+                end: end_after(inner, document),
+                fault: has_none.then_some(NO_TITLE),
+            }
+        }
+        // A line of marks with no key below it is a thematic break.
+        None => Front {
+            fault: is_key(cut_line(rest).0, is_yaml).then_some(NO_END),
+            ..Front::default()
+        },
     }
+}
+
+/// Whether a line begins with a key.
+fn is_key(line: &str, is_yaml: bool) -> bool {
+    let mark = if is_yaml { ':' } else { '=' };
+    let key = line.split_once(mark).map_or("", |(key, _)| key.trim_end());
+    let is_part = |each: char| each.is_alphanumeric() || each == '_' || each == '-';
+    !key.is_empty() && key.chars().all(is_part)
+}
+
+/// Whether front matter has a line for the title with something in it.
+fn names_title(text: &str, is_yaml: bool) -> bool {
+    let mark = if is_yaml { ':' } else { '=' };
+    let lines = text.split(['\n', '\r']);
+    let mut lines = lines.take_while(|line| is_yaml || !line.starts_with('['));
+    lines.any(|line| match line.split_once(mark) {
+        Some((key, value)) => key.trim_end() == "title" && !value.trim().is_empty(),
+        None => false,
+    })
 }
 
 /// A text's first line, and what follows it.
@@ -123,8 +168,8 @@ mod tests {
 
     /// The title, and what is left of the document.
     fn of(document: &str) -> (Option<String>, &str) {
-        let (title, end) = front_matter(document);
-        (title, &document[end..])
+        let front = front_matter(document);
+        (front.title, &document[front.end..])
     }
 
     #[test]
@@ -161,6 +206,26 @@ mod tests {
             " ---\ntitle: A\n---\n",
         ] {
             assert_eq!(of(document), (None, document));
+        }
+    }
+
+    #[test]
+    fn faults() {
+        for (document, fault) in [
+            ("---\ntitle: A\n", Some(NO_END)),
+            ("+++\ntitle = \"A\"\n", Some(NO_END)),
+            ("---\ntitle: \"A\n---\n", Some(NO_TITLE)),
+            ("---\ntitle: [A]\n---\n", Some(NO_TITLE)),
+            ("+++\ntitle = 'A\n+++\n", Some(NO_TITLE)),
+            ("---\n\nA: b\n", None),
+            ("---\nA b: c\n", None),
+            ("---\n", None),
+            ("---\ntitle:\n---\n", None),
+            ("---\nb: c\n---\n", None),
+            ("+++\n[b]\ntitle = 'A\n+++\n", None),
+            ("A: b\n", None),
+        ] {
+            assert_eq!(front_matter(document).fault, fault, "{document:?}");
         }
     }
 

@@ -89,6 +89,9 @@ fn render(
         return Err(format!("{}: is the document itself", target.display()).into());
     }
     let read = render::read(arguments, source)?;
+    if let Some(fault) = read.fault {
+        files::tell(&format!("{}: {fault}", source.display()));
+    }
     read.write(arguments, page, source, target)?;
     Ok(Done::Written)
 }

@@ -2,7 +2,7 @@
 
 use crate::arguments::{Arguments, ParserName};
 use crate::failures::Failure;
-use crate::front::front_matter;
+use crate::front::{front_matter, Front};
 use crate::page::{escaped, Page, Parts};
 use crate::parser::{self, ParserError};
 use crate::{files, text};
@@ -18,16 +18,17 @@ pub struct Read {
     headings: Vec<Heading>,
     /// Its title, where its front matter has one.
     title: Option<String>,
+    /// What is wrong with its front matter.
+    pub fault: Option<&'static str>,
 }
 
 /// Reads a document, by the parser that is asked for.
 pub fn read(arguments: &Arguments, source: &Path) -> Result<Read, Failure> {
     let mut text = files::read(source, arguments.max_input)?;
-    let mut title = None;
+    let mut front = Front::default();
     if arguments.has_front_matter() {
-        let (found, end) = front_matter(&text);
-        title = found;
-        text.replace_range(..end, "");
+        front = front_matter(&text);
+        text.replace_range(..front.end, "");
     }
     let (html, headings) = match arguments.parser {
         ParserName::Bivdrazo => {
@@ -39,7 +40,8 @@ pub fn read(arguments: &Arguments, source: &Path) -> Result<Read, Failure> {
     Ok(Read {
         html,
         headings,
-        title,
+        title: front.title,
+        fault: front.fault,
     })
 }
 

@@ -37,6 +37,8 @@ struct Found {
     anchors: BTreeMap<String, (PathBuf, String)>,
     /// The ids of the page itself.
     ids: HashSet<String>,
+    /// What is wrong with its front matter.
+    fault: Option<&'static str>,
 }
 
 /// Makes the pages of a folder. Nothing is written before each document was read once, and it is
@@ -85,7 +87,7 @@ impl Site<'_> {
     fn look<'a>(&'a self, outcome: &mut Outcome) -> (Vec<&'a Path>, BTreeSet<PathBuf>) {
         let sources: Vec<&Path> = self.tree.pages.iter().map(|path| &**path).collect();
         let work = |&source: &&'a Path| {
-            let found = told(&self.name(source), || Ok(self.read(source)?.1));
+            let found = told(&self.name(source), || self.found(source));
             found.map(|found| (source, found))
         };
         let all: Vec<Result<_, Failed>> = sources.par_iter().map(work).collect();
@@ -101,6 +103,9 @@ impl Site<'_> {
         }
         for (source, found) in &read {
             let name = self.name(source);
+            let fault = found.fault.iter();
+            let fault = fault.map(|fault| format!("{name}: {fault}"));
+            outcome.lost.extend(fault);
             let lost = found.lost.iter().map(|url| (url, "a link leads nowhere"));
             let without = self.lost_anchors(found, &read);
             let without = without.map(|url| (url, "a link leads to no such id"));
@@ -118,13 +123,20 @@ impl Site<'_> {
         found: &'a Found,
         read: &'a BTreeMap<&Path, Found>,
     ) -> impl Iterator<Item = &'a String> {
-        let is_asked = self.arguments.has_heading_ids();
-        let anchors = found.anchors.iter().filter(move |_| is_asked);
-        let lost = anchors.filter(move |(_, (page, id))| {
+        let lost = found.anchors.iter().filter(move |(_, (page, id))| {
             let page = read.get(&**page);
             page.map_or(false, |page| !page.ids.contains(id))
         });
         lost.map(|(url, _)| url)
+    }
+
+    /// What the links of a document lead to, and its ids, where these are looked at.
+    fn found(&self, source: &Path) -> Result<Found, Failure> {
+        let (read, mut found) = self.read(source)?;
+        if self.arguments.has_heading_ids() {
+            found.ids = read.ids();
+        }
+        Ok(found)
     }
 
     /// Reads a document; its links to other documents lead to their pages.
@@ -133,13 +145,17 @@ impl Site<'_> {
             return Err("a link that leads to no file of the folder".into());
         }
         let read = render::read(self.arguments, &self.folder.join(source))?;
+        let is_asked = self.arguments.has_heading_ids();
         let mut found = Found {
-            ids: read.ids(),
+            fault: read.fault,
             ..Found::default()
         };
         let read = read.with_urls(self.arguments, |url| {
-            if let Some(anchor) = links::anchor(url, source, &self.tree) {
-                found.anchors.insert(url.to_string(), anchor);
+            if is_asked {
+                let anchor = links::anchor(url, source, &self.tree);
+                found
+                    .anchors
+                    .extend(anchor.map(|anchor| (url.to_string(), anchor)));
             }
             match links::target(url, source, &self.tree) {
                 Target::Page(url) => return Some(url),

@@ -21,7 +21,7 @@ pub struct Outcome {
     done: Vec<Done>,
     /// What failed.
     pub failed: Vec<Failed>,
-    /// Which links lead nowhere.
+    /// What is told of files that were written: links that lead nowhere, faults of front matter.
     pub lost: Vec<String>,
     /// Whether there are several files, or none.
     pub several: bool,

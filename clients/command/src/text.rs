@@ -101,6 +101,9 @@ fn without_tags(html: &str) -> String {
 
 /// A value as it is read.
 fn unescaped(value: &str) -> String {
+    if !value.contains('&') {
+        return value.to_string();
+    }
     let all = ESCAPED.iter().rev();
     all.fold(value.to_string(), |value, (each, escape)| {
         value.replace(escape, each)
@@ -109,6 +112,9 @@ fn unescaped(value: &str) -> String {
 
 /// A text as a value has it.
 fn escaped(text: &str) -> String {
+    if !text.contains(['&', '<', '>', '"']) {
+        return text.to_string();
+    }
     let all = ESCAPED.iter();
     all.fold(text.to_string(), |text, (each, escape)| {
         text.replace(each, escape)

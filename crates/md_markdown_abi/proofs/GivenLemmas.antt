@@ -39,11 +39,13 @@ use variant.{NoVersion, InputTooLong, NotUtf8, OutputTooLong, TooMuchWork, Faile
 -- ---- a text
 
 -- a flag that is 1 is on
-pub is_on : (value : Option Bool) (flag : Bool) → value ≡ Some flag → value ≡ Some true → flag ≡ true
+pub is_on : (value : Option Bool) (flag : Bool) → value ≡ Some flag → value ≡ Some true →
+    flag ≡ true
 is_on value flag is on = cc
 
 -- what is asked for is what was read
-pub asked_is : (given : CText) (read : Option (List ℕ)) → text_of given ≡ Some read → asked given ≡ read
+pub asked_is : (given : CText) (read : Option (List ℕ)) → text_of given ≡ Some read →
+    asked given ≡ read
 asked_is given read stands = ap (option_and_then (λ text. text)) stands
 
 -- C asks for a base where there is one

@@ -23,7 +23,8 @@ use Rattle.md_page.specs.Ids.{ids_in, ids_at, ids_among, none_begins}
 abbrev pub is_in : List ℕ → List (List ℕ) → Bool
 is_in w xs = list_any (λ y. bytes_eq y w) xs
 
-pub in-append : (w : List ℕ) (xs ys : List (List ℕ)) → is_in w (xs ++ ys) ≡ (is_in w xs || is_in w ys)
+pub in-append : (w : List ℕ) (xs ys : List (List ℕ)) →
+    is_in w (xs ++ ys) ≡ (is_in w xs || is_in w ys)
 in-append w [] ys = refl
 in-append w (x ∷ xs) ys = by (bytes_eq x w) (in-append w xs ys)
   where
@@ -78,7 +79,8 @@ no-ids (a ∷ x) h =
     let p = or_parts (bytes_eq (codes "id") a.name) (has_attribute (codes "id") x) h in
     ap (λ b. cond b (a.value ∷ ids_in x) (ids_in x)) p.0 ∙ no-ids x p.1
 
-pub ids-more : (x : List TokenAttribute) (a : TokenAttribute) → bytes_eq (codes "id") a.name ≡ true →
+pub ids-more : (x : List TokenAttribute) (a : TokenAttribute) →
+    bytes_eq (codes "id") a.name ≡ true →
     ids_in (x ++ (a ∷ [])) ≡ ids_in x ++ (a.value ∷ [])
 ids-more [] a h = ap (λ b. cond b (a.value ∷ []) []) h
 ids-more (b ∷ x) a h = by (bytes_eq (codes "id") b.name) (ids-more x a h)
@@ -198,7 +200,8 @@ new-out prefix k n (t ∷ x) h l few =
 
 -- ---- distinct ids
 
-pub distinct-later : (xs ys : List (List ℕ)) → are_distinct (xs ++ ys) ≡ true → are_distinct ys ≡ true
+pub distinct-later : (xs ys : List (List ℕ)) → are_distinct (xs ++ ys) ≡ true →
+    are_distinct ys ≡ true
 distinct-later [] ys h = h
 distinct-later (x ∷ xs) ys h =
     distinct-later xs ys (and_parts (not (is_in x (xs ++ ys))) (are_distinct (xs ++ ys)) h).1

@@ -1,8 +1,8 @@
 -- Each id among the tokens of a text stands in quotes after ` id=`.
 use Rattle.std.specs.Str.{bytes_eq}
 use Rattle.std.proofs.Common.{◌≡◌, ℕ, ◌+◌, ◌-◌, Bool, true, false, not, cond, List}
-use Rattle.std.proofs.Common.{[], ◌∷◌, ◌++◌, map, length, drop, refl, sym, ap, ◌∙◌, subst, append_assoc}
-use Rattle.std.proofs.Common.{codes, inl, inr, arith}
+use Rattle.std.proofs.Common.{[], ◌∷◌, ◌++◌, map, length, drop, refl, sym, ap, ◌∙◌, subst}
+use Rattle.std.proofs.Common.{append_assoc, codes, inl, inr, arith}
 use Rattle.std.specs.Prelude.{nat_eq}
 use Rattle.std.specs.List.{list_all}
 use lib.Pointwise.{pointwise}
@@ -77,7 +77,8 @@ attributes_found : (x : List Attribute) (r : List ℕ) (later : List (List ℕ))
     are_plain x ≡ true →
     ((pre : List ℕ) → Unquoted pre → AreFound later (scanned_ids (pre ++ r))) →
     (pre : List ℕ) → Unquoted pre →
-    AreFound (ids_in (seen_attributes x) ++ later) (scanned_ids (pre ++ (written_attributes x ++ r)))
+    AreFound (ids_in (seen_attributes x) ++ later)
+    (scanned_ids (pre ++ (written_attributes x ++ r)))
 attributes_found [] r later plain f pre u id h = f pre u id h
 attributes_found (a ∷ x) r later plain f pre u id h =
     let p = and_parts (is_name a.name) _ plain in

@@ -8,8 +8,7 @@ use crate::layouts::{
     CMarkdownOptions,
 };
 use crate::markdown_numbers::{
-    MARKDOWN_VERSION, STATUS_INPUT_TOO_LONG, STATUS_OUTPUT_TOO_LONG,
-    STATUS_TOO_MUCH_WORK,
+    MARKDOWN_VERSION, STATUS_INPUT_TOO_LONG, STATUS_OUTPUT_TOO_LONG, STATUS_TOO_MUCH_WORK,
 };
 use crate::numbers::{STATUS_NO_OPTION, STATUS_OK, STATUS_TOO_SHORT};
 use crate::{Error, Rendered};

@@ -52,6 +52,9 @@ fn document_of(headings: &[Heading]) -> String {
 
 /// A text that the library escaped, as it was.
 pub(crate) fn unescaped(text: &str) -> String {
+    if !text.contains('&') {
+        return text.to_string();
+    }
     let text = text.replace("&lt;", "<").replace("&gt;", ">");
     text.replace("&quot;", "\"").replace("&amp;", "&")
 }
