@@ -42,6 +42,7 @@ MEGABYTES = 64
 OFFSETS = 40
 OPTIONS = ("--math", "--base=http://a/b/c", "--html=without-comments")
 MOST_DEPTH = 96
+MOST_NESTED = 32
 
 
 def framed(program, documents, *options):
@@ -106,8 +107,8 @@ def by_options(program):
         faults += unlike(program, (f"--base={base}",), cases)
         count += len(cases)
     cases = [markdown_cases.references(), markdown_cases.deep(200, MOST_DEPTH)]
-    for depth in (MOST_DEPTH, MOST_DEPTH + 1, 3 * MOST_DEPTH):
-        cases += markdown_cases.nested(depth, MOST_DEPTH)
+    for depth in (MOST_NESTED, MOST_NESTED + 1, 3 * MOST_NESTED):
+        cases += markdown_cases.nested(depth, MOST_NESTED)
     faults += unlike(program, (), cases)
     print(f"markdown: {count + len(cases)} documents under options")
     return faults

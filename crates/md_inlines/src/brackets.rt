@@ -11,7 +11,7 @@ use std::alloc::AllocError;
 const MOST_OF_LABEL: usize = 999;
 
 /// So many brackets are open at most: what would be a deeper one is text.
-const MOST_OPEN: usize = 96;
+const MOST_OPEN: usize = 32;
 
 /// A bracket that is open.
 #[derive(Clone, Copy, Debug, PartialEq, Eq)]

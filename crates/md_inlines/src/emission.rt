@@ -16,7 +16,7 @@ use std::alloc::AllocError;
 
 /// So many of emphasis, strong and strikethrough stand in one another at most: what would be a
 /// deeper one is text.
-const MOST_SPANS: usize = 96;
+const MOST_SPANS: usize = 32;
 
 /// What stands around a token.
 #[derive(Drop)]
