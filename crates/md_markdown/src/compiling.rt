@@ -20,9 +20,7 @@ use crate::options::MarkdownOptions;
 use crate::plain::{Within, compile_plain, compile_plain_within};
 use md_base::Event;
 use md_blocks::parse_blocks;
-use md_html::{
-    Limits, SafeHtml, compile_safe_within, compile_unnested, depth_of, has_nested_link,
-};
+use md_html::{Limits, SafeHtml, compile_safe_within, compile_unnested, depth_of, has_nested_link};
 use md_inlines::Writer;
 use md_text::CompileOptions;
 use std::alloc::{AllocError, Global};

@@ -1,5 +1,5 @@
 -- Which text it is goes by whether the events are those of a document that is shown.
-use Rattle.std.proofs.Common.{◌≤◌, ◌<◌, subst, sym}
+use Rattle.std.proofs.Common.{◌≤◌, ◌<◌, subst}
 use Rattle.std.proofs.lemmas.Result.{IfOk-weaker}
 use Rattle.md_markdown.specs.Depth.{most_depth}
 use Rattle.md_markdown.specs.Parsed.{given_by}
