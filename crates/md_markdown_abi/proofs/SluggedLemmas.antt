@@ -1,17 +1,14 @@
 -- From what a text with ids promises to what C is handed.
-use Rattle.std.proofs.Common.{◌≡◌, ℕ, ◌≤◌, true, List, [], ◌∷◌, ◌++◌, length, take, drop}
-use Rattle.std.proofs.Common.{Option, Some, is_some, sym, ap, ◌∙◌, subst}
+use Rattle.std.proofs.Common.{◌≡◌, ℕ, ◌≤◌, List, [], ◌∷◌, ◌++◌, length, take, drop}
+use Rattle.std.proofs.Common.{Option, Some, sym, ap, ◌∙◌, subst}
 use Rattle.std.proofs.Common.{arith}
 use Rattle.std.specs.Prelude.{IsTrue}
 use Rattle.std.proofs.lemmas.List.{length-append, take-append-le, drop-append-le, take_all}
 use Rattle.std.proofs.lemmas.List.{drop_all}
-use Rattle.md_text.specs.Ids.{are_distinct, HasDistinctIds}
+use Rattle.md_text.specs.Ids.{are_distinct}
 use Rattle.md_safe.specs.Token.{Token, EndOfFile}
 use Rattle.md_safe.specs.Tokens.{tokens}
 use Rattle.md_safe.specs.Tokenizer.{IsTokenized}
-use Rattle.md_safe.specs.Tokenized.{IsSafelyTokenized}
-use Rattle.md_safe.specs.Contents.{IsContained}
-use Rattle.md_safe.specs.Built.{IsBuiltAsRead}
 use Rattle.md_page.specs.Added.{headings_of}
 use Rattle.md_page.specs.Attributed.{IsAttributed}
 use Rattle.md_page.specs.Built.{IsBuiltAsWritten}
@@ -20,15 +17,12 @@ use Rattle.md_page.specs.Ids.{ids_among}
 use Rattle.md_page.specs.Pieces.{IsWritten}
 use Rattle.md_page.proofs.Forests.{read-built}
 use Rattle.md_page.proofs.Rules.{attributed}
-use Rattle.md_abi.specs.Options.{flag_of, text_of}
+use Rattle.md_abi.specs.Options.{text_of}
 use Rattle.md_abi.specs.Attributes.{with_rel, listing}
-use Rattle.md_markdown.specs.Made.{IsMadeOf}
-use Rattle.md_markdown.specs.declared.options.MarkdownOptions.{MarkdownOptions}
-use Rattle.md_markdown_abi.specs.Options.{HasMarkdownOptions}
 use Rattle.md_markdown_abi.specs.Text.{IsPlainOf}
 use Rattle.md_markdown_abi.specs.Slugged.{IsSluggedText, IsSluggedAfter, id_listing}
 use Rattle.md_markdown_abi.specs.declared.option.CMarkdownOptions.{CMarkdownOptions}
-use Rattle.md_markdown_abi.proofs.GivenLemmas.{asked_is, base_is, is_on}
+use Rattle.md_markdown_abi.proofs.GivenLemmas.{asked_is}
 
 -- ---- lists after a text
 pub listed-slugs : (text whole : List ℕ) (start : ℕ) (ids : List (List ℕ)) (x : List Token) →
