@@ -40,7 +40,8 @@ def tables(crates):
     source = {path.stem: path.read_text()
               for crate in ("md_abi", "md_ffi") for path in (crates / crate / "src").glob("*.rt")}
     name_tables = (crates / "md_base" / "src" / "name_tables.rt").read_text()
-    statuses = re.findall(r"^(?:pub(?:\(crate\))? )?const (\w+): u32 = (\d+);", source["answer"], re.MULTILINE)
+    statuses = re.findall(r"^(?:pub\(crate\) )?const (\w+): u32 = (\d+);", source["answer"],
+                          re.MULTILINE)
     rules = re.findall(r"Rule::(\w+) => (\d+),", source["answer"])
     kinds = re.findall(r"(\d+) => Some\(Kind::(\w+)\)", source["event"])
     endings = re.findall(r"(\d+) => Ok\(LineEnding::(\w+)\)", source["option"])
