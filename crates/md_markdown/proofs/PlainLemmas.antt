@@ -2,7 +2,6 @@
 use Rattle.std.proofs.Common.{◌+◌, ◌*◌, ◌≤◌, ◌<◌, arith}
 use Rattle.std.proofs.Common.{◌≡◌, ◌∙◌, ℕ, zero, suc, ◌-◌, List, [], ◌∷◌, ◌++◌, true}
 use Rattle.std.proofs.Common.{false, ◌&&◌, if◌then◌else◌, refl, ap, sym, subst, length, nat_le, Some}
-use Rattle.std.proofs.Common.{inl, Result, Ok, Err, IfErr}
 use Rattle.std.proofs.Common.{None, take, replicate, All, codes}
 use Rattle.std.specs.Option.{unwrap_or}
 use Rattle.std.specs.Str.{IsUtf8}
@@ -48,11 +47,9 @@ use Rattle.md_html.specs.declared.unnested.UnnestedError.TheVariants as unnested
 use Rattle.md_html.specs.declared.within.WithinError.TheVariants as within
 use Rattle.md_html.specs.declared.within.SafeWithinError.{SafeWithinError}
 use Rattle.md_html.specs.declared.within.SafeWithinError.TheVariants as safe_within
-use Rattle.md_markdown.specs.Made.{IsMadeOver, IsLonger, OfTooLong}
-use Rattle.md_markdown.specs.declared.error.MarkdownWithinError.{MarkdownWithinError}
-use Rattle.md_markdown.specs.declared.error.MarkdownWithinError.TheVariants as error
+use Rattle.md_markdown.specs.Made.{IsMadeOver}
 use Rattle.md_markdown.specs.Depth.{most_depth}
-use Rattle.md_markdown.specs.Parsed.{IsShown, is_memory, of_limits, IsMadeOfEither}
+use Rattle.md_markdown.specs.Parsed.{IsShown, is_memory, of_limits}
 use Rattle.md_markdown.specs.Plain.{plain, plain_text, at}
 
 pub takes-all : (bytes : List ℕ) → take (length bytes) bytes ≡ bytes
@@ -121,59 +118,6 @@ pub means : (options : CompileOptions) (bytes : List ℕ) → IsUtf8 bytes →
 means options bytes utf8 =
     ap (λ read. codes "<p>" ++ encoded true (unwrap_or read []) ++ codes "</p>")
     (reads-all bytes utf8)
-
--- what is claimed of a text that is too long, of the document's error
-pub long_told : (claimed also longer : Type 0) (why : SafeWithinError)
-    (cause : MarkdownWithinError) → (claimed → also → longer) →
-    OfLimits (limited.OfTooLong claimed) why → OfLimits (limited.OfTooLong also) why →
-    of_limits why ≡ Some cause → OfTooLong longer cause
-long_told claimed also longer safe_within.Options cause make claim more is =
-    absurd (none-some cause is)
-long_told claimed also longer (safe_within.Within within.TooLong) cause make claim more is =
-    subst (OfTooLong longer) (ap (λ read. unwrap_or read error.Memory) is) (make claim more)
-long_told claimed also longer (safe_within.Within within.TooMuch) cause make claim more is =
-    subst (OfTooLong longer) (ap (λ read. unwrap_or read error.Memory) is) tt
-long_told claimed also longer (safe_within.Within within.TooDeep) cause make claim more is =
-    absurd (none-some cause is)
-long_told claimed also longer (safe_within.Within (within.Compile refusal.Memory)) cause make claim
-    more is = subst (OfTooLong longer) (ap (λ read. unwrap_or read error.Memory) is) tt
-long_told claimed also longer (safe_within.Within (within.Compile (refusal.Event index rule))) cause
-    make claim more is = absurd (none-some cause is)
-
--- and where events are a document's, over these bytes
-pub long_over : (events : List Event) (bytes text : List ℕ)
-    (names : List (Bor (List ℕ) × Bor (List ℕ))) (options : CompileOptions) (limit : ℕ)
-    (why : SafeWithinError) (cause : MarkdownWithinError) → KeepsImages options →
-    OfLimits (limited.OfTooLong (limited.IsLonger options (handed events bytes names) limit)) why →
-    OfLimits (limited.OfTooLong (IsChecked (handed events bytes names))) why →
-    of_limits why ≡ Some cause → OfTooLong (IsLonger (IsMadeOfEither bytes text) limit) cause
-long_over events bytes text names options limit why cause safe claim checked is =
-    long_told (limited.IsLonger options (handed events bytes names) limit)
-    (IsChecked (handed events bytes names)) (IsLonger (IsMadeOfEither bytes text) limit) why cause
-    (λ long read. (
-      meaning options (name_table names) bytes read.0,
-      (
-        inl (record {
-          document = read.0;
-          names = name_table names;
-          options = options;
-          safe = safe;
-          grammatical = read.1.grammatical;
-          means = refl;
-        }),
-        long read.0 read.1.flattened,
-      ),
-    )) claim checked is
-
--- what is longer still is so where more is claimed of it
-pub long_widened : {T : Type 0} (r : Result T MarkdownWithinError)
-    (claim wider : List ℕ → Type 0) (limit : ℕ) → ((text : List ℕ) → claim text → wider text) →
-    IfErr r (OfTooLong (IsLonger claim limit)) → IfErr r (OfTooLong (IsLonger wider limit))
-long_widened (Ok x) claim wider limit widen long = tt
-long_widened (Err error.TooLong) claim wider limit widen long =
-    (long.0, (widen long.0 long.1.0, long.1.1))
-long_widened (Err error.TooMuch) claim wider limit widen long = tt
-long_widened (Err error.Memory) claim wider limit widen long = tt
 
 -- what nests within a bound nests within a greater one
 pub wider : (least most : ℕ) (text : List ℕ) → least ≤ most → NestsWithin least text →
@@ -310,26 +254,3 @@ module _ (events : List Event) (bytes text : List ℕ)
       (elements-nest bytes [] options (plain (length text))
       (subst (λ b. IsGrammatical b [] (plain (length text))) (sym value)
       (grammatical text [] utf8)) safe.links.grammar))
-
-  -- a text that is too long is that of the document
-  pub longer : (options : CompileOptions) (limit : ℕ) (why : SafeWithinError)
-      (cause : MarkdownWithinError) → KeepsImages options →
-      OfLimits (limited.OfTooLong (limited.IsLonger options (handed events bytes []) limit)) why →
-      of_limits why ≡ Some cause → OfTooLong (IsLonger (IsMadeOver text) limit) cause
-  longer options limit why cause safe claim is =
-      let claimed = limited.IsLonger options (handed events bytes []) limit in
-      long_told claimed claimed (IsLonger (IsMadeOver text) limit) why cause
-      (λ long _. (
-        meaning options [] bytes (plain (length text)),
-        (
-          record {
-            document = plain (length text);
-            names = [];
-            options = options;
-            safe = safe;
-            grammatical = grammatical text [] utf8;
-            means = ap (λ b. meaning options [] b (plain (length text))) value;
-          },
-          long (plain (length text)) (sym same),
-        ),
-      )) claim claim is

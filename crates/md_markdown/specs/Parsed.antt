@@ -36,7 +36,7 @@ abbrev pub is_memory : UnnestedError → Bool
 is_memory (unnested.Safe (safe.Compile refusal.Memory)) = true
 is_memory _ = false
 
--- the error of a document for one that isn't about its events
+-- the error of a document for one that says of no event that it breaks a rule
 abbrev pub of_limits : SafeWithinError → Option MarkdownWithinError
 of_limits (safe_within.Within within.TooLong) = Some error.TooLong
 of_limits (safe_within.Within within.TooMuch) = Some error.TooMuch

@@ -1,6 +1,6 @@
 //! Markdown to HTML.
 
-ghost use Rattle.std.specs.Prelude.{◌≡◌, ◌≤◌, ◌+◌, ◌*◌, ◌++◌, IfOk, IfErr, true, is_some, length};
+ghost use Rattle.std.specs.Prelude.{◌≡◌, ◌≤◌, ◌+◌, ◌*◌, ◌++◌, IfOk, true, is_some, length};
 ghost use Rattle.md_base.specs.Tree.{Forest};
 ghost use Rattle.md_depth.specs.Levels.{NestsWithin};
 ghost use Rattle.md_meaning.specs.Meaning.{meaning};
@@ -9,7 +9,7 @@ ghost use Rattle.md_safe.specs.Built.{IsBuiltAsRead};
 ghost use Rattle.md_safe.specs.Options.{KeepsImages};
 ghost use Rattle.md_safe.specs.Tokenized.{IsSafelyTokenized};
 ghost use Rattle.md_text.specs.Ids.{HasDistinctIds};
-ghost use Rattle.md_markdown.specs.Made.{IsMadeOf, MayBeAdded, OfTooLong, IsLonger};
+ghost use Rattle.md_markdown.specs.Made.{IsMadeOf, MayBeAdded};
 ghost use Rattle.md_markdown.specs.Plain.{plain_text};
 ghost use Rattle.md_markdown.specs.Depth.{most_depth};
 ghost use Rattle.md_markdown.specs.Parsed.{IsShown, IsMadeOfEither, given_by};
@@ -25,8 +25,8 @@ use md_inlines::Writer;
 use md_text::CompileOptions;
 use std::alloc::{AllocError, Global};
 
-/// How deep the nodes of a document may nest: its elements then nest at most 485 deep, which is
-/// below the 512 beyond which browsers flatten.
+/// How deep the nodes of a document may nest: its elements then nest at most 485 deep. Browsers
+/// flatten beyond 512, of which what is around the text has 27, `html` and `body` among them.
 pub const MAX_DEPTH: usize = 240;
 
 /// The HTML of a Markdown document, which is safe to set into a page: it has one reading in the
@@ -82,8 +82,9 @@ pub fn markdown(
 /// # Errors
 ///
 /// [`MarkdownWithinError::TooMuch`] where there is more work than `limits.work`, or more is used
-/// again than that (what nests deeper than `limits.depth` is no error, but shown as it is written); [`MarkdownWithinError::TooLong`] where the text has more than `limits.text`
-/// bytes; or that memory runs out.
+/// again than that; [`MarkdownWithinError::TooLong`] where the text has more than `limits.text`
+/// bytes; or that memory runs out. No clause says when these come. What nests deeper than
+/// `limits.depth` is no error: it is shown as it is written.
 ///
 /// # Examples
 ///
@@ -105,9 +106,6 @@ pub fn markdown_within(
     ensures nesting { IfOk result (NestsWithin (2 * most_depth + 5)) }
     ensures distinct_ids { IfOk result
         (λ html. options.now.number_ids ≡ true → HasDistinctIds html) }
-
-    ensures too_long { IfErr result
-        (OfTooLong (IsLonger (IsMadeOf (is_some options.now.base) text.now) limits.text)) }
 {
     let bytes = text.as_bytes();
     let writer = events_of(alloc, bytes, options)?;
@@ -210,10 +208,6 @@ fn compile_or_plain_within(
     ensures nesting { IfOk result (NestsWithin (2 * most_depth + 5)) }
     ensures distinct_ids { IfOk result
         (λ html. within.now.options.now.gfm_footnote_number_ids ≡ true → HasDistinctIds html) }
-
-    ensures too_long { IfErr result
-        (OfTooLong (IsLonger (IsMadeOfEither parsed.now.bytes.now text.now)
-        within.now.limits.text)) }
 {
     if has_nested_link(parsed.events) {
         return compile_plain_within(alloc, text, within);

@@ -51,7 +51,7 @@ pub(crate) fn is_memory(error: &UnnestedError) -> bool
     )
 }
 
-/// The error of a document for one that isn't about its events.
+/// The error of a document for one that says of no event that it breaks a rule.
 pub(crate) fn of_limits(error: &SafeWithinError) -> Option<MarkdownWithinError>
     ensures { result ≡ of_limits error.now }
 {

@@ -1,6 +1,6 @@
 //! A document that is shown as it is written.
 
-ghost use Rattle.std.specs.Prelude.{◌≡◌, ◌≤◌, ◌+◌, ◌*◌, IfOk, IfErr, true, length};
+ghost use Rattle.std.specs.Prelude.{◌≡◌, ◌≤◌, ◌+◌, ◌*◌, IfOk, true, length};
 ghost use Rattle.md_base.specs.Tree.{flatten};
 ghost use Rattle.md_safe.specs.Built.{IsBuiltAsRead};
 ghost use Rattle.md_safe.specs.Contents.{IsContained};
@@ -9,7 +9,7 @@ ghost use Rattle.md_safe.specs.Tokenized.{IsSafelyTokenized};
 ghost use Rattle.md_text.specs.Ids.{HasDistinctIds};
 ghost use Rattle.md_depth.specs.Levels.{NestsWithin};
 ghost use Rattle.md_markdown.specs.Depth.{most_depth};
-ghost use Rattle.md_markdown.specs.Made.{IsMadeOver, OfTooLong, IsLonger};
+ghost use Rattle.md_markdown.specs.Made.{IsMadeOver};
 ghost use Rattle.md_markdown.specs.Plain.{at, plain, plain_text};
 
 use crate::compiling::MAX_DEPTH;
@@ -75,9 +75,6 @@ pub(crate) fn compile_plain_within(
     ensures nesting { IfOk result (NestsWithin (2 * most_depth + 5)) }
     ensures distinct_ids { IfOk result
         (λ html. within.now.options.now.gfm_footnote_number_ids ≡ true → HasDistinctIds html) }
-
-    ensures too_long { IfErr result
-        (OfTooLong (IsLonger (IsMadeOver text.now) within.now.limits.text)) }
 {
     let events = plain_events(text.len());
     let options = within.options;

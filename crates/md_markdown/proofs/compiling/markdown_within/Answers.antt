@@ -2,10 +2,7 @@
 use Rattle.std.proofs.Common.{◌++◌, [], inr, inl, is_some, refl, sym, ap, ◌∙◌}
 use Rattle.std.proofs.lemmas.List.{append-nil}
 use Rattle.std.proofs.lemmas.Result.{IfOk-weaker}
-use Rattle.md_markdown.specs.Made.{IsMadeOf}
-use Rattle.md_markdown.specs.Parsed.{IsMadeOfEither}
 use Rattle.md_markdown.proofs.MadeLemmas.{of_either}
-use Rattle.md_markdown.proofs.PlainLemmas.{long_widened}
 use Rattle.md_markdown.proofs.compiling.markdown_within.Goals as goal
 
 pub returns-then-is_empty-clause-made : goal.returns-then-is_empty-clause-made
@@ -22,16 +19,6 @@ returns-then-is_empty-clause-distinct_ids c =
     (λ text distinct asked. distinct (c.in_ok-compile_options.ensures.ids ∙ asked))
     c.compile_or_plain_within.ensures.distinct_ids
 
-pub returns-then-is_empty-clause-too_long : goal.returns-then-is_empty-clause-too_long
-returns-then-is_empty-clause-too_long c =
-    long_widened c.compile_or_plain_within.result
-    (IsMadeOfEither c.new.result.bytes.now c.args.text.now)
-    (IsMadeOf (is_some c.args.options.now.base) c.args.text.now) c.args.limits.text
-    (λ text made. of_either (is_some c.args.options.now.base) c.args.text.now [] c.new.result.bytes.now
-    text (inr (inl refl))
-    (c.new.ensures ∙ c.as_bytes-bytes.ensures.value ∙ sym (append-nil c.args.text.now)) made)
-    c.compile_or_plain_within.ensures.too_long
-
 pub returns-clause-made : goal.returns-clause-made
 returns-clause-made c =
     IfOk-weaker c.compile_or_plain_within-2.result _ _
@@ -46,14 +33,3 @@ returns-clause-distinct_ids c =
     IfOk-weaker c.compile_or_plain_within-2.result _ _
     (λ text distinct asked. distinct (c.in_ok-compile_options.ensures.ids ∙ asked))
     c.compile_or_plain_within-2.ensures.distinct_ids
-
-pub returns-clause-too_long : goal.returns-clause-too_long
-returns-clause-too_long c =
-    long_widened c.compile_or_plain_within-2.result
-    (IsMadeOfEither c.new-2.result.bytes.now c.args.text.now)
-    (IsMadeOf (is_some c.args.options.now.base) c.args.text.now) c.args.limits.text
-    (λ text made. of_either (is_some c.args.options.now.base) c.args.text.now c.added.result.now
-    c.new-2.result.bytes.now text c.added.ensures
-    (c.new-2.ensures ∙ c.as_slice.ensures.value ∙ c.in_ok-whole.ensures
-    ∙ ap (λ bytes. bytes ++ c.added.result.now) c.as_bytes-bytes.ensures.value) made)
-    c.compile_or_plain_within-2.ensures.too_long

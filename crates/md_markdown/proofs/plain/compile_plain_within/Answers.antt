@@ -1,7 +1,7 @@
 -- The paragraph is a document of the grammar, whose text is known.
 use Rattle.std.proofs.Common.{sym, ◌∙◌, refl, length}
 use Rattle.md_markdown.specs.Plain.{plain}
-use Rattle.md_markdown.proofs.PlainLemmas.{shown, made, never_within, longer}
+use Rattle.md_markdown.proofs.PlainLemmas.{shown, made, never_within}
 use Rattle.md_markdown.proofs.plain.compile_plain_within.Goals as goal
 
 pub unreachable-requires : goal.unreachable-requires
@@ -26,10 +26,3 @@ returns-in-Ok-clause-made c =
 pub returns-in-Ok-clause-tree : goal.returns-in-Ok-clause-tree
 returns-in-Ok-clause-tree c =
     c.in-Ok.ensures.tree (plain (length c.args.text.now)) (sym c.plain_events-events.ensures) refl
-
-pub returns-in-Some-clause-too_long : goal.returns-in-Some-clause-too_long
-returns-in-Some-clause-too_long c =
-    longer c.plain_events-events.result c.as_bytes.result.now c.args.text.now
-    c.plain_events-events.ensures c.as_bytes.ensures.value c.utf8.text
-    c.args.within.now.options.now c.args.within.now.limits.text c.in-Err.error c.in-Some.cause c.requires.safe
-    c.in-Err.ensures.too_long (sym c.of_limits.ensures ∙ c.in-Some.is)
