@@ -79,14 +79,18 @@ typedef struct bivdrazo_markdown_options {
     size_t max_work;                   /* how much there may be to read and to print, as
                                           bivdrazo_limits counts it; SIZE_MAX: any amount;
                                           BIVDRAZO_MARKDOWN_WORK_BY_LENGTH, the default */
+    size_t max_depth;                  /* how many nodes may be open at once: a document in which
+                                          more would be is shown as it is written, as one
+                                          paragraph; 0, the default: as many as any document may */
 } bivdrazo_markdown_options;
 
-BIVDRAZO_ASSERT(sizeof(bivdrazo_markdown_options) == 184, "the options' size");
+BIVDRAZO_ASSERT(sizeof(bivdrazo_markdown_options) == 192, "the options' size");
 BIVDRAZO_ASSERT(offsetof(bivdrazo_markdown_options, html) == 7, "what becomes of HTML");
 BIVDRAZO_ASSERT(offsetof(bivdrazo_markdown_options, tables) == 11, "the last flag");
 BIVDRAZO_ASSERT(offsetof(bivdrazo_markdown_options, footnote_prefix) == 16, "the first text");
 BIVDRAZO_ASSERT(offsetof(bivdrazo_markdown_options, heading_ids) == 136, "the last text");
-BIVDRAZO_ASSERT(offsetof(bivdrazo_markdown_options, max_work) == 176, "the last bound");
+BIVDRAZO_ASSERT(offsetof(bivdrazo_markdown_options, max_work) == 176, "the bound on work");
+BIVDRAZO_ASSERT(offsetof(bivdrazo_markdown_options, max_depth) == 184, "the last bound");
 
 /*
  * The HTML of a Markdown document, written into the buffer. Under BIVDRAZO_OK it is the buffer's
@@ -147,7 +151,8 @@ static inline bivdrazo_markdown_options bivdrazo_markdown_options_default(void) 
                                          {0, 0, 0},
                                          SIZE_MAX,
                                          SIZE_MAX,
-                                         BIVDRAZO_MARKDOWN_WORK_BY_LENGTH};
+                                         BIVDRAZO_MARKDOWN_WORK_BY_LENGTH,
+                                         0};
     options.footnote_prefix = bivdrazo_text_unset();
     options.footnote_label = bivdrazo_text_unset();
     options.footnote_back_label = bivdrazo_text_unset();

@@ -288,6 +288,28 @@ static void test_default_work(void) {
     bivdrazo_markdown_free(html);
 }
 
+/* What would nest deeper than its bound is shown as it is written. */
+static void test_depth(void) {
+    static const char quotes[] = "> > > > a";
+    static const char shown[] = "<p>&gt; &gt; &gt; &gt; a</p>";
+    bivdrazo_markdown_options options = bivdrazo_markdown_options_default();
+    check(options.max_depth == 0, "the default bound on nesting");
+    check(holds(quotes, &options, "<blockquote>\n<p>a</p>\n</blockquote>"), "nodes that nest");
+    options.max_depth = 40;
+    check(holds(quotes, &options, "<blockquote>\n<p>a</p>\n</blockquote>"), "nesting in its bound");
+    options.max_depth = SIZE_MAX;
+    check(holds(quotes, &options, "<blockquote>\n<p>a</p>\n</blockquote>"), "any nesting");
+    for (size_t depth = 1; depth < 5; depth++) {
+        options.max_depth = depth;
+        check(renders(quotes, &options, shown), "deeper nesting");
+    }
+    options.max_output = sizeof shown - 1;
+    check(renders(quotes, &options, shown), "deeper nesting, in a bound on the text");
+    options.max_output--;
+    check(fails(quotes, sizeof quotes - 1, &options, BIVDRAZO_MARKDOWN_OUTPUT_TOO_LONG, 0),
+          "deeper nesting, with a text that is too long");
+}
+
 /* Each flag is 0 or 1, and told under its own number. */
 static void test_flags(void) {
     const struct {
@@ -365,6 +387,7 @@ int main(void) {
     test_bounds();
     test_work();
     test_default_work();
+    test_depth();
     test_failures();
     test_threads();
     if (failures == 0)

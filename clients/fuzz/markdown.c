@@ -29,6 +29,7 @@ static bivdrazo_markdown_options options_of(uint8_t flags, uint8_t bounds) {
         options.max_output = 8u * bounds;
         if (bounds & 1)
             options.max_work = 4u * bounds;
+        options.max_depth = bounds >> 1 & 7;
     }
     return options;
 }

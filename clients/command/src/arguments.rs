@@ -12,6 +12,10 @@ use std::process;
 /// What asks for ids of headings that are made of their texts.
 const SLUG: &str = "slug";
 
+/// How deep the events of cmark-gfm's parser may nest, if nothing else is asked for: elements nest
+/// at most 485 deep then, and browsers flatten what is deeper than 512.
+const MOST_DEPTH: usize = 240;
+
 /// Renders Markdown as safe HTML.
 ///
 /// Tables, strikethrough, tasks, footnotes and bare links are read, and math with --math. Links and images whose protocol
@@ -144,6 +148,12 @@ pub struct Arguments {
     /// instead of 2^20 and 64 for each of its bytes; 6 is the status where there is more.
     #[arg(long, value_name = "BYTES")]
     pub max_work: Option<usize>,
+
+    /// How many nodes of a document may be open at once: one in which more would be is shown as it
+    /// is written. With cmark-gfm's parser it fails, and the bound is 240, if none is given. 0: no
+    /// bound.
+    #[arg(long, value_name = "NODES")]
+    pub max_depth: Option<usize>,
 
     /// Print what makes this shell complete these options, and render nothing.
     #[arg(long, value_name = "SHELL", value_enum, exclusive = true)]
@@ -281,11 +291,13 @@ impl Arguments {
         attributes
     }
 
-    /// The limits of the text and of the work, for a document of so many bytes.
+    /// The limits of the text, of the work and of the nesting of a parser's events, for a document
+    /// of so many bytes.
     pub fn limits(&self, length: usize) -> Limits {
         Limits::default()
             .with_text(self.max_output.unwrap_or(usize::MAX))
             .with_work(self.max_work.unwrap_or_else(|| default_work(length)))
+            .with_depth(self.max_depth.unwrap_or(MOST_DEPTH))
     }
 
     /// The file to render, where there is one.
@@ -317,6 +329,7 @@ impl Arguments {
         options.max_input = self.max_input;
         options.max_output = self.max_output;
         options.max_work = self.max_work;
+        options.max_depth = self.max_depth;
         options
     }
 }

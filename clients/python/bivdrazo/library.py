@@ -87,6 +87,7 @@ class CMarkdownOptions(ctypes.Structure):
         ("max_input", ctypes.c_size_t),
         ("max_output", ctypes.c_size_t),
         ("max_work", ctypes.c_size_t),
+        ("max_depth", ctypes.c_size_t),
     ]
 
 

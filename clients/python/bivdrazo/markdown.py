@@ -74,6 +74,7 @@ def markdown_to_html(
     max_input: int | None = None,
     max_output: int | None = None,
     max_work: int | None = None,
+    max_depth: int | None = None,
 ) -> SafeHtml:
     """The HTML of a Markdown document, with tables, strikethrough, tasks, footnotes and bare links.
 
@@ -105,6 +106,8 @@ def markdown_to_html(
     number. max_work: how much there may be to read and to print in what the parser makes of the
     document, as compile_within counts it; else 2^20, and 64 for each byte of the document. A number
     of 2^64 or more is no bound. Whoever renders what strangers write sets all three.
+    max_depth: how many nodes may be open at once: a document in which more would be is shown as it
+    is written, as one paragraph; None or 0: as many as any document may.
 
     >>> markdown_to_html("a <b>c</b>\\nd", html="left-out", hard_breaks=True)
     '<p>a c<br />\\nd</p>\\n'
@@ -116,7 +119,7 @@ def markdown_to_html(
     document = coded("text", text)
     given = options_of(number_ids, hard_breaks, bare_links, html, math, front_matter, footnotes,
                        tables, footnote_prefix, footnote_label, footnote_back_label, base, rel,
-                       heading_ids, max_input, max_output, max_work)
+                       heading_ids, max_input, max_output, max_work, max_depth)
     return SafeHtml(rendered(document, given, typed("heading_slugs", heading_slugs, bool))[0])
 
 
@@ -218,10 +221,11 @@ def options_of(
     max_input: int | None = None,
     max_output: int | None = None,
     max_work: int | None = None,
+    max_depth: int | None = None,
 ) -> CMarkdownOptions:
     """The options as C has them, which only reads them: the texts are set in a copy."""
     choices = (number_ids, hard_breaks, bare_links, html, math, front_matter, footnotes, tables,
-               max_input, max_output, max_work)
+               max_input, max_output, max_work, max_depth)
     made = (known_choices if PLAIN.issuperset(map(type, choices)) else made_choices)(*choices)
     if (footnote_prefix is None and footnote_label is None and footnote_back_label is None
             and base is None and rel is None and heading_ids is None):
@@ -246,6 +250,7 @@ def made_choices(
     max_input: int | None,
     max_output: int | None,
     max_work: int | None,
+    max_depth: int | None,
 ) -> CMarkdownOptions:
     """The options as C has them, with no text set."""
     return CMarkdownOptions(
@@ -263,6 +268,7 @@ def made_choices(
         bound_of("max_input", max_input),
         bound_of("max_output", max_output),
         WORK_BY_LENGTH if max_work is None else bound_of("max_work", max_work, "work"),
+        0 if max_depth is None else bound_of("max_depth", max_depth, "nodes"),
     )
 
 

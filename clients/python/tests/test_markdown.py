@@ -174,6 +174,20 @@ class Texts(unittest.TestCase):
             self.assertEqual(caught.exception.limit, (1 << 20) + 64 * len(text))
         self.assertGreater(len(markdown_to_html(text, max_work=1 << 64)), 10_000_000)
 
+    def test_depth(self):
+        text = "> > > > *a*"
+        quotes = markdown_to_html(text)
+        self.assertEqual(quotes.count("<blockquote>"), 4)
+        for depth in (None, 0, 40, 1 << 70):
+            with self.subTest(depth=depth):
+                self.assertEqual(markdown_to_html(text, max_depth=depth), quotes)
+        for depth in (1, 4):
+            with self.subTest(depth=depth):
+                self.assertEqual(markdown_to_html(text, max_depth=depth),
+                                 "<p>&gt; &gt; &gt; &gt; *a*</p>")
+        self.assertEqual(markdown_with_headings("> > > # a", max_depth=3),
+                         ("<p>&gt; &gt; &gt; # a</p>", []))
+
 
 class Errors(unittest.TestCase):
     """What is handed in has another type or value."""
@@ -184,7 +198,7 @@ class Errors(unittest.TestCase):
             "number_ids": 1, "math": 1, "front_matter": None, "footnotes": "", "tables": 0,
             "rel": b"", "heading_ids": 3,
             "hard_breaks": None, "bare_links": "yes", "html": 0, "max_input": 1.5,
-            "max_output": True, "max_work": "1",
+            "max_output": True, "max_work": "1", "max_depth": False,
         }
         for name, value in values.items():
             with self.subTest(name=name), self.assertRaisesRegex(TypeError, f"^{name}: "):
@@ -196,7 +210,7 @@ class Errors(unittest.TestCase):
 
     def test_values(self):
         for name, value in {"html": "no", "max_input": -1, "max_output": -2,
-                            "max_work": -3}.items():
+                            "max_work": -3, "max_depth": -4}.items():
             with self.subTest(name=name), self.assertRaisesRegex(ValueError, f"^{name}: "):
                 markdown_to_html("a", **{name: value})
         with self.assertRaisesRegex(TypeError, "^heading_ids: "):

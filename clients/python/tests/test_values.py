@@ -195,7 +195,7 @@ class Statuses(unittest.TestCase):
         self.assertEqual(repr(told), "RuntimeError(\"the Markdown isn't UTF-8\")")
 
     def test_size(self):
-        self.assertEqual(ctypes.sizeof(CMarkdownOptions), 184)
+        self.assertEqual(ctypes.sizeof(CMarkdownOptions), 192)
 
 
 if __name__ == "__main__":

@@ -74,6 +74,7 @@ pub(crate) struct CMarkdownOptions {
     pub(crate) max_input: usize,
     pub(crate) max_output: usize,
     pub(crate) max_work: usize,
+    pub(crate) max_depth: usize,
 }
 
 const _: () = assert!(size_of::<CAnswer>() == 24);
@@ -83,7 +84,7 @@ const _: () = assert!(size_of::<CReference>() == 32);
 const _: () = assert!(size_of::<COptions>() == 128);
 const _: () = assert!(size_of::<CAttributes>() == 48);
 const _: () = assert!(size_of::<CLimits>() == 24);
-const _: () = assert!(size_of::<CMarkdownOptions>() == 184);
+const _: () = assert!(size_of::<CMarkdownOptions>() == 192);
 
 extern "C" {
     pub(crate) fn bivdrazo_compile(

@@ -339,7 +339,8 @@ const MARKDOWN_VERSION: u32 = 4;
 /// ask for them, into a buffer; and after it the headings that got an `id`.
 ///
 /// The attributes and the list of headings are those of [`bivdrazo_compile_attributed`], by the
-/// options `rel` and `heading_ids`.
+/// options `rel` and `heading_ids`. Where more nodes than `max_depth` would be open at once, 0 being
+/// no such bound, the document is shown as it is written.
 ///
 /// Its four parameters are those of C's call, which has five in the same order: none for `alloc`,
 /// one for `options`, and two for each of the slices. What a C caller passes is told at

@@ -70,3 +70,7 @@ work_by_length bytes = min (min (bytes * 64) (2 ^ 64 - 1) + 2 ^ 20) (2 ^ 64 - 1)
 -- how much work there may be: 2^64 - 2 goes by the document's length
 abbrev pub most_work : ℕ → ℕ → ℕ
 most_work given bytes = if given == 2 ^ 64 - 2 then work_by_length bytes else given
+
+-- how many nodes may be open at once: 0 is no bound of its own
+abbrev pub most_nesting : ℕ → ℕ
+most_nesting given = if given == 0 then 2 ^ 64 - 1 else given

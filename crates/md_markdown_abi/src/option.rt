@@ -4,7 +4,7 @@ ghost use Rattle.std.specs.Prelude.{◌≡◌, ◌≢◌, Some, OnOk, IfOk, IfEr
 ghost use Rattle.md_abi.specs.Failures.{IsFaultOf};
 ghost use Rattle.md_markdown_abi.specs.Numbers.{markdown_version};
 ghost use Rattle.md_markdown_abi.specs.Options.{HasMarkdownOptions, html_of, most_work};
-ghost use Rattle.md_markdown_abi.specs.Options.{work_by_length};
+ghost use Rattle.md_markdown_abi.specs.Options.{work_by_length, most_nesting};
 ghost use Rattle.md_markdown_abi.specs.Failures.{IsOptionFault};
 ghost use Rattle.md_markdown_abi.specs.declared.failure.MarkdownFailure.TheVariants.{NoVersion};
 
@@ -24,6 +24,9 @@ const LEAST_WORK: usize = 1_048_576;
 
 /// How much more it may be for each byte of the document.
 const WORK_OF_A_BYTE: usize = 64;
+
+/// A bound on nesting that stands for none.
+const ANY_DEPTH: usize = 0;
 
 /// How Markdown is read and printed; a flag is 0 or 1. Four bytes that are never read follow the
 /// flags.
@@ -65,6 +68,9 @@ pub struct CMarkdownOptions<'a> {
     pub max_output: usize,
     /// How much work there may be; 2^64 - 2 goes by the document's length.
     pub max_work: usize,
+    /// How many nodes may be open at once in what isn't shown as it is written; 0: as many as any
+    /// document may.
+    pub max_depth: usize,
 }
 
 /// Whether options are laid out as this reads them.
@@ -124,20 +130,26 @@ fn read_html(html: u8, number: usize) -> Result<DocumentHtml, Failure>
     }
 }
 
-/// The bounds on a text of a document of so many bytes.
+/// The bounds on a text of a document of so many bytes, and on how deep its nodes nest.
 pub(crate) fn limits_of(given: &CMarkdownOptions, bytes: usize) -> Limits
     ensures text { result.text ≡ given.now.max_output }
     ensures work { result.work ≡ most_work given.now.max_work bytes }
+    ensures depth { result.depth ≡ most_nesting given.now.max_depth }
 {
     let work = if given.max_work == BY_LENGTH {
         work_by_length(bytes)
     } else {
         given.max_work
     };
+    let depth = if given.max_depth == ANY_DEPTH {
+        usize::MAX
+    } else {
+        given.max_depth
+    };
     Limits {
         text: given.max_output,
         work,
-        depth: usize::MAX,
+        depth,
     }
 }
 

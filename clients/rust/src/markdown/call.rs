@@ -133,6 +133,7 @@ fn c_options(options: &MarkdownOptions) -> CMarkdownOptions {
             Some(WORK_BY_LENGTH) => usize::MAX,
             Some(work) => work,
         },
+        max_depth: options.max_depth.unwrap_or(0),
     }
 }
 
@@ -180,5 +181,15 @@ mod tests {
         assert_eq!(of(Some(7)), 7);
         assert_eq!(of(Some(usize::MAX - 1)), usize::MAX);
         assert_eq!(of(Some(usize::MAX)), usize::MAX);
+    }
+
+    #[test]
+    fn depth() {
+        let of = |depth| {
+            let mut options = MarkdownOptions::default();
+            options.max_depth = depth;
+            c_options(&options).max_depth
+        };
+        assert_eq!([of(None), of(Some(0)), of(Some(7))], [0, 0, 7]);
     }
 }

@@ -98,6 +98,9 @@ pub struct MarkdownOptions {
     /// [`Limits`](crate::Limits) counts it; else what [`default_work`] says. `usize::MAX` is no
     /// limit.
     pub max_work: Option<usize>,
+    /// How many nodes may be open at once: a document in which more would be is shown as it is
+    /// written, as one paragraph. Else, and where it is 0, as many as any document may.
+    pub max_depth: Option<usize>,
 }
 
 impl Default for MarkdownOptions {
@@ -121,6 +124,7 @@ impl Default for MarkdownOptions {
             max_input: None,
             max_output: None,
             max_work: None,
+            max_depth: None,
         }
     }
 }

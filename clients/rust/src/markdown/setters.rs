@@ -23,4 +23,5 @@ setters! { MarkdownOptions:
     with_max_input(max_input: usize) = Some(max_input);
     with_max_output(max_output: usize) = Some(max_output);
     with_max_work(max_work: usize) = Some(max_work);
+    with_max_depth(max_depth: usize) = Some(max_depth);
 }

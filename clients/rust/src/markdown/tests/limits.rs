@@ -146,6 +146,28 @@ fn wide_tables() {
     assert!(((1 << 19) - 2000..=1 << 19).contains(&cells), "{cells}");
 }
 
+/// What would nest deeper than its bound is shown as it is written.
+#[test]
+fn depth() {
+    let quotes = "> > > > *a*";
+    let shown = "<p>&gt; &gt; &gt; &gt; *a*</p>";
+    for (limit, is_shown) in [(1, true), (4, true), (40, false), (0, false)] {
+        let made = html_with(quotes, |options| options.max_depth = Some(limit));
+        let wanted = match is_shown {
+            true => shown.to_string(),
+            false => html(quotes),
+        };
+        assert_eq!(made, Ok(wanted), "{limit}");
+    }
+    assert_eq!(html(quotes).matches("<blockquote>").count(), 4);
+    let limit = shown.len() - 1;
+    let made = html_with(quotes, |options| {
+        options.max_depth = Some(4);
+        options.max_output = Some(limit);
+    });
+    assert_eq!(made, Err(Error::OutputTooLong { limit }));
+}
+
 /// A mark in which so many quotes, lists and items are open is text.
 #[test]
 fn nests() {

@@ -40,4 +40,5 @@ fn limits() {
     sets(new().with_max_input(1), |it| it.max_input = Some(1));
     sets(new().with_max_output(1), |it| it.max_output = Some(1));
     sets(new().with_max_work(1), |it| it.max_work = Some(1));
+    sets(new().with_max_depth(1), |it| it.max_depth = Some(1));
 }
