@@ -360,7 +360,8 @@ const MARKDOWN_VERSION: u32 = 4;
 /// - 33: the text is longer than `max_output`.
 /// - 7: there is no more memory.
 ///
-/// Of 35, 5, 32 and 34 the first that is true is told, and none of the others where one is.
+/// Of 35, 5, 32 and 34 the first that is true is told, and none of the others where one is, unless 7
+/// is told.
 #[unsafe(no_mangle)]
 pub extern "C" fn bivdrazo_markdown_into(
     alloc: Global,

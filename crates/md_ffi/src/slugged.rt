@@ -9,11 +9,12 @@ use md_markdown_abi::{CMarkdownOptions, answer_to_markdown, markdown_slugged};
 use std::alloc::Global;
 
 /// As [`bivdrazo_markdown_into`](crate::export::bivdrazo_markdown_into), with an `id` on each
-/// heading that is made of the heading's text, as GitHub makes it.
+/// heading that is made of the heading's text, nearly as GitHub makes it.
 ///
 /// Where `heading_ids` is set, each of these ids begins with that text. Where an id is taken, a
-/// hyphen and a number follow it, from 1 on: so no two ids are equal where `number_ids` is 1. After
-/// the list of the headings follow their ids, in the same order: before each a NUL and `#`.
+/// hyphen and a number follow it, from 1 on: so no two ids are equal where no two of the text
+/// without these are, as with `number_ids`. After the list of the headings follow their ids, in the
+/// same order: before each a NUL and `#`. No clause says which ids these are.
 ///
 /// # Statuses
 ///
