@@ -110,10 +110,11 @@ bivdrazo_answer bivdrazo_markdown_into(const uint8_t *text, size_t text_length,
 
 /*
  * As bivdrazo_markdown_into(), with an id on each heading that is made of the heading's text, as
- * GitHub makes it: in lower case, a hyphen for each space, and without what is no letter, mark,
+ * GitHub nearly makes it: in lower case, a hyphen for each space, and without what is no letter, mark,
  * number, connector or hyphen. Where heading_ids is set, each begins with that text. Where an id is
- * there already, a hyphen and a number follow it, from 1 on: so no two ids are equal where
- * number_ids is 1. After the list of headings the list of their ids follows, which
+ * there already, a hyphen and a number follow it, from 1 on: so no two ids are equal where no two
+ * of the text without these are, as where number_ids is 1. After the list of headings the list of
+ * their ids follows, which
  * bivdrazo_next_id() reads.
  */
 bivdrazo_answer bivdrazo_markdown_slugs_into(const uint8_t *text, size_t text_length,

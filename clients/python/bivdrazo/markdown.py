@@ -98,9 +98,9 @@ def markdown_to_html(
     what the ids of headings begin with, their numbers follow; they are distinct from one
     another, and from all others where no other begins so: those of footnotes are
     `footnote-label`, and the prefix and `fn`. On a page with several documents let it end with a
-    separator that is no digit. heading_slugs: the id of each heading is made of its text, as GitHub
-    does it, behind heading_ids where that is set; these ids are distinct from one another and from
-    all others.
+    separator that is no digit. heading_slugs: the id of each heading is made of its text, nearly as
+    GitHub does it, behind heading_ids where that is set; these ids are distinct from one another
+    and from all others, where the others are distinct, as with number_ids.
 
     max_input, max_output: how many bytes of UTF-8 the document and the text may have; else any
     number. max_work: how much there may be to read and to print in what the parser makes of the
