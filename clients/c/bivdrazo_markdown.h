@@ -109,13 +109,12 @@ bivdrazo_answer bivdrazo_markdown_into(const uint8_t *text, size_t text_length,
                                        size_t buffer_length);
 
 /*
- * As bivdrazo_markdown_into(), with an id on each heading that is made of the heading's text, as
- * GitHub nearly makes it: in lower case, a hyphen for each space, and without what is no letter, mark,
- * number, connector or hyphen. Where heading_ids is set, each begins with that text. Where an id is
- * there already, a hyphen and a number follow it, from 1 on: so no two ids are equal where no two
- * of the text without these are, as where number_ids is 1. After the list of headings the list of
- * their ids follows, which
- * bivdrazo_next_id() reads.
+ * As bivdrazo_markdown_into(), with an id on each heading that is made of the heading's text,
+ * nearly as GitHub makes it: in lower case, a hyphen for each space, and without what is no letter,
+ * mark, number, connector or hyphen. Where heading_ids is set, each begins with that text. Where an
+ * id is there already, a hyphen and a number follow it, from 1 on: so no two ids are equal where no
+ * two of the text without these are, as where number_ids is 1. After the list of headings the list
+ * of their ids follows, which bivdrazo_next_id() reads.
  */
 bivdrazo_answer bivdrazo_markdown_slugs_into(const uint8_t *text, size_t text_length,
                                              const bivdrazo_markdown_options *options,

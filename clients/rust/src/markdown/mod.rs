@@ -85,10 +85,10 @@ pub struct MarkdownOptions {
     /// distinct from one another, and from all others where no other begins so: those of footnotes
     /// are `footnote-label`, and what `footnote_prefix` says and `fn`.
     pub heading_ids: Option<String>,
-    /// Make the `id` of each heading of its text, nearly as GitHub does: in lower case, with a hyphen for
-    /// each space, and without what is no letter, mark, number, connector or hyphen. Where
-    /// `heading_ids` is set each begins with that. Where an id is there already, a hyphen and a
-    /// number follow it: these ids are distinct from one another and from all others, where the
+    /// Make the `id` of each heading of its text, nearly as GitHub does: in lower case, with a
+    /// hyphen for each space, and without what is no letter, mark, number, connector or hyphen.
+    /// Where `heading_ids` is set each begins with that. Where an id is there already, a hyphen and
+    /// a number follow it: these ids are distinct from one another and from all others, where the
     /// others are distinct, as with `number_ids`.
     pub heading_slugs: bool,
     /// How many bytes the document may have; else any number.
