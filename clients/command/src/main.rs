@@ -3,6 +3,7 @@
 mod arguments;
 mod failures;
 mod files;
+mod found;
 mod front;
 mod links;
 mod page;

@@ -7,7 +7,7 @@ use crate::page::{escaped, Page, Parts};
 use crate::parser::{self, ParserError};
 use crate::{files, text};
 use bivdrazo::{contents, markdown_with_headings, Attributes, Error, Heading};
-use std::collections::HashSet;
+use std::borrow::Cow;
 use std::path::Path;
 
 /// A document that was read.
@@ -98,14 +98,14 @@ impl Read {
             content: &self.html,
         });
         match target {
-            Some(target) => files::write(target, &texts)
+            Some(target) => files::write(target, &texts, arguments.out_dir.is_none())
                 .map_err(|error| format!("{}: {error}", target.display()).into()),
             None => print(&texts),
         }
     }
 
     /// The ids of the text: what a fragment of a URL can lead to.
-    pub fn ids(&self) -> HashSet<String> {
+    pub fn ids(&self) -> impl Iterator<Item = Cow<'_, str>> {
         text::ids(&self.html)
     }
 

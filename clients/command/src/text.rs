@@ -3,7 +3,8 @@
 //! It has one reading as HTML, in which `<` begins a tag, and no value holds a quotation mark. So
 //! what is looked for here is found where it stands, and nowhere else.
 
-use std::collections::HashSet;
+use std::borrow::Cow;
+use std::iter;
 
 /// How a link and an image begin, whose URL follows.
 const BEFORE_URLS: [&str; 2] = ["<a href=\"", "<img src=\""];
@@ -46,26 +47,25 @@ pub fn with_urls(html: &str, mut made: impl FnMut(&str) -> Option<String>) -> St
 }
 
 /// The ids of a text.
-pub fn ids(html: &str) -> HashSet<String> {
+pub fn ids(html: &str) -> impl Iterator<Item = Cow<'_, str>> {
     // Where no quotation mark stands in a text, what is between two of them is a value.
-    let mut ids = HashSet::new();
     let mut parts = html.split('"');
-    while let (Some(before), Some(value)) = (parts.next(), parts.next()) {
-        if before.ends_with(" id=") {
-            ids.insert(unescaped(value));
-        }
-    }
-    ids
+    let values = iter::from_fn(move || Some((parts.next()?, parts.next()?)));
+    values
+        .filter(|(before, _)| before.ends_with(" id="))
+        .map(|(_, value)| unescaped(value))
 }
 
 /// The text of the first heading without tags and footnotes' calls, escaped; where the document has
 /// one, and it isn't empty.
 pub fn heading(html: &str) -> Option<String> {
-    let html = html.split(FOOTNOTES).next()?;
     let start = html
         .match_indices("<h")
         .find(|(at, _)| is_heading(&html[*at..]))?
         .0;
+    if html[..start].contains(FOOTNOTES) {
+        return None;
+    }
     let end = html[start..].find("</h")?;
     let text = without_tags(&without_calls(&html[start..start + end]));
     let text = text.split_whitespace().collect::<Vec<_>>().join(" ");
@@ -100,14 +100,15 @@ fn without_tags(html: &str) -> String {
 }
 
 /// A value as it is read.
-fn unescaped(value: &str) -> String {
+fn unescaped(value: &str) -> Cow<'_, str> {
     if !value.contains('&') {
-        return value.to_string();
+        return value.into();
     }
     let all = ESCAPED.iter().rev();
-    all.fold(value.to_string(), |value, (each, escape)| {
+    let value = all.fold(value.to_string(), |value, (each, escape)| {
         value.replace(escape, each)
-    })
+    });
+    value.into()
 }
 
 /// A text as a value has it.
@@ -170,7 +171,7 @@ mod tests {
         options.heading_ids = Some("x\"&".to_string());
         let text = "# a b\n\nc[^1] ` id=\"d\"` [e](f \" id=\")\n\n[^1]: g\n";
         let mut found: Vec<String> = ids(&markdown_to_html(text, &options).unwrap())
-            .into_iter()
+            .map(Cow::into_owned)
             .collect();
         found.sort();
         let wanted = [
