@@ -69,7 +69,10 @@ impl Read {
         arguments: &Arguments,
         made: impl FnMut(&str) -> Option<String>,
     ) -> Result<Read, Error> {
-        let html = text::with_urls(&self.html, made);
+        let html = match text::with_urls(&self.html, made) {
+            Cow::Borrowed(_) => return Ok(self),
+            Cow::Owned(html) => html,
+        };
         match arguments.max_output {
             Some(limit) if html.len() > limit => Err(Error::OutputTooLong { limit }),
             _ => Ok(Read { html, ..self }),

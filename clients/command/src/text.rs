@@ -24,35 +24,50 @@ const ESCAPED: [(&str, &str); 4] = [
 
 /// A text in which each URL of a link or an image is what `made` answers for it, and stays as it is
 /// where that is nothing.
-pub fn with_urls(html: &str, mut made: impl FnMut(&str) -> Option<String>) -> String {
-    let mut changed = String::with_capacity(html.len());
-    let mut rest = html;
-    while let Some(at) = rest.find('<') {
-        let tag = &rest[at..];
-        let before = BEFORE_URLS.iter().find(|before| tag.starts_with(**before));
-        let start = at + before.map_or(1, |before| before.len());
-        changed.push_str(&rest[..start]);
-        rest = &rest[start..];
-        if before.is_some() {
-            let (url, after) = rest.split_at(rest.find('"').unwrap_or(rest.len()));
-            match made(&unescaped(url)) {
-                Some(other) => changed.push_str(&escaped(&other)),
-                None => changed.push_str(url),
+pub fn with_urls(html: &str, mut made: impl FnMut(&str) -> Option<String>) -> Cow<'_, str> {
+    let mut changed = String::new();
+    // What is before `kept` is in `changed`, and what is before `at` was looked at.
+    let (mut kept, mut at) = (0, 0);
+    while let Some(tag) = find(html, at, b'<') {
+        at = tag + 1;
+        let before = BEFORE_URLS.iter();
+        let before = before.filter(|before| html[tag..].starts_with(**before));
+        for before in before {
+            let start = tag + before.len();
+            at = find(html, start, b'"').unwrap_or(html.len());
+            if let Some(other) = made(&unescaped(&html[start..at])) {
+                changed.push_str(&html[kept..start]);
+                changed.push_str(&escaped(&other));
+                kept = at;
             }
-            rest = after;
         }
     }
-    changed.push_str(rest);
-    changed
+    if kept == 0 {
+        return html.into();
+    }
+    changed.push_str(&html[kept..]);
+    changed.into()
+}
+
+/// Where a byte is found from a place on. These are near, so that they are found one by one.
+fn find(html: &str, from: usize, wanted: u8) -> Option<usize> {
+    let mut bytes = html.as_bytes()[from..].iter();
+    bytes.position(|&byte| byte == wanted).map(|at| from + at)
 }
 
 /// The ids of a text.
 pub fn ids(html: &str) -> impl Iterator<Item = Cow<'_, str>> {
     // Where no quotation mark stands in a text, what is between two of them is a value.
-    let mut parts = html.split('"');
-    let values = iter::from_fn(move || Some((parts.next()?, parts.next()?)));
+    let mut at = 0;
+    let values = iter::from_fn(move || {
+        let start = find(html, at, b'"')? + 1;
+        let end = find(html, start, b'"')?;
+        let before = &html[at..start];
+        at = end + 1;
+        Some((before, &html[start..end]))
+    });
     values
-        .filter(|(before, _)| before.ends_with(" id="))
+        .filter(|(before, _)| before.ends_with(" id=\""))
         .map(|(_, value)| unescaped(value))
 }
 
@@ -136,7 +151,8 @@ mod tests {
         let text = "[a](b \"<a href='x'>\") ![c](d) [e] [f][e] <g@h.ij> `<a href=\"b\">` www.j.org [](<>) \
                     [k](l?m&n) [o](<p q>)\n\n[e]: b '&amp;'\n\n<a href=\"b\">\n";
         let mut urls = Vec::new();
-        let changed = with_urls(&html(text), |url| {
+        let before = html(text);
+        let changed = with_urls(&before, |url| {
             urls.push(url.to_string());
             (url == "b" || url == "d").then(|| format!("{url}/?&\"<"))
         });
