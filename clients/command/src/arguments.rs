@@ -39,6 +39,10 @@ pub struct Arguments {
     #[arg(long, requires = "out_dir")]
     pub all: bool,
 
+    /// Of a folder, render what changes in it, until the program is ended (by Ctrl-C).
+    #[arg(long, requires = "out_dir")]
+    pub watch: bool,
+
     /// Write a whole page with this title, where its front matter has none.
     #[arg(long, value_name = "TITLE")]
     pub page: Option<String>,
@@ -189,6 +193,10 @@ impl Arguments {
         }
         if (arguments.lang.is_some() || arguments.css.is_some()) && !arguments.wants_page() {
             let told = "--lang and --css need --page, --page-template or a folder";
+            end(&Arguments::command().error(ErrorKind::MissingRequiredArgument, told));
+        }
+        if arguments.watch && !arguments.is_site {
+            let told = "--watch needs a folder";
             end(&Arguments::command().error(ErrorKind::MissingRequiredArgument, told));
         }
         if let Some(option) = arguments.of_another_parser() {

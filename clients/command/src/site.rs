@@ -28,6 +28,8 @@ struct Site<'a> {
     newest: Option<SystemTime>,
     /// The folders that were made.
     made: Mutex<HashSet<PathBuf>>,
+    /// What changed since all was rendered.
+    changed: Option<&'a HashSet<PathBuf>>,
     bar: ProgressBar,
 }
 
@@ -41,15 +43,21 @@ struct Looked<'a> {
 /// Makes the pages of a folder. Nothing is written before it is clear what goes where. Where no two
 /// files could be written to one, whichever are copied, that is so at once, and each document is
 /// read and its page written; else all are read first, which says what is copied.
+///
+/// Where that was done before, `changed` has the files that may have changed since, by their paths
+/// from the folder. Their pages are written however new they are, and each page that is written is
+/// told.
 pub fn make(
     arguments: &Arguments,
     page: &Page,
     folder: &Path,
     site: &Path,
+    changed: Option<&HashSet<PathBuf>>,
 ) -> Result<Outcome, Failure> {
     let told_of = |error| -> Failure { format!("{}: {error}", folder.display()).into() };
     let (tree, failed) = Tree::of(folder, site).map_err(told_of)?;
-    let site = Site::of(arguments, page, folder, site, tree);
+    let mut site = Site::of(arguments, page, folder, site, tree);
+    site.changed = changed;
     let mut outcome = Outcome::of(failed);
     let sources = site.tree.sources();
     let is_clear = site.collisions(&site.tree.files).is_empty();
@@ -103,6 +111,7 @@ impl<'a> Site<'a> {
             tree,
             newest,
             made: Mutex::default(),
+            changed: None,
             bar,
         }
     }
@@ -207,7 +216,7 @@ impl<'a> Site<'a> {
     /// power cut left.
     fn write(&self, source: &Path, read: &Read) -> Result<Done, Failure> {
         let target = self.site.join(page_of(source));
-        if !self.arguments.all {
+        if !self.is_asked_for(source) {
             let newest = written(&self.folder.join(source)).max(self.newest);
             let there = found(&target).filter(|page| page.len() > 0);
             if there.and_then(|page| page.modified().ok()) > newest {
@@ -216,7 +225,18 @@ impl<'a> Site<'a> {
         }
         self.make_folder_of(&target)?;
         read.write(self.arguments, self.page, source, Some(&target))?;
+        if self.changed.is_some() {
+            files::tell(&format!("{}: written", target.display()));
+        }
         Ok(Done::Written)
+    }
+
+    /// Whether a file is rendered or copied however new what is made of it is.
+    fn is_asked_for(&self, file: &Path) -> bool {
+        match self.changed {
+            Some(changed) => changed.contains(file),
+            None => self.arguments.all,
+        }
     }
 
     /// Copies these files, on all processors.
@@ -236,7 +256,7 @@ impl<'a> Site<'a> {
         let (source, target) = (self.folder.join(file), self.site.join(file));
         let length = |path| found(path).map(|found| found.len());
         let is_newer = written(&target) > written(&source) && length(&target) == length(&source);
-        if !self.arguments.all && is_newer {
+        if !self.is_asked_for(file) && is_newer {
             return Ok(Done::Kept);
         }
         self.make_folder_of(&target)?;
