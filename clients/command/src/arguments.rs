@@ -43,6 +43,10 @@ pub struct Arguments {
     #[arg(long, requires = "out_dir")]
     pub all: bool,
 
+    /// Of a folder, render what changes in it, until the program is ended (by Ctrl-C).
+    #[arg(long, requires = "out_dir")]
+    pub watch: bool,
+
     /// Write a whole page with this title, where its front matter has none.
     #[arg(long, value_name = "TITLE")]
     pub page: Option<String>,
@@ -158,6 +162,10 @@ pub struct Arguments {
     /// Print what makes this shell complete these options, and render nothing.
     #[arg(long, value_name = "SHELL", value_enum, exclusive = true)]
     pub completions: Option<Shell>,
+
+    /// Whether the only file is a folder of which a site is made.
+    #[arg(skip)]
+    is_site: bool,
 }
 
 /// A parser of Markdown.
@@ -184,7 +192,11 @@ impl Arguments {
     /// What the program was called with; ends it where that can't be read, or only help or the
     /// version is wanted.
     pub fn read() -> Arguments {
-        let arguments = Arguments::try_parse().unwrap_or_else(|error| end(&error));
+        let mut arguments = Arguments::try_parse().unwrap_or_else(|error| end(&error));
+        arguments.is_site = match (&arguments.files[..], &arguments.out_dir) {
+            ([folder], Some(_)) => folder.is_dir(),
+            _ => false,
+        };
         if arguments.files.len() > 1 && arguments.out_dir.is_none() {
             let told = "several files need --out-dir <DIR>";
             end(&Arguments::command().error(ErrorKind::MissingRequiredArgument, told));
@@ -193,11 +205,15 @@ impl Arguments {
             let told = "--lang and --css need --page, --page-template or a folder";
             end(&Arguments::command().error(ErrorKind::MissingRequiredArgument, told));
         }
+        if arguments.watch && !arguments.is_site {
+            let told = "--watch needs a folder";
+            end(&Arguments::command().error(ErrorKind::MissingRequiredArgument, told));
+        }
         if let Some(option) = arguments.of_another_parser() {
             let told = format!("{option} isn't there with this --parser");
             end(&Arguments::command().error(ErrorKind::ArgumentConflict, told));
         }
-        if arguments.base.is_some() && arguments.folder().is_some() {
+        if arguments.base.is_some() && arguments.is_site {
             let told = "--base isn't there with a folder, whose links lead to its own pages";
             end(&Arguments::command().error(ErrorKind::ArgumentConflict, told));
         }
@@ -206,20 +222,17 @@ impl Arguments {
 
     /// The folder of which a site is made, where that is wanted.
     pub fn folder(&self) -> Option<&Path> {
-        match (&self.files[..], &self.out_dir) {
-            ([folder], Some(_)) if folder.is_dir() => Some(folder),
-            _ => None,
-        }
+        self.is_site.then(|| self.source())
     }
 
     /// Whether a text is written in a page.
     pub fn wants_page(&self) -> bool {
-        self.page.is_some() || self.page_template.is_some() || self.folder().is_some()
+        self.page.is_some() || self.page_template.is_some() || self.is_site
     }
 
     /// Whether front matter is left out.
     pub fn has_front_matter(&self) -> bool {
-        self.front_matter || self.folder().is_some()
+        self.front_matter || self.is_site
     }
 
     /// What makes a shell complete the arguments.

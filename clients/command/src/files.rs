@@ -3,10 +3,13 @@
 use crate::failures::Failure;
 use std::collections::HashMap;
 use std::fs::{self, File, OpenOptions};
-use std::io::{self, Read, Write};
+use std::io::{self, BufWriter, Read, Write};
 use std::path::{Path, PathBuf};
 use std::process;
 use std::sync::atomic::{AtomicUsize, Ordering};
+
+/// How much of a text is written at once, in bytes.
+const BUFFER: usize = 1 << 16;
 
 /// The text of a file, or of standard input, which may have so many bytes.
 pub fn read(path: &Path, limit: Option<usize>) -> Result<String, Failure> {
@@ -42,7 +45,8 @@ pub fn print(texts: &[&str]) -> io::Result<()> {
 
 /// Tells what failed on standard error; where that fails too, the status alone says so.
 pub fn tell(what: &str) {
-    let _ = writeln!(io::stderr(), "bivdrazo-render: {what}");
+    let line = format!("bivdrazo-render: {what}\n");
+    let _ = io::stderr().write_all(line.as_bytes());
 }
 
 fn write_all(output: &mut impl Write, texts: &[&str]) -> io::Result<()> {
@@ -85,9 +89,19 @@ pub fn is_same(source: &Path, target: &Path) -> bool {
 }
 
 /// Writes texts to a file: beside it, and then under its name, so that it is never there by half.
-/// What is there and is no file, such as a device, is written to as it is.
-pub fn write(path: &Path, texts: &[&str]) -> io::Result<()> {
-    fill(path, |file| write_all(file, texts))
+/// What is there and is no file, such as a device, is written to as it is. Where it is asked for,
+/// the text is on the disk before it has its name.
+pub fn write(path: &Path, texts: &[&str], is_synced: bool) -> io::Result<()> {
+    fill(path, |file| {
+        let mut output = BufWriter::with_capacity(BUFFER, &*file);
+        write_all(&mut output, texts)?;
+        output.flush()?;
+        drop(output);
+        match is_synced && file.metadata()?.is_file() {
+            true => file.sync_all(),
+            false => Ok(()),
+        }
+    })
 }
 
 /// Copies a file in the same way.
@@ -97,14 +111,17 @@ pub fn copy(source: &Path, target: &Path) -> io::Result<()> {
 }
 
 fn fill(path: &Path, put: impl FnOnce(&mut File) -> io::Result<()>) -> io::Result<()> {
-    let path = fs::canonicalize(path).unwrap_or_else(|_| path.to_path_buf());
-    let found = fs::metadata(&path);
+    let mut path = path.to_path_buf();
+    let mut found = fs::symlink_metadata(&path);
+    if matches!(&found, Ok(found) if found.is_symlink()) {
+        path = fs::canonicalize(&path).unwrap_or(path);
+        found = fs::metadata(&path);
+    }
     if matches!(&found, Ok(found) if !found.is_file()) {
         return put(&mut OpenOptions::new().write(true).open(&path)?);
     }
     let (beside, mut file) = new_beside(&path)?;
     let written = put(&mut file)
-        .and_then(|()| file.sync_all())
         .and_then(|()| {
             found.map_or(Ok(()), |found| {
                 fs::set_permissions(&beside, found.permissions())

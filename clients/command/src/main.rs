@@ -3,6 +3,7 @@
 mod arguments;
 mod failures;
 mod files;
+mod found;
 mod front;
 mod links;
 mod page;
@@ -15,6 +16,7 @@ mod site;
 mod summary;
 mod text;
 mod tree;
+mod watch;
 
 use arguments::Arguments;
 use failures::{status_of, told, Failed, Failure, FAILED};
@@ -46,7 +48,10 @@ fn run(arguments: &Arguments) -> Result<Outcome, Failure> {
     }
     let page = Page::of(arguments)?;
     if let (Some(folder), Some(site)) = (arguments.folder(), &arguments.out_dir) {
-        return site::make(arguments, &page, folder, site);
+        return match arguments.watch {
+            true => watch::make(arguments, &page, folder, site),
+            false => site::make(arguments, &page, folder, site, None),
+        };
     }
     let mut outcome = Outcome::default();
     match &arguments.out_dir {

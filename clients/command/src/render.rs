@@ -7,7 +7,7 @@ use crate::page::{escaped, Page, Parts};
 use crate::parser::{self, ParserError};
 use crate::{files, text};
 use bivdrazo::{contents, markdown_with_headings, Attributes, Error, Heading};
-use std::collections::HashSet;
+use std::borrow::Cow;
 use std::path::Path;
 
 /// A document that was read.
@@ -69,7 +69,10 @@ impl Read {
         arguments: &Arguments,
         made: impl FnMut(&str) -> Option<String>,
     ) -> Result<Read, Error> {
-        let html = text::with_urls(&self.html, made);
+        let html = match text::with_urls(&self.html, made) {
+            Cow::Borrowed(_) => return Ok(self),
+            Cow::Owned(html) => html,
+        };
         match arguments.max_output {
             Some(limit) if html.len() > limit => Err(Error::OutputTooLong { limit }),
             _ => Ok(Read { html, ..self }),
@@ -98,14 +101,14 @@ impl Read {
             content: &self.html,
         });
         match target {
-            Some(target) => files::write(target, &texts)
+            Some(target) => files::write(target, &texts, arguments.out_dir.is_none())
                 .map_err(|error| format!("{}: {error}", target.display()).into()),
             None => print(&texts),
         }
     }
 
     /// The ids of the text: what a fragment of a URL can lead to.
-    pub fn ids(&self) -> HashSet<String> {
+    pub fn ids(&self) -> impl Iterator<Item = Cow<'_, str>> {
         text::ids(&self.html)
     }
 

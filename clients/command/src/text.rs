@@ -3,7 +3,8 @@
 //! It has one reading as HTML, in which `<` begins a tag, and no value holds a quotation mark. So
 //! what is looked for here is found where it stands, and nowhere else.
 
-use std::collections::HashSet;
+use std::borrow::Cow;
+use std::iter;
 
 /// How a link and an image begin, whose URL follows.
 const BEFORE_URLS: [&str; 2] = ["<a href=\"", "<img src=\""];
@@ -23,49 +24,63 @@ const ESCAPED: [(&str, &str); 4] = [
 
 /// A text in which each URL of a link or an image is what `made` answers for it, and stays as it is
 /// where that is nothing.
-pub fn with_urls(html: &str, mut made: impl FnMut(&str) -> Option<String>) -> String {
-    let mut changed = String::with_capacity(html.len());
-    let mut rest = html;
-    while let Some(at) = rest.find('<') {
-        let tag = &rest[at..];
-        let before = BEFORE_URLS.iter().find(|before| tag.starts_with(**before));
-        let start = at + before.map_or(1, |before| before.len());
-        changed.push_str(&rest[..start]);
-        rest = &rest[start..];
-        if before.is_some() {
-            let (url, after) = rest.split_at(rest.find('"').unwrap_or(rest.len()));
-            match made(&unescaped(url)) {
-                Some(other) => changed.push_str(&escaped(&other)),
-                None => changed.push_str(url),
+pub fn with_urls(html: &str, mut made: impl FnMut(&str) -> Option<String>) -> Cow<'_, str> {
+    let mut changed = String::new();
+    // What is before `kept` is in `changed`, and what is before `at` was looked at.
+    let (mut kept, mut at) = (0, 0);
+    while let Some(tag) = find(html, at, b'<') {
+        at = tag + 1;
+        let before = BEFORE_URLS.iter();
+        let before = before.filter(|before| html[tag..].starts_with(**before));
+        for before in before {
+            let start = tag + before.len();
+            at = find(html, start, b'"').unwrap_or(html.len());
+            if let Some(other) = made(&unescaped(&html[start..at])) {
+                changed.push_str(&html[kept..start]);
+                changed.push_str(&escaped(&other));
+                kept = at;
             }
-            rest = after;
         }
     }
-    changed.push_str(rest);
-    changed
+    if kept == 0 {
+        return html.into();
+    }
+    changed.push_str(&html[kept..]);
+    changed.into()
+}
+
+/// Where a byte is found from a place on. These are near, so that they are found one by one.
+fn find(html: &str, from: usize, wanted: u8) -> Option<usize> {
+    let mut bytes = html.as_bytes()[from..].iter();
+    bytes.position(|&byte| byte == wanted).map(|at| from + at)
 }
 
 /// The ids of a text.
-pub fn ids(html: &str) -> HashSet<String> {
+pub fn ids(html: &str) -> impl Iterator<Item = Cow<'_, str>> {
     // Where no quotation mark stands in a text, what is between two of them is a value.
-    let mut ids = HashSet::new();
-    let mut parts = html.split('"');
-    while let (Some(before), Some(value)) = (parts.next(), parts.next()) {
-        if before.ends_with(" id=") {
-            ids.insert(unescaped(value));
-        }
-    }
-    ids
+    let mut at = 0;
+    let values = iter::from_fn(move || {
+        let start = find(html, at, b'"')? + 1;
+        let end = find(html, start, b'"')?;
+        let before = &html[at..start];
+        at = end + 1;
+        Some((before, &html[start..end]))
+    });
+    values
+        .filter(|(before, _)| before.ends_with(" id=\""))
+        .map(|(_, value)| unescaped(value))
 }
 
 /// The text of the first heading without tags and footnotes' calls, escaped; where the document has
 /// one, and it isn't empty.
 pub fn heading(html: &str) -> Option<String> {
-    let html = html.split(FOOTNOTES).next()?;
     let start = html
         .match_indices("<h")
         .find(|(at, _)| is_heading(&html[*at..]))?
         .0;
+    if html[..start].contains(FOOTNOTES) {
+        return None;
+    }
     let end = html[start..].find("</h")?;
     let text = without_tags(&without_calls(&html[start..start + end]));
     let text = text.split_whitespace().collect::<Vec<_>>().join(" ");
@@ -100,14 +115,15 @@ fn without_tags(html: &str) -> String {
 }
 
 /// A value as it is read.
-fn unescaped(value: &str) -> String {
+fn unescaped(value: &str) -> Cow<'_, str> {
     if !value.contains('&') {
-        return value.to_string();
+        return value.into();
     }
     let all = ESCAPED.iter().rev();
-    all.fold(value.to_string(), |value, (each, escape)| {
+    let value = all.fold(value.to_string(), |value, (each, escape)| {
         value.replace(escape, each)
-    })
+    });
+    value.into()
 }
 
 /// A text as a value has it.
@@ -135,7 +151,8 @@ mod tests {
         let text = "[a](b \"<a href='x'>\") ![c](d) [e] [f][e] <g@h.ij> `<a href=\"b\">` www.j.org [](<>) \
                     [k](l?m&n) [o](<p q>)\n\n[e]: b '&amp;'\n\n<a href=\"b\">\n";
         let mut urls = Vec::new();
-        let changed = with_urls(&html(text), |url| {
+        let before = html(text);
+        let changed = with_urls(&before, |url| {
             urls.push(url.to_string());
             (url == "b" || url == "d").then(|| format!("{url}/?&\"<"))
         });
@@ -170,7 +187,7 @@ mod tests {
         options.heading_ids = Some("x\"&".to_string());
         let text = "# a b\n\nc[^1] ` id=\"d\"` [e](f \" id=\")\n\n[^1]: g\n";
         let mut found: Vec<String> = ids(&markdown_to_html(text, &options).unwrap())
-            .into_iter()
+            .map(Cow::into_owned)
             .collect();
         found.sort();
         let wanted = [

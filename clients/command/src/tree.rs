@@ -1,7 +1,7 @@
 //! What a folder holds.
 
 use crate::failures::{Failed, Failure, FAILED};
-use std::collections::{BTreeSet, HashSet};
+use std::collections::HashSet;
 use std::ffi::OsStr;
 use std::fs::{self, DirEntry};
 use std::io;
@@ -17,9 +17,11 @@ pub const PAGE_ENDING: &str = "html";
 #[derive(Debug, Default)]
 pub struct Tree {
     /// What is rendered.
-    pub pages: BTreeSet<PathBuf>,
+    pub pages: HashSet<PathBuf>,
     /// The other files.
     pub files: HashSet<PathBuf>,
+    /// What is rendered and is a link.
+    linked: HashSet<PathBuf>,
     /// The folder, without links in its path.
     root: PathBuf,
 }
@@ -58,6 +60,13 @@ impl Tree {
         Ok((tree, failed))
     }
 
+    /// What is rendered, in order.
+    pub fn sources(&self) -> Vec<&Path> {
+        let mut sources: Vec<&Path> = self.pages.iter().map(|path| &**path).collect();
+        sources.sort_unstable();
+        sources
+    }
+
     /// Adds what stands in a folder of the tree; a folder is one more that is left.
     fn add(&mut self, at: &Path, entry: &DirEntry, left: &mut Vec<PathBuf>) -> io::Result<()> {
         let name = entry.file_name();
@@ -73,6 +82,9 @@ impl Tree {
         let is_source = path.extension() == Some(OsStr::new(SOURCE_ENDING));
         let is_file = kind.is_file() || (kind.is_symlink() && self.leads_to_file(&path, is_source));
         if is_file && is_source {
+            if kind.is_symlink() {
+                self.linked.insert(path.clone());
+            }
             self.pages.insert(path);
         } else if is_file {
             self.files.insert(path);
@@ -93,6 +105,9 @@ impl Tree {
     /// Whether that source is a link which leads out of the folder, or to what is hidden or no
     /// file.
     pub fn leads_out(&self, source: &Path) -> io::Result<bool> {
+        if !self.linked.contains(source) {
+            return Ok(false);
+        }
         let end = fs::canonicalize(self.root.join(source))?;
         Ok(!self.may_be_read(&end))
     }
@@ -107,6 +122,9 @@ impl Tree {
 
     /// Whether a path is that of a file of the tree, which is there.
     pub fn holds(&self, path: &Path) -> bool {
+        if fs::symlink_metadata(path).is_err() {
+            return false;
+        }
         let path = fs::canonicalize(path).unwrap_or_default();
         path.strip_prefix(&self.root).map_or(false, |path| {
             self.pages.contains(path) || self.files.contains(path)
