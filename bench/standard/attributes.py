@@ -3,16 +3,19 @@
     BIVDRAZO_LIBRARY=clients/out/libbivdrazo.so.3 attributes.py
 
 Goes over the documents of clients/checks/attributes_test.py. In what chromium makes of a text with
-attributes, set by `innerHTML` of a `div`, there must be the same elements and texts as in that of
-the text without them, and exactly these attributes more. Wants chromium, html5lib and what
+attributes, set by `innerHTML` of an element, there must be the same elements and texts as in what
+it makes of the text without them in a `div`, and exactly these attributes more. Each document is
+set into EACH of the elements that trees.py lists, in turn. Wants chromium, html5lib and what
 `clients/build` made.
 """
+import pathlib
 import sys
 
-from documents import ROOT, by_browser
+from built import by_browser
+from trees import CONTEXTS
 
-# There is a module of that name beside the tests of the clients too.
-del sys.modules["documents"]
+ROOT = pathlib.Path(__file__).resolve().parents[2]
+EACH = 8
 sys.path.insert(0, str(ROOT / "clients" / "checks"))
 import attributes_test  # noqa: E402
 from bivdrazo import markdown_to_html, markdown_with_headings  # noqa: E402
@@ -51,13 +54,17 @@ def main():
     plain = [markdown_to_html(text, number_ids=True) for text in given]
     made = [markdown_with_headings(text, "part-", rel=rel, number_ids=True)[0]
             for text, rel in zip(given, rels)]
-    read = by_browser([["div", text] for text in plain + made])
+    alone = by_browser([["div", text] for text in plain])
     faults = 0
-    for text, rel, before, after in zip(given, rels, read[: len(given)], read[len(given) :]):
-        if list(wanted(parts(before), rel)) != list(parts(after)):
-            faults += 1
-            print(f"{text!r}: {before} {after}")
-    print(f"chromium: {len(given)} documents, {faults} faults")
+    for turn in range(EACH):
+        around = [CONTEXTS[(at + turn) % len(CONTEXTS)] for at in range(len(given))]
+        read = by_browser([[name, text] for name, text in zip(around, made)])
+        for text, rel, name, before, after in zip(given, rels, around, alone, read):
+            if list(wanted(parts(before), rel)) != list(parts(after)):
+                faults += 1
+                print(f"{text!r} in {name}: {before} {after}")
+    print(f"chromium: {len(given)} documents, each in {EACH} of {len(CONTEXTS)} elements, "
+          f"{faults} faults")
     return 1 if faults else 0
 
 
