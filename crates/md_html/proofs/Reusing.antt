@@ -3,7 +3,7 @@
 use Rattle.std.proofs.Common.{◌≡◌, ◌<◌, ◌≤◌, ℕ, zero, suc, ◌+◌, true, false, Option, Some, None}
 use Rattle.std.proofs.Common.{List, [], ◌∷◌, length, refl, sym, ap, ◌∙◌, subst, arith}
 use Rattle.std.proofs.lemmas.Grind.{common_steps}
-use Rattle.std.specs.Prelude.{map, drop, slice_get, option_map}
+use Rattle.std.specs.Prelude.{map, drop, slice_get, option_map, ◌*◌, ◌-◌, Bool, if◌then◌else◌}
 use Rattle.std.specs.Option.{option_map_or}
 use Rattle.std.proofs.lemmas.Option.{slice_get-map, slice_get_within}
 use Rattle.std.proofs.lemmas.List.{length-append, drop_all}
@@ -26,7 +26,9 @@ use Rattle.md_tree.specs.Numbers.{definition_for}
 use Rattle.md_tree.proofs.Numbers.{IsTold, ToldAt, told-at}
 use Rattle.md_pattern.specs.Partners.{definition_entries}
 use Rattle.md_html.specs.Reuse.{is_media, length_at, led_lengths, definition_length}
-use Rattle.md_html.specs.Reuse.{definition_lengths}
+use Rattle.md_html.specs.Reuse.{definition_lengths, referred, is_call, entries, call_texts, reuse}
+use Rattle.md_html.specs.Work.{covered, covered_from}
+use Rattle.md_text.specs.declared.options.CompileOptions.{CompileOptions}
 use Rattle.md_html.specs.Counting.{capped}
 
 lie : true ≡ false → ⊥
@@ -164,3 +166,64 @@ lengths-capped document events flat =
     map-map [] = refl
     map-map (entry ∷ entries) =
         ap (λ es. capped (definition_length (flatten document) entry) ∷ es) (map-map entries)
+
+-- ---- what isn't there counts nothing
+
+-- where there are no lengths, none is found
+no-lengths : (leads : Mention → Option ℕ) (mentions : List Mention) →
+    led_lengths [] leads mentions ≡ 0
+no-lengths leads [] = refl
+no-lengths leads (mention ∷ mentions) =
+    let here = nowhere (leads mention) in
+    let later = no-lengths leads mentions in
+    omega (arith, here, later)
+  where
+    nowhere : (place : Option ℕ) → length_at [] place ≡ 0
+    nowhere None = refl
+    nowhere (Some zero) = refl
+    nowhere (Some (suc place)) = refl
+
+-- where there are no definitions, nothing refers to one
+pub none-referred : (bytes : List ℕ) (document : Forest) → definition_entries 0 document ≡ [] →
+    referred bytes document ≡ 0
+none-referred bytes document none =
+    let leads = definition_for bytes (mentions_of document) in
+    ap (λ entries. led_lengths (map (definition_length (flatten document)) entries) leads
+    (mentions_of document)) none
+    ∙ no-lengths leads (mentions_of document)
+
+-- where no event enters a call, none is open
+abbrev entered : Bool → Kind → ℕ
+entered named kind = if (elim kind [ Enter ↦ named | Exit ↦ false ]) then 1 else 0
+
+abbrev opened : Bool → Kind → ℕ
+opened named kind = if named then (elim kind [ Enter ↦ suc 0 | Exit ↦ 0 - 1 ]) else 0
+
+no-call : (named : Bool) (kind : Kind) (later : ℕ) → entered named kind + later ≡ 0 →
+    opened named kind ≡ 0
+no-call true Enter later none = omega (arith, none)
+no-call true Exit later none = refl
+no-call false Enter later none = refl
+no-call false Exit later none = refl
+
+none-covered : (events : List Event) (index : ℕ) → entries is_call events ≡ 0 →
+    covered_from is_call index 0 events ≡ 0
+none-covered [] index none = refl
+none-covered (event ∷ events) index none =
+    let later : entries is_call events ≡ 0 = omega (arith, none) in
+    let closed = no-call (is_call event.name) event.kind (entries is_call events) none in
+    let rest = ap (λ depth. covered_from is_call event.point.index depth events) closed
+    ∙ none-covered events event.point.index later in
+    omega (arith, rest)
+
+-- then only references count
+pub none-called :
+    (options : CompileOptions) (bytes : List ℕ) (document : Forest) (events : List Event) →
+    flatten document ≡ events → entries is_call events ≡ 0 →
+    reuse options bytes document ≡ referred bytes document
+none-called options bytes document events flat none =
+    let calls : entries is_call (flatten document) ≡ 0 = ap (entries is_call) flat ∙ none in
+    let length : covered is_call (flatten document) ≡ 0 = none-covered (flatten document) 0 calls in
+    ap (λ n. referred bytes document + n * call_texts options
+    + 5 * covered is_call (flatten document)) calls
+    ∙ omega (arith, length)

@@ -7,6 +7,8 @@ use Rattle.md_base.specs.declared.event.Kind.{Kind}
 use Rattle.md_base.specs.declared.event.Kind.TheVariants.{Enter, Exit}
 use Rattle.md_base.specs.declared.event.Name.{Name}
 use Rattle.md_base.specs.declared.event.Name.TheVariants.{Image, Link}
+use Rattle.md_base.specs.declared.event.Name.TheVariants.{AutolinkEmail, AutolinkProtocol}
+use Rattle.md_base.specs.declared.event.Name.TheVariants.{GfmFootnoteCall}
 use Rattle.md_safe.specs.Links.{prints_link}
 
 abbrev pub is_entry : Kind → Bool
@@ -17,6 +19,17 @@ is_link name = elim name [ Link ↦ true | _ ↦ false ]
 
 abbrev pub is_image : Name → Bool
 is_image name = elim name [ Image ↦ true | _ ↦ false ]
+
+-- a name prints a link, or is that of an image
+abbrev pub bears_on_links : Name → Bool
+bears_on_links name = elim name [
+  | Link ↦ true
+  | Image ↦ true
+  | AutolinkEmail ↦ true
+  | AutolinkProtocol ↦ true
+  | GfmFootnoteCall ↦ true
+  | _ ↦ false
+]
 
 abbrev pub is_none : ℕ → Bool
 is_none zero = true

@@ -14,7 +14,7 @@ ghost use Rattle.md_html.specs.Reuse.{option_length};
 ghost use Rattle.md_html.specs.Counting.{capped};
 
 use crate::covered::Progress;
-use crate::work::is_read;
+use crate::work::{is_read, measure};
 use md_base::name_tests::is_link_definition;
 use md_base::{Event, Kind, Name};
 use md_text::CompileOptions;
@@ -47,7 +47,8 @@ pub fn reuse_of(
     ensures { IfOk result (λ used. (document : Forest) → flatten document ≡ checked.now.events
         → used ≡ min (reuse options.now checked.now.bytes document) (2 ^ 64 - 1)) }
 {
-    let used = count_reuse(alloc, checked, options)?;
+    let calls = measure(checked.events()).calls;
+    let used = count_reuse(alloc, checked, options, calls)?;
     Ok(used.min(usize::MAX as u128) as usize)
 }
 
@@ -61,32 +62,51 @@ pub(crate) fn is_reuse_over(
     checked: &Checked,
     options: &CompileOptions,
     limit: usize,
+    calls: usize,
 ) -> Result<bool, AllocError>
+    requires { calls ≡ entries is_call checked.now.events }
     ensures { IfOk result (λ over. (document : Forest) → flatten document ≡ checked.now.events
         → over ≡ nat_lt limit (reuse options.now checked.now.bytes document)) }
 {
-    let used = count_reuse(alloc, checked, options)?;
+    let used = count_reuse(alloc, checked, options, calls)?;
     Ok(used > limit as u128)
 }
 
-/// What is used again, or the greatest number where it is more.
+/// What is used again, or the greatest number where it is more, of a document with so many footnote
+/// calls.
 fn count_reuse(
     alloc: Global,
     checked: &Checked,
     options: &CompileOptions,
+    calls: usize,
 ) -> Result<u128, AllocError>
+    requires { calls ≡ entries is_call checked.now.events }
     ensures { IfOk result (λ used. (document : Forest) → flatten document ≡ checked.now.events
         → used ≡ capped (reuse options.now checked.now.bytes document)) }
 {
-    let lengths = lengths_of(alloc, checked)?;
-    let uses = uses_of(checked, lengths.as_slice());
-    drop(lengths);
-    let texts = (uses.calls as u128).saturating_mul(call_texts(options));
+    let referred = count_referred(alloc, checked)?;
+    if calls == 0 {
+        return Ok(referred);
+    }
+    let texts = (calls as u128).saturating_mul(call_texts(options));
+    let called = call_lengths(checked.events());
     Ok(
-        uses.referred
+        referred
             .saturating_add(texts)
-            .saturating_add(uses.called.saturating_mul(5)),
+            .saturating_add(called.saturating_mul(5)),
     )
+}
+
+/// What is read in the definitions to which links and images refer, for each of these.
+fn count_referred(alloc: Global, checked: &Checked) -> Result<u128, AllocError>
+    ensures { IfOk result (λ length. (document : Forest) → flatten document ≡ checked.now.events
+        → length ≡ capped (referred checked.now.bytes document)) }
+{
+    if checked.definitions().is_empty() {
+        return Ok(0);
+    }
+    let lengths = lengths_of(alloc, checked)?;
+    Ok(referred_length(checked, lengths.as_slice()))
 }
 
 /// What is read in each definition, and its events, in the order of their exits.
@@ -151,43 +171,35 @@ fn events_before_definition(events: &[Event]) -> usize
     count
 }
 
-/// What is counted of a document that is used again.
-#[derive(Clone, Copy)]
-struct Uses {
-    /// What is read in the definitions to which links and images lead.
-    referred: u128,
-    /// The footnote calls.
-    calls: usize,
-    /// Their lengths.
-    called: u128,
-}
-
-/// Counts what is used again.
-fn uses_of(checked: &Checked, lengths: &[u128]) -> Uses
+/// What is read in the definitions to which links and images refer, where these are their lengths.
+fn referred_length(checked: &Checked, lengths: &[u128]) -> u128
     requires { (document : Forest) → flatten document ≡ checked.now.events
         → lengths.now ≡ map capped (definition_lengths document) }
-    ensures referred { (document : Forest) → flatten document ≡ checked.now.events
-        → result.referred ≡ capped (referred checked.now.bytes document) }
-    ensures calls { result.calls ≡ entries is_call checked.now.events }
-    ensures called { result.called ≡ capped (covered is_call checked.now.events) }
+    ensures { (document : Forest) → flatten document ≡ checked.now.events
+        → result ≡ capped (referred checked.now.bytes document) }
 {
     let mut referred: u128 = 0;
-    let mut calls = 0;
-    let mut progress = Progress::new();
     let mut index = 0;
     let mut rest = checked.events();
     while let Some((event, following)) = rest.split_first() {
         referred = referred.saturating_add(referred_at(checked, lengths, index, event));
-        calls += calls_entered(event);
-        progress = progress.after(event, is_call(event.name));
         index += 1;
         rest = following;
     }
-    Uses {
-        referred,
-        calls,
-        called: progress.length,
+    referred
+}
+
+/// The lengths of footnote calls.
+fn call_lengths(events: &[Event]) -> u128
+    ensures { result ≡ capped (covered is_call events.now) }
+{
+    let mut progress = Progress::new();
+    let mut rest = events;
+    while let Some((event, following)) = rest.split_first() {
+        progress = progress.after(event, is_call(event.name));
+        rest = following;
     }
+    progress.length
 }
 
 /// What is read in the definition to which the link or the image leads that an event exits, if it
@@ -239,7 +251,7 @@ fn is_call(name: Name) -> bool
 
 /// One where an event enters a footnote call.
 #[inline(always)]
-fn calls_entered(event: &Event) -> usize
+pub(crate) fn calls_entered(event: &Event) -> usize
     ensures { result ≡ (if enters is_call event.now then 1 else 0) }
 {
     match event.kind {

@@ -15,6 +15,7 @@ ghost use Rattle.md_text.specs.Ids.{HasDistinctIds};
 ghost use Rattle.md_safe.specs.Tokenized.{IsSafelyTokenized};
 ghost use Rattle.md_html.specs.Safe.{IsRefusedFor, OfCompile};
 ghost use Rattle.md_html.specs.Nesting.{is_nested, is_link, is_image, link_after, images_after};
+ghost use Rattle.md_html.specs.Nesting.{bears_on_links};
 ghost use Rattle.md_html.specs.Unnested.{AreUnnested, AreNested, OfSafe, OfNested};
 
 use crate::safe_html::{SafeError, SafeHtml, compile_safe};
@@ -132,14 +133,31 @@ pub fn has_nested_link(events: &[Event]) -> bool
     let mut images = 0;
     let mut rest = events;
     while let Some((event, following)) = rest.split_first() {
-        if is_nested(in_link, images, event) {
-            return true;
+        if bears_on_links(event.name) {
+            if is_nested(in_link, images, event) {
+                return true;
+            }
+            in_link = link_after(in_link, images, event);
+            images = images_after(images, event);
         }
-        in_link = link_after(in_link, images, event);
-        images = images_after(images, event);
         rest = following;
     }
     false
+}
+
+/// Whether a name prints a link, or is that of an image.
+#[inline(always)]
+fn bears_on_links(name: Name) -> bool
+    ensures { result ≡ bears_on_links name }
+{
+    matches!(
+        name,
+        Name::Link
+            | Name::Image
+            | Name::AutolinkEmail
+            | Name::AutolinkProtocol
+            | Name::GfmFootnoteCall
+    )
 }
 
 /// Whether an event begins a link in a link, outside images.

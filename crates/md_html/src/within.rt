@@ -186,7 +186,7 @@ pub fn compile_within(
         return Err(WithinError::TooMuch);
     }
     let checked = check(alloc, events, bytes, names)?;
-    if is_reuse_over(alloc, &checked, options, limits.work)? {
+    if is_reuse_over(alloc, &checked, options, limits.work, measured.calls)? {
         return Err(WithinError::TooMuch);
     }
     match render_within(alloc, &checked, options, limits.text)? {

@@ -5,11 +5,14 @@ ghost use Rattle.std.specs.Prelude.{◌≡◌, ◌+◌, ◌-◌, ◌*◌, ◌^�
 ghost use Rattle.std.specs.Prelude.{if◌then◌else◌, nat_lt};
 ghost use Rattle.md_html.specs.Work.{is_read, exits, is_row, columns_after, cells, work};
 ghost use Rattle.md_html.specs.Work.{read_length};
-ghost use Rattle.md_html.specs.Counting.{capped, is_read_standing};
+ghost use Rattle.md_html.specs.Work.{enters};
+ghost use Rattle.md_html.specs.Reuse.{entries, is_call};
+ghost use Rattle.md_html.specs.Counting.{capped, is_read_standing, is_part};
 ghost use Rattle.md_depth.specs.Depth.{depth};
 
 use crate::covered::Progress;
 use crate::depth::Levels;
+use crate::reuse::calls_entered;
 use md_base::{Event, Kind, Name};
 use md_pattern::{Reading, Standing, standing_of};
 
@@ -65,6 +68,8 @@ pub(crate) struct Measured {
     pub(crate) work: u128,
     /// How deep they nest.
     pub(crate) depth: usize,
+    /// How many of them enter a footnote call.
+    pub(crate) calls: usize,
 }
 
 impl Measured {
@@ -80,11 +85,13 @@ impl Measured {
 pub(crate) fn measure(events: &[Event]) -> Measured
     ensures work { result.work ≡ capped (work events.now) }
     ensures depth { result.depth ≡ depth events.now }
+    ensures calls { result.calls ≡ entries is_call events.now }
 {
     let tally = tally_of(events);
     Measured {
         work: tally.read.saturating_add(tally.cells),
         depth: tally.depth,
+        calls: tally.calls,
     }
 }
 
@@ -97,6 +104,8 @@ struct Tally {
     cells: u128,
     /// How deep they nest.
     depth: usize,
+    /// How many enter a footnote call.
+    calls: usize,
 }
 
 /// Counts events.
@@ -104,23 +113,68 @@ fn tally_of(events: &[Event]) -> Tally
     ensures read { result.read ≡ capped (read_length events.now) }
     ensures cells { result.cells ≡ capped (cells 0 events.now) }
     ensures depth { result.depth ≡ depth events.now }
+    ensures calls { result.calls ≡ entries is_call events.now }
 {
     let mut progress = Progress::new();
     let mut levels = Levels::new();
-    let mut columns = 0;
-    let mut cells: u128 = 0;
+    let mut parts = Parts::new();
     let mut rest = events;
     while let Some((event, following)) = rest.split_first() {
         progress = progress.after(event, is_read(event.name));
-        cells = cells_after(cells, columns, event);
-        columns = columns_after(columns, event);
+        if is_part(event.name) {
+            parts = parts.after(event);
+        }
         levels = levels.after(event);
         rest = following;
     }
     Tally {
         read: progress.length,
-        cells,
+        cells: parts.cells,
         depth: levels.deepest,
+        calls: parts.calls,
+    }
+}
+
+/// What is counted of parts of tables, and of footnote calls.
+#[derive(Clone, Copy)]
+struct Parts {
+    /// How many columns are known of the table that is open.
+    columns: usize,
+    /// What the cells of tables count.
+    cells: u128,
+    /// How many footnote calls were entered.
+    calls: usize,
+}
+
+impl Parts {
+    /// Before any event.
+    fn new() -> Parts
+        ensures columns { result.columns ≡ 0 }
+        ensures cells { result.cells ≡ 0 }
+        ensures calls { result.calls ≡ 0 }
+    {
+        Parts {
+            columns: 0,
+            cells: 0,
+            calls: 0,
+        }
+    }
+
+    /// After one more event.
+    fn after(self, event: &Event) -> Parts
+        requires columns { self.columns < 2 ^ 63 }
+        requires calls { self.calls < 2 ^ 63 }
+        ensures columns { result.columns ≡ columns_after self.columns event.now }
+        ensures cells { result.cells ≡ capped (self.cells
+            + (if exits is_row event.now then 5 * self.columns else 0)) }
+        ensures calls { result.calls
+            ≡ self.calls + (if enters is_call event.now then 1 else 0) }
+    {
+        Parts {
+            columns: columns_after(self.columns, event),
+            cells: cells_after(self.cells, self.columns, event),
+            calls: self.calls + calls_entered(event),
+        }
     }
 }
 
@@ -149,6 +203,20 @@ fn columns_after(columns: usize, event: &Event) -> usize
         (Kind::Enter, Name::GfmTableDelimiterCellValue) => columns + 1,
         _ => columns,
     }
+}
+
+/// Whether a node of a name is a table, a part of one that is counted, or a footnote call.
+#[inline(always)]
+fn is_part(name: Name) -> bool
+    ensures { result ≡ is_part name }
+{
+    matches!(
+        name,
+        Name::GfmTable
+            | Name::GfmTableRow
+            | Name::GfmTableDelimiterCellValue
+            | Name::GfmFootnoteCall
+    )
 }
 
 /// Whether a node of a name is read: its text, or as what identifies another.

@@ -19,9 +19,9 @@ pub returns-clause-cells : goal.returns-clause-cells
 returns-clause-cells c =
     let at = c.loop-event in
     let none = nil_from_length at.rest.now c.in_default.ensures.cases in
-    all-added at.cells (cells at.columns at.rest.now) (cells 0 c.args.events.now)
+    all-added at.parts.cells (cells at.parts.columns at.rest.now) (cells 0 c.args.events.now)
     at.invariant.cells_fit
-    (ap (λ events. cells at.columns events) none) at.invariant.cells
+    (ap (λ events. cells at.parts.columns events) none) at.invariant.cells
 
 pub loop-event-preserved : goal.loop-event-preserved
 loop-event-preserved c =
@@ -33,10 +33,12 @@ loop-event-preserved c =
     record {
       read = search rules;
       cells = search rules;
+      calls = search rules;
       few_open = search rules;
       read_fits = search rules;
       cells_fit = search rules;
       few_columns = search rules;
+      few_calls = search rules;
       depth = ap (λ deep. max deep (deepest c.after-levels.result.opened following)) after.deepest
           ∙ ap (λ opened. max (max at.deepest (opened_after at.opened event))
           (deepest opened following)) after.opened

@@ -2,6 +2,7 @@
 -- passes the events gone over.
 use Rattle.std.proofs.Common.{◌≡◌, ◌+◌, ◌-◌, ◌^◌, ◌≤◌, max, length}
 use Rattle.md_html.specs.Work.{read_length, cells}
+use Rattle.md_html.specs.Reuse.{entries, is_call}
 use Rattle.md_html.specs.Counting.{capped}
 use Rattle.md_depth.specs.Depth.{deepest, depth}
 use Rattle.md_html.proofs.Counting.{read_from}
@@ -11,11 +12,13 @@ abbrev pub invariant-loop-event : goal.invariant-loop-event
 invariant-loop-event l = record {
   read : capped (l.progress.length + read_from l.progress.index l.progress.depth l.rest)
       ≡ capped (read_length l.events);
-  cells : capped (l.cells + cells l.columns l.rest) ≡ capped (cells 0 l.events);
+  cells : capped (l.parts.cells + cells l.parts.columns l.rest) ≡ capped (cells 0 l.events);
+  calls : l.parts.calls + entries is_call l.rest ≡ entries is_call l.events;
   few_open : l.progress.depth + length l.rest ≤ length l.events;
   read_fits : l.progress.length ≤ 2 ^ 128 - 1;
-  cells_fit : l.cells ≤ 2 ^ 128 - 1;
-  few_columns : l.columns + length l.rest ≤ length l.events;
+  cells_fit : l.parts.cells ≤ 2 ^ 128 - 1;
+  few_columns : l.parts.columns + length l.rest ≤ length l.events;
+  few_calls : l.parts.calls + length l.rest ≤ length l.events;
   depth : max l.levels.deepest (deepest l.levels.opened l.rest) ≡ depth l.events;
   opened : l.levels.opened ≤ l.levels.deepest;
   few_opened : l.levels.opened + length l.rest ≤ length l.events;

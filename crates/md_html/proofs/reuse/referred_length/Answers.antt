@@ -9,7 +9,7 @@ use Rattle.md_html.specs.Counting.{capped}
 use Rattle.md_html.proofs.Counting.{all-added}
 use Rattle.md_html.proofs.Reusing.{first-there, others-there, mention-at, led-step, capped-more}
 use Rattle.md_html.proofs.Reusing.{led-all}
-use Rattle.md_html.proofs.reuse.uses_of.Goals as goal
+use Rattle.md_html.proofs.reuse.referred_length.Goals as goal
 
 pub referred_at-requires-clause-there : goal.referred_at-requires-clause-there
 referred_at-requires-clause-there c =
@@ -43,17 +43,12 @@ loop-event-preserved c =
           ∙ ap (λ n. capped (at.referred + n))
           (sym (led-step lengths leads mentions at.index mention here))
           ∙ at.invariant.referred document flat;
-      calls = search rules;
-      called = search rules;
       referred_fits = search rules;
-      called_fits = search rules;
-      few_calls = search rules;
-      few_open = search rules;
       gone = search rules;
     }
 
-pub returns-clause-referred : goal.returns-clause-referred
-returns-clause-referred c = λ document flat.
+pub returns : goal.returns
+returns c = λ document flat.
     let at = c.loop-event in
     let none = nil_from_length at.rest.now c.in_default.ensures.cases in
     let given = c.args.checked.now in

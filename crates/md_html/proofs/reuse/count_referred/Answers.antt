@@ -1,0 +1,13 @@
+-- Where there are no definitions, nothing refers to one.
+use Rattle.std.proofs.Common.{◌≡◌, ℕ, List, length, rules, ap, sym, ◌∙◌}
+use Rattle.std.proofs.lemmas.List.{nil_from_length}
+use Rattle.md_html.specs.Counting.{capped}
+use Rattle.md_html.proofs.Reusing.{none-referred}
+use Rattle.md_html.proofs.reuse.count_referred.Goals as goal
+
+pub returns-then-is_empty : goal.returns-then-is_empty
+returns-then-is_empty c = λ document flat.
+    let entries : List ℕ = c.definitions.result.now in
+    let none : length entries ≡ 0 = search rules in
+    sym (ap capped (none-referred c.args.checked.now.bytes document
+    (sym (c.definitions.ensures.definitions document flat) ∙ nil_from_length entries none)))
