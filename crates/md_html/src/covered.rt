@@ -74,11 +74,10 @@ fn moved(depth: usize, kind: Kind, counts: bool) -> usize
     requires { depth < 2 ^ 63 }
     ensures { result ≡ moved depth kind counts }
 {
-    if !counts {
-        return depth;
-    }
+    // Without a branch on whether it counts, which goes to and fro.
+    let change = counts as usize;
     match kind {
-        Kind::Enter => depth + 1,
-        Kind::Exit => depth.saturating_sub(1),
+        Kind::Enter => depth + change,
+        Kind::Exit => depth.saturating_sub(change),
     }
 }

@@ -6,6 +6,7 @@ use md_base::Name;
 use md_lines::{Class, is};
 use md_references::reference_length;
 use md_writer::Writer;
+use memchr::memchr2;
 use std::alloc::AllocError;
 
 /// Writes the events of a text of escapes and references.
@@ -40,6 +41,10 @@ fn write_decoded(
     let mut from = start;
     let mut at = start;
     while at < text.len() {
+        let Some(offset) = memchr2(b'\\', b'&', &text[at..]) else {
+            break;
+        };
+        at += offset;
         let length = code_length(text, at, has_escapes);
         if length == 0 {
             at += 1;

@@ -5,6 +5,10 @@ ghost use Rattle.std.specs.Prelude.{◌≤◌, ◌<◌, length};
 use crate::class::{Class, is};
 use crate::cursor::Cursor;
 use crate::span::Span;
+use std::simd::prelude::*;
+
+/// How many bytes are looked at together.
+const LANES: usize = 16;
 
 /// How many characters a label may have.
 const MOST_IN_LABEL: usize = 999;
@@ -93,11 +97,10 @@ fn bare_destination(cursor: &mut Cursor<'_>) -> Option<Span> {
     let mut at = from;
     let mut depth = 0;
     while at < line.len() {
-        let byte = line[at];
-        if !is(byte, Class::Destination) {
-            at += 1;
-            continue;
-        }
+        at = next_of_destination(line, at);
+        let Some(byte) = line.get(at) else {
+            break;
+        };
         match byte {
             b'(' if depth == MOST_NESTED => return None,
             b'(' => depth += 1,
@@ -117,6 +120,47 @@ fn bare_destination(cursor: &mut Cursor<'_>) -> Option<Span> {
         Some(Span::new(from, at))
     } else {
         None
+    }
+}
+
+/// The index, from another one on, of the next byte that may end a destination or counts in it;
+/// that of the line's end where there is none.
+fn next_of_destination(line: &[u8], from: usize) -> usize
+    ensures { from ≤ result }
+{
+    let mut at = from;
+    while at < line.len() {
+        let rest = &line[at..];
+        if rest.len() < LANES {
+            let next = rest.iter().position(|byte| is(*byte, Class::Destination));
+            return at.saturating_add(next.unwrap_or(rest.len()));
+        }
+        let index = first_of_destination(rest);
+        at = at.saturating_add(index);
+        if index < LANES {
+            return at;
+        }
+    }
+    at
+}
+
+/// The index of the first such byte among the first ones of a text, else how many these are.
+#[inline(always)]
+fn first_of_destination(text: &[u8]) -> usize
+    requires { 16 ≤ length text.now }
+    ensures { result ≤ 16 }
+{
+    let block = Simd::<u8, LANES>::from_slice(text);
+    let found = block.simd_le(Simd::splat(b' '))
+        | block.simd_eq(Simd::splat(b'('))
+        | block.simd_eq(Simd::splat(b')'))
+        | block.simd_eq(Simd::splat(b'\\'))
+        | block.simd_eq(Simd::splat(127));
+    let bits = found.to_bitmask();
+    if bits == 0 {
+        LANES
+    } else {
+        (bits.trailing_zeros() as usize).min(LANES)
     }
 }
 

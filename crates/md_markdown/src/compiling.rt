@@ -262,7 +262,8 @@ pub fn events_of(
 ) -> Result<Writer, AllocError> {
     let blocks = parse_blocks(alloc, bytes, options.for_blocks())?;
     let mut writer = Writer::new(alloc, bytes.len());
-    writer.reserve((bytes.len() / 8).saturating_add(64))?;
+    // People's documents have an event for each six bytes or so.
+    writer.reserve((bytes.len() / 4).saturating_add(64))?;
     write_events(alloc, bytes, &blocks, options, &mut writer)?;
     Ok(writer)
 }

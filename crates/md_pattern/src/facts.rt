@@ -5,7 +5,7 @@ ghost use Rattle.std.specs.Prelude.{◌≡◌, false, OnOk, map};
 ghost use Rattle.std.specs.Prelude.{◌&&◌, IfOk};
 ghost use Rattle.md_base.specs.NameTests.{is_table};
 ghost use Rattle.md_pattern.specs.Facts as spec;
-ghost use Rattle.md_pattern.specs.Ending.{exits_line_ending, ending_after};
+ghost use Rattle.md_pattern.specs.Ending.{exits_line_ending};
 
 mod following;
 mod list;
@@ -252,22 +252,9 @@ fn leave_innermost(open_nodes: &mut Vec<OpenNode>, document: &mut OpenNode) -> O
     }
 }
 
-/// The exit of the first line ending, blank or not, after one more event.
-pub fn ending_after(found: Option<usize>, index: usize, event: &Event) -> Option<usize>
-    ensures { result ≡ ending_after found index event.now }
-{
-    match found {
-        Some(_) => found,
-        None => if exits_line_ending(event) {
-            Some(index)
-        } else {
-            None
-        },
-    }
-}
-
 /// Whether an event exits a line ending, blank or not.
-fn exits_line_ending(event: &Event) -> bool
+#[inline(always)]
+pub fn exits_line_ending(event: &Event) -> bool
     ensures { result ≡ exits_line_ending event.now }
 {
     matches!(event.kind, Kind::Exit)

@@ -13,7 +13,7 @@ mod standings;
 mod state;
 mod told;
 
-pub use facts::{Fact, FactList, Facts, Pass, ending_after};
+pub use facts::{Fact, FactList, Facts, Pass, exits_line_ending};
 pub use kinds::{Reading, Role, Standing, Symbol};
 pub use places::Place;
 pub use shape::role_for;

@@ -14,7 +14,7 @@ use crate::input::Input;
 use crate::rule::CompileError;
 use crate::walk::Walk;
 use md_base::{Event, Kind, Name, is_same_name};
-use md_pattern::{Pass, ending_after};
+use md_pattern::{Pass, exits_line_ending};
 use std::alloc::AllocError;
 
 /// What is known of the events that have been read.
@@ -102,7 +102,7 @@ impl Reader {
         }
         self.walk.step(input, index, &event)?;
         self.pass.find(input.alloc, &event)?;
-        note_ending(&mut self.first_ending, input.events, index);
+        note_ending(&mut self.first_ending, index, &event);
         Ok(())
     }
 
@@ -120,7 +120,7 @@ impl Reader {
     {
         self.walk.step(input, index, &event)?;
         self.pass.find(input.alloc, &event)?;
-        note_ending(&mut self.first_ending, input.events, index);
+        note_ending(&mut self.first_ending, index, &event);
         Ok(())
     }
 
@@ -188,7 +188,7 @@ impl Reader {
     {
         self.walk.leaf(input, index, event.name)?;
         self.pass.leaf(input.alloc, event.name)?;
-        note_ending(&mut self.first_ending, input.events, index + 1);
+        note_ending(&mut self.first_ending, index + 1, exit);
         Ok(())
     }
 }
@@ -207,22 +207,12 @@ fn with_name(event: Event, name: Name) -> Event
 
 /// Notes the first line ending, if it is the event at an index.
 #[inline(always)]
-fn note_ending(first: &mut Option<usize>, events: &[Event], index: usize)
-    ensures { (event : Event) → slice_get events.now index ≡ Some event
-        → first.new ≡ ending_after first.old index event }
+fn note_ending(first: &mut Option<usize>, index: usize, event: &Event)
+    ensures { first.new ≡ ending_after first.old index event.now }
 {
-    if first.is_none() {
-        *first = ending_at(events, index);
+    if first.is_none() && exits_line_ending(event) {
+        *first = Some(index);
     }
-}
-
-/// An index, where its event is a line ending's exit.
-#[inline(never)]
-fn ending_at(events: &[Event], index: usize) -> Option<usize>
-    ensures { (event : Event) → slice_get events.now index ≡ Some event
-        → result ≡ ending_after None index event }
-{
-    ending_after(None, index, events.get(index)?)
 }
 
 /// The event after the one at an index, where both enter and exit a node without children.

@@ -54,7 +54,7 @@ returns-clause-read c =
           (subst (λ e. c.find.new.self ≡ passed (Event.kind e) (Event.name e) self.pass) event_is
           c.in_ok-find.ensures)
           ∙ ap (λ n. passed_over (take n events) pass_beginning) (add-one index);
-      first_ending = c.note_ending.ensures event c.requires.here
+      first_ending = c.note_ending.ensures
           ∙ ap (ending_after self.first_ending index) event_is ∙ first_index-more events index event
           self.first_ending inside c.requires.before.first_ending
           ∙ ap (λ n. first_index (take n events)) (add-one index);

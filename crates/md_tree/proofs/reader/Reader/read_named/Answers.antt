@@ -41,7 +41,7 @@ returns-clause-read c =
       passed = passed-leaf_more given index entry exit c.requires.leaf c.requires.here
           c.requires.after self.pass c.leaf-2.new.self c.requires.before.passed
           c.in_ok-leaf-2.ensures;
-      first_ending = c.note_ending.ensures exit (rw (add-one index) c.requires.after)
+      first_ending = c.note_ending.ensures
           ∙ ap (λ n. ending_after self.first_ending n exit) (add-one index)
           ∙ first_index-leaf given index entry exit c.requires.leaf c.requires.here c.requires.after
           self.first_ending c.requires.before.first_ending;
