@@ -1,5 +1,5 @@
 -- White space collapsed in one pass: before the first word, inside a word, and after one. The loop
--- of `collapse_white_space` goes by these steps.
+-- of `collapse_white_space` follows these steps.
 use Rattle.std.proofs.Common.{◌≡◌, ℕ, zero, suc, ◌<◌, ◌≤◌, Bool, true, false, not, eqb, cond, List}
 use Rattle.std.proofs.Common.{[], ◌∷◌, ◌++◌, length, get_or, refl, sym, ap, ◌∙◌, arith, inl, inr}
 use Rattle.std.proofs.Common.{encode_utf8}
