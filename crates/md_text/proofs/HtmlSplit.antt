@@ -1,5 +1,5 @@
--- Where two texts that are equal as a whole come apart: the longest runs, the attributes, the
--- names. That no text has two readings goes by it.
+-- How two equal texts split: the longest runs, the attributes, the names. The proof that no text
+-- has two readings depends on it.
 use Rattle.std.proofs.Common.{◌≡◌, ℕ, Bool, true, false, not, ◌&&◌, ◌⊎◌, List, [], ◌∷◌, ◌++◌, refl}
 use Rattle.std.proofs.Common.{sym, ap, ap₂, ◌∙◌, subst, inl, inr}
 use Rattle.std.specs.List.{list_all}
