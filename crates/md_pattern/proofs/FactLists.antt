@@ -35,7 +35,7 @@ module _ (old new : List Fact) (still : (word : ℕ) → IsWord old word → IsW
       ∙ ap (λ facts. facts ++ fact_of_word new word ∷ []) (facts-same words are)
       ∙ ap (λ f. facts_of_words old words ++ f ∷ []) says
 
-  -- a word that is put at an index
+  -- writing a word at an index
   pub AreWords-put : (words : List ℕ) (index word : ℕ) → AreWords old words → IsWord new word →
       AreWords new (set words index word)
   AreWords-put words index word are is =

@@ -72,7 +72,7 @@ grounded-others : (r : List OpenNode) → others_outer (grounded r) ≡ others_o
 grounded-others [] = refl
 grounded-others (x ∷ r) = refl
 
--- a fact that is put among others, and one that is pushed after them
+-- a fact written among others, and one pushed after them
 pub put_then_pushed :
     (facts : List Fact) (index : ℕ) (fact whole last alone : Fact) (put pushed : List Fact) →
     fact ≡ whole → put ≡ set facts index fact → last ≡ alone → pushed ≡ put ++ last ∷ [] →

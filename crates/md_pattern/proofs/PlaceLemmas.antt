@@ -155,7 +155,7 @@ ends-count letters are =
     sym (length-map letters (λ letter. eqb letter 101)) ∙ ap length are
     ∙ length-map places (λ place. is_complete (state_at place None)) ∙ counted
 
--- whether a spine may end doesn't go by its last symbol
+-- the last symbol of a spine doesn't decide whether the spine may end
 whole-complete : (place : At) (before : Option Symbol) →
     is_complete (state_at place None) ≡ is_complete (state_at place before)
 whole-complete place before = refl

@@ -1,4 +1,4 @@
--- What the pass tells of children is what is defined of them.
+-- The facts that the pass finds about children are those of the definitions.
 use Rattle.std.proofs.Common.{◌≡◌, Bool, true, false, not, ◌&&◌, ◌||◌, cond, Option, Some, None}
 use Rattle.std.proofs.Common.{refl, sym, ap, ◌∙◌}
 use Rattle.std.specs.Prelude.{unwrap_or}
