@@ -1,4 +1,4 @@
--- Of the items of a settled pattern, the first that takes a symbol is the right one.
+-- In a settled pattern, the first item that takes a symbol is the right one.
 use Rattle.std.proofs.Common.{◌≡◌, ℕ, Bool, true, false, not, ◌||◌, cond, Some, None, List, [], ◌∷◌}
 use Rattle.std.proofs.Common.{◌++◌, length, refl, sym, subst, arith}
 use Rattle.std.specs.List.{list_all}
