@@ -69,7 +69,7 @@ others-apart x (y ∷ ys) apart =
       )
     ] refl
 
--- the distinct ones are those that are there, and no two of them are the same
+-- the distinct identifiers are the same ones, without repetition
 pub is_in-distinct : (xs : List (List ℕ)) (z : List ℕ) → is_in z (distinct xs) ≡ is_in z xs
 is_in-distinct [] z = refl
 is_in-distinct (x ∷ xs) z =
