@@ -1,5 +1,5 @@
--- What matches the pattern of a role may stand in each node that has it: by computing over the
--- patterns, once for each name. That documents are built so goes by it.
+-- A node that matches the pattern of a role may occur in each node with that role: by computing
+-- over the patterns, once for each name. The proof that documents are built so depends on it.
 use denote.Enum.Bare.{sameb}
 use Rattle.std.proofs.Common.{◌≡◌, inl, inr, ℕ, zero, suc, Bool, true, false, ◌&&◌, ◌||◌, List, []}
 use Rattle.std.proofs.Common.{◌∷◌, ◌++◌, length, replicate, refl, sym, subst, arith}

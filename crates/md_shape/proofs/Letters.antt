@@ -1,5 +1,6 @@
--- What holds of all letters of a role's pattern holds of what fits it, and of the spine of each
--- node with that role. So a test on symbols is computed over the patterns, and told of every spine.
+-- A fact about all letters of a role's pattern holds for what matches it, and for the spine of each
+-- node with that role. So a test on symbols is computed over the patterns, and applies to every
+-- spine.
 use Rattle.std.proofs.Common.{◌≡◌, inl, inr, ℕ, zero, suc, Bool, true, List, [], ◌∷◌, ◌++◌}
 use Rattle.std.proofs.Common.{refl, sym, subst, ◌∙◌}
 use Rattle.std.specs.Prelude.{replicate}
