@@ -1,4 +1,4 @@
--- What some bytes are with heads put in, where bytes or heads are added, and where there are none.
+-- Bytes with heads inserted: when bytes or heads are added, and when there are none.
 use Rattle.std.proofs.Common.{◌≡◌, ℕ, ◌+◌, ◌-◌, ◌≤◌, ◌<◌, ◌⊎◌, ◌==◌, if◌then◌else◌, inl, inr, Bool}
 use Rattle.std.proofs.Common.{true, false, not, zero, suc, List, [], ◌∷◌, ◌++◌, length, take, drop}
 use Rattle.std.proofs.Common.{set, refl, ap, sym, ◌∙◌, arith, append_assoc}

@@ -1,5 +1,5 @@
--- At each turn: what is written, and after it what the rest becomes, is what the
--- whole text becomes.
+-- In each iteration, the written text, followed by the result for the rest, is the result for the
+-- whole text.
 use Rattle.std.proofs.Common.{◌≡◌, ◌++◌, string_bytes}
 use Rattle.md_output.specs.Code.{unescaped_pipes}
 use Rattle.md_output.proofs.code.unescape_pipes.Given as goal
