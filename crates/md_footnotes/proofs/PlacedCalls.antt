@@ -101,7 +101,7 @@ Keeps entries order calls =
     (calls_in entries order ≡ calls) × (counts_in entries ≡ tally calls)
     × AreBelow (length entries) order
 
--- it is so after a call more of an identifier that is there, and of a new one
+-- the same after one more call of an existing identifier, and of a new one
 call-again : (entries : List (String Global × ℕ)) (order : List ℕ) (calls : List (List ℕ))
     (q : List ℕ) (i : ℕ) →
     place_in entries q ≡ Some i → Keeps entries order calls →

@@ -146,7 +146,7 @@ counted-new (e ∷ entries) key h =
           ∷ cs) (counted-new entries key (none-mapped (place_in entries (string_bytes key)) t))
     ] h
 
--- a footnote more with an identifier that is there, and with one that isn't
+-- one more footnote with an existing identifier, and with a new one
 pub noted-present : (entries : List (String Global × String Global)) (q text : List ℕ) (i : ℕ) →
     place_in entries q ≡ Some i → footnotes_in entries
     ≡ noted (footnotes_in entries) (record { identifier = q; text = text })
