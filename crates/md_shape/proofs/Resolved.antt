@@ -79,7 +79,7 @@ pub labels-alike : (bytes : List ℕ) (names : List (List ℕ × List ℕ)) (doc
 labels-alike bytes names document grammatical =
     refer-alike document role.Flow None grammatical.shape.0
 
--- ---- ---- each reference finds its definition
+-- ---- each reference finds its definition
 all-left : {A : Type 0} (P : A → Type 0) (xs ys : List A) → All P (xs ++ ys) → All P xs
 all-left P [] ys a = All-nil P
 all-left P (x ∷ xs) ys a =

@@ -34,7 +34,7 @@ use Rattle.md_shape.proofs.Standing.{is_quiet, is_set_aside, picked}
 use Rattle.md_shape.proofs.EachSide.{told_at, is_reference, Leaves, cell_sides}
 use Rattle.md_shape.proofs.EachSide.{list_sides, fence-sides, call-sides, led-sides}
 
--- ---- ---- the facts about a node at its exit, written into its state
+-- ---- the facts about a node at its exit, written into its state
 abbrev informed : Name → At → State → State
 informed name at left = record left {
   around = seen at.around at.before.columns;

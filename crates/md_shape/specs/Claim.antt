@@ -118,7 +118,7 @@ abbrev pub noted_all : List Footnote → List Footnote → List Footnote
 noted_all before [] = before
 noted_all before (footnote ∷ footnotes) = noted_all (noted before footnote) footnotes
 
--- ---- ---- a node in the terms of its meaning
+-- ---- a node in the terms of its meaning
 
 abbrev pub inner_of : Given → Surroundings → Before → Name → Forest → Outcome
 inner_of given around before name children =

@@ -36,7 +36,7 @@ use Rattle.md_meaning.specs.Meaning.Tables.{align_attribute, cell_of}
 use Rattle.md_meaning.specs.Meaning.Footnotes.{call_id, count_of, distinct, id_of, place_among}
 use Rattle.md_shape.specs.State.{Told, Around, State}
 
--- ---- ---- what is printed at the entry of a node
+-- ---- what is printed at the entry of a node
 abbrev pub list_opening : Given → Told → List Piece
 list_opening given told =
     let number = without_zeros (option_map_or (text_in given.bytes) told.number (codes "1")) in
@@ -76,7 +76,7 @@ opens given around cells told GfmTableCell =
     option_map_or (λ kind. cell_opening around.in_head kind) (slice_get around.columns cells) []
 opens given around cells told _ = []
 
--- ---- ---- what is printed at the exit of a node
+-- ---- what is printed at the exit of a node
 
 -- a text, escaped if the surroundings say so
 abbrev pub shown : State → List ℕ → List Piece

@@ -53,7 +53,7 @@ rows_of index outermost (Node name start end children rest) =
     ++ row_of false index (outermost && is_empty rest) name start end children
     ∷ rows_of (suc (index_after (suc index) children)) outermost rest
 
--- ---- ---- the row of each event, in order, gives the fact about it
+-- ---- the row of each event, in order, gives the fact about it
 module _ {A : Type 0} (of_row : Row → A) (column : ℕ → Bool → Forest → List A)
     (at_end : (index : ℕ) (outermost : Bool) → column index outermost Empty ≡ [])
     (at_node : (index : ℕ) (outermost : Bool) (name : Name) (start end : Point)

@@ -58,7 +58,7 @@ IsRefusal-undone given course runs undone = record {
   outside = outside-undone given course runs undone;
 }
 
--- ---- ---- unresolved mentions
+-- ---- unresolved mentions
 
 -- any point
 somewhere : Point

@@ -20,7 +20,7 @@ use Rattle.md_tree.specs.Numbers.{is_same, which, number_of, IsNowhere, IsLed}
 use Rattle.md_tree.specs.Resolve.{IsUnresolvedBy}
 use Rattle.md_tree.proofs.OneMoreIdentifier.{Identifier, same-is, same-self}
 
--- ---- ---- the target of a mention
+-- ---- the target of a mention
 first_is : (x y : Identifier) (xs : List Identifier) → x ≡ y → Contains (x ∷ xs) y
 first_is x y xs e = (0, omega arith, e)
 

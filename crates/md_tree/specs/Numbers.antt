@@ -63,7 +63,7 @@ is_of_definitions name = elim name [ Link ↦ true | Image ↦ true | _ ↦ fals
 abbrev pub ExitsOf : (Name → Bool) → List Event → ℕ → Type 0
 ExitsOf is events index = (name : Name) × ExitsAt events index name × IsTrue (is name)
 
--- ---- ---- what is stored: only contracts of private functions cite it
+-- ---- what is stored: only contracts of private functions cite it
 
 -- the stored number of a mention: one more than the number of its definition, 0 if it has none
 abbrev pub number_of : Option ℕ → ℕ

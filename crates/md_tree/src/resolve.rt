@@ -17,10 +17,8 @@ use md_pattern::{Fact, FactList};
 use std::alloc::{AllocError, Global};
 use std::collections::{BTreeMap, BTreeSet};
 
-/// The number of each identifier: which of the definitions is the first that has it, counted from
-/// 1. The map is ordered, so that a look-up takes few steps, whatever identifiers an attacker
-/// chooses.
-/// 1. They are in their order, so that one is found in few steps, whoever chose them.
+/// The number of each identifier, counted from 1: which of the definitions is the first that has it.
+/// The map is ordered, so that a look-up takes few steps, whatever identifiers an attacker chooses.
 type Numbers = BTreeMap<Option<String>, usize>;
 
 /// The identifiers of the footnote definitions, ordered for the same reason.
