@@ -73,7 +73,7 @@ in-chunks : (name : Name) → cond (fence_name name) (content_of name Chunks) No
 in-chunks LineEnding = refl
 in-chunks _ = refl
 
--- what children print, where what may stand in the node is told
+-- the pieces of the children, if the content of the node is known
 pub inside-is : (s : Setting) (t : At) (content told : Content) (name : Name) (inner : List Piece) →
     content_of name content ≡ told → Inside s t content name inner →
     Prints s (Holds s.p (inside s.given.options (is_loose t.children) name t.around).is_escaping

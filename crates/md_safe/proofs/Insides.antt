@@ -1,5 +1,5 @@
--- What a name that may stand in some content tells of what may stand in it: computed once for each
--- content, for all names.
+-- The facts about the content of a node that follow from the node being allowed in some content:
+-- computed once for each content, for all names.
 use Rattle.std.proofs.Common.{◌≡◌, Bool, true, false, not, ◌&&◌, ◌||◌, cond, refl}
 use Rattle.std.proofs.lemmas.Bool.{and_parts, not-true}
 use Rattle.md_base.proofs.Lies.{lie}

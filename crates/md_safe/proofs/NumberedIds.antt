@@ -156,7 +156,7 @@ call-back options on identifier number occurrence =
     (no_and-append (decimal number) (45 ∷ decimal occurrence) (digits-no_and (decimal number)
     (decimal-digits number)) (digits-no_and (decimal occurrence) (decimal-digits occurrence))))
 
--- numbers are told by their ids
+-- equal ids have equal numbers
 pub same-note : (options : CompileOptions) (n m : ℕ) → n < 2 ^ 64 → m < 2 ^ 64 →
     back_prefix options ++ note_tail n ≡ back_prefix options ++ note_tail m → n ≡ m
 same-note options n m hn hm e =

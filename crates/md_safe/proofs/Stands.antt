@@ -224,7 +224,7 @@ line_ends-space (b ∷ x) h =
 pub line_ends-white : (x : List ℕ) → is_line_ends x ≡ true → IsWhite x
 line_ends-white x h = (line_ends-escaped x h, line_ends-space x h)
 
--- ---- what is turned into what by two texts around it
+-- ---- the texts before and after a text, and the content that they change to another
 abbrev pub Turns : (nested : Bool) → Content → Content → List ℕ → List ℕ → Type 0
 Turns nested held content o c =
     (x : List ℕ) → Stands nested held x → Stands nested content (o ++ (x ++ c))

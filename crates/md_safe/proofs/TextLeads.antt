@@ -1,5 +1,5 @@
--- One step after another: a way to the data state from a state on, by one from the state that its
--- first step leads to.
+-- Step by step: the way to the data state from a state, by the way from the state after its first
+-- step.
 use Rattle.std.proofs.Common.{◌≡◌, ℕ, ◌==◌, false, cond, List, [], ◌∷◌, ◌++◌, map, refl, sym, ap}
 use Rattle.std.proofs.Common.{◌∙◌, subst, suc, append-nil, append_assoc, true}
 use Rattle.std.proofs.lemmas.Bool.{eqb-false}
