@@ -17,8 +17,9 @@ use md_pattern::{Fact, FactList};
 use std::alloc::{AllocError, Global};
 use std::collections::{BTreeMap, BTreeSet};
 
-/// The number of each identifier, counted from 1: which of the definitions is the first that has it.
-/// The map is ordered, so that a look-up takes few steps, whatever identifiers an attacker chooses.
+/// The number of each identifier, counted from 1: which of the definitions is the first that has
+/// it. The map is ordered, so that a look-up takes few steps, whatever identifiers an attacker
+/// chooses.
 type Numbers = BTreeMap<Option<String>, usize>;
 
 /// The identifiers of the footnote definitions, ordered for the same reason.
