@@ -1,5 +1,5 @@
--- Where a definition leads takes no more than what its nodes may print, and that no more than
--- what is read in it and its events.
+-- The target of a definition takes no more than its nodes may print, and that no more than what is
+-- read in the definition and its events.
 use Rattle.std.proofs.Common.{◌≡◌, ℕ, suc, ◌*◌, ◌≤◌, Bool, true, false, ◌&&◌}
 use Rattle.std.proofs.Common.{◌||◌, not, List, [], ◌∷◌, ◌++◌, length, map, refl, sym, ap, ◌∙◌}
 use Rattle.std.proofs.Common.{subst, arith, Option, Some, None, bytes_eq}
@@ -176,7 +176,7 @@ definitions-below given around before content (Node name start end children rest
     )
     own-below _ inside = refl
 
--- where the first definition leads that has an identifier
+-- the target of the first definition that has an identifier
 suc-at : (m : ℕ) (ms : List ℕ) (place : Option ℕ) →
     length_at (m ∷ ms) (option_map (λ place. suc place) place) ≡ length_at ms place
 suc-at m ms None = refl

@@ -92,7 +92,7 @@ pub labels-short : (bytes : List ℕ) (forest : Forest) →
     called (λ identifier. length identifier) bytes forest ≤ 12 * lengths forest
 labels-short bytes forest = omega (arith, labels-left bytes forest referral.Missing)
 
--- ---- what is taken for each call, where that goes by the length of its identifier
+-- ---- the length of each call, if it depends on the length of its identifier
 pub called-split : (f : List ℕ → ℕ) (fixed : ℕ) (bytes : List ℕ) (forest : Forest) →
     ((identifier : List ℕ) → f identifier ≤ fixed + 24 * length identifier) →
     called f bytes forest
