@@ -1,5 +1,5 @@
--- What is put before an end tag of a text opens no more than it does by itself, beside what is open
--- there.
+-- A text inserted before an end tag of another one opens at most as many elements as it does alone,
+-- in addition to those open there.
 use Rattle.std.proofs.Common.{◌≡◌, ℕ, ◌+◌, ◌-◌, ◌≤◌, ◌==◌, zero, suc, max, Bool, true, false, cond}
 use Rattle.std.proofs.Common.{List, [], ◌∷◌, ◌++◌, refl, ap, sym, ◌∙◌, subst, arith}
 use Rattle.std.proofs.Math.Nat.{le_trans}
