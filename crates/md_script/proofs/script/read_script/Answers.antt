@@ -99,6 +99,6 @@ lines-preserved c =
     (settings ++ cond (is_some said) [] (line ∷ [])) left)
     (counted_more events settings line said) more))
 
--- The search that proves this one, and no other: a wrong body is refused by it in a second.
+-- The one search that proves this: it refuses a mutant in a second.
 pub lines-init : goal.lines-init
 lines-init c = search rules
