@@ -122,7 +122,7 @@ pub enum Name {
     Image,
     /// The text of a link, an image or a call, with its brackets.
     Label,
-    /// A label without its brackets.
+    /// The same without its brackets.
     LabelText,
     /// What a link or an image leads to, where it stands there itself.
     Resource,
@@ -171,7 +171,7 @@ pub enum Name {
     GfmStrikethrough,
     /// The box of a task.
     GfmTaskListItemCheck,
-    /// Marks a task's box as checked.
+    /// What says in a box that the task is done.
     GfmTaskListItemValueChecked,
     /// A backslash at the end of a line: a `<br />`.
     HardBreakEscape,
