@@ -77,7 +77,7 @@ done picks add n text h =
     all [] = refl
     all (b ∷ x) = all x
 
--- ---- one turn of what writes the text
+-- ---- one iteration of the loop that writes the text
 
 pub from_start : (bytes : List ℕ) (n : ℕ) → slice_range bytes 0 n ≡ take n bytes
 from_start bytes n = ap (λ m. take m bytes) (whole n)

@@ -223,7 +223,7 @@ found-tokens text w x h id k =
     ∙ pieces_found w.pieces w.sound [] refl id
     (sym (ap (λ y. is_among id (ids_among y)) ((attributed text w).only x h)) ∙ k)
 
--- ---- turns
+-- ---- iterations
 
 -- what is left without a `"`, or with one
 pub nothing-left : (x : List ℕ) → list_all (differs 34) x ≡ true → scanned_ids x ≡ []
