@@ -82,12 +82,12 @@ def name_tables(names):
     tables = (table([name for name in sorted(names) if len(name.text) == length])
               for length in range(LENGTHS))
     return text_of([
-        "//! Tables of all names of events but `Other`.",
+        "//! Tables of all names of events except `Other`.",
         f"// {NOTICE}",
         "",
         "use crate::event::Name;",
         "",
-        "/// The names under their spellings, each table at the length of its names.",
+        "/// The names by spelling, each table at the index that is the length of its names.",
         f"pub(crate) static BY_LENGTH: [&[(&str, Name)]; {LENGTHS}] = [",
         *itertools.chain(*tables),
         "];",
@@ -175,21 +175,21 @@ def name_rows(names, standing):
     middle, last = factors_for(texts, standing)
     rows = (f'(*b"{text:{LANES}}", Name::{text})' for text in texts)
     return text_of([
-        "//! Rows of the names of under sixteen bytes, and which row may be a text's.",
+        "//! Rows of the names shorter than sixteen bytes, and a guess which row a text has.",
         f"// {NOTICE}",
         "",
         "use md_base::Name;",
         "",
-        "/// A name of under sixteen bytes: its text with spaces after it, and the name.",
+        "/// A name shorter than sixteen bytes: its text, padded with spaces, and the name.",
         f"pub(crate) type Row = ([u8; {LANES}], Name);",
         "",
-        "/// How often a text's middle byte counts in its sum; its first one counts once.",
+        "/// The factor of a text's middle byte in its sum; that of its first byte is one.",
         f"pub(crate) const MIDDLE: usize = {middle};",
         "",
-        "/// How often its last byte counts.",
+        "/// The factor of its last byte.",
         f"pub(crate) const LAST: usize = {last};",
         "",
-        "/// At each sum the place of its row, counted from `(`; `~` where there is none.",
+        "/// For each sum the index of its row, counted from `(`; `~` if there is none.",
         *slots(texts, (middle, last)),
         "",
         *array(f"pub(crate) static ROWS: [Row; {len(texts)}]", rows),

@@ -3,7 +3,7 @@
 
 use crate::event::Name;
 
-/// The names by spelling. Each table stands at the index that is the length of its names.
+/// The names by spelling, each table at the index that is the length of its names.
 pub(crate) static BY_LENGTH: [&[(&str, Name)]; 36] = [
     &[],
     &[],

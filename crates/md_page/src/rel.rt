@@ -15,7 +15,7 @@ use crate::scan::{Rule, next_end};
 use md_text::push_encoded;
 use std::alloc::{AllocError, Global};
 
-/// Adds a `rel` to each external link of a safe text.
+/// Adds a `rel` to each link of a safe text that leaves the page.
 ///
 /// Each start tag `a` whose `href` isn't empty and doesn't begin with `#`, and which has no `rel`,
 /// gets `rel` with this text, escaped, as its last attribute. Nothing else changes: whatever the
@@ -50,7 +50,7 @@ pub fn with_link_rel<H: Html>(
     Ok(AttributedHtml::new(text))
 }
 
-/// Adds a `rel` to each external link of a text that has none.
+/// Adds a `rel` to each link that leaves the page and has none.
 pub(crate) fn with_rel(alloc: Global, text: &str, rel: &str) -> Result<String, AllocError>
     ensures { IfOk result
         (λ out. string_bytes out ≡ with_new picks_link (new_rel rel.now) text.now) }

@@ -18,7 +18,7 @@ const NEAR: usize = 16;
 /// The tags that get an attribute.
 #[derive(Clone, Copy)]
 pub(crate) enum Rule {
-    /// External links without a `rel`.
+    /// Links that leave the page, without a `rel`.
     Link,
     /// Headings without an `id`.
     Heading,
@@ -156,7 +156,7 @@ fn picks(rule: Rule, tag: &[u8]) -> bool
     }
 }
 
-/// Whether a tag is an external link without a `rel`.
+/// Whether a tag is a link that leaves the page, without a `rel`.
 #[inline(always)]
 fn picks_link(tag: &[u8]) -> bool
     ensures { result ≡ picks_link tag.now }
@@ -196,7 +196,7 @@ fn picks_heading(tag: &[u8]) -> bool
     }
 }
 
-/// Whether a link with these attributes is external and has no `rel`.
+/// Whether a link with these attributes leaves the page and has no `rel`.
 fn want_rel(attributes: &[u8]) -> bool
     ensures { result ≡ want_rel attributes.now }
 {
