@@ -1,4 +1,4 @@
--- A field that stands for no option is told as such.
+-- A field that encodes no option is reported as such.
 use Rattle.std.proofs.Common.{◌≡◌, ℕ, Option, Some, Result, Ok, Err, IfErr, is_some, sym, ap, ◌∙◌}
 use Rattle.std.proofs.Common.{subst}
 use Rattle.std.specs.Prelude.{IsErrAnd, slice_get}

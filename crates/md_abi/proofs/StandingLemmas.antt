@@ -20,7 +20,7 @@ module _ {A B : Type 0} (meaning : A → Option B) (given : List A) (index : ℕ
       ∙ sym (at_drop_more (λ left. map Some read ++ map meaning left) given index next within)
       ∙ whole
 
-  -- the next one stands for none
+  -- the next one is invalid
   pub first_without : (next : A) (count : ℕ) → index < length given →
       None ≡ meaning (get_or given index next) →
       count ≡ length read → IsFirstWithout meaning given count

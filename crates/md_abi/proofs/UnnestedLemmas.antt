@@ -38,7 +38,7 @@ use Rattle.md_abi.proofs.AttributedLemmas.{keeps_images, safe_told}
 use Rattle.md_abi.proofs.AnswerLemmas.{never, failed, failure_hands_over, failure_of_compile}
 use Rattle.md_abi.proofs.AnswerLemmas.{failure_says, text_of_compile}
 
--- ---- the compiler's error as a failure
+-- ---- the failure for a compiler's error
 
 fault_of : (given : Handed) (options : CompileOptions) (why : UnnestedError) →
     OfNested (AreNested given.events) why → OfNested (IsChecked given) why →

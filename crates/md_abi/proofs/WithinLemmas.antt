@@ -33,7 +33,7 @@ use Rattle.md_abi.specs.declared.within.WithinFailure.TheVariants.{TooLong, TooM
 use Rattle.md_abi.specs.declared.within.WithinFailure.TheVariants.{Failed}
 use Rattle.md_abi.proofs.GivenLemmas.{told_of, IsRead, rendered, explained}
 
--- ---- the compiler's error as a failure
+-- ---- the failure for a compiler's error
 
 pub refusal_within : (given : Handed) (why : WithinError) → OfWithin (IsOrder given) why →
     OfWithin (IsMdx given) why → OfWithin (IsOfNode given) why → OfWithin (IsLost given) why →

@@ -1,5 +1,5 @@
--- At each turn: the names that were read, and after them what the rest stands for, are what the
--- whole stands for.
+-- In each iteration, the converted names, followed by those that the rest encodes, are those that
+-- the whole encodes.
 use Rattle.std.proofs.Common.{◌≡◌, ◌++◌, map, drop, Some}
 use Rattle.md_base.specs.Reference.{name_table}
 use Rattle.md_abi.specs.References.{reference_of}
