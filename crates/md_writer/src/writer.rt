@@ -22,8 +22,8 @@ pub enum Url {
 }
 
 /// Writes the events of a document, in order, and stores what belongs to them. Indices are byte
-/// indices into the document followed by the appended bytes. Of each point only its index and its
-/// columns of a tab are set.
+/// indices into the document followed by the appended bytes. Only the index and the columns of a
+/// tab are set in each point.
 #[derive(Drop)]
 pub struct Writer {
     /// The events so far.
