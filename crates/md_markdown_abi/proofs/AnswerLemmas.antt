@@ -33,7 +33,7 @@ markdown_hands_over claim old why answer is =
     of (Failed cause) =
         failure_hands_over (claim (answer_of cause).index) old cause (answer_of cause) refl
 
--- ---- what is told of a document
+-- ---- the answer about a document
 module _ (bytes : List ℕ) (options : CMarkdownOptions) where
   -- with a status that is none of those that tell something
   of_read : (answer : Answer) → answer.status ≢ 35 → answer.status ≢ 5 → answer.status ≢ 32 →

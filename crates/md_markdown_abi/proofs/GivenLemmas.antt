@@ -1,4 +1,4 @@
--- From what is promised of a text, and why there is none, to what C is told.
+-- From the promises about a text, and the reason why there is none, to C's answer.
 use Rattle.std.proofs.Common.{◌+◌, ◌*◌, ◌≡◌, ℕ, ◌≤◌, Bool, true, List, Option, Some, Result, Ok, Err}
 use Rattle.std.proofs.Common.{take, [], ◌∷◌, ◌++◌, IfErr, is_some, refl, sym, ap, ◌∙◌}
 use Rattle.std.proofs.Common.{subst}
