@@ -96,9 +96,9 @@ pub extern "C" fn bivdrazo_compile(
 ///
 /// If `rel` is set, each start tag `a` whose `href` isn't empty and doesn't begin with `#`, and
 /// which has no `rel`, gets one with this text, escaped. If `heading_ids` is set, each start tag
-/// from `h1` to `h6` without an `id` gets one: this text, escaped, and the heading's number, from 1.
-/// Then each of these headings follows the text: a NUL, its level, a space, its number, a space,
-/// and its text without tags, escaped.
+/// from `h1` to `h6` without an `id` gets one: this text, escaped, and the heading's number,
+/// from 1. Then each of these headings follows the text: a NUL, its level, a space, its number, a
+/// space, and its text without tags, escaped.
 ///
 /// If no two ids of the text are equal, and none begins with the prefix for headings, no two ids of
 /// the result are equal.

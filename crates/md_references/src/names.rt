@@ -555,7 +555,7 @@ static STARTS: [u16; 2126] = [
 /// How many names there are.
 pub(crate) const COUNT: usize = 2125;
 
-/// A name by its number, then `;`, then its text.
+/// A name by its number, then `;`, then what it stands for.
 pub(crate) fn entry(number: usize) -> Option<&'static [u8]> {
     let from = STARTS.get(number)?;
     let to = STARTS.get(number.checked_add(1)?)?;
