@@ -6,10 +6,10 @@
     bench/edits.py --write    writes the list again, at a release
 
 `bench/edits.txt` has a line for each edit of the last release: its crate, its name, and a checksum
-of the lines that `rt` reads (comments don't count). An edit that was removed since, or has another
-text, is an item of "Edits that changed" in docs/DOUBT.md, which begins with the edit's name and
-says what replaced it: `md_tree/definition_turned`. An item of an unchanged edit is an error too, so
-the list there is written again with this one.
+of what `rt` reads of it (comments don't count). An edit that is gone since, or has another text, is
+an item of "Edits that changed" in docs/DOUBT.md, which begins with the edit's name and says what
+took its place: `md_tree/definition_turned`. An item of an edit that is as it was is refused too, so
+the list there is made anew with this one.
 """
 import argparse
 import hashlib

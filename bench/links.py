@@ -1,15 +1,15 @@
 #!/usr/bin/env python3
-"""Checks that the links, paths and names in pages exist.
+"""Checks that what the pages lead to is there.
 
     bench/links.py
 
-For each page (each `.md` file that git has): a link refers to a file or folder, and after `#` to a
-heading; words quoted after a link (`[CALLS.md](CALLS.md), "Within limits"`) begin a heading or an
-item there; a path in backticks exists from the top, from the page's folder or from a crate's
-folder, or is the end of a path; one that begins with `src/`, `specs/` or the like is in the page's
-own crate, or in one that the page names; `md_crate::path::item` and `Type::method` are in the
-sources. In a path `*` and `..` match anything. It prints each broken one on a line, and then the
-status is 1.
+Of each page (each `.md` file that git has): a link leads to a file or folder, and behind `#` to a
+heading; words that are quoted behind a link (`[CALLS.md](CALLS.md), "Within limits"`) begin a
+heading or an item there; a path in backticks leads from the top, from the page's folder or from a
+crate's folder, or is the end of a path; one that begins with `src/`, `specs/` or the like stands in
+a crate that the page is of, or names; `md_crate::path::item` and `Type::method` stand in the
+sources. In a path `*` and `..` are anything. What is broken is printed, a line each, and the status
+is 1.
 """
 
 import collections
@@ -26,7 +26,7 @@ ROOT = pathlib.Path(__file__).resolve().parents[1]
 ENDINGS = (".rt", ".antt", ".edit", ".py", ".c", ".h", ".rs", ".md", ".txt", ".toml", ".sh")
 # Folders of a crate.
 WITHIN = {"src", "specs", "proofs", "must-fail", "cases", "make"}
-# Paths that git doesn't have, and why pages name them.
+# Paths that git hasn't, and why pages name them.
 MADE = {
     "clients/out": "clients/build and clients/package make it",
     "crates/*/out": "rt makes it",
@@ -39,7 +39,7 @@ MADE = {
     "src/util": "the original's",
     "text/html": "a media type",
 }
-# Types that our sources don't have, and why pages name them.
+# Types that our sources haven't, and why pages name them.
 FOREIGN = {
     "CompileContext": "the original's",
     "One": "an example of docs/DECISIONS.md",
@@ -72,7 +72,7 @@ def files():
 
 @functools.cache
 def ends():
-    """The ends of these paths: for `crates/md_html/src/laws.rt` also `src/laws.rt`, `laws.rt`."""
+    """The ends of these paths: of `crates/md_html/src/laws.rt` also `src/laws.rt`, `laws.rt`."""
     return {"/".join(parts[at:]) for parts in (path.split("/") for path in files())
             for at in range(len(parts))}
 
@@ -94,13 +94,13 @@ def prose(page):
 
 
 def slug(heading):
-    """The anchor of a heading, as GitHub derives it."""
+    """What leads to a heading, as GitHub makes it."""
     plain = re.sub(r"\[([^\]]*)\]\([^)]*\)", r"\1", heading.strip())
     return re.sub(r"[^\w\- ]", "", plain.lower()).replace(" ", "-")
 
 
 def broken_links(page):
-    """The links without a target. Links in code don't count."""
+    """The links that lead nowhere. What code has isn't one."""
     for target, quoted in LINK.findall(SPAN.sub("code", prose(page))):
         if re.match(r"\w+:", target):
             continue
@@ -118,14 +118,14 @@ def broken_links(page):
 
 
 def is_there(path, known):
-    """Whether a path is one of these; a file's may lack its suffix."""
+    """Whether a path is one of these; a file's may be without its ending."""
     pattern = re.sub(r"\.\.+", "*", path)
     return path in known or bool(fnmatch.filter(known, pattern)) or (
         "." not in path.split("/")[-1].strip(".") and bool(fnmatch.filter(known, pattern + ".*")))
 
 
 def is_broken_path(page, path, named):
-    """Whether a path doesn't exist, in a page that names these crates."""
+    """Whether a path leads nowhere, in a page that names these crates."""
     path = re.sub(r"(?<!\.)\.$", "", path.removeprefix("./")).strip("/")
     folder = page.rpartition("/")[0]
     first, _, rest = path.partition("/")
@@ -151,7 +151,7 @@ def sources(front):
 
 @functools.cache
 def members():
-    """The members of each type: functions, variants, fields and constants."""
+    """What stands in each type: functions, variants, fields and constants."""
     found = collections.defaultdict(set)
     blocks = (block for text in sources("").values() for block in BLOCK.findall(text))
     for kind, head, body in blocks:
@@ -162,7 +162,7 @@ def members():
 
 
 def is_broken_item(first, *rest):
-    """Whether no item has a name with these parts."""
+    """Whether the parts of an item's name lead nowhere."""
     if first[0].isupper():
         return first not in FOREIGN and rest[0] not in members()[first]
     modules = sources(f"crates/{first}/src/")
@@ -175,7 +175,7 @@ def is_broken_item(first, *rest):
 
 
 def broken(page):
-    """The broken links, paths and names in a page."""
+    """What leads nowhere in a page."""
     yield from broken_links(page)
     named = sorted(crates() & set(re.findall(r"\w+", prose(page))))
     for span in (" ".join(span.split()) for _, span in SPAN.findall(prose(page))):

@@ -7,9 +7,9 @@
 The list is the group `name` in `clients/numbers/numbers.txt`. A new name is a line there, in the
 part where it belongs, with the next number. This generates the files that consist of lists of
 names, whole (`WHOLE`), the variants of the enum, between the marks `bench/names.py: begin` and
-`bench/names.py: end`, the imports of all names, and the number of names, if a test or a page
-states it, and makes `clients/numbers/generate` write the clients' tables. The meaning, the printed
-text and the grammar of a name are written by hand (docs/PROVING.md, "A new name of events").
+`bench/names.py: end`, the imports of all names, and how many names there are, where a test or a
+page says so, and has `clients/numbers/generate` write the clients' tables. What a name means,
+prints and is in the grammar is by hand (docs/PROVING.md, "A new name of events").
 """
 import argparse
 import pathlib
