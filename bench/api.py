@@ -25,7 +25,7 @@ HANDED_ON = {"md_script": "md_html", "md_markdown": "md_html"}
 # each other crate says.
 OTHERS = ["md_ffi", "mdevents", "mdhtml", "md_bench"]
 INTERNAL = "Internal: users call nothing of it ([docs/API.md](../../docs/API.md))."
-# The functions that the inline functions of the headers call.
+# What the inline functions of the headers call.
 HELPERS = {"bivdrazo_answer_memory", "bivdrazo_is_too_long", "bivdrazo_first_size", "bivdrazo_grow",
            "bivdrazo_settle", "bivdrazo_markdown_alloc", "bivdrazo_markdown_alloc_by",
            "bivdrazo_markdown_first_size", "bivdrazo_markdown_lines", "bivdrazo_markdown_texts"}

@@ -10,7 +10,7 @@ PROGRAM is crates/mdhtml/out/mdhtml if it isn't given, which `rt ci` builds. Fiv
 - its documents under each option, its URLs against bases, each name of a character reference, and
   each mark at each of OFFSETS places in a line;
 - the cases of docs/MARKDOWN.md, here and by cmark-gfm;
-- documents that make parsers slow: one that is four times as long takes at most GROWTH times the
+- documents that make parsers slow: four times as long a one takes at most GROWTH times the
   processor time, and at most MEMORY bytes for each of its bytes beyond MEGABYTES.
 The first two parts need Debian's cmark-gfm and its extensions, the fourth cmark-gfm: if they are
 missing, the part is left out, which is reported. The status is 1 if something is wrong.
