@@ -136,7 +136,7 @@ def readme_faults():
 
 
 def main():
-    """Prints the differences."""
+    """Says what differs."""
     found = listed((ROOT / "docs" / "API.md").read_text())
     faults = [*crates_faults(found), *header_faults(found), *readme_faults()]
     print("\n".join(faults) if faults else "the public interface is as docs/API.md says")
