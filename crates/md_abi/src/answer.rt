@@ -111,7 +111,7 @@ pub fn answer_to_within(failure: &WithinFailure) -> Answer
     }
 }
 
-/// The answer to a failure where no link may stand in a link.
+/// The answer to a failure of a call that allows no link in a link.
 pub fn answer_to_unnested(failure: &UnnestedFailure) -> Answer
     ensures { result ≡ answer_of_unnested failure.now }
 {

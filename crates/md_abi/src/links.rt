@@ -14,7 +14,7 @@ use crate::failure::Failure;
 use md_html::has_nested_link;
 use std::alloc::Global;
 
-/// The answer whether a link contains a link.
+/// The answer that says whether a link contains a link.
 pub fn answer_to_links(alloc: Global, events: &[CEvent]) -> Answer
     ensures { TellsOfLinks events.now result }
 {

@@ -1,4 +1,4 @@
--- Character references: the text that a name or a number stands for.
+-- Character references: decodes a name or a number to its text.
 use Rattle.std.specs.Prelude.{ℕ, ◌%◌, ◌^◌, Bool, not, ◌&&◌, ◌||◌, ◌==◌, nat_lt, if◌then◌else◌, List}
 use Rattle.std.specs.Prelude.{length, map, Option, Some, None, option_map, find, bytes_eq}
 use Rattle.std.specs.Prelude.{encode_utf8}

@@ -18,8 +18,8 @@ pub(crate) struct Fence {
 }
 
 impl Fence {
-    /// The fence of at least so many marks at a position. If `is_last`, its line must not have that
-    /// mark again.
+    /// The fence at a position, if it has at least `least` marks. If `is_last`, the rest of its
+    /// line must not have that mark.
     pub(crate) fn at(
         position: &Position<'_>,
         mark: u8,

@@ -41,7 +41,7 @@ pub(crate) struct Nesting {
 }
 
 impl Nesting {
-    /// An empty tape with capacity for so many blocks.
+    /// An empty tape with capacity for `room` blocks.
     pub(crate) fn new(alloc: Global, room: usize) -> Result<Self, AllocError> {
         let tape = Vec::with_capacity(alloc, room)?;
         Ok(Nesting {

@@ -199,7 +199,7 @@ impl<'a> Pass<'a> {
         }
     }
 
-    /// Reads a blank line that continues so many open blocks.
+    /// Reads a blank line that continues `matched` open blocks.
     pub(crate) fn read_blank_line(
         &mut self,
         position: &mut Position<'_>,
@@ -267,7 +267,7 @@ fn goes_on_in_quote(position: &mut Position<'_>) -> bool {
     true
 }
 
-/// Skips so many columns of indentation; returns whether the line has them, or is blank.
+/// Skips `columns` columns of indentation; returns whether the line has them, or is blank.
 #[inline]
 fn goes_on_indented(columns: usize, position: &mut Position<'_>) -> bool {
     if position.indent < columns && !position.is_blank() {

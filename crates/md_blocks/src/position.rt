@@ -68,7 +68,7 @@ impl<'a> Position<'a> {
         self.text >= self.line.len()
     }
 
-    /// Skips so many columns of spaces and tabs, or all if fewer remain.
+    /// Skips `columns` columns of spaces and tabs, or all if fewer remain.
     pub(crate) fn advance(&mut self, columns: usize)
         ensures at { self.old.at ≤ self.new.at }
         ensures line { self.new.line ≡ self.old.line }
@@ -88,7 +88,7 @@ impl<'a> Position<'a> {
         }
     }
 
-    /// Skips the spaces and tabs, and so many bytes of the text.
+    /// Skips the spaces and tabs, and `width` bytes of the text.
     pub(crate) fn pass(&mut self, width: usize)
         requires { self.old.text + width ≤ length self.old.line.now }
         ensures at { self.new.at ≡ self.old.text + width }

@@ -14,7 +14,7 @@ use std::alloc::AllocError;
 const MOST_MISSING: usize = 1 << 19;
 
 impl<'a> Pass<'a> {
-    /// Reads a line after the prefixes of so many open blocks, if no leaf accepted it; `is_whole`
+    /// Reads a line after the prefixes of `matched` open blocks, if no leaf accepted it; `is_whole`
     /// says that these are all open blocks.
     pub(crate) fn begin_blocks(
         &mut self,

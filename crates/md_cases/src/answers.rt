@@ -83,7 +83,7 @@ fn is_same_within(answer: Result<String, WithinError>, wanted: &Result<String, R
     }
 }
 
-/// Whether the text is too long for a limit of so many bytes.
+/// Whether the text is too long for a limit of `length` bytes.
 fn is_too_long(alloc: Global, script: &Script<'_>, length: usize) -> bool {
     match script.compile_within(alloc, &REFERENCE_NAMES, length) {
         Err(WithinError::TooLong) => true,

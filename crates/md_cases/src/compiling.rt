@@ -38,7 +38,7 @@ impl Script<'_> {
         compile_checked(alloc, &checked, &self.options).map_err(CompileError::from)
     }
 
-    /// The result of `compile_within` if the text may have so many bytes, and the other limits are
+    /// The result of `compile_within` if the text may have `text` bytes, and the other limits are
     /// exact: that on work is the work, or the reuse if that is more, and that on depth is the
     /// depth of the events.
     pub(crate) fn compile_within(

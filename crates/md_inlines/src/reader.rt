@@ -147,7 +147,7 @@ impl<'a> Reader<'a> {
         push_token(&mut self.tokens, mark, start, end, index)
     }
 
-    /// Adds a token for the text before an index, and begins the next text so many bytes later.
+    /// Adds a token for the text before an index, and begins the next text `after` bytes later.
     pub(crate) fn end_text(&mut self, at: usize, after: usize) -> Result<(), AllocError> {
         if self.from < at {
             push_token(&mut self.tokens, Mark::Text, self.from, at, 0)?;

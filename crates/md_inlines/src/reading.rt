@@ -135,7 +135,7 @@ impl<'a> Reader<'a> {
         }
     }
 
-    /// Adds a token between two marks of so many bytes; returns the place after the second.
+    /// Adds a token between two marks of `length` bytes; returns the place after the second.
     fn put_between(
         &mut self,
         mark: Mark,

@@ -130,7 +130,7 @@ fn read_html(html: u8, number: usize) -> Result<DocumentHtml, Failure>
     }
 }
 
-/// The limits on the text of a document of so many bytes, and on how deep its nodes nest.
+/// The limits on the text of a document of `bytes` bytes, and on how deep its nodes nest.
 pub(crate) fn limits_of(given: &CMarkdownOptions, bytes: usize) -> Limits
     ensures text { result.text ≡ given.now.max_output }
     ensures work { result.work ≡ most_work given.now.max_work bytes }
@@ -153,7 +153,7 @@ pub(crate) fn limits_of(given: &CMarkdownOptions, bytes: usize) -> Limits
     }
 }
 
-/// The work that a document of so many bytes is allowed if no limit is set.
+/// The work that a document of `bytes` bytes is allowed if no limit is set.
 fn work_by_length(bytes: usize) -> usize
     ensures { result ≡ work_by_length bytes }
 {

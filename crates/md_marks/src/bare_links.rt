@@ -149,7 +149,7 @@ fn host_length(text: &[u8]) -> Option<usize> {
     (has_dot && last.is_ascii_alphabetic()).then_some(length)
 }
 
-/// Whether there is a letter or a digit so many bytes after an index.
+/// Whether there is a letter or a digit `after` bytes after an index.
 fn is_alphanumeric_at(text: &[u8], index: usize, after: usize) -> bool {
     match text.get(index.saturating_add(after)) {
         Some(byte) => byte.is_ascii_alphanumeric(),

@@ -29,7 +29,7 @@ impl Ticks {
         self.is_known = false;
     }
 
-    /// Returns the beginning of a run of so many backticks, at a place or later.
+    /// Returns the beginning of a run of `length` backticks, at a place or later.
     ///
     /// # Errors
     ///

@@ -52,7 +52,7 @@ impl Delimiter {
         !is_both || !matches!(thirds, (1, 2) | (2, 1))
     }
 
-    /// The run with so many bytes fewer remaining.
+    /// The run with `width` bytes fewer remaining.
     fn without(self, width: usize) -> Delimiter
         ensures { result.available ≡ self.available - width }
     {
@@ -233,7 +233,7 @@ fn mark_pair(tokens: &mut Vec<Token>, opener: &Delimiter, closer: &Delimiter, wi
     }
 }
 
-/// Marks a token of so many bytes as the end of a span.
+/// Marks a token of `width` bytes as the end of a span.
 fn set_end(tokens: &mut Vec<Token>, index: usize, mark: Mark, width: usize) {
     if let Some(token) = tokens.get_mut(index) {
         token.mark = mark;

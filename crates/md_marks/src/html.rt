@@ -97,7 +97,7 @@ impl Endings {
     }
 }
 
-/// The place so many bytes later.
+/// The place `count` bytes later.
 fn moved(place: Place, count: usize) -> Place {
     Place {
         line: place.line,

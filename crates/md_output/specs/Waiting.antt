@@ -1,4 +1,4 @@
--- The layout of the texts in memory: one after another, with the pending heads beside them. No
+-- The layout of the texts in memory: in sequence, with the pending heads in a list of their own. No
 -- public contract cites this.
 use Rattle.std.specs.Prelude.{◌≡◌, ℕ, Bool, true, false, not, ◌<◌, ◌≤◌, ◌⊎◌, ◌==◌, nat_lt}
 use Rattle.std.specs.Prelude.{if◌then◌else◌, List, [], ◌∷◌, ◌++◌, length, take, drop}

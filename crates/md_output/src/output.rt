@@ -106,7 +106,7 @@ impl Output {
         );
     }
 
-    /// Reserves capacity for the text of a document of so many bytes, if there is memory for it.
+    /// Reserves capacity for the text of a document of `bytes` bytes, if there is memory for it.
     pub fn reserve(&mut self, bytes: usize)
         ensures { self.new ≡ self.old }
     {

@@ -9,8 +9,8 @@ use Rattle.md_safe.specs.Input.{with_line_feeds}
 use Rattle.md_safe.specs.Token.{Token, TokenAttribute}
 use Rattle.md_page.specs.Added.{added, gets_id, shown}
 
--- the text for the heading after so many: the next one of the list, or past its end the heading's
--- number, from 1
+-- the text for the heading with this number, from 0: the one of the list, or past its end the
+-- heading's number, from 1
 abbrev pub id_text : List (List ℕ) → ℕ → List ℕ
 id_text ids n = option_map_or (λ text. text) (slice_get ids n) (decimal (suc n))
 

@@ -147,7 +147,7 @@ new_rel text n = record { name = codes "rel"; value = encoded true text }
 abbrev pub new_id : List ℕ → ℕ → Attribute
 new_id prefix n = record { name = codes "id"; value = encoded true prefix ++ decimal (suc n) }
 
--- `id` with the text for the heading after so many, escaped
+-- `id` with the text for the heading with this number, from 0, escaped
 abbrev pub new_given : List (List ℕ) → ℕ → Attribute
 new_given ids n = record { name = codes "id"; value = encoded true (id_text ids n) }
 

@@ -81,7 +81,7 @@ fn with_given(alloc: Global, text: &str, ids: &[String]) -> Result<String, Alloc
     Ok(out)
 }
 
-/// Appends the `id` of the heading after so many.
+/// Appends the `id` of the heading with this number, from 0.
 fn push_given_id(
     alloc: Global,
     out: &mut String,

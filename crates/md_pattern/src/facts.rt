@@ -41,7 +41,7 @@ pub struct Fact {
 pub struct OpenNode {
     /// The index of the event that enters it.
     pub entry: usize,
-    /// The entry of its last contributing child, 0 where there is none.
+    /// The entry of its last contributing child, 0 if there is none.
     pub contributing: usize,
     /// The state of the search on the spine that its children belong to.
     pub sought: Sought,
@@ -103,7 +103,7 @@ impl Model for Pass {
 }
 
 impl Pass {
-    /// The state before the first of so many events.
+    /// The state before the first of `events` events.
     ///
     /// # Errors
     ///

@@ -33,7 +33,7 @@ pub fn reference_length(text: &[u8]) -> Option<usize> {
     }
 }
 
-/// The length of a numeric reference with so many digits, if these are from one to `most` and `;`
+/// The length of a numeric reference with `count` digits, if these are from one to `most` and `;`
 /// follows.
 fn numbered(digits: &[u8], count: usize, most: usize, marks: usize) -> Option<usize> {
     if count == 0 || count > most || !matches!(digits.get(count), Some(b';')) {

@@ -24,7 +24,7 @@ pub record BeginsWithIndex (bytes : List ℕ) (index : ℕ) (following : List �
   pub whole : bytes ≡ digits ++ 10 ∷ following
   pub value : number_of 9 digits ≡ Some index
 
--- the digits of this number, at most so many, and this after the byte that ends them
+-- the digits of this number, at most `most`, and this after the byte that ends them
 pub record BeginsWithNumber (most end : ℕ) (bytes : List ℕ) (number : ℕ)
     (following : List ℕ) : Type 0 where
   pub digits : List ℕ

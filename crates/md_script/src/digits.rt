@@ -4,8 +4,8 @@ ghost use Rattle.std.specs.Prelude.{◌≡◌, ◌-◌, ◌<◌, ◌≤◌, true
 ghost use Rattle.std.specs.Char.{is_ascii_digit};
 ghost use Rattle.md_script.specs.PlainLine.{BeginsWithNumber};
 
-/// The number of the digits before an end byte, at least one and at most so many, and the bytes
-/// after that byte.
+/// The value of the digits before an end byte, at least one and at most `most` digits, and the
+/// bytes after that byte.
 #[inline(always)]
 pub(crate) fn digits_before(bytes: &[u8], end: u8, most: usize) -> Option<(usize, &[u8])>
     requires few { most ≤ 9 }

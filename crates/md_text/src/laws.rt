@@ -127,7 +127,7 @@ pub fn void_tag_has_a_reading()
         → HasReadingWith p (written (Void name attributes Empty)) }
 {}
 
-/// An element of the table around a text that has a reading has one.
+/// An element of the table has a reading if its content has one.
 pub fn element_has_a_reading()
     ensures { (p : Attribute → Bool) (name : List ℕ) (attributes : List Attribute) (inside : List ℕ)
         → IsTrue (is_tag elements name attributes) → IsTrue (list_all p attributes)

@@ -144,7 +144,7 @@ BreaksAtExit bytes names broken (open_node ∷ others) name point course =
     (open_node.name ≡ name)
     × BreaksWhere bytes names broken open_node.outer open_node.start point course
 
--- the rule that a name breaks where no node may stand
+-- the rule that a name breaks at a place where no node may be
 abbrev pub misplaced_where : Standing → Rule
 misplaced_where standing.Mdx = rule.Mdx
 misplaced_where _ = rule.Order

@@ -40,7 +40,7 @@ pub struct Writer {
 }
 
 impl Writer {
-    /// A writer without events, for a document of so many bytes.
+    /// A writer without events, for a document of `length` bytes.
     pub fn new(alloc: Global, length: usize) -> Writer
         ensures events { result.events.items ≡ [] }
         ensures added { result.added.items ≡ [] }
@@ -94,7 +94,7 @@ impl Writer {
         Ok(())
     }
 
-    /// Reserves capacity for so many more events.
+    /// Reserves capacity for `count` more events.
     ///
     /// # Errors
     ///
@@ -197,7 +197,7 @@ impl Writer {
         Ok(())
     }
 
-    /// Enters and exits a node that begins so many columns after the beginning of a tab.
+    /// Enters and exits a node that begins `columns` columns after the beginning of a tab.
     ///
     /// # Errors
     ///

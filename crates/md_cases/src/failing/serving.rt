@@ -118,8 +118,8 @@ fn stuck_is_told(alloc: Global) -> bool {
         && stuck_answers(alloc, 1, true, &Ok(()))
 }
 
-/// Whether `serve` returns this result with a writer that takes so many bytes, and flushes them or
-/// doesn't.
+/// Whether `serve` returns this result with a writer that accepts `takes` bytes at each write, and
+/// flushes them or doesn't.
 fn stuck_answers(
     alloc: Global,
     takes: usize,

@@ -13,7 +13,7 @@ pub(super) fn answer(alloc: Global, call: Call<'_>) -> Result<String, AllocError
     }
 }
 
-/// So many dashes.
+/// A text of `length` dashes.
 fn long_text(alloc: Global, length: usize) -> Result<String, AllocError> {
     let mut long = String::new(alloc);
     for _ in 0..length {

@@ -26,7 +26,7 @@ pub fn meaning_of_image_around_other_names()
         media.image_around_other_names_text }
 {}
 
-/// The meaning of reference beside a label.
+/// The meaning of a reference beside a label.
 pub fn meaning_of_reference_beside_a_label()
     ensures { Means media.reference_beside_a_label_bytes media.reference_beside_a_label
         media.reference_beside_a_label_text }

@@ -38,7 +38,7 @@ impl FactList {
     ghost use Rattle.std.specs.Prelude.{◌≡◌, ◌+◌, OnOk, IfOk, [], ◌∷◌, ◌++◌, length, set};
     ghost use Rattle.std.specs.Prelude.{slice_get};
 
-    /// An empty list, with capacity for so many events.
+    /// An empty list, with capacity for `events` events.
     ///
     /// # Errors
     ///

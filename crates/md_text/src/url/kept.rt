@@ -40,7 +40,7 @@ pub(super) fn kept_length(bytes: &[u8]) -> usize
     }
 }
 
-/// The same, if so many bytes are known to stay.
+/// The same, if the first `known` bytes are known to stay.
 #[inline(always)]
 fn kept_from(bytes: &[u8], known: usize) -> usize
     requires { AreKept bytes.now known }

@@ -42,8 +42,8 @@ pub(super) fn push_low<'a>(out: &mut String, rest: &'a [u8]) -> Result<&'a [u8],
     }
 }
 
-/// Writes so many bytes unchanged, then the replacement of the ASCII byte after them, and returns
-/// the rest.
+/// Writes `run` bytes unchanged, then the replacement of the ASCII byte after them, and returns the
+/// rest.
 #[inline(always)]
 fn push_run<'a>(out: &mut String, rest: &'a [u8], run: usize) -> Result<&'a [u8], AllocError>
     requires { (AreKept rest.now run) × (0 < run) × (begins_kept (drop run rest.now) ≡ false) }

@@ -105,7 +105,7 @@ fn looks_ascii(bytes: &[u8]) -> bool {
     true
 }
 
-/// The end of a part of so many bytes, moved before a character that it would cut.
+/// The end of a part of `size` bytes, moved before a character that it would cut.
 fn part_end(bytes: &[u8], at: usize, size: usize) -> usize
     requires { (at < length bytes.now) × (FIRST_PART ≤ size) × (size ≤ MOST_PART) }
     ensures { (at < result) × (result ≤ length bytes.now) }

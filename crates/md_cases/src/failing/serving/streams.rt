@@ -94,7 +94,7 @@ impl Read for EndlessReader {
     }
 }
 
-/// A writer that takes so many bytes at each write, and may fail to flush them.
+/// A writer that accepts a fixed number of bytes at each write, and may fail to flush them.
 #[derive(Drop)]
 pub(super) struct StuckWriter {
     pub(super) takes: usize,
