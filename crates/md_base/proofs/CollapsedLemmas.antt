@@ -66,7 +66,7 @@ collapsed-single (b ∷ text) first ends singles =
     collapsed-black b text black ∙ sym (in_word-black b text black)
     ∙ in_word-single (b ∷ text) (as_singles (b ∷ text) singles) ends
 
--- ---- what a load tells
+-- ---- the facts that a load gives
 
 -- the mark of a byte, with the next one
 abbrev pub marked : Bool → Bool → Bool → Bool

@@ -16,7 +16,7 @@ abbrev spaced : List (List ℕ) → List ℕ
 spaced [] = []
 spaced (word ∷ words) = 32 ∷ join_with_byte 32 (word ∷ words)
 
--- the first part goes on with the word so far
+-- the first part continues the word so far
 abbrev word_on : List (List ℕ) → List ℕ
 word_on [] = []
 word_on (first ∷ parts) = first ++ spaced (filter is_nonempty parts)
