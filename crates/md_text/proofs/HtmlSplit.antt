@@ -32,7 +32,7 @@ split t (c ∷ x) (d ∷ y) a b hx hy sa sb e =
     (and_parts (t d) (list_all t y) hy).1 sa sb later in
     (ap₂ (λ c x. c ∷ x) first rest.0, rest.1)
 
--- where a tag goes on after its attributes: `>` or ` /`
+-- the rest of a tag after its attributes: `>` or ` /`
 abbrev pub EndsAttributes : List ℕ → Type 0
 EndsAttributes r = ((more : List ℕ) × (r ≡ 62 ∷ more)) ⊎ ((more : List ℕ) × (r ≡ 32 ∷ 47 ∷ more))
 
