@@ -69,7 +69,7 @@ AreWords-two records words new (Ok entry) are low is none =
 AreWords-two records words new (Err error) are low is same =
     subst (λ ws. AreWords records ws) (sym same) are
 
--- an answer of which one more thing is known
+-- a result with one more known fact
 pub on_ok : {A E : Type 0} (P Q : Type 0) → (P → Q) → (result : Result A E) → OnOk result P →
     OnOk result Q
 on_ok P Q f (Ok a) p = f p

@@ -211,7 +211,7 @@ loose_items_over (Node name start end children rest) told =
     ∙ or-assoc told.has_loose_item (is ListItem name && is_loose_item children)
     (has_loose_item rest)
 
--- a list's children, its items not looked at, and looked at
+-- a list's children, ignoring its items, and with them
 pub without_items-told : (children : Forest) → Told.without_items (told_over children nothing_told)
     ≡ written.is_loose_without_items children
 without_items-told children =
