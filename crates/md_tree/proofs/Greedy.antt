@@ -97,7 +97,7 @@ settled_kept (Maybe class) items ok =
     and_right (list_all (leaves_order (Maybe class)) items) (settled items) ok
 settled_kept (Once class) items ok = ok
 
--- what is left takes the rest
+-- the rest of the pattern takes the rest of the symbols
 pub record GoesOn (items : List Item) (symbol : Symbol) (symbols : List Symbol) : Type 0 where
   pub left : List Item
   pub is_left : left_after items symbol ≡ Some left

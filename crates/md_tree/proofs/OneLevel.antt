@@ -27,7 +27,7 @@ use Rattle.md_tree.proofs.SettledPatterns.{and_left, and_right}
 
 -- ---- names by their symbols
 
--- a name that is looked through
+-- a transparent name
 abbrev pub is_through : Standing → Bool
 is_through Through = true
 is_through Space = true
