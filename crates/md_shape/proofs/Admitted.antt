@@ -82,12 +82,12 @@ taken test (member ∷ symbols) symbol seen h =
         subst (λ s. test s ≡ true) (same_true the_type tt member symbol e) here
     by false e seen here later = later seen
 
--- one symbol of an item, and what is left after it
+-- one symbol of an item, and the rest of the pattern after it
 abbrev pub one_admits : (Bool → Content → Bool) → Bool → Content → Symbol → Bool
 one_admits left earlier content member =
     may_show earlier content member && left true (past content member)
 
--- the rest may stand after what is left
+-- the rest is allowed after that
 abbrev Admits : (Bool → Content → Bool) → List Symbol → Type 0
 Admits left others = (earlier : Bool) (content : Content) → left earlier content ≡ true →
     admits earlier content others ≡ true

@@ -105,7 +105,7 @@ module _ {A : Type 0} (of_symbols : Symbol → Bool) (of_names : Name →
     pub are_fine : AreFine bytes names children (inner_role (standing_of name) around None)
         (inner_before (standing_of name) None)
 
-  -- of nodes there is a first, where their spine begins with such a symbol
+  -- among nodes there is a first one, if their spine begins with such a symbol
   abbrev HasFirst : Forest → Type 0
   HasFirst forest = (around : Role) → AreFine bytes names forest around None →
       begins of_symbols (spine forest) ≡ true → First forest around

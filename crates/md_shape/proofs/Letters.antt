@@ -55,7 +55,7 @@ endings-all test (suc endings) line under = and_from (test LineEnding)
     (list_all test (replicate endings LineEnding ++ SetextUnderline ∷ [])) line
     (endings-all test endings line under)
 
--- and of what stands there
+-- and for its content
 pub tail-all : (test : Symbol → Bool) (first : Symbol) (tail : List Symbol) →
     list_all test followers ≡ true →
     IsTail first tail → list_all test tail ≡ true
@@ -104,7 +104,7 @@ grouped-all test tails (first ∷ firsts) spine g h =
     ∙ and_from (list_all test g.0) (list_all test g.1) (tails first g.0 parts.0 g.3)
     (grouped-all test tails firsts g.1 g.4 parts.1)))
 
--- so does what holds of whatever may follow in a group
+-- and what holds for anything that may follow in a group
 pub followed-all : (test : Symbol → Bool) → list_all test followers ≡ true →
     (firsts spine : List Symbol) →
     IsGrouped firsts spine → list_all test firsts ≡ true → list_all test spine ≡ true

@@ -55,7 +55,7 @@ pub follows : (test holds : Bool) → implies test holds ≡ true → test ≡ t
 follows true holds h t = h
 follows false holds h t = lie t
 
--- what was computed of all names of which a test holds, of one of them
+-- a fact computed for all names that pass a test, for one of them
 pub picked : {A : Type 0} (b : Bool) (x y : A) → (if b then x else y) ≡ y → b ≡ true → x ≡ y
 picked true x y h e = h
 picked false x y h e = lie e

@@ -98,7 +98,7 @@ leaves MdxJsxFlowTag = tt
 leaves MdxJsxTextTag = tt
 leaves _ = λ found inner there. refl
 
--- the target that nodes leave, one after another
+-- the target after nodes, in sequence
 abbrev pub sought : List Stand → Referral → Referral
 sought [] found = found
 sought (node ∷ nodes) found =
