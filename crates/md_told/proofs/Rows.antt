@@ -43,8 +43,7 @@ row_of enters index last name start end children = record {
   exit = index_after (suc index) children;
 }
 
--- those of some nodes, of which the first is entered at an index, and the last is the
--- document's last or not
+-- those of some nodes: the first is entered at an index, and the last may end the document
 abbrev pub rows_of : ℕ → Bool → Forest → List Row
 rows_of index outermost Empty = []
 rows_of index outermost (Node name start end children rest) =
