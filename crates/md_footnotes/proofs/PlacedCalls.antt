@@ -169,7 +169,7 @@ count-kept entries calls q i h same =
     ap (λ o. option_map_or (λ place. count_in entries place) o 0) (sym h)
     ∙ count-at entries q ∙ ap (λ cs. count_among cs q) same ∙ count-same calls q
 
--- what stands at an index of what is kept
+-- the entry at an index
 pub entry-called :
     (entries : List (String Global × ℕ)) (f : List ℕ → ℕ) (names : List (List ℕ)) (i : ℕ)
     (e : String Global × ℕ) →
