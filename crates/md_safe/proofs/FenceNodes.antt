@@ -44,7 +44,7 @@ begun s false holds within later both e inner rest a b =
     × later y) (said (codes ">")) rest (λ x y f g. (y, ap (λ x. x ++ y) f, g))
     (adds-text s.given.ending (λ x. x ≡ codes ">") (codes ">") refl) b))
 
--- what a fence prints, and what stands in it
+-- the text of a fence, and its content
 fence-pieces : (given : Given) (t : At) (name : Name) (inner : List Piece) →
     cond (fence_name name) (prints given t name inner)
     (inner ++ when (is_first_fence t) (said (codes ">")))

@@ -20,11 +20,11 @@ is_blocks content = elim content [ Blocks ↦ true | _ ↦ false ]
 abbrev pub is_chunks : Content → Bool
 is_chunks content = elim content [ Chunks ↦ true | _ ↦ false ]
 
--- what stands only in images
+-- names that occur only in images
 abbrev pub asks_image : Content → Bool
 asks_image content = elim content [ Spans ↦ true | _ ↦ false ]
 
--- what stands only where special characters are escaped
+-- names that occur only where special characters are escaped
 abbrev pub asks_escaping : Content → Bool
 asks_escaping content = elim content [
   | Blocks ↦ true

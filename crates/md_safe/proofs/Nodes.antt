@@ -146,7 +146,7 @@ done-node : (s : Setting) (t : At) (name : Name) → may_stand Done name ≡ tru
 done-node s t GfmTaskListItemValueChecked is inner rest b = checked s t.around.in_image rest b
 done-node s t _ is inner rest b = lie is
 
--- what stands among blocks is no part of another node
+-- a node among blocks is no part of another node
 pub not_part : (part : Bool) → cond part false true ≡ true → part ≡ false
 not_part true h = lie h
 not_part false h = refl

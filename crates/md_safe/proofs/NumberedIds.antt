@@ -121,7 +121,7 @@ prefix-back options x = by (prefix_given options)
 
 -- ---- ids by number
 
--- what stands after the prefix in the id of a footnote, and in that of a call
+-- what follows the prefix in the id of a footnote, and in that of a call
 abbrev pub note_tail : ℕ → List ℕ
 note_tail number = codes "fn-" ++ decimal number
 

@@ -1,4 +1,4 @@
--- Texts that stand as some content: nothing, a text, tags around what stands in them, and two
+-- Texts that a content allows: the empty text, a plain text, tags around their content, and two
 -- such texts joined.
 use Rattle.std.specs.List.{list_all}
 use Rattle.std.specs.Option.{option_map_or}

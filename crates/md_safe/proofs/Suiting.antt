@@ -43,7 +43,7 @@ suits-after-node escaping in_image content name children h =
     (λ _. stays-after (Suits escaping in_image) (suits-past escaping in_image) content children h)
     (λ _. suits-past escaping in_image content name h)
 
--- what a content asks of its surroundings
+-- the conditions of a content on its surroundings
 suits : (escaping in_image : Bool) (content : Content) →
     (asks_escaping content ≡ true → escaping ≡ true) →
     (asks_image content ≡ true → in_image ≡ true) →

@@ -13,7 +13,7 @@ use Rattle.md_safe.proofs.EscapedCases.{IsPlain, by_escaped}
 use Rattle.md_safe.proofs.Steps.{past, tag_with, attribute, AtValue}
 use Rattle.md_safe.specs.Leads.{Leads, emitted_before, and_then, steps}
 
--- with what is left first
+-- with the rest of the input first
 abbrev pub To : List ℕ → State → List ℕ → List Token → Type 0
 To left state input tokens = Leads state input tokens left
 

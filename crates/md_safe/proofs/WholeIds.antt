@@ -71,7 +71,7 @@ calls-same given (Node name start end children rest) around before =
     ∙ ap (λ calls. (calls_in given.bytes children ++ own) ++ calls)
     (calls-same given rest around next)
 
--- a document has no more calls than half its events
+-- a document has at most half as many calls as events
 calls-fewer : (bytes : List ℕ) (forest : Forest) →
     length (calls_in bytes forest) + length (calls_in bytes forest) ≤ length (flatten forest)
 calls-fewer bytes Empty = omega arith
