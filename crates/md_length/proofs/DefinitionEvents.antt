@@ -136,7 +136,7 @@ dropped (e ∷ events) zero event following split = cc
 dropped (e ∷ events) (suc index) event following split =
     dropped events index event following split
 
--- behind the events of some nodes
+-- after the events of some nodes
 behind : (events : List Event) (index : ℕ) (forest : Forest) (tail : List Event) →
     drop index events ≡ flatten forest ++ tail → drop (index_after index forest) events ≡ tail
 behind events index Empty tail split = split

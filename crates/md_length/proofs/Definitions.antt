@@ -33,7 +33,7 @@ use Rattle.md_length.proofs.Kept.{kept, both-kept, target-kept}
 use Rattle.md_length.proofs.Pieces.{size, layout-short}
 use Rattle.md_length.proofs.Strings.{around_in, strings-short, has_strings, picked}
 
--- ---- what stands in a definition
+-- ---- the content of a definition
 abbrev is_sources : Content → Bool
 is_sources content = elim content [ Sources ↦ true | _ ↦ false ]
 
@@ -119,7 +119,7 @@ definition_costs names (Node name start end children rest) =
     (definition_costs names children ++ when (is Definition name) (cost names children ∷ []))
     ++ definition_costs names rest
 
--- as many take no more than so much each
+-- a number of items, each with a maximum length
 abbrev pub AreBelow : List Defined → List ℕ → Type 0
 AreBelow [] costs = costs ≡ []
 AreBelow (defined ∷ definitions) [] = ⊥

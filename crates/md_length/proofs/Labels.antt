@@ -1,5 +1,5 @@
--- The identifiers of footnote calls are no longer than twelve times their labels, each of which is
--- read once.
+-- The identifiers of footnote calls are at most twelve times as long as their labels, each of which
+-- is read once.
 use Rattle.std.proofs.Common.{ℕ, ◌+◌, ◌*◌, ◌≤◌, Bool, true, false, List, [], length}
 use Rattle.std.proofs.Common.{arith, Option, Some, None, unwrap_or}
 use Rattle.std.specs.Prelude.{if◌then◌else◌, option_map}

@@ -59,7 +59,7 @@ extra-covered given at waits GfmFootnoteCall sound found few rare under other =
 extra-covered given at waits HeadingSetextText sound found few rare under other = lie (sym other)
 extra-covered given at waits _ sound found few rare under other = omega arith
 
--- a name of which something is found
+-- a name that adds something to the spine
 abbrev is_found : Name → Bool
 is_found name = elim name [
   | HeadingSetextText ↦ true
