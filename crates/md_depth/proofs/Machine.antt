@@ -7,7 +7,7 @@ use Rattle.std.proofs.lemmas.Bool.{and_parts}
 use Rattle.md_base.proofs.Lies.{lie}
 use Rattle.md_text.proofs.HtmlNames.{no_angle}
 
--- where a text is read: anywhere, behind `<`, behind `<b`, behind `<h`, or behind `<` twice
+-- the state of reading a text: anywhere, after `<`, after `<b`, after `<h`, or after `<` twice
 pub data Spot : Type 0 where
   Out : Spot
   Begun : Spot
@@ -40,7 +40,7 @@ closed s = record { spot = Out; level = lower s.level; top = s.top }
 abbrev pub to : Spot → State → State
 to spot s = record { spot = spot; level = s.level; top = s.top }
 
--- behind a first letter that a void tag may have
+-- after a first letter that a void tag may have
 abbrev pub second : State → ℕ → State
 second s byte = cond (byte == 114) (voided s) (cond (byte == 60) (to Bad s) (opened s))
 
