@@ -85,7 +85,7 @@ from_start bytes n = ap (λ m. take m bytes) (whole n)
     whole : (n : ℕ) → n - 0 ≡ n
     whole n = omega arith
 
--- what is written, and after it what becomes of the rest, stays the whole
+-- the written text, followed by the result for the rest, stays the whole
 pub turned : (picks : List ℕ → Bool) (add : ℕ → List ℕ) (n : ℕ) (rest : List ℕ) (end : ℕ)
     (out out' out'' front attribute rest' whole : List ℕ) → out' ≡ out ++ front →
     front ≡ take end rest →

@@ -1,4 +1,4 @@
--- A link that gets a `rel`: its bytes tell what its token does.
+-- A link that gets a `rel`: its bytes decide the same as its token.
 use Rattle.std.specs.Str.{bytes_eq}
 use Rattle.std.specs.Prelude.{nat_eq, is_none}
 use Rattle.std.proofs.Common.{◌≡◌, ℕ, ◌==◌, Bool, true, false, not, ◌&&◌, ◌||◌, cond, List, [], ◌∷◌}
