@@ -20,7 +20,7 @@ module _ {A : Type 0} (options : COptions) (field : ℕ) (value : Option A)
   fault_of (failure.Line number) fault = absurd fault
   fault_of (failure.Refused index rule) fault = absurd fault
 
-  -- what `?` makes of it
+  -- the result of `?`
   pub fault_told : {T : Type 0} (r : Result T Failure) (why : Failure) →
       IsErrAnd r (λ made. made ≡ why) →
       IsFaultOf field value why → IfErr r (IsOptionFault options)

@@ -1,4 +1,4 @@
--- What an answer within limits says of what C is handed.
+-- The promises of an answer within limits about C's result.
 use Rattle.std.proofs.Common.{◌≡◌, inl, ℕ, ◌<◌, ◌≤◌, List}
 use Rattle.std.proofs.Common.{refl, sym, subst, arith}
 use Rattle.md_tree.specs.Grammar.{handed}

@@ -4,7 +4,7 @@ use Rattle.std.proofs.Common.{◌≡◌, ◌++◌, map, drop, Some}
 use Rattle.md_abi.specs.Events.{event_of}
 use Rattle.md_abi.proofs.event.read_c_events.Given as goal
 
--- what has been read, then what is left, is the whole
+-- the converted events, then the rest, are the whole
 abbrev pub invariant-loop-event : goal.invariant-loop-event
 invariant-loop-event l =
     map Some l.read.items ++ map event_of (drop l.event-index l.events) ≡ map event_of l.events
