@@ -147,7 +147,7 @@ def short(names):
 
 
 def sums(texts, factors):
-    """The sum that the reader of scripts computes for each spelling, from three of its letters."""
+    """The sum of each spelling in the reader of scripts, of its first, middle and last letter."""
     times = (1, *factors)
     letters = ((text[0], text[len(text) // 2], text[-1]) for text in texts)
     return [sum(at * ord(letter) for at, letter in zip(times, three)) % 256 for three in letters]
