@@ -1,13 +1,13 @@
 #!/usr/bin/env python3
-"""Asks two builds of a program for the answers to random scripts, whole, broken and with bytes
-in no character.
+"""Compares the output of two builds of a program for random scripts: valid ones, broken ones, and
+some with invalid bytes.
 
     bench/alike.py OLD NEW [COUNT [SEED]]
 
 OLD and NEW are programs that read a script, as crates/mdevents/out/mdevents. The scripts are those
-of crates/md_cases (once bench/cases.py --write has written them), one or two of them put together
-and changed in some places by chance. It prints how many of each status there were, and stops with
-status 1 at the first script on which outputs, messages or statuses differ, which it then prints.
+of crates/md_cases (once bench/cases.py --write has written them), one or two of them joined, with
+some random changes. It prints how many of each status there were, and stops with status 1 at the
+first script for which outputs, messages or statuses differ, which it then prints.
 """
 
 import collections
@@ -36,12 +36,12 @@ def cases():
 
 
 def moved(line, by):
-    """A line whose index is so much greater."""
+    """A line with its index increased by so much."""
     return re.sub(rb" (\d+)", lambda found: b" %d" % max(0, int(found.group(1)) + by), line)
 
 
 def joined(chance, first, second):
-    """Two scripts, one after the other, with a line ending between them or none."""
+    """Two scripts joined, with or without a line ending between them."""
     (lines, document), (others, more) = first, second
     ending = [b"+LineEnding %d" % len(document),
               b"-LineEnding %d" % (len(document) + 1)] if chance.random() < 0.8 else []
@@ -91,13 +91,13 @@ def scripts(count, seed):
 
 
 def answers(programs, script):
-    """What each program answers: its status, its output and its messages."""
+    """The result of each program: its status, its output and its messages."""
     done = [subprocess.run([program], input=script, capture_output=True) for program in programs]
     return script, [(one.returncode, one.stdout, one.stderr) for one in done]
 
 
 def main():
-    """Compares the answers."""
+    """Compares the results."""
     if len(sys.argv) not in (3, 4, 5):
         sys.exit("usage: bench/alike.py OLD NEW [COUNT [SEED]]")
     programs = [os.path.abspath(word) for word in sys.argv[1:3]]

@@ -3,14 +3,12 @@
 
     bench/api.py
 
-Of md_base, md_text, md_tree, md_html, md_script, md_page, md_slugs and md_markdown: the names at
-the root and
-the methods of the types among them are those of the crate's list, and of the table at the end, and
-no others.
-md_html hands on exactly the names of the lists of md_base, md_text and md_tree. The C headers have
-each name of their list, and declare no function but these and those that their own functions call.
-Each other crate's README says that it is internal. The status is 1 where something differs, and it
-says what.
+For md_base, md_text, md_tree, md_html, md_script, md_page, md_slugs and md_markdown: the names at
+the root and the methods of the types among them are exactly those of the crate's list and of the
+table at the end. md_html re-exports exactly the names of the lists of md_base, md_text and md_tree.
+The C headers have each name of their list, and declare no function except these and those that
+their own functions call. Each other crate's README says that it is internal. It prints each
+difference, and the status is 1 if there is one.
 """
 
 import pathlib
@@ -21,7 +19,7 @@ ROOT = pathlib.Path(__file__).resolve().parents[1]
 CRATES = ["md_base", "md_text", "md_tree", "md_html", "md_script", "md_page", "md_slugs",
           "md_markdown"]
 BELOW_HTML = ["md_base", "md_text", "md_tree"]
-# Crates whose own list has what they hand on of a crate below.
+# Crates whose own list has what they re-export from a lower crate.
 HANDED_ON = {"md_script": "md_html", "md_markdown": "md_html"}
 # The C interface, the programs and the benchmark, whose folder stays as it is; what the README of
 # each other crate says.
@@ -33,17 +31,17 @@ HELPERS = {"bivdrazo_answer_memory", "bivdrazo_is_too_long", "bivdrazo_first_siz
            "bivdrazo_markdown_first_size", "bivdrazo_markdown_lines", "bivdrazo_markdown_texts"}
 
 
-# An item of a list that begins with names, up to the colon before what they are.
+# An item of a list that begins with names, up to the colon before their description.
 ITEM = re.compile(r"^- (`[^`]*`(?:,\s+`[^`]*`)*):\s", re.MULTILINE)
 
 
 def named(cell):
-    """The names in the beginning of an item or in a cell, without their arguments."""
+    """The names at the beginning of an item or in a cell, without their arguments."""
     return {re.sub(r"\(.*", "", name) for name in re.findall(r"`([^`]*)`", cell)}
 
 
 def listed(page):
-    """Of each heading of the page its items with names, and the rows of its table, as cells."""
+    """For each heading of the page its items with names, and the rows of its table, as cells."""
     found = {}
     for part in re.split(r"^## ", page, flags=re.MULTILINE)[1:]:
         heading, text = part.split("\n", 1)
@@ -60,8 +58,8 @@ def sources(crate):
 
 
 def exported(crate):
-    """The names that a crate's root makes public itself, and those that it hands on from the crates
-    below, by crate.
+    """The names that a crate's root makes public itself, and those that it re-exports from lower
+    crates, by crate.
     """
     root = re.sub(r"//.*", "", (ROOT / "crates" / crate / "src" / "lib.rt").read_text())
     own, handed = set(), {}
@@ -75,7 +73,7 @@ def exported(crate):
 
 
 def methods(crate, types):
-    """The public methods of these types that a crate writes."""
+    """The public methods of these types that a crate defines."""
     blocks = re.compile(r"^impl(?:<[^{]*?>)? (\w+)(?:<[^{]*?>)? \{\n(.*?)^\}",
                         re.MULTILINE | re.DOTALL)
     found = set()
@@ -94,7 +92,7 @@ def told(what, expected, found):
 
 
 def crates_faults(found):
-    """What differs of the seven crates."""
+    """The differences in the seven crates."""
     public = {crate: {name for row in found[crate] for name in named(row[0])} for crate in CRATES}
     inner = [(named(row[0]), named(row[1])) for row in found["Exported, and not for users"]]
     faults = []
@@ -113,7 +111,7 @@ def crates_faults(found):
 
 
 def header_faults(found):
-    """What differs of the C headers, and of what the library exports to them."""
+    """The differences in the C headers, and in the functions that the library exports to them."""
     headers = [(ROOT / "clients" / "c" / name).read_text()
                for name in ("bivdrazo.h", "bivdrazo_types.h", "bivdrazo_alloc.h",
                             "bivdrazo_numbers.h", "bivdrazo_markdown.h")]

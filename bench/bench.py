@@ -26,7 +26,7 @@ LIMIT = 60.0  # seconds; a shape that takes longer is halved
 
 
 class Result:
-    """What the best run took, and how the program ended."""
+    """The cost of the best run, and how the program ended."""
 
     def __init__(self, wall, usage, status, error):
         self.wall = wall
@@ -63,11 +63,11 @@ def write(path, make, n):
 
 def measure(program, folder, make, n):
     """The script's events, the sizes of the document and the HTML, and the best of the runs;
-    None past the limit.
+    None if it exceeds the limit.
     """
     source = os.path.join(folder, "script")
     target = os.path.join(folder, "html")
-    # In a process of its own, since what this one takes counts as the least of the
+    # In a process of its own, since this one's memory would count as the minimum of the
     # program's memory.
     with multiprocessing.Pool(1) as pool:
         events, size = pool.apply(write, (source, make, n))

@@ -3,13 +3,13 @@
 
     python3 bench/beside.py PROGRAM [--picture FILE] [--runs R] [--shapes NAME,..|none]
 
-PROGRAM is the built `mdevents`. The original is built from the folder `speed` beside the clone, in
-`../shared`; where it isn't there, this says so, and `bench/bench.py` measures the program alone.
-Instructions are counted by valgrind, where it is there: they are steady where the machine is busy.
-The realistic script is that of the folder's examples, one after another; `reader` is the same
-script with a line that can't be read before its document, `compile` the rest. Times are the least
-of some runs, in ms, which go by turns over both scripts and both programs. The picture shows the
-times of the shapes, and is drawn where matplotlib is there.
+PROGRAM is the built `mdevents`. The original is built from a folder beside the clone; if the folder
+is missing, this says so, and `bench/bench.py` measures the program alone. valgrind, if it is
+installed, counts instructions, which are steady on a busy machine. The realistic script is that of
+the folder's examples, in sequence; `reader` is the same script with an invalid line before its
+document, `compile` the rest. Times are the minimum of some runs, in ms; the runs alternate between
+both scripts and both programs. The picture shows the times of the shapes, and is drawn if
+matplotlib is installed.
 """
 
 import argparse
@@ -22,12 +22,12 @@ import tempfile
 TOP = os.path.dirname(os.path.dirname(os.path.abspath(__file__)))
 SHARED = os.path.join(os.path.dirname(TOP), "shared", "speed")
 SIZES = (5000, 10000, 20000, 40000)
-SLOW = 3.0  # seconds; no greater size of a shape is run after a run that took longer
+SLOW = 3.0  # seconds; after a longer run no greater size of that shape is run
 CHECK = "md_tree::grammar::read_events"  # the function of the program that reads all events
 
 
 def beside():
-    """The module that builds the original and measures, or None where it isn't beside the clone."""
+    """The module that builds the original and measures, or None if it isn't beside the clone."""
     if not os.path.isfile(os.path.join(SHARED, "compare.py")):
         return None
     sys.path.insert(0, SHARED)
@@ -41,8 +41,8 @@ def put(path, data):
         file.write(data)
 
 
-# Runs a command on a file from a small process: what a process took at most counts the one that it
-# was forked from.
+# Runs a command on a file from a small process: the peak memory of a process includes that of the
+# process that it was forked from.
 USED = """
 import os, sys
 from subprocess import DEVNULL, Popen
@@ -54,7 +54,7 @@ print(used.ru_utime + used.ru_stime, used.ru_minflt, used.ru_maxrss * 1024)
 
 
 def used(command, path):
-    """The seconds of a run, its page faults, and the most memory that it takes, in bytes."""
+    """The seconds of a run, its page faults, and its peak memory in bytes."""
     words = [sys.executable, "-I", "-S", "-c", USED, path, *command]
     said = subprocess.run(words, stdout=subprocess.PIPE, check=True).stdout
     seconds, faults, memory = said.split()
@@ -62,7 +62,7 @@ def used(command, path):
 
 
 def least_used(commands, paths, runs):
-    """For each path the least that each command uses, by turns: a busy while touches all alike."""
+    """For each path the minimum of each command, alternating: a busy period affects all alike."""
     best = {}
     for _ in range(runs):
         for path in paths:
@@ -81,8 +81,8 @@ def ratio(ours, theirs):
 
 
 def whole_and_reader(measure, path, lines, document, compare):
-    """What `measure` answers for a script, and for the same with a line that can't be read
-    before its document.
+    """The result of `measure` for a script, and for the same with an invalid line before its
+    document.
     """
     put(path, compare.written(lines, document))
     whole = measure(path)
@@ -145,7 +145,7 @@ def times_table(compare, commands, path, runs):
 
 
 def shape_times(compare, commands, path, shape, runs):
-    """The least times of a shape at each size, ours and the original's, None where a run was
+    """The minimum times of a shape at each size, ours and the original's, None if a run was
     killed.
     """
     times = []

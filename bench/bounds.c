@@ -1,10 +1,10 @@
-/* What a text within limits costs: one call of bivdrazo_compile_within over events that give much
-   to read or to print.
+/* Measures a text within limits: one call of bivdrazo_compile_within for events that give much to
+   read or to print.
 
    usage: bounds SHAPE DOCUMENT COUNT TEXT WORK
 
    DOCUMENT bytes, some COUNT nodes, the limits TEXT and WORK. The bytes are `"`, in shapes whose
-   labels are folded U+0390, which is three letters then. Prints the status, the text's length,
+   labels are folded U+0390, which becomes three letters. Prints the status, the text's length,
    the seconds of a processor, the most memory of the process in kB, before the call and after it,
    and how many events there were. */
 #include "bivdrazo.h"
@@ -37,7 +37,7 @@ static void leaf(int name, size_t start, size_t end) {
     put(2, name, end);
 }
 
-/* Texts that are each the whole document. */
+/* Texts, each of which is the whole document. */
 static void texts(size_t nodes, size_t length) {
     for (size_t i = 0; i < nodes; i++) leaf(NAME(DATA), 0, length);
 }
@@ -116,7 +116,7 @@ static void table(size_t columns, size_t rows, int centred) {
     end_table();
 }
 
-/* A row whose second cell is past the only column, up to that cell. */
+/* A row whose second cell is beyond the only column, up to that cell. */
 static void begin_dropped(void) {
     begin_table(1, 0);
     in(NAME(GFM_TABLE_ROW));
@@ -131,7 +131,7 @@ static void end_dropped(void) {
     end_table();
 }
 
-/* Footnote calls, whose labels are each so long. */
+/* Footnote calls, each with a label of this length. */
 static void calls(size_t nodes, size_t length) {
     for (size_t i = 0; i < nodes; i++) {
         put(1, NAME(GFM_FOOTNOTE_CALL), 0);
@@ -240,7 +240,7 @@ static int make(const char *shape, size_t length, size_t nodes) {
     return 1;
 }
 
-/* The most memory that this program had in kB, without that of the one that started it. */
+/* The peak memory of this program in kB, without that of the program that started it. */
 static long peak(void) {
     FILE *status = fopen("/proc/self/status", "r");
     char line[256];

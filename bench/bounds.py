@@ -1,5 +1,5 @@
 #!/usr/bin/env python3
-"""What a text within limits costs, of events that give as much to read or to print as they can.
+"""Measures texts within limits, for events that give as much to read or to print as they can.
 
 usage: bench/bounds.py ARCHIVE [--each]
 
@@ -7,9 +7,9 @@ ARCHIVE is crates/md_ffi/out/libmd_ffi.a, once clients/link has linked it. Each 
 bench/bounds.c is compiled by `bivdrazo_compile_within` in a process of its own, with some 1 kB to
 1 MB of document and events, texts of at most 10 kB and 1 MB, and four times as much work as input
 and text together may have: with as many nodes, up to that size, as give no more work. Prints the
-most that any took for a byte of input and limit, and with --each what each took. Inputs of up to
-100 kB have an address space of 64 MB. Ends with status 1 where a process dies or a text is longer
-than its limit.
+maximum cost for a byte of input and limit, and with --each that of each call. Inputs of up to
+100 kB have an address space of 64 MB. Ends with status 1 if a process dies or a text exceeds its
+limit.
 """
 
 import os
@@ -47,8 +47,8 @@ def built(archive, folder):
 
 
 def asked(program, shape, length, nodes, text, held):
-    """One call: its status, the text's length, seconds, bytes of memory that it took,
-    and bytes of input.
+    """One call: its status, the text's length, its seconds, its memory in bytes,
+    and the length of its input in bytes.
     """
 
     def limit():
@@ -70,7 +70,7 @@ def asked(program, shape, length, nodes, text, held):
 
 
 def most_nodes(program, shape, length, most, text, held):
-    """With how many nodes, at most so many, there isn't too much work."""
+    """The maximum number of nodes, at most so many, whose work doesn't exceed the limit."""
     low, high = 1, most
     while low < high:
         middle = (low + high + 1) // 2

@@ -1,16 +1,16 @@
 #!/usr/bin/env python3
-"""Counts what makes the repository long to read, a line each, with the figure that is wanted.
+"""Counts what makes the repository long to read, a line each, with the target figure.
 
     bench/count.py [CLONE]
 
-It judges nothing. It reads the texts that git keeps but data, which nobody reads from end to end:
-the cases, pictures, locks, JSON, and tables of references. What may not become shorter stands in a
+It judges nothing. It reads the texts that git tracks except data, which nobody reads from end to
+end: the cases, pictures, locks, JSON, and tables of references. What may not become shorter has a
 line of its own: crates/md_bench, which stays as it is to the byte, files that a script writes
 whole, as their heads say, and the signatures that the interface promises. Two lines of pages that
-are too long are HTML as it is printed. How often words stand is counted without must-fail edits,
+are too long are HTML as it is printed. Occurrences of words are counted without must-fail edits,
 the benchmark, the list clients/numbers/numbers.txt, and the files that bench/names.py or
-clients/numbers/generate writes whole of that list, as their heads say: nobody touches these. A file
-of which a script writes a part is counted.
+clients/numbers/generate writes whole from that list, as their heads say: nobody edits these. A file
+of which a script writes only a part is counted.
 """
 import collections
 import pathlib
@@ -34,18 +34,18 @@ WORDS = r"(?m)^( *)(?:pub(?:\(\w+\))? )?(?:const )?(?:unsafe )?(?:extern \"C\" )
 FUNCTION = re.compile(WORDS + r"fn (\w+)(?:<(?:[^<>]|->|<[^<>]*>)*>)?\(")
 BODY = re.compile(r"(?m)^(\{|[^ \n].* \{)$|\}$")
 COLUMNS, LINES, PARAMETERS, SHOWN = 100, 300, 5, 5
-# In how many letters at its beginning a file says that a script writes it.
+# The number of characters at the beginning of a file that say whether a script writes it.
 HEAD = 300
 
 
 def kept():
-    """The paths that git keeps."""
+    """The paths that git tracks."""
     listed = subprocess.check_output(["git", "-C", ROOT, "ls-files", "-z"], text=True)
     return [path for path in listed.split("\0") if (ROOT / path).is_file()]
 
 
 def parameters(source, place):
-    """How many parameters stand from a place on, up to the bracket that closes their list."""
+    """The number of parameters from an index up to the bracket that closes their list."""
     text, depth = "", 0
     for mark in source[place:].replace("->", "  "):
         depth += (mark in "([{<") - (mark in ")]}>")
@@ -56,7 +56,7 @@ def parameters(source, place):
 
 
 def named_in(files, words):
-    """In how many files each of these words stands: the median, and the most."""
+    """In how many files each of these words occurs: the median, and the maximum."""
     held = [set(re.findall(r"\w+", source)) for source in files]
     counts = {word: sum(word in known for known in held) for word in words}
     most = max(counts, key=counts.get)
@@ -64,7 +64,7 @@ def named_in(files, words):
 
 
 def shared(sources):
-    """The names of free functions that mean several things, each with how many heads it has."""
+    """The names that several free functions share, each with its number of signatures."""
     heads = collections.defaultdict(set)
     for source in sources:
         for found in FUNCTION.finditer(source):
@@ -76,7 +76,7 @@ def shared(sources):
 
 
 def greatest(counts, least, shown=SHOWN):
-    """How many counts pass a number, and the greatest of them."""
+    """How many counts exceed a number, and the greatest of them."""
     passing = {path: count for path, count in counts.items() if count > least}
     first = sorted(passing, key=lambda path: (-passing[path], path))[:shown]
     told = ", ".join(f"{path} {passing[path]}" for path in first)
@@ -84,13 +84,13 @@ def greatest(counts, least, shown=SHOWN):
 
 
 def parted(counts, is_apart):
-    """The counts of what isn't set apart, and of what is."""
+    """The counts that aren't set apart, and those that are."""
     apart = {path: count for path, count in counts.items() if is_apart(path)}
     return {path: count for path, count in counts.items() if path not in apart}, apart
 
 
 def kind(path, line):
-    """What a line is counted as: by the end of its file's name, and rows of tables apart."""
+    """The kind of a line: by its file's suffix, with rows of tables as a kind of their own."""
     if path.endswith(".md"):
         return "rows of tables in pages" if line.startswith("|") else "pages"
     return path[path.rfind("."):] if path.endswith((".rt", ".antt")) else "other code"

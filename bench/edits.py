@@ -1,9 +1,9 @@
 #!/usr/bin/env python3
 """Compares the edits that must be refused with those of the last release.
 
-    bench/edits.py            compares; the status is 1 where an edit went or changed, and nothing
-                              says why
-    bench/edits.py --write    makes the list anew, at a release
+    bench/edits.py            compares; the status is 1 if an edit was removed or changed, and
+                              nothing says why
+    bench/edits.py --write    writes the list again, at a release
 
 `bench/edits.txt` has a line for each edit of the last release: its crate, its name, and a checksum
 of what `rt` reads of it (comments don't count). An edit that is gone since, or has another text, is
@@ -32,19 +32,19 @@ def checksum(text):
 
 
 def standing():
-    """The checksum of each edit, by `crate/name`."""
+    """The checksum of each existing edit, by `crate/name`."""
     return {f"{path.parents[1].name}/{path.stem}": checksum(path.read_text(encoding="utf-8"))
             for path in sorted(ROOT.glob("crates/*/must-fail/*.edit"))}
 
 
 def released():
-    """The same of the last release."""
+    """The same for the last release."""
     rows = [line.split() for line in LIST.read_text(encoding="utf-8").splitlines()]
     return {f"{crate}/{name}": known for crate, name, known in rows}
 
 
 def told():
-    """The edits of which the page says what took their place."""
+    """The edits whose replacements the page names."""
     parts = PAGE.read_text(encoding="utf-8").split(f"\n## {HEADING}\n")
     part = parts[1].split("\n## ")[0] if len(parts) > 1 else ""
     return {edit for names in ITEM.findall(part) for edit in re.findall(r"`(\w+/\w+)`", names)}

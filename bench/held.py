@@ -1,16 +1,15 @@
 #!/usr/bin/env python3
-"""Compiles scripts that would show it if memory were kept, and looks at the memory that
-each takes at most.
+"""Compiles scripts that would show leaked memory, and checks the peak memory of each.
 
 usage: bench/held.py PROGRAM
 
-PROGRAM is crates/mdevents/out/mdevents, once `rt run < stdin` there has built it. That memory is
-given back no clause says. Of the first three scripts each prints or drops some hundreds of texts as
-long as its document, few of them at once, and may take what some sixty of them take. The others
-have a limit of their own, a few hundredths above what was measured: definitions keep what their
-texts fill and no more, the list of a document's texts is gone when its labels are looked up, and a
-script's events have no more room than where it grows by doubling, so that all is answered in an
-address space of so many bytes. Ends with status 1 where one takes more.
+PROGRAM is crates/mdevents/out/mdevents, once `rt run < stdin` there has built it. No clause says
+that memory is freed. Each of the first three scripts prints or drops some hundreds of texts as long
+as its document, few of them at once, and may take the memory of some sixty of them. The others have
+a limit of their own, a few hundredths above the measured value: definitions use no more capacity
+than their texts fill, the list of a document's texts is freed before its labels are looked up, and
+the capacity of a script's events doesn't exceed that of growth by doubling, so that the script is
+compiled in an address space of so many bytes. Ends with status 1 if one takes more.
 """
 
 import os
@@ -28,7 +27,7 @@ def leaf(name, start, end):
 
 
 def images(count):
-    """Images in one another, each with a reference whose text is the document."""
+    """Nested images, each with a reference whose text is the document."""
     label = ["+DefinitionLabelString 0", *leaf("Data", 0, 1), "-DefinitionLabelString 1"]
     events = ["+Definition 0", *label, "-Definition 1", "+Paragraph 0"]
     events += ["+Image 0", "+Label 0", "+LabelText 0"] * count + leaf("Data", 0, 1)
@@ -58,7 +57,7 @@ def footnotes(count):
 
 
 def kept_targets(count, size):
-    """Definitions with a destination and a title of so many bytes each."""
+    """Definitions, each with a destination and a title of so many bytes."""
     label = ["+DefinitionLabelString 0", *leaf("Data", 0, 1), "-DefinitionLabelString 1"]
     events = []
     for name in ("DefinitionDestinationString", "DefinitionTitleString"):
@@ -89,8 +88,8 @@ def spans(count):
 
 BAD = 2_000_000
 
-# Each script: its name, its events, made when it is run, its document, the most memory that it may
-# take, and its address space, if it has one.
+# Each script: its name, its events, generated when it is run, its document, the limit on its
+# memory, and its address space, if it has one.
 SCRIPTS = [
     ("images", lambda: images(400), LONG, 64_000_000, None),
     ("definitions", lambda: definitions(200), LONG, 64_000_000, None),
@@ -100,7 +99,7 @@ SCRIPTS = [
      57_000_000, None),
     ("events in 26,000 kB", lambda: data(66_000), b"ab", 64_000_000, 26_000 * 1024),
     ("events in 28,000 kB", lambda: data(66_000), b"ab", 64_000_000, 28_000 * 1024),
-    # Of most events the check keeps a word; with a record for each this takes 16,600 kB.
+    # The check keeps a word for most events; with a record for each this takes 16,600 kB.
     ("spans in 13,600 kB", lambda: spans(40_000), b"ab", 64_000_000, 13_600 * 1024),
     # The longest comes last, since a program's peak begins with this script's own memory.
     ("definitions of 20 bytes", lambda: kept_targets(100_000, 20), b"a" * 20, 142_000_000, None),
@@ -108,7 +107,7 @@ SCRIPTS = [
 
 
 def taken(program, events, document, space):
-    """The status of a run over these events, and the memory that it took at most, in bytes."""
+    """The status of a run with these events, and its peak memory in bytes."""
     script = "\n".join([*events, "--\n"]).encode("ascii") + document
     limit = None if space is None else lambda: resource.setrlimit(resource.RLIMIT_AS,
                                                                   (space, space))
@@ -122,7 +121,7 @@ def taken(program, events, document, space):
 
 
 def main():
-    """Looks at each script."""
+    """Checks each script."""
     if len(sys.argv) != 2:
         sys.exit("usage: bench/held.py PROGRAM")
     faults = []

@@ -1,22 +1,22 @@
 #!/usr/bin/env python3
-"""Tries hostile events: tests that judge by code of their own, apart from the calls under test.
+"""Tests hostile events; the tests judge with code of their own, not with the calls under test.
 
 usage: bench/hostile.py CASES MDEVENTS
 
-CASES is crates/md_cases/out/md_cases, once `rt run < stdin` there has built it: it answers many
+CASES is crates/md_cases/out/md_cases, once `rt run < stdin` there has built it: it compiles many
 scripts in a run, by `run`, `compile`, `compile_checked`, `compile_counted` (with two visits of each
-event) and `compile_within`, and tells where these differ. MDEVENTS is crates/mdevents/out/mdevents,
-which is given some of the scripts too. The modules in bench/hostile, and what each asks:
+event) and `compile_within`, and reports differences. MDEVENTS is crates/mdevents/out/mdevents,
+which compiles some of the scripts too. The modules in bench/hostile, and what each tests:
 
 - few: each list of at most four of eight events, which has a text exactly if it has no fault
 - shapes: documents of up to a hundred thousand levels or items, each with its exact text, and those
-  of scaled_shapes, nodes in one another at each power of two
-- trees: trees of the grammar (grammar, growing) with all names, odd places, bytes that aren't UTF-8
-  and repeated names of references: each has a text, and that under safe options is read (reading)
-- broken: such trees with one event left out, doubled, exchanged, renamed or moved: what they may
-  give, and that the mended ones give what they gave
+  of scaled_shapes, nested nodes at each power of two
+- trees: trees of the grammar (grammar, growing) with all names, odd points, bytes that aren't UTF-8
+  and repeated names of references: each has a text, which is read under safe options (reading)
+- broken: such trees with one event removed, doubled, exchanged, renamed or moved: that the result
+  is a possible one, and that the repaired ones have the same result as before
 
-The seeds are fixed. Ends with status 1 where something is wrong, and names the list, or the seed.
+The seeds are fixed. Ends with status 1 if something is wrong, and names the list, or the seed.
 """
 
 import collections
@@ -37,13 +37,13 @@ import trees  # noqa: E402
 
 Programs = collections.namedtuple("Programs", "cases mdevents")
 SEEDS = {trees: 800, broken: 300}
-# How many trees are asked of a process, and how many processes run at once, each in 0.3 GB.
+# The number of trees for each process, and the number of processes at once, each in 0.3 GB.
 SEEDS_OF_JOB, MOST_PROCESSES = 50, 4
 SHOWN, SHOWN_LETTERS = 20, 500
 
 
 def jobs():
-    """What is asked, each a module and what that is to ask, the longest first."""
+    """The jobs, each a module and its argument, the longest first."""
     asked = [(shapes, name) for name in shapes.SHAPES]
     for module, seeds in SEEDS.items():
         asked += [(module, range(first, min(first + SEEDS_OF_JOB, seeds)))
@@ -52,7 +52,7 @@ def jobs():
 
 
 def ask(job):
-    """What a job counts, and what is wrong."""
+    """The counts of a job, and its faults."""
     programs, place = job
     module, asked = jobs()[place]
     try:
@@ -62,7 +62,7 @@ def ask(job):
 
 
 def main():
-    """Makes each test."""
+    """Runs each test."""
     if len(sys.argv) != 3:
         sys.exit("usage: bench/hostile.py CASES MDEVENTS")
     programs = Programs(*map(os.path.abspath, sys.argv[1:]))

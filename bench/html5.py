@@ -1,14 +1,14 @@
 #!/usr/bin/env python3
-"""Reads what `mdevents` makes of known attacks by a real HTML5 parser, html5lib.
+"""Reads the output of `mdevents` for known attacks with a real HTML5 parser, html5lib.
 
     /usr/bin/python3 bench/html5.py PROGRAM
 
 PROGRAM is the built `mdevents`; html5lib comes with Debian's python3-html5lib, or from pip. The
-attacks, and the ways on which each comes into the text, are in attacks.json; they are cases of
+attacks, and the ways in which each enters the text, are in attacks.json; they are cases of
 crates/md_cases, with their answers. Each text is read inside a `div` and as a whole page. It
 fails, with status 1, on an element, an attribute or a comment that compiled Markdown never has,
-and, but where an option lets them, on a link or an image that leads to another protocol as a
-browser takes it.
+and, unless an option allows them, on a link or an image that has another protocol as a browser
+reads it.
 """
 
 import json
@@ -48,13 +48,13 @@ DATA = "+Data 0\n-Data [n]\n"
 
 
 def attacks():
-    """Each attack's document, and the events by which it is read."""
+    """Each attack's document and events."""
     return [*ATTACKS["attacks"], ("<" * 9000, DATA)]
 
 
 def script(lines, text, nodes):
-    """The script of a way over an attack, or nothing where an option would have to
-    hold a line feed.
+    """The script of a way for an attack, or None if an option would have to contain a line
+    feed.
     """
     if "[text]" in lines and "\n" in text:
         return None
@@ -64,14 +64,14 @@ def script(lines, text, nodes):
 
 
 def protocol(url):
-    """The protocol of a URL as a browser takes it, if it has one."""
+    """The protocol of a URL as a browser reads it, if it has one."""
     url = re.sub(r"[\t\n\r]", "", url).lstrip("".join(map(chr, range(33))))
     found = re.match(r"([A-Za-z][A-Za-z0-9+.\-]*):", url)
     return found and found[1].lower()
 
 
 def faults(tree, is_any):
-    """What compiled Markdown never has."""
+    """The parts of a tree that compiled Markdown never has."""
     for element in tree.iter():
         if not isinstance(element.tag, str):
             yield f"a comment: {element.text!r}"
@@ -88,14 +88,14 @@ def faults(tree, is_any):
 
 
 def read(text, is_any):
-    """What is wrong with a text, inside a `div` and as a page."""
+    """The faults of a text, inside a `div` and as a page."""
     inside = html5lib.parseFragment(text, container="div", namespaceHTMLElements=False)
     body = html5lib.parse(f"<!doctype html><body>{text}", namespaceHTMLElements=False).find("body")
     return [fault for root in (inside, body) for child in root for fault in faults(child, is_any)]
 
 
 def is_sharp():
-    """Whether the reading finds what it looks for."""
+    """Whether the reading finds known faults."""
     bad = ["<script>x</script>", "<p onclick='x'>", "<!-- x -->", "<a href='java\nscript:x'>",
            "<img src='irc:x'>"]
     return all(read(text, False) for text in bad) and not read('<p><a href="x:y">a</a></p>', True)

@@ -4,16 +4,16 @@
     bench/markdown.py [PROGRAM]
 
 PROGRAM is crates/mdhtml/out/mdhtml if it isn't given, which `rt ci` builds. Five parts:
-- the examples of the GFM specification: each text is what cmark-gfm makes of it with the
-  differences that are permitted (clients/checks/judge.py), but for those that KNOWN tells;
-- the documents of bench/markdown_cases.py that are to be read as cmark-gfm reads them, likewise;
+- the examples of the GFM specification: each text is that of cmark-gfm with the permitted
+  differences (clients/checks/judge.py), except for those in KNOWN;
+- the documents of bench/markdown_cases.py that must be read as cmark-gfm reads them, likewise;
 - its documents under each option, its URLs against bases, each name of a character reference, and
   each mark at each of OFFSETS places in a line;
 - the cases of docs/MARKDOWN.md, here and by cmark-gfm;
 - documents that make parsers slow: four times as long a one takes at most GROWTH times the
   processor time, and at most MEMORY bytes for each of its bytes beyond MEGABYTES.
-The first two parts need Debian's cmark-gfm and its extensions, the fourth cmark-gfm: where they
-are missing, the part is left out, and that is told. The status is 1 where something is wrong.
+The first two parts need Debian's cmark-gfm and its extensions, the fourth cmark-gfm: if they are
+missing, the part is left out, which is reported. The status is 1 if something is wrong.
 """
 
 import pathlib
@@ -46,8 +46,8 @@ MOST_NESTED = 32
 
 
 def framed(program, documents, *options):
-    """What the program makes of each document, and None of one that it shows as it is written
-    because the compiler refused what the parser made of it: that text alone ends in no line ending.
+    """The program's output for each document, or None for one that it shows as it is written
+    because the compiler refused the parser's events: only such a text ends without a line ending.
     """
     given = b"".join(b"%d\n%s" % (len(document), document) for document in documents)
     out = subprocess.run([program, "--frames", *options], input=given, capture_output=True,
@@ -64,7 +64,7 @@ def framed(program, documents, *options):
 
 
 def judged(program):
-    """The faults of the documents that cmark-gfm judges; None where there is nothing to judge by.
+    """The faults of the documents that cmark-gfm judges; None if it is missing.
     """
     sys.path.insert(0, str(ROOT / "clients" / "checks"))
     sys.dont_write_bytecode = True
@@ -89,7 +89,7 @@ def judged(program):
 
 
 def unlike(program, options, cases):
-    """The faults of documents under options: each has the HTML that stands with it."""
+    """The faults of documents under options: each has its expected HTML."""
     texts = framed(program, [text.encode("utf-8") for text, _ in cases], *options)
     return [f"{' '.join(options)} {text!r}: {None if found is None else found.decode('utf-8')!r}"
             for (text, wanted), found in zip(cases, texts)
@@ -115,7 +115,7 @@ def by_options(program):
 
 
 def offsets(program):
-    """The faults of marks somewhere in a line: a text before one only adds itself."""
+    """The faults of marks at an offset in a line: text before a mark only adds itself."""
     marked = markdown_cases.MARKED
     alone = framed(program, [text.encode("utf-8") for text in marked], "--math")
     cases = [(before + text, f"<p>{before}{html.decode('utf-8')[3:]}")
@@ -126,14 +126,14 @@ def offsets(program):
 
 
 def by_gfm(text):
-    """What cmark-gfm makes of a text."""
+    """The output of cmark-gfm for a text."""
     words = [word for name in EXTENSIONS for word in ("-e", name)]
     return subprocess.run(["cmark-gfm", "--unsafe", *words], input=text, capture_output=True,
                           check=True).stdout.decode("utf-8")
 
 
 def is_like(pattern, text):
-    """Whether a text is as a case has it: `\\n` stands for a line feed, `..` for any text."""
+    """Whether a text matches a case: `\\n` means a line feed, `..` any text."""
     parts = pattern.replace("\\n", "\n").split("..")
     return re.fullmatch(".*".join(map(re.escape, parts)), text.rstrip("\n"), re.DOTALL) is not None
 
@@ -158,7 +158,7 @@ def choices(program):
 
 
 def times(length, unit):
-    """As many units as have a length."""
+    """A text of a length, made of repeated units."""
     return unit * max(1, length // len(unit))
 
 
@@ -221,7 +221,7 @@ SHAPES = {
 
 
 def taken(program, text):
-    """The processor seconds that the program takes for a document, and its memory in bytes."""
+    """The processor seconds of the program for a document, and its memory in bytes."""
     script = ("import resource, subprocess, sys\n"
               "subprocess.run([*sys.argv[2:]], stdin=open(sys.argv[1], 'rb'), check=True,\n"
               "    stdout=subprocess.DEVNULL)\n"
@@ -252,7 +252,7 @@ def hostile(program):
 
 
 def left_out(what, packages):
-    """Tells that a part is left out."""
+    """Reports that a part is left out."""
     subprocess.run([ROOT / "clients" / "left_out", what, packages], check=True)
 
 

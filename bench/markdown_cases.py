@@ -1,16 +1,16 @@
-"""Documents for the Markdown parser of our own, and what is wanted of each.
+"""Documents for the Markdown parser of our own, and the expected result of each.
 
-AS_GFM are read as cmark-gfm reads them, with the differences that are permitted. BY_OPTIONS are
-options, documents, and the HTML of each under these options; RESOLVED are bases, and URLs with what
-they are against the base. What is wanted stands in the specifications (GFM, RFC 3986), or is what
-the clients' tests ask for; none of it is this parser's own output.
+AS_GFM are read as cmark-gfm reads them, with the permitted differences. BY_OPTIONS are options,
+documents, and the HTML of each under these options; RESOLVED are bases, and URLs with their
+resolutions against the base. The expected results are from the specifications (GFM, RFC 3986), or
+from the clients' tests; none of them is this parser's own output.
 """
 
 import html
 import html.entities
 
 AS_GFM = [
-    # Blocks that hold others.
+    # Containers.
     "> a\nb\n\nc\n", ">a\n>b\n> > c\nd\n", "> a\n\n> b\n", "> ```\n> ", "> - a\nb\n",
     "- a\n\n\t- b\n\t  c\n- d\n", "1. a\n2) b\n", "1. a\n- b\n+ c\n", "-\n\n  a\n", "-\n  a\n",
     "- x\n\n\t\ty\n", "- a\n -b\n  - c\n   - d\n", "10. a\n\n    b\n", "1234567890. a\n",
@@ -39,7 +39,7 @@ AS_GFM = [
     "a[^b]\n\n[^b]: - c\n", "[^a]: b\n", "a[^a][^a]\n\n[^a]: b\n",
     # Tasks.
     "- [x] a\n- [ ] b\n- [X] c\n", "- [y] a\n- [x]b\n", "1. [x] a\n", "[x] a\n",
-    # Links between angle brackets.
+    # Links in angle brackets.
     "<a+b:c>d\n", "<a:b>\n", "<ab:c d>\n", "<a!b@c-d.e>\n", "<a@-b>\n", "<a@b.>\n", "<@b>\n",
     "<http://a.b?c&amp;d>\n", "<http://a\\b>\n", "<irc://a>\n",
     # Bare links.
@@ -64,7 +64,7 @@ AS_GFM = [
     "&amp;a &sup; &sup1; &#1234567; &#Xa0F;\n",
     "&amp a &; &nosuch; &#; &#x;\n", "&#0; &#xd800; &#1114112;\n",
     "[a](b&auml; 'c&quot;')\n", "```&auml;\n```\n",
-    # Where a document begins and ends.
+    # The beginning and the end of a document.
     "\ufeff# a\n", "a", "", "\n", "\n\na\n\n", "# a", "- a", "> a", "```\na", "a\n\n\n", "   \n",
     "a\\", "a  ",
 ]
@@ -145,7 +145,7 @@ BY_OPTIONS = [
         ("<b>\n", "&lt;b&gt;\n"),
         ("<!-- a -->", "&lt;!-- a --&gt;\n"),
     ]),
-    # HTML left out: what stands between two tags stays.
+    # HTML left out: the text between two tags stays.
     (("--html=left-out",), [
         ("a <b>c</b>\n\n<div>\nd\n", "<p>a c</p>\n"),
         ("- <b>\n- <div>\n\n> <p>\n",
@@ -289,7 +289,7 @@ RESOLVED = {
     ],
 }
 
-# Each is read the same wherever it stands in a line.
+# Each is read alike at every offset in a line.
 MARKED = [
     "*b*", "_b_", "**b**", "`b`", "~~b~~", "[b](c)", "![b](c)", "<http://b.c>", "<b@c.de>", "<b>c",
     "\\*", "&amp;", "www.b.cd", "http://b.c", "b@c.de", "$b$", "[^b", "]", "!", ":", ".",
@@ -302,7 +302,7 @@ def escaped(text):
 
 
 def references():
-    """A document of each name of a character reference, and its HTML."""
+    """A document with each name of a character reference, and its HTML."""
     names = sorted(html.entities.html5)
     lines = [f"a&{name}b" for name in names]
     texts = ["a" + html.entities.html5[name] + "b" if name.endswith(";") else f"a&{name}b"
@@ -311,19 +311,19 @@ def references():
 
 
 def behind(count):
-    """A text of so many bytes, two at least, which ends with a space."""
+    """A text of so many bytes, at least two, that ends with a space."""
     return "aa " * (count % 2) + "a " * ((count - 3 * (count % 2)) // 2)
 
 
 def deep(depth, most):
-    """A document of so many marks of quotes, of which only some may be one, and its HTML."""
+    """A document with so many marks of quotes, of which at most `most` are read, and its HTML."""
     text = "&gt;" * (depth - most)
     return ">" * depth, "<blockquote>\n" * most + f"<p>{text}</p>\n" + "</blockquote>\n" * most
 
 
 def nested(depth, most):
-    """Documents of so many spans and brackets in one another, of which only some may be one, and
-    their HTML.
+    """Documents with so many nested spans and brackets, of which at most `most` are read, and their
+    HTML.
     """
     deep = depth - min(depth, most)
     depth -= deep

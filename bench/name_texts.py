@@ -1,4 +1,4 @@
-"""What bench/names.py writes of the names of events: the texts of lists, tables and rows."""
+"""The texts of lists, tables and rows of event names that bench/names.py writes."""
 import itertools
 import re
 import sys
@@ -9,14 +9,14 @@ NOTICE = "Written by bench/names.py from clients/numbers/numbers.txt. Don't edit
 ALIAS = "use Rattle.md_base.specs.declared.event.Name.TheVariants as name_variants\n"
 IMPORT = "use name_variants.{"
 COLUMNS, LANES = 100, 16
-# A pair of a spelling and a name stands in one line where it has no more letters.
+# The maximum length of a pair of a spelling and a name in one line.
 PAIR = 60
 # How many tables `names_by_length` has; its contract and its answer file have that number too.
 LENGTHS = 36
 
 
 class Name(NamedTuple):
-    """A name of the list; `part` is what it says of the names from here on, or empty."""
+    """A name of the list; `part` is the description of the names from here, or empty."""
 
     number: int
     text: str
@@ -32,7 +32,7 @@ def comment(text, first):
 
 
 def variants(names):
-    """The variants of the enum, each with what it is."""
+    """The variants of the enum, each with its meaning."""
     for name in names:
         yield from comment(name.part, "    // ")
         yield from comment(name.meaning, "    /// ")
@@ -78,16 +78,16 @@ def text_of(lines):
 def name_tables(names):
     """The tables of `md_base`: the names by their lengths, and by their numbers."""
     numbered = (f"Name::{text}" for text in by_number(names))
-    # Each in the order of numbers, as the definition that `names_by_length` is proved of has them.
+    # Each in the order of numbers, as in the definition that the proof of `names_by_length` uses.
     tables = (table([name for name in sorted(names) if len(name.text) == length])
               for length in range(LENGTHS))
     return text_of([
-        "//! Tables of all names of events but `Other`.",
+        "//! Tables of all names of events except `Other`.",
         f"// {NOTICE}",
         "",
         "use crate::event::Name;",
         "",
-        "/// The names under their spellings, each table at the length of its names.",
+        "/// The names by spelling, each table at the index that is the length of its names.",
         f"pub(crate) static BY_LENGTH: [&[(&str, Name)]; {LENGTHS}] = [",
         *itertools.chain(*tables),
         "];",
@@ -127,7 +127,7 @@ def with_imports(source, texts):
 
 
 def replaced(source, pattern, new):
-    """A source with this in place of what the pattern finds."""
+    """A source in which this replaces the match of a pattern."""
     found = list(re.finditer(pattern, source))
     if len(found) != 1:
         sys.exit(f"bench/names.py: {pattern!r} stands {len(found)} times")
@@ -147,20 +147,20 @@ def short(names):
 
 
 def sums(texts, factors):
-    """What the reader of scripts adds up of each spelling: its first, middle and last letter."""
+    """The sum of each spelling in the reader of scripts, of its first, middle and last letter."""
     times = (1, *factors)
     letters = ((text[0], text[len(text) // 2], text[-1]) for text in texts)
     return [sum(at * ord(letter) for at, letter in zip(times, three)) % 256 for three in letters]
 
 
 def factors_for(texts, standing):
-    """The factors that part these spellings: those that stand, if they do, else the first ones."""
+    """Factors that separate these spellings: the current ones if they do, else the first ones."""
     ways = itertools.chain([standing], itertools.product(range(1, 256), repeat=2))
     return next(way for way in ways if len(set(sums(texts, way))) == len(texts))
 
 
 def slots(texts, factors):
-    """At each sum the place of its row, counted from `(`; `~` where there is none."""
+    """For each sum the index of its row, counted from `(`; `~` if there is none."""
     found = ["~"] * 256
     for place, at in enumerate(sums(texts, factors)):
         found[at] = chr(ord("(") + place).replace("\\", "\\\\")
@@ -170,26 +170,26 @@ def slots(texts, factors):
 
 
 def name_rows(names, standing):
-    """The rows of the reader, and what leads to a name's row."""
+    """The rows of the reader, and the table that finds a name's row."""
     texts = short(names)
     middle, last = factors_for(texts, standing)
     rows = (f'(*b"{text:{LANES}}", Name::{text})' for text in texts)
     return text_of([
-        "//! Rows of the names of under sixteen bytes, and which row may be a text's.",
+        "//! Rows of the names shorter than sixteen bytes, and a guess which row a text has.",
         f"// {NOTICE}",
         "",
         "use md_base::Name;",
         "",
-        "/// A name of under sixteen bytes: its text with spaces after it, and the name.",
+        "/// A name shorter than sixteen bytes: its text, padded with spaces, and the name.",
         f"pub(crate) type Row = ([u8; {LANES}], Name);",
         "",
-        "/// How often a text's middle byte counts in its sum; its first one counts once.",
+        "/// The factor of a text's middle byte in its sum; that of its first byte is one.",
         f"pub(crate) const MIDDLE: usize = {middle};",
         "",
-        "/// How often its last byte counts.",
+        "/// The factor of its last byte.",
         f"pub(crate) const LAST: usize = {last};",
         "",
-        "/// At each sum the place of its row, counted from `(`; `~` where there is none.",
+        "/// For each sum the index of its row, counted from `(`; `~` if there is none.",
         *slots(texts, (middle, last)),
         "",
         *array(f"pub(crate) static ROWS: [Row; {len(texts)}]", rows),

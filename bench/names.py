@@ -1,11 +1,11 @@
 #!/usr/bin/env python3
-"""Makes what lists all names of events from the one list of them, and compares what stands.
+"""Generates all lists of event names from the one list of them, or compares the existing ones.
 
-    bench/names.py            compares; the status is 1 where a text isn't what this makes
+    bench/names.py            compares; the status is 1 if a text differs from what this generates
     bench/names.py --write    writes them
 
 The list is the group `name` in `clients/numbers/numbers.txt`. A new name is a line there, in the
-part where it belongs, with the next number. This makes the files that hold nothing but lists of
+part where it belongs, with the next number. This generates the files that consist of lists of
 names, whole (`WHOLE`), the variants of the enum, between the marks `bench/names.py: begin` and
 `bench/names.py: end`, the imports of all names, and how many names there are, where a test or a
 page says so, and has `clients/numbers/generate` write the clients' tables. What a name means,
@@ -30,9 +30,9 @@ ROWS = CRATES / "md_script" / "src" / "name_rows.rt"
 VARIANTS = CRATES / "md_base" / "src" / "event.rt"
 STANDING = CRATES / "md_pattern" / "specs" / "Standing.antt"
 BEGIN, END = (rf"^ *// bench/names\.py: {word}$" for word in ("begin", "end"))
-# A line of the list that begins so goes on the one before.
+# A line of the list that begins so continues the previous one.
 CONTINUED = "\n    "
-# Where a number tells how many names there are, and by how much it is greater.
+# The places that state the number of names, and by how much each is greater.
 COUNTS = [
     ("crates/md_ffi/README.md", r"Names: 1 to (\d+) in the order", 0),
     ("docs/DEFINITIONS_CALLS.md", r"Names 1 to (\d+) are those", 0),
@@ -49,7 +49,7 @@ def read(path):
 
 
 def listed():
-    """The names of the list but `Other`, in its order."""
+    """The names of the list except `Other`, in its order."""
     part, names = "", []
     for line in read(NUMBERS / "numbers.txt").replace(CONTINUED, " ").splitlines():
         if line.startswith("## "):
@@ -64,7 +64,7 @@ def listed():
 
 
 def faults_of(names):
-    """What is wrong in the list."""
+    """The faults of the list."""
     numbers, texts = sorted(name.number for name in names), [name.text for name in names]
     if numbers != list(range(1, len(names) + 1)):
         yield "the numbers of the names aren't 1, 2, 3 and so on"
@@ -85,7 +85,7 @@ def with_variants(source, names):
 
 
 def rows(names):
-    """The rows of the reader, by the factors that stand where they still part the names."""
+    """The rows of the reader, by the current factors if they still separate the names."""
     standing = tuple(map(int, re.findall(r"(?:MIDDLE|LAST): usize = (\d+);", read(ROWS))))
     return name_texts.name_rows(names, standing)
 
@@ -102,12 +102,12 @@ def made_of(names):
     }
 
 
-# The files that this makes whole, each with what makes it.
+# The files that this generates whole, each with its generator.
 WHOLE = {SPELLED: name_texts.spelled_names, TABLES: name_texts.name_tables, ROWS: rows}
 
 
 def count_texts(names):
-    """The new texts of the files that tell how many names there are."""
+    """The new texts of the files that state the number of names."""
     made = {}
     for place, pattern, more in COUNTS:
         path = ROOT / place
@@ -116,7 +116,7 @@ def count_texts(names):
 
 
 def of_clients(write):
-    """Whether the clients' tables are as they are made, or whether they could be written."""
+    """Whether the clients' tables are up to date, or whether they could be written."""
     words = [NUMBERS / "generate", *([] if write else ["--check"])]
     return subprocess.run(words, check=False).returncode == 0
 

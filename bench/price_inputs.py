@@ -1,8 +1,8 @@
-"""Event scripts on which a change for speed may cost: one function for each kind, and
+"""Event scripts for which an optimization may cost time: one function for each kind, and
 their list, `INPUTS`.
 
-Each entry of `INPUTS` is a name and the script's bytes, made when it is asked for. They are kinds
-that the six jobs of `bench/run` have few of, and some that they have many of.
+Each entry of `INPUTS` is a name and the script's bytes, generated on request. They are kinds that
+the six jobs of `bench/run` have few of, and some that they have many of.
 """
 
 TEXTS = {
@@ -30,12 +30,12 @@ def leaf(name, start, end):
 
 
 def repeated(part, size, head=b""):
-    """A part as often as it fits into so many bytes, and once at least."""
+    """A part repeated up to so many bytes, and at least once."""
     return head + part * max(1, (size - len(head)) // len(part))
 
 
 def characters(text, size):
-    """As many whole characters of a text, over and over, as fit into so many bytes."""
+    """A text repeated up to so many bytes, cut after a whole character."""
     unit = text.encode()
     return (unit * (size // len(unit) + 1))[:size].decode("utf-8", errors="ignore").encode()
 
@@ -70,18 +70,18 @@ def code(chunk, count):
 
 
 def html(tag, count):
-    """HTML in a document that is printed as it is, but for what the tag filter escapes."""
+    """HTML in a document, printed unchanged except for the tags that the tag filter escapes."""
     text = tag * count
     events = ["!allow_dangerous_html", "!gfm_tagfilter"]
     return script([*events, *node("HtmlFlow", 0, len(text), leaf("HtmlFlowData", 0, len(text)))],
                   text)
 
 
-# Bytes that are in no character.
+# Invalid bytes.
 
 
 def bad_at(text, where):
-    """A document with one bad byte at this part of its characters, from 0 to 1."""
+    """A document with one bad byte at this fraction of its characters, from 0 to 1."""
     whole = text.decode()
     cut = int(len(whole) * where)
     return script([], whole[:cut].encode() + b"\xff" + whole[cut:].encode())
@@ -93,7 +93,7 @@ def bad_every(text, size):
 
 
 def labels_among_bad(count):
-    """Definitions whose labels lie among bad bytes."""
+    """Definitions with labels among bad bytes."""
     events = []
     for start in range(0, 5 * count, 5):
         events += definition(start, start + 4, None, None)
@@ -104,19 +104,19 @@ def labels_among_bad(count):
 
 
 def tab_lines(count, columns):
-    """Lines that give columns of a tab."""
+    """Lines with columns of a tab."""
     events = [f"+CodeFlowChunk 0.{columns}", "-CodeFlowChunk 2"] * count
     return script(["+CodeIndented 0", *events, "-CodeIndented 2"], b"\ta")
 
 
 def both_tab_lines(count):
-    """Lines that all give columns of a tab."""
+    """Lines that all have columns of a tab."""
     events = ["+Data 0.1", "-Data 0.3"] * count
     return script(["+Paragraph 0.1", *events, "-Paragraph 0.3"], b"\ta")
 
 
 def long_names(count):
-    """Names of more than thirty-one bytes, beside others."""
+    """Names of more than thirty-one bytes, among others."""
     marks = [*leaf("CharacterReferenceMarker", 0, 1),
              *leaf("CharacterReferenceMarkerNumeric", 1, 2)]
     marks += [*leaf("CharacterReferenceMarkerHexadecimal", 2, 3),
@@ -131,7 +131,7 @@ def other_names(count):
 
 
 def plain_lines(count):
-    """Lines as most are."""
+    """Common lines."""
     return script(node("Paragraph", 0, 2, leaf("Data", 0, 1) * count), b"ab")
 
 
@@ -154,7 +154,7 @@ def links(url, count):
 
 
 def encoded(text):
-    """A text with each byte past ASCII as a percent triple."""
+    """A text with each byte outside ASCII as a percent triple."""
     return "".join(c if ord(c) < 128 else "".join(f"%{byte:02X}" for byte in c.encode())
                    for c in text).encode()
 
@@ -199,7 +199,7 @@ def references(count, label):
 
 
 def images(count, label):
-    """So many images in one another, with this label in the innermost."""
+    """So many nested images, with this label in the innermost."""
     size = len(label)
     events = leaf("Data", 0, size)
     resource = node("Resource", 0, 1, node("ResourceDestinationString", 0, 1, leaf("Data", 0, 1)))
@@ -209,7 +209,7 @@ def images(count, label):
 
 
 def cells(columns, rows, text):
-    """A table with a text in each cell, empty where there is none."""
+    """A table with a text in each cell; cells without one are empty."""
     size = len(text)
     inside = leaf("Data", 0, size) if text else []
     cell = node("GfmTableCell", 0, size, inside)

@@ -6,8 +6,8 @@ price_inputs.py, by callgrind.
 
 OLD and NEW are programs that read a script, as crates/mdevents/out/mdevents, once `rt run < stdin`
 there has built it. It prints, for each input, millions of instructions of both, and new over old.
-The counts are steady however busy the machine is. The status is 1 where the two answer otherwise,
-or one takes more than R times the old count (no limit where R isn't given). It needs valgrind.
+The counts are steady on a busy machine. The status is 1 if the results differ, or if the new count
+is more than R times the old one (no limit if R isn't given). It needs valgrind.
 """
 
 import argparse
@@ -21,7 +21,7 @@ from price_inputs import INPUTS
 
 
 def counted(program, script):
-    """The instructions of a run over a script, its status and what it writes."""
+    """The instructions of a run with a script, its status and its output."""
     command = ["valgrind", "--tool=callgrind", "--callgrind-out-file=/dev/null",
                os.path.abspath(program)]
     done = subprocess.run(command, input=script, capture_output=True)
@@ -29,7 +29,7 @@ def counted(program, script):
 
 
 def compared(old, new, name):
-    """Both counts of an input, with a fault where the answers differ or the input isn't compiled.
+    """Both counts of an input, with a fault if the results differ or the input isn't compiled.
     """
     script = INPUTS[name]()
     before, status, text = counted(old, script)

@@ -1,7 +1,6 @@
 /* Refuses one request of a program for memory. Loaded before the C library (LD_PRELOAD), it counts
-   what a program asks of malloc, calloc and realloc, and refuses the request whose number stands in
-   REFUSE (0: none; "all": each). At the end it writes the number of requests into the file that
-   stands in COUNT. */
+   the calls of malloc, calloc and realloc, and refuses the one whose number REFUSE has (0: none;
+   "all": each). At the end it writes the number of requests to the file that COUNT names. */
 #define _GNU_SOURCE
 #include <errno.h>
 #include <stdio.h>

@@ -1,12 +1,12 @@
 #!/usr/bin/env python3
-"""Refuses each request for memory of the calls that md_cases makes, in turn.
+"""Refuses the requests for memory of the calls that md_cases makes, one in each run.
 
 usage: bench/refuse.py PROGRAM      (crates/md_cases/out/md_cases, once `rt run` there has built it)
 
-The Nth request is refused, N from 1 upwards until a run meets no refusal: each run must end with
-status 0 and write that each call was made. The calls that need nothing that takes memory must
-answer where each request is refused, and those that read what was checked must make no request
-more. Ends with status 1 where one of these fails.
+The Nth request is refused, N from 1 upwards until a run has no refusal: each run must end with
+status 0 and print that each call was made. The calls that need nothing that takes memory must
+succeed if each request is refused, and those that read a checked document must make no further
+request. Ends with status 1 if one of these fails.
 """
 
 import os
@@ -20,7 +20,7 @@ MOST_RUNS = 5000
 
 
 def run(program, folder, refused, asked=b""):
-    """The status and the output of a run, and how many requests it made, the most where it crashed.
+    """The status and the output of a run, and its number of requests, the maximum if it crashed.
     """
     count = os.path.join(folder, "count")
     given = {"LD_PRELOAD": os.path.join(folder, "refuse.so"), "REFUSE": str(refused),
@@ -35,7 +35,7 @@ def run(program, folder, refused, asked=b""):
 
 
 def refuse_each(program, folder, asked):
-    """Each thing that is wrong, as a line, and the number of requests that were refused."""
+    """The faults, a line each, and the number of refused requests."""
     status, output, ample = run(program, folder, 0, asked)
     if (status, output) != (0, WANTED) or ample == 0:
         return [f"with ample memory: status {status}, {ample} requests, {output.decode()}"], 0
@@ -50,7 +50,7 @@ def refuse_each(program, folder, asked):
 
 
 def faults_without_memory(program, folder):
-    """What is wrong with the calls that take no memory."""
+    """The faults of the calls that take no memory."""
     faults = []
     if run(program, folder, "all", b"plain") != (0, WANTED, 0):
         faults.append("a call that takes no memory doesn't answer where each request is refused")

@@ -1,12 +1,12 @@
 #!/usr/bin/env python3
-"""Runs `mdevents` on a million nodes in one another and side by side, and prints a Markdown table.
+"""Runs `mdevents` on a million nodes, nested and side by side, and prints a Markdown table.
 
     python3 bench/scale.py PROGRAM [N]
 
-PROGRAM is the built `mdevents`, and N how many nodes there are, if not 1,000,000. There is a script
-for each name that can stand in itself, so many levels deep, and one for each that can stand in a
-document, so many times. All their nodes lie over the same few bytes. Each text is compared with one
-that is put together here. It fails, with status 1, where another text comes, or none. Memory is the
+PROGRAM is the built `mdevents`, and N the number of nodes, if not 1,000,000. There is a script for
+each name that can contain itself, so many levels deep, and one for each that a document can
+contain, so many times. All their nodes have the same few bytes. Each text is compared with one that
+is built here. It fails, with status 1, if the texts differ, or if there is none. Memory is the
 program's peak, as the system counts it.
 """
 
@@ -22,7 +22,7 @@ from scaled_shapes import SHAPES  # noqa: E402  (without bytecode in this folder
 
 
 def write(path, place, n):
-    """Writes the script of the shape at a place; how many events it has."""
+    """Writes the script of the shape at an index; returns its number of events."""
     shape = SHAPES[place][1]
     with open(path, "w", encoding="utf-8") as file:
         for part, times in ((shape.opening, n), (shape.middle, 1), (shape.closing, n),
@@ -34,13 +34,13 @@ def write(path, place, n):
 
 
 def is_right(path, place, n):
-    """Whether the text is the one that the shape at a place should give."""
+    """Whether the text is the expected one of the shape at an index."""
     with open(path, "rb") as file:
         return file.read() == SHAPES[place][1].text(n).encode()
 
 
 def apart(function, *arguments):
-    """Calls in a process of its own, since what this one takes counts as the least of the
+    """Calls in a process of its own, since this one's memory would count as the minimum of the
     program's memory.
     """
     with multiprocessing.Pool(1) as pool:

@@ -6,7 +6,7 @@ from functools import partial
 
 @dataclass(frozen=True)
 class Shape:
-    """A script in lines that are repeated, and the text that it should give for a number of nodes.
+    """A script of repeated lines, and its expected text for a number of nodes.
     """
 
     name: str
@@ -24,7 +24,7 @@ def lines(*nodes):
 
 
 def node(name, *inside):
-    """The lines of a node with what is inside."""
+    """The lines of a node with its content."""
     return lines(f"+{name}") + "".join(inside) + lines(f"-{name}")
 
 
@@ -69,7 +69,7 @@ def section(n):
 
 
 def calls_in_one_another(n):
-    """The outermost call ends last; those inside are counted and not printed."""
+    """The outermost call ends last; the inner ones are counted and not printed."""
     return call(n) + section(n)
 
 
@@ -145,7 +145,7 @@ LEVELS = [
 
 
 def sibling(name, script, text, document="a", after=""):
-    """So many times the same script, and the same text without anything between."""
+    """The same script so many times, and the same text with nothing between."""
     return Shape(name, script, "", partial(repeated, text), document=document, after=after)
 
 

@@ -1,14 +1,14 @@
 #!/usr/bin/env python3
-"""Makes the tables by which the check goes over a spine, and compares what stands.
+"""Generates the tables by which the check reads a spine, or compares the existing ones.
 
-    bench/tables.py            compares; the status is 1 where a table isn't what this makes
+    bench/tables.py            compares; the status is 1 if a table differs from what this generates
     bench/tables.py --write    writes them
 
 The rows of `md_pattern/src/places/table.rt`, and the list of places in its `specs/Places.antt`, are
-made of the patterns in `specs/Pattern.antt`, in the order of the roles and symbols in
-`src/kinds.rt`. They are proved to be right as they stand: this says how they are made. Numbers of
-rows that proofs name (`PlaceLemmas.antt`) are changed by hand. What is made of the names of events:
-`bench/names.py`.
+generated from the patterns in `specs/Pattern.antt`, in the order of the roles and symbols in
+`src/kinds.rt`. They are proved to be right: this says how they are generated. Numbers of rows that
+proofs name (`PlaceLemmas.antt`) are changed by hand. `bench/names.py` generates the lists of event
+names.
 """
 import argparse
 import os
@@ -42,7 +42,7 @@ def variants(source, enum):
 
 
 def patterns(source):
-    """What each role's pattern is made of: items, each with the symbols that it takes."""
+    """The items of each role's pattern, each with the symbols that it takes."""
     text = re.sub(r"\n    ", " ", source)
     members = {name: words.split() for name, words in re.findall(
         r"^members (\w+) = ((?:\w+ ∷ )+)\[\]$", text, re.M)}
@@ -83,7 +83,7 @@ def may_end(items, place):
 
 
 def places_of(items, symbols):
-    """The places to which a spine comes: first those outside groups, each kind by
+    """The places that a spine reaches: first those outside groups, each kind by
     position and stage.
     """
     found, new = {(0, "Whole")}, [(0, "Whole")]
@@ -159,7 +159,7 @@ def place_tables():
 
 
 def numbered(source, *places):
-    """A source with these numbers, each behind what its pattern finds first."""
+    """A source with these numbers, each after the first match of its pattern."""
     for before, number in places:
         words = re.search(before, source, re.S)
         source = source[:words.end()] + re.sub(r"^\d+", str(number), source[words.end():])

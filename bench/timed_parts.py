@@ -1,4 +1,4 @@
-"""A script of events that is written to a file, and the parts of documents that bench.py times."""
+"""A script of events in a file, and the parts of documents that bench.py times."""
 
 import contextlib
 

@@ -43,7 +43,7 @@ def patterns():
 
 
 def blank(match):
-    """As many lines, of nothing."""
+    """The same number of empty lines."""
     return "\n" * match[0].count("\n")
 
 
@@ -90,7 +90,7 @@ def of_python(text):
 
 
 def prose(path):
-    """What a person reads in a file, with the line ends where they are."""
+    """The prose in a file, with line endings at their places."""
     file = ROOT / path
     ending = file.suffix
     try:

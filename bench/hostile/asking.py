@@ -1,9 +1,9 @@
-"""Scripts as md_cases is given them, and what it answers to each."""
+"""Scripts as md_cases reads them, and its result for each."""
 
 import subprocess
 
-# What asks md_cases for answers, of which it reads eight bytes apart, and what it writes behind
-# them, once it has made the calls that may fail.
+# The word that makes md_cases run cases, of which it reads the first eight bytes separately, and
+# its output after them, once it has made the calls that may fail.
 FIRST = b"worked cases\n"
 LAST = b"each call was made\n"
 # The names of references in a script's document.
@@ -12,21 +12,21 @@ CALLS = ["compile", "compile_checked", "compile_counted"]
 
 
 class Wrong(Exception):
-    """What ended a test before its answers could be judged."""
+    """The error that ended a test before its results could be judged."""
 
 
 def lines_of(events):
-    """The lines of events, of which each is a sign, a name, an index and columns."""
+    """The lines of events. Each is a sign, a name, an index and columns."""
     return [f"{sign}{name} {index}.{columns}" for sign, name, index, columns in events]
 
 
 def script(options, events, document):
-    """The script of events over a document, under options as their lines have them."""
+    """The script of events over a document, with lines that set options."""
     return "\n".join([*options, *lines_of(events), "--\n"]).encode() + document
 
 
 def questions(names, given):
-    """Asks of a script what each of `CALLS` answers where these are the names of references."""
+    """The questions for the results of `CALLS` for a script, with these names of references."""
     asked = "".join(f"? compiled {call}\n" for call in CALLS)
     return (asked + "".join(f"={name} {text}\n" for name, text in names)).encode() + given
 
@@ -37,8 +37,8 @@ def is_refusal(answer):
 
 
 def common_answer(answer, events):
-    """What each of `CALLS` answers, with two visits of each of so many events where there is a
-    text; nothing where they differ.
+    """The result of each of `CALLS`, with two visits of each of so many events if there is a
+    text; None if they differ.
     """
     for visits in (f"{2 * events} visits, ", ""):
         heads = [f"compiled {call}: ".encode() for call in CALLS]
@@ -52,7 +52,7 @@ def common_answer(answer, events):
 
 
 def answers(program, asked):
-    """What md_cases answers to scripts, each given with a title of its own."""
+    """The results of md_cases for scripts, each with a title of its own."""
     cases = [b"%%%% " + title.encode() + b"\n" for title, _ in asked]
     scripts = [given for _, given in asked]
     if any(b"\n%%%% " in given for given in scripts):
@@ -74,7 +74,7 @@ def answers(program, asked):
 
 
 def told(given, program):
-    """What `mdevents` answers to a script, in the form in which md_cases does."""
+    """The result of `mdevents` for a script, in the form of md_cases."""
     ran = subprocess.run([program], input=given, capture_output=True, check=False)
     if (ran.returncode, ran.stderr) == (0, b""):
         return ran.stdout
@@ -84,5 +84,5 @@ def told(given, program):
 
 
 def is_told_otherwise(answer):
-    """Whether md_cases tells of a call that answers otherwise than `run`."""
+    """Whether md_cases reports a call with another result than `run`."""
     return answer.endswith(b" answers otherwise")

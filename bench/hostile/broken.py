@@ -1,5 +1,5 @@
-"""Documents that are broken at one event: what they may give, and that the mended ones give what
-they gave.
+"""Documents that are broken at one event: that their results are possible ones, and that the
+repaired documents have the same results as before.
 """
 
 import re
@@ -9,14 +9,14 @@ from asking import answers, common_answer, is_refusal, questions, script
 from growing import Random, Tree
 from trees import OTHER_NAMES
 
-# At how many places each tree is broken in each way.
+# How many times each tree is broken in each way.
 TIMES = 5
-# An event is left out; comes twice; comes after the next one; has another name; another place.
+# An event is removed; doubled; moved after the next one; has another name; another point.
 BREAKS = ["Remove", "Double", "Swap", "Rename", "Move"]
 GREATEST = 2**64 - 1
-# Places to which events are moved: an index and columns.
+# Points to which events are moved: an index and columns.
 PLACES = [(0, 0), (3, 0), (20, 0), (20, 5), (9, 1), (GREATEST, 0), (GREATEST, 1), (999_999_999, 0)]
-# The names whose places are read, and one of which only that of its entry is.
+# The names whose points are read, and one that reads only the point of its entry.
 READ = set("""
     HeadingAtxSequence Data CharacterEscapeValue CharacterReferenceValue CodeTextData MathTextData
     CodeFlowChunk MathFlowChunk HtmlFlowData HtmlTextData AutolinkEmail AutolinkProtocol
@@ -46,8 +46,8 @@ def broken(events, change, place, to):
 
 
 def judged(events, change, place, to, length):
-    """What the list may give, over a document of a length: of an odd number of events, and where a
-    node would end by another name, a refusal alone.
+    """The possible results of the list, over a document of a length: only a refusal if the number
+    of events is odd, or if a node would end with another name.
     """
     (sign, name, *_), (_, following, *_) = events[place:place + 2]
     if change == "Swap":
@@ -62,7 +62,7 @@ def judged(events, change, place, to, length):
 def may_refuse(change, place, index, rule):
     """Whether a list that is broken at a place may be refused at this event by this rule.
 
-    What comes before the place is as it was. A definition or a footnote is missed only where the
+    The events before the place are unchanged. A definition or a footnote is missed only if the
     order is right.
     """
     if rule in ("Definition", "Footnote"):
@@ -75,7 +75,7 @@ def may_refuse(change, place, index, rule):
 
 
 def is_right(answer, verdict, whole, change, place):
-    """Whether a list that is broken at a place may give this answer, by its verdict."""
+    """Whether a list that is broken at a place may have this result, by its verdict."""
     if not is_refusal(answer):
         return verdict == OPEN or (verdict == SAME and answer == whole)
     refused = re.fullmatch(r"! event (\d+): (\w+)", answer.decode())
@@ -84,9 +84,9 @@ def is_right(answer, verdict, whole, change, place):
 
 
 def asked_of(seed):
-    """The lists that are asked of the tree of a seed: the tree as it is, then each broken one and
-    the tree again. Each has its title, its script, how many events it has, how it is broken and
-    where, and what it may give.
+    """The lists to test for the tree of a seed: the tree itself, then each broken one and the tree
+    again. Each has its title, its script, its number of events, how it is broken and where, and its
+    possible results.
     """
     tree, random = Tree(seed, [name for name, _ in OTHER_NAMES]), Random(seed ^ 7)
     events, document = tree.events, bytes(tree.document)
@@ -107,7 +107,7 @@ def asked_of(seed):
 
 
 def faults(rows, said):
-    """What is wrong with the answers to the lists of a tree, of which the first is the tree."""
+    """The faults in the results of the lists of a tree, the first of which is the tree."""
     whole, wrong = common_answer(said[0], rows[0][2]), []
     if whole is None or is_refusal(whole):
         return [f"{rows[0][0]}: {said[0]!r}"]
@@ -121,7 +121,7 @@ def faults(rows, said):
 
 
 def ask(programs, seeds):
-    """How many broken lists were asked, and have a text, and what is wrong."""
+    """How many broken lists were tested, how many have a text, and the faults."""
     asked = [asked_of(seed) for seed in seeds]
     said = answers(programs.cases, [row[:2] for rows in asked for row in rows])
     texts, wrong, begun = 0, [], 0

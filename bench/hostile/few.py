@@ -1,4 +1,4 @@
-"""Every list of a few events of four names, judged by a walk that is written for it."""
+"""Every list of a few events of four names, judged by a walk of its own."""
 
 import itertools
 import re
@@ -6,16 +6,16 @@ from collections import Counter
 
 from asking import answers, is_refusal, is_told_otherwise, script, told
 
-# The events of which the lists are made, and how many a list has at most.
+# The events in the lists, and the maximum length of a list.
 NAMES = ["Paragraph", "Emphasis", "BlockQuote", "ThematicBreak"]
 CHOICES = [(sign, name, 0, 0) for name in NAMES for sign in "+-"]
 GREATEST = 4
-# What is counted, and how many lists have a text.
+# The counted lists, and how many have a text.
 LISTS, WITH_TEXT = "lists of few events", "of these with a text"
 TEXTS = 27
-# The lists that `mdevents` is given too, a process for each, have so many events at most.
+# The maximum length of a list that `mdevents` compiles too, in a process for each.
 SERVED = 3
-# What may stand in each name, and in the document.
+# The names that each name, and the document, may contain.
 INSIDE = {None: NAMES, "BlockQuote": NAMES, "Paragraph": ["Emphasis"], "Emphasis": ["Emphasis"],
           "ThematicBreak": []}
 
@@ -26,8 +26,8 @@ def lists(length):
 
 
 def fault(events):
-    """The index of the first event that is out of order, or how many there are where nodes are open
-    at the end; nothing where there is no fault.
+    """The index of the first event that is out of order, or the number of events if nodes are open
+    at the end; None if there is no fault.
     """
     open_names = []
     for index, (sign, name, _, _) in enumerate(events):
@@ -42,8 +42,8 @@ def fault(events):
 
 
 def is_right(answer, first):
-    """Whether a list may give this answer that has its first fault there: it has a text exactly if
-    it has none.
+    """Whether a list with this first fault may have this result: it has a text exactly if it has no
+    fault.
     """
     refused = re.fullmatch(rb"! event (\d+): Order", answer)
     if first is None:
@@ -56,7 +56,7 @@ def titled(events):
 
 
 def ask(programs, length):
-    """How many lists of a length were asked, and have a text, and what is wrong."""
+    """How many lists of a length were tested, how many have a text, and the faults."""
     asked = [(titled(events), events) for events in lists(length)]
     scripts = [(title, script([], events, b"")) for title, events in asked]
     said = answers(programs.cases, scripts)

@@ -1,10 +1,10 @@
-"""The grammar of events, as what each node is grown from.
+"""The grammar of events, as the parts from which each node is generated.
 
-A part of a tree that is still to come is a pair: its kind, and what that needs. The kinds: a `node`
-whose place isn't read, with its own parts; a `leaf`, whose text is one of some; `naming`, a node
-whose place is that of one of some identifiers, with its own parts; a `reference`, the value of one
-by its name; a `mark` of a heading; `all` of some parts; `perhaps` all of them; `any` number of
-them, in any order; `many` nodes of a class, or `one`; and the `end` of the innermost node.
+A pending part of a tree is a pair: its kind, and the arguments of that. The kinds: a `node` whose
+position isn't read, with its own parts; a `leaf`, whose text is one of some; `naming`, a node whose
+position is that of one of some identifiers, with its own parts; a `reference`, the value of one by
+its name; a `mark` of a heading; `all` of some parts; `perhaps` all of them; `any` number of them,
+in any order; `many` nodes of a class, or `one`; and the `end` of the innermost node.
 """
 
 
@@ -42,7 +42,7 @@ def one(name):
 
 REFERENCE, MARK, END = ("reference", None), ("mark", None), ("end", None)
 
-# What stands before each document, for identifiers: `a`, `A`, `ß`, `SS`, and two spellings of
+# The beginning of each document, for identifiers: `a`, `A`, `ß`, `SS`, and two spellings of
 # `x y`.
 PREAMBLE = "aA\u00dfSSx  y X\tY "
 # The identifiers in it, and the empty one; those of `DIFFERENT` differ.
@@ -62,13 +62,13 @@ HEXADECIMALS = ["22", "4a", "1FA90", "fffe"]
 UNDERLINES = ["=", "--", "x"]
 # Marks of headings, each with the columns of its start and its end; none is longer than six.
 MARKS = [("#", 0, 0), ("######", 0, 0), ("##", 2, 3), ("#", 0, 4), ("", 1, 0), ("x y", 4, 1)]
-# Names that are passed over, save the one that has nothing inside.
+# Transparent names, except the one that has no children.
 WRAPPERS = ["Other0", "Other7", "Other65535", "BlockQuotePrefix"]
 
 LINE, BLANK = leaf("LineEnding", ENDINGS), leaf("BlankLineEnding", ENDINGS)
 LINES = any_of(LINE)
 
-# What may stand in a line.
+# The names that a line may contain.
 
 REFERENCE_MARKER = node("CharacterReferenceMarker")
 NUMERIC = node("CharacterReferenceMarkerNumeric")
@@ -101,7 +101,7 @@ PHRASING = [
     node("HardBreakEscape"), node("HardBreakTrailing"),
     node("GfmTaskListItemCheck", perhaps(node("GfmTaskListItemValueChecked")))]
 
-# What may stand in a document, and in what holds blocks.
+# The names that a document, and a container of blocks, may contain.
 
 DESTINATION = node("DefinitionDestinationString", many("strings"))
 TITLE = node("DefinitionTitleString", many("strings"))
@@ -161,7 +161,7 @@ FLOW = [*[one("plain")] * 3, *[one("containers")] * 2, *[one("code")] * 2, one("
 CLASSES = {"strings": STRINGS, "phrasing": PHRASING, "flow": FLOW, "plain": PLAIN,
            "containers": CONTAINERS, "code": CODE, "notes": NOTES}
 
-# A definition and a footnote for each identifier, and what a document has beside them.
+# A definition and a footnote for each identifier, and the other parts of a document.
 DEFINITIONS = [
     *(node("Definition", naming("DefinitionLabelString", [place]), *parts)
       for place, parts in zip(DIFFERENT, [(DESTINATION,), (TITLE,), (DESTINATION, TITLE), ()])),

@@ -1,14 +1,13 @@
-"""Grows trees of the grammar at random, as the events that go through them and the bytes of their
-documents.
+"""Generates random trees of the grammar, as their events and the bytes of their documents.
 """
 
 from grammar import (CLASSES, DEFINITIONS, END, MARKS, OTHERS, PREAMBLE, WRAPPERS)
 
-# How many nodes a tree has at most beyond those that must be there.
+# The maximum number of nodes of a tree in addition to the required ones.
 ROOM = 60
-# Bytes that belong to no text, most of them no UTF-8.
+# Bytes that belong to no text, most of them not UTF-8.
 JUNK = [b"\xff", b"\xc3\x28", b"\n", b"\xf0\x9f"]
-# Indices of places that aren't read.
+# Indices of points that aren't read.
 FAR = [0, 7, 999_999_999]
 
 
@@ -40,7 +39,7 @@ class Tree:
         self.document = bytearray(PREAMBLE.encode())
         self.references = references
         self.random = Random(seed)
-        # What is still to come, the next part last, and how the nodes that are open end.
+        # The pending parts, the next one last, and the ends of the open nodes.
         self.parts = []
         self.ends = []
         self.room = ROOM
@@ -62,8 +61,7 @@ class Tree:
             getattr(self, f"grow_{part[0]}")(part)
 
     def end(self):
-        """Ends the innermost node that is open, in which a node that is passed over may stand
-        last, if any may.
+        """Ends the innermost open node, whose last child may be a transparent node, if any may.
         """
         name, index, columns = self.ends.pop()
         if name not in ("LineEnding", "BlankLineEnding") and self.random.once_in(16):
@@ -72,7 +70,7 @@ class Tree:
         self.events.append(("-", name, index, columns))
 
     def wrap(self, part):
-        """Puts a node that is passed over before a part, around it, or around it and the next one.
+        """Adds a transparent node before a part, around it, or around it and the next one.
         """
         self.open(self.random.pick(WRAPPERS), self.free_places())
         way = self.random.below(3)
@@ -80,7 +78,7 @@ class Tree:
         self.plan([END, part] if way == 0 else [part, *following, END])
 
     def open(self, name, places, parts=None):
-        """Starts a node, and where its parts are given plans them and its end."""
+        """Starts a node, and plans its parts, if they are given, and its end."""
         (start, before), end = places
         self.ends.append((name, *end))
         self.events.append(("+", name, start, before))
@@ -124,14 +122,14 @@ class Tree:
         self.repeat(part, part[1])
 
     def repeat(self, part, parts):
-        """Plans one of some parts, and the part itself again, as long as there is room."""
+        """Plans one of some parts, and the part itself again, while the tree may grow."""
         if self.room and not self.random.once_in(3):
             self.room -= 1
             self.parts += [part, self.random.pick(parts)]
 
     def leaf(self, name, text, before, after):
-        """A node with a text, of which so many columns of a tab are taken at its start and at its
-        end, perhaps after bytes that belong to none.
+        """A node with a text that is cut so many columns after the beginning of a tab at its start
+        and at its end, perhaps after bytes that belong to no text.
         """
         if self.random.once_in(5):
             self.document += self.random.pick(JUNK)
@@ -143,11 +141,11 @@ class Tree:
         self.open(name, ((start, before), last), [])
 
     def columns(self):
-        """How many columns of a tab are taken: mostly none."""
+        """How many columns of a tab precede a point: mostly none."""
         return self.random.below(5) if self.random.once_in(4) else 0
 
     def free_places(self):
-        """Places that aren't read, mostly where the document is."""
+        """Points that aren't read, mostly inside the document."""
         return self.free_point(), self.free_point()
 
     def free_point(self):

@@ -1,18 +1,17 @@
-"""A reader of HTML that has nothing but the elements of compiled Markdown, written apart from the
+"""A reader of HTML with only the elements of compiled Markdown, written independently of the
 definitions.
 """
 
 import re
 
-# The attributes that each element and each tag without an end may have, in the order in which they
-# stand.
+# The attributes that each element and each void tag may have, in their order.
 ELEMENTS = dict.fromkeys(["blockquote", "pre", "p", "ul", "em", "strong", "del", "sup", "table",
                           "thead", "tbody", "tr", "h1", "h3", "h4", "h5", "h6"], "") | {
     "code": "class", "ol": "start", "li": "id", "h2": "id class", "th": "align", "td": "align",
     "section": "data-footnotes class",
     "a": "href title id data-footnote-ref data-footnote-backref aria-describedby aria-label class"}
 VOID_TAGS = {"br": "", "hr": "", "img": "src alt title", "input": "type disabled checked"}
-# Where links may lead, and where images may come from.
+# The protocols that links may have, and those that images may have.
 LINK_PROTOCOLS = b"http https irc ircs mailto xmpp".split()
 IMAGE_PROTOCOLS = b"http https".split()
 # What a browser drops at the start of an URL, and anywhere in it.
@@ -23,7 +22,7 @@ PLAIN = r'[^<>"\0&]*(?:&(?:amp|lt|gt|quot);[^<>"\0&]*)*'
 
 
 def pattern(name, attributes):
-    """What is inside a tag: its name, and some of its attributes, each once at most."""
+    """The inside of a tag: its name, and some of its attributes, each at most once."""
     return name + "".join(f'(?: {attribute}="{PLAIN}")?' for attribute in attributes.split())
 
 
@@ -33,7 +32,7 @@ VOIDS = {name: re.compile(pattern(name, attributes)) for name, attributes in VOI
 LEADING = re.compile(r' (href|src)="([^"]*)"')
 IDS = re.compile(r' id="([^"]*)"')
 
-# Texts that aren't such HTML, or lead elsewhere.
+# Texts that aren't such HTML, or that have other protocols.
 REFUSED = [
     "<p>", "</p>", "<p></p", "<b></b>", "a & b", '"', "<p><em></p></em>", '<p class="x"></p>',
     '<a href="x" href="y"></a>', "<a href=x></a>", '<a  href="x"></a>',
@@ -42,16 +41,16 @@ REFUSED = [
     '<a href=" \tJava\nScript:x"></a>', '<img src="irc:x" />', '<img src="&quot;:x" />',
     "\0", "&#60;", "a>b", '<a href="&lt;:x"></a>', '<a href="\u212ahttp:x"></a>', "<br>",
     "<img src=\"x\" alt=\"<\" />", '<a href="data:x"></a>', "<p></em>"]
-# Texts that are.
+# Texts that are such HTML.
 READ = ['a<p>&lt;<a href="http://x?y:z" title=" ">b</a><img src="x/y:z" /></p>\n<hr />', "",
         '<a href=" ht\ttPs:x">a</a>', '<a href="#a:b" id="c"></a>']
 
 
 def leads_where_it_may(attribute, value):
-    """Whether an URL has no protocol or a permitted one, as a browser takes it.
+    """Whether an URL has no protocol or a permitted one, as a browser reads it.
 
-    What references stand for is in no permitted protocol, and ends none: so they are left as they
-    are written.
+    The characters of references occur in no permitted protocol, and end none, so they aren't
+    decoded.
     """
     protocol, colon, _ = value.encode().partition(b":")
     if not colon or any(mark in protocol for mark in b"?#/"):
@@ -68,8 +67,8 @@ def is_tag(tags, inside):
 
 
 def takes_tag(open_names, tag):
-    """Takes a tag without its brackets into the elements that are open, and tells whether it may
-    stand there.
+    """Reads a tag without its brackets, updates the open elements, and returns whether the tag may
+    occur there.
     """
     if tag.startswith("/"):
         return bool(open_names) and open_names.pop() == tag[1:]
@@ -80,7 +79,7 @@ def takes_tag(open_names, tag):
 
 
 def is_html(text):
-    """Whether a text is such HTML, in which each element ends where it may."""
+    """Whether a text is such HTML, in which each element ends at a permitted place."""
     before, *pieces = text.split("<")
     open_names = []
     for piece in pieces:
@@ -97,6 +96,6 @@ def has_distinct_ids(text):
 
 
 def faults():
-    """What the reader itself gets wrong."""
+    """The faults of the reader itself."""
     return ([f"read: {text!r}" for text in REFUSED if is_html(text)]
             + [f"not read: {text!r}" for text in READ if not is_html(text)])

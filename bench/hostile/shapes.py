@@ -1,6 +1,6 @@
-"""Documents of any number of levels or items, and the texts that they should give.
+"""Documents of any number of levels or items, and their expected texts.
 
-A text is put together by the rules of HTML for Markdown, apart from the events of its document.
+A text is built by the rules of HTML for Markdown, independently of the events of its document.
 """
 
 import os
@@ -10,20 +10,20 @@ from functools import partial
 from asking import answers, told
 from scaled_shapes import SHAPES as SCALED
 
-# How many levels or items a shape has: of nodes in one another each power of two below the
-# greatest, since a body that says that it is out of memory past some depth fails there.
+# The number of levels or items of a shape: for nested nodes each power of two below the greatest,
+# since a mutant that reports out of memory beyond some depth fails there.
 GREATEST, OF_SIBLINGS = 100_000, 10_000
 POWERS = [2**power for power in range(17)]
 SMALL = [power for power in POWERS if power <= 1024]
 SIZES = {"levels": [*POWERS, GREATEST], "siblings": [*SMALL, OF_SIBLINGS]}
-# How far it is from item to item out of order; a prime, so that each comes once.
+# The distance from item to item out of order; a prime, so that each occurs once.
 STRIDE = 7_919
 # How many bytes are shown before and after the first one that is wrong.
 SHOWN = 60
 
 
 class Document:
-    """A text that is written from its start to its end, with its events."""
+    """A text that is written from start to end, with its events."""
 
     def __init__(self):
         self.lines = []
@@ -60,7 +60,7 @@ def shuffled(size):
 
 
 def around(size, opening, middle, closing):
-    """Nodes in one another."""
+    """Nested nodes."""
     document = Document()
     document.repeat(size, *opening)
     document.add(*middle)
@@ -69,7 +69,7 @@ def around(size, opening, middle, closing):
 
 
 def in_paragraph(size, opening, closing):
-    """Spans in one another, in a paragraph."""
+    """Nested spans in a paragraph."""
     document = Document()
     document.add("+Paragraph")
     document.repeat(size, *opening)
@@ -86,7 +86,7 @@ def quotes(size):
 
 
 def lists(size):
-    """The innermost item holds a thematic break, which stands on its own line as a list does."""
+    """The innermost item contains a thematic break, which has its own line as a list does."""
     opening = ["+ListUnordered", "+ListItem", "+ListItemPrefix", "+ListItemMarker", "-",
                "-ListItemMarker", "+SpaceOrTab", " ", "-SpaceOrTab", "-ListItemPrefix"]
     document = around(size, opening, ["+ThematicBreak", "***", "-ThematicBreak"],
@@ -100,7 +100,7 @@ def emphasis(size):
 
 
 def media(size, name, mark):
-    """Links or images with a destination, each in the label of the one around it."""
+    """Links or images with a destination, each in the label of the outer one."""
     opening = [f"+{name}", "+Label", mark, "+LabelText"]
     closing = ["-LabelText", "]", "-Label", "+Resource", "(", "+ResourceDestinationString",
                "+Data", "u", "-Data", "-ResourceDestinationString", ")", "-Resource", f"-{name}"]
@@ -112,7 +112,7 @@ def links(size):
 
 
 def images(size):
-    """Only the text of the label is left inside one."""
+    """Inside an image only the text of the label is printed."""
     return media(size, "Image", "!["), '<p><img src="u" alt="x" /></p>'
 
 
@@ -147,7 +147,7 @@ def footnote(label, text):
 
 
 def call(label, number, ending=""):
-    """The HTML of a call: what follows its id is its occurrence, from the second one on."""
+    """The HTML of a call: its occurrence follows its id, from the second one on."""
     return (f'<sup><a href="#user-content-fn-{label}" id="user-content-fnref-{label}{ending}"'
             f' data-footnote-ref="" aria-describedby="footnote-label">{number}</a></sup>')
 
@@ -158,7 +158,7 @@ def way_back(label, ending="", shown=""):
 
 
 def section(items):
-    """The HTML of a paragraph's end and the footnotes, each a label, a text and its ways back."""
+    """The HTML of a paragraph's end and the footnotes: label, text and backreferences of each."""
     listed = "".join(f'<li id="user-content-fn-{label}">\n<p>{text}{ways}</p>\n</li>\n'
                      for label, text, ways in items)
     return ('</p>\n<section data-footnotes="" class="footnotes"><h2 id="footnote-label"'
@@ -167,7 +167,7 @@ def section(items):
 
 def footnotes(size):
     """Calls out of order, and after them the footnotes, each with a text of its own: its number is
-    the place of its call.
+    the position of its call.
     """
     document = Document()
     document.add("+Paragraph")
@@ -182,7 +182,7 @@ def footnotes(size):
 
 
 def calls_of_one_footnote(size):
-    """Each after the first has its occurrence, in its id and in its way back."""
+    """Each after the first has its occurrence in its id and in its backreference."""
     document = Document()
     document.add("+Paragraph")
     document.repeat(size, "+GfmFootnoteCall", "+Label", "[^", "+LabelText", "a", "-LabelText", "]",
@@ -196,13 +196,13 @@ def calls_of_one_footnote(size):
 
 
 def written(shape, size):
-    """The script of a shape of those above, and its text."""
+    """The script of one of the shapes above, and its text."""
     document, text = shape(size)
     return document.script(), text.encode()
 
 
 def scaled(shape, size):
-    """The same of a shape of `scaled_shapes`."""
+    """The same for a shape of `scaled_shapes`."""
     lines = shape.opening * size + shape.middle + shape.closing * size + shape.after
     return f"{lines}--\n{shape.document}".encode(), shape.text(size).encode()
 
@@ -216,7 +216,7 @@ SHAPES = dict(reversed(OWN.items())) | {f"{way} of {shape.name}": partial(scaled
 
 
 def fault(answer, text):
-    """What is wrong with an answer in place of a text."""
+    """The fault of a result that should be a text."""
     if answer == text:
         return None
     at = len(os.path.commonprefix([answer, text]))
@@ -225,8 +225,8 @@ def fault(answer, text):
 
 
 def ask(programs, name):
-    """How many texts a shape was asked for, and what is wrong; those of the greatest size of the
-    shapes above are asked of `mdevents` too.
+    """How many texts of a shape were tested, and the faults; for the greatest size of the shapes
+    above, `mdevents` is tested too.
     """
     sizes = SIZES.get(name.split()[0], [*SMALL, GREATEST])
     made = [SHAPES[name](size) for size in sizes]

@@ -1,5 +1,5 @@
-"""Trees that grow at random: each is a document, and its text under the safe options is HTML that
-leads where it may.
+"""Random trees: each is a document, and its text under the safe options is HTML whose links have
+permitted protocols.
 """
 
 from collections import Counter
@@ -9,7 +9,7 @@ from asking import (SCRIPT_NAMES, answers, common_answer, is_refusal, is_told_ot
 from growing import Random, Tree
 from reading import has_distinct_ids, is_html
 
-# A table with names that come twice, of which the first counts, and with an empty one.
+# A table with repeated names, of which the first counts, and with an empty one.
 OTHER_NAMES = [("", "javascript:"), ("x", "<"), ("amp", "\0"), ("x", "2"), ("", ""),
                ("quot", '"'), ("colon", ":"), ("amp", "&")]
 # Texts of options; none is chosen as often as any of them together.
@@ -22,14 +22,14 @@ UNSAFE_TEXTS = ["!gfm_footnote_label_attributes", "!gfm_footnote_label_tag_name"
 
 
 def chosen(random, flags, texts):
-    """The lines of some of these options, each set once in two times."""
+    """The lines of some of these options, each set half of the time."""
     return ([flag for flag in flags if random.once_in(2)]
             + [f"{option}={random.pick(TEXTS)}" for option in texts if random.once_in(2)])
 
 
 def choices(seed):
-    """Options under which a tree is compiled, and whether these are safe: those by default, safe
-    ones, and the same with some that aren't.
+    """The options for compiling a tree, and whether they are safe: the default ones, safe ones, and
+    the same with some that aren't.
     """
     random = Random(seed)
     ending = f"!default_line_ending={random.pick(['lf', 'cr', 'crlf'])}"
@@ -38,7 +38,7 @@ def choices(seed):
 
 
 def fault(text, options, is_safe):
-    """What is wrong with a text under these options."""
+    """The faults of a text under these options."""
     if text is None or is_told_otherwise(text):
         return "calls answer otherwise"
     if is_refusal(text):
@@ -55,7 +55,7 @@ def fault(text, options, is_safe):
 
 
 def ask(programs, seeds):
-    """How many trees and texts of them were asked for, and what is wrong."""
+    """How many trees and texts were tested, and the faults."""
     rows = []
     for seed in seeds:
         for names in (None, OTHER_NAMES):

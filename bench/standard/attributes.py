@@ -2,11 +2,11 @@
 
     BIVDRAZO_LIBRARY=clients/out/libbivdrazo.so.3 attributes.py
 
-Goes over the documents of clients/checks/attributes_test.py. In what chromium makes of a text with
-attributes, set by `innerHTML` of an element, there must be the same elements and texts as in what
-it makes of the text without them in a `div`, and exactly these attributes more. Each document is
-set into EACH of the elements that trees.py lists, in turn. Wants chromium, html5lib and what
-`clients/build` made.
+Tests the documents of clients/checks/attributes_test.py. The tree that chromium builds of a text
+with attributes, inserted by `innerHTML` of an element, must have the same elements and texts as the
+tree of the text without them in a `div`, and exactly these attributes in addition. Each document is
+inserted into EACH of the elements that trees.py lists, one after another. Requires chromium,
+html5lib and what `clients/build` made.
 """
 import pathlib
 import sys
@@ -34,7 +34,7 @@ def parts(nodes):
 
 
 def wanted(plain, rel):
-    """The same with the attributes that are asked for."""
+    """The same with the requested attributes."""
     number = 0
     for name, attributes in plain:
         attributes = attributes and dict(attributes)

@@ -1,17 +1,17 @@
 #!/usr/bin/env python3
-"""Has a real browser, Debian's chromium, take what `mdevents` makes of the attacks in
+"""Makes a real browser, Debian's chromium, read the output of `mdevents` for the attacks in
 bench/attacks.json.
 
     /usr/bin/python3 bench/standard/browser.py PROGRAM CASES [CHROMIUM]
 
 PROGRAM is the built `mdevents`, and CASES the built `md_cases`, which makes pages. Each text is
-written into a document of its own, by the browser's parser as it reads a page, and set into a `div`
-of another. In both documents that come of it there may be no script element, no attribute whose
-name begins with `on`, and, but where an option lets them, no `href` and no `src` with a scheme that
-isn't permitted, by the browser's own `URL`; and nothing may run: no call of `alert`, `confirm`,
-`prompt` or `eval`. Besides, each attack is the title of an empty page (`md_page::page`), whose
-document must have exactly this title and an empty body. It fails, with status 1, on each of these,
-and where it doesn't find them in texts that have them.
+written into a document of its own, by the browser's parser as it reads a page, and inserted into a
+`div` of another. Both documents may have no script element, no attribute whose name begins with
+`on`, and, unless an option allows them, no `href` and no `src` with a scheme that isn't permitted,
+by the browser's own `URL`; and nothing may run: no call of `alert`, `confirm`, `prompt` or `eval`.
+Besides, each attack is the title of an empty page (`md_page::page`), whose document must have
+exactly this title and an empty body. It fails, with status 1, on each of these, and if it doesn't
+find them in texts that have them.
 """
 
 import itertools
@@ -24,7 +24,7 @@ import tempfile
 sys.path.insert(0, str(pathlib.Path(__file__).parents[1]))
 from html5 import ATTACKS, LETS_ANY, attacks, script  # noqa: E402
 
-# Texts with what is looked for, each with a word of the fault that is to be found.
+# Texts with faults, each with a word of the fault that must be found.
 BAD = [
     ("<p><script>alert(1)</script></p>", "script"),
     ("<p><script>alert(1)</script></p>", "ran"),
@@ -101,8 +101,8 @@ const judged = async (texts) => {
 
 
 def faults_of(texts, chromium):
-    """What the browser finds in each text; it comes with whether its option lets any protocol,
-    and a page's title.
+    """The browser's findings in each text; a text has a flag for an option that allows any
+    protocol, and a page's title.
     """
     with tempfile.TemporaryDirectory() as folder:
         page = pathlib.Path(folder) / "page.html"
@@ -118,7 +118,7 @@ def faults_of(texts, chromium):
 
 
 def pages_of(titles, program):
-    """The empty page with each title, as the program of the worked cases answers it."""
+    """The empty page with each title, as the program of the worked cases prints it."""
     arguments = [title.replace("\n", "\\n") for title in titles]
     asked = [f"%%%% {number}: page\n? compiled page {argument}\n--\n\n"
              for number, argument in enumerate(arguments)]

@@ -29,7 +29,7 @@ def read_own(node):
 
 
 def constructed(tokens, fragment=False):
-    """What construction.py builds of the tokens of tokenizer.py: a doctype's name and a root."""
+    """The result of construction.py for the tokens of tokenizer.py: a doctype's name and a root."""
     given = []
     for token in tokens:
         kind, *parts = token
@@ -98,7 +98,7 @@ document.body.textContent = JSON.stringify(answers).replace(/[^ -%'-;=?-~]/g,
 
 
 def by_browser(given):
-    """What chromium builds of each: of a text a document, of a name and a text an element's nodes.
+    """The results of chromium: for a text a document, for a name and a text an element's nodes.
     """
     with tempfile.TemporaryDirectory() as folder:
         file = pathlib.Path(folder) / "documents.html"

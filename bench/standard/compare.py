@@ -4,8 +4,8 @@ URLs of texts.py.
 
     /usr/bin/python3 bench/standard/compare.py [TEXTS] [URLS] [SEED]
 
-It fails, with status 1, where one of them answers otherwise and tokenizer.py isn't stuck, or where
-it is stuck on a text of the grammar or a page.
+It fails, with status 1, if a result differs and tokenizer.py isn't stuck, or if it is stuck on a
+text of the grammar or a page.
 """
 
 import collections
@@ -18,7 +18,7 @@ import tokenizer
 
 
 def compare_texts(count, made_by):
-    """How many texts of each kind are answered alike, are stuck, or are answered otherwise."""
+    """How many texts of each kind have the same result, are stuck, or have different results."""
     counts = collections.Counter()
     for _ in range(count):
         kind, text = texts.text(made_by, 3)

@@ -1,5 +1,5 @@
 """crates/md_safe/specs once more in Python, by hand: tree construction of tokens, None
-where it is stuck.
+if it is stuck.
 """
 
 from around_body import AroundBody
@@ -7,7 +7,7 @@ from stack import MARKER, SPACE, Open, Stuck
 
 
 class Parser(AroundBody):
-    """What is done at a token, and at the end of file."""
+    """The actions at a token, and at the end of file."""
 
     def stop(self):
         """The end of file."""
@@ -64,7 +64,7 @@ def built(mode, names, tokens):
 
 
 def document(tokens):
-    """The name of the doctype, None where there is none, and the root, of the tokens of a document.
+    """The name of the doctype, None if there is none, and the root, for the tokens of a document.
     """
     parser, doctype = Parser("initial", []), None
     try:

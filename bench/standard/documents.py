@@ -7,17 +7,16 @@ published tests.
     /usr/bin/python3 bench/standard/documents.py --prove COUNT SEED
     /usr/bin/python3 bench/standard/documents.py --tests FOLDER [--prove]
 
-COUNT random documents: each second one is a page as `md_page` writes it around a text of the
-content model of crates/md_safe/specs/Contents.antt without a link in a link, and has to be built
-as its own document; the others are such pages with any elements anywhere, pages with a few
-characters changed, and pieces of documents put together. With --browser they are compared with
-what chromium's `DOMParser` builds, and forests of the content model with what it builds of them by
-`innerHTML` of a div, a td, a list's item and a section. FOLDER has tests of tree construction in
-the format of html5lib's (`*.dat`). With --prove the definitions themselves answer: each document
-under 300 characters, or each test that tokenizer.py and construction.py aren't stuck on, becomes
-an equation of a copy of crates/md_safe, which the prover closes by computing: what is built of it,
-or that they are stuck. Status 1, where one answers otherwise, or where they are stuck on a page of
-the content model.
+COUNT random documents: each second one is a page as `md_page` writes it with a text of the content
+model of crates/md_safe/specs/Contents.antt without a link in a link, and must be built as its own
+document; the others are such pages with any elements anywhere, pages with a few characters
+changed, and joined pieces of documents. With --browser they are compared with the results of
+chromium's `DOMParser`, and forests of the content model with those of `innerHTML` of a div, a td, a
+list's item and a section. FOLDER has tests of tree construction in the format of html5lib's
+(`*.dat`). With --prove the definitions themselves are tested: each document under 300 characters,
+or each test that tokenizer.py and construction.py aren't stuck on, becomes an equation of a copy of
+crates/md_safe, which the prover closes by computing: the tree that is built, or that they are
+stuck. Status 1 if a result differs, or if they are stuck on a page of the content model.
 """
 
 import collections
@@ -73,7 +72,7 @@ def compare(count, seed, is_browser):
 
 
 def prove(count, seed):
-    """Has the definitions answer as construction.py does, on random documents."""
+    """Proves that the definitions have the results of construction.py, for random documents."""
     random.seed(seed)
     made_so, counts = [], collections.Counter()
     while len(made_so) < count:

@@ -1,13 +1,13 @@
 #!/usr/bin/env python3
-"""Has the definitions themselves answer what html5lib's tokenizer and node's `URL` answer, as
-equations that are proved.
+"""Proves, by equations, that the definitions have the results of html5lib's tokenizer and of node's
+`URL`.
 
     /usr/bin/python3 bench/standard/equations.py [TEXTS] [URLS] [SEED]
 
 Each text and each URL of texts.py becomes an equation of a copy of crates/md_safe, which the prover
-closes by computing: what the definitions make of it is what html5lib, or node, answers, or None
-where tokenizer.py is stuck. It fails, with status 1, where one is refused, or where it is stuck on
-a text of the grammar or a page. Texts are kept under 80 characters, pages under 300.
+closes by computing: the result of the definitions is that of html5lib, or node, or None if
+tokenizer.py is stuck. It fails, with status 1, if an equation is refused, or if tokenizer.py is
+stuck on a text of the grammar or a page. Texts have under 80 characters, pages under 300.
 """
 
 import collections
@@ -55,7 +55,7 @@ def token(of):
 
 
 def of_text(random):
-    """A text's kind, and what the definitions are to make of it."""
+    """A text's kind, and the expected result of the definitions."""
     while True:
         kind, text = texts.text(random, 1)
         if len(text) < (300 if "page" in kind else 80):
@@ -69,7 +69,7 @@ def of_text(random):
 
 
 def of_urls(count, random):
-    """URLs' kinds, and what the definitions are to find in each that node doesn't refuse."""
+    """URLs' kinds, and the expected scheme of each that node doesn't reject."""
     made = [texts.url(random) for _ in range(count)]
     for (kind, url), scheme in zip(made, outside.schemes([url for _, url in made]), strict=True):
         if scheme != "?":
@@ -79,7 +79,7 @@ def of_urls(count, random):
 
 
 def copied(folder, equations):
-    """A copy of md_safe and what is below it, with the equations."""
+    """A copy of md_safe and the crates below it, with the equations."""
     (folder / "crates").mkdir()
     lines = (ROOT / "crates.txt").read_text().splitlines(keepends=True)
     needed = {"md_safe"}

@@ -1,4 +1,4 @@
-"""What html5lib's tokenizer and node's `URL` answer."""
+"""The results of html5lib's tokenizer and of node's `URL`."""
 
 import json
 import subprocess
@@ -27,7 +27,7 @@ def _token(token):
 
 def _noting(self):
     """The tokenizer of a whole parser, so that tree construction switches its state; it
-    notes each token.
+    records each token.
     """
     for token in _plain(self):
         if token["type"] in (tokenTypes["Characters"], tokenTypes["SpaceCharacters"]):
@@ -41,7 +41,7 @@ _tokenizer.HTMLTokenizer.__iter__ = _noting
 
 
 def tokens(text, is_fragment):
-    """The tokens that html5lib emits of a text, which is a document, or a fragment inside a `div`.
+    """The tokens that html5lib emits for a text, which is a document, or a fragment in a `div`.
     """
     _noted.clear()
     if is_fragment:
@@ -64,8 +64,8 @@ for (const line of require('fs').readFileSync(0, 'utf8').split('\\n').filter((li
 
 
 def schemes(urls):
-    """The scheme that node finds in each URL, empty where it has none, `?` where node
-    refuses the URL.
+    """The scheme that node finds in each URL, empty if there is none, `?` if node rejects
+    the URL.
     """
     lines = "".join(json.dumps(url) + "\n" for url in urls)
     ran = subprocess.run(["node", "-e", _NODE], input=lines, text=True, capture_output=True,

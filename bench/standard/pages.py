@@ -1,4 +1,4 @@
-"""Random documents: pages as `md_page` writes them, changed ones, and pieces put together."""
+"""Random documents: pages as `md_page` writes them, changed ones, and joined pieces."""
 
 import html
 import random
@@ -21,7 +21,7 @@ PIECES = [
 
 
 def page(nodes):
-    """A page around a forest, and the document that it is to be built as."""
+    """A page with a forest, and its expected document."""
     title = texts.pieces(random, texts.ESCAPED, 0, 6)
     head = f'<head><meta charset="utf-8" /><title>{title}</title></head>'
     text = f"<!doctype html>\n<html>{head}<body>{trees.written(nodes)}</body></html>\n"
@@ -32,13 +32,13 @@ def page(nodes):
     return text, ("html", ("html", [], [("head", [], [meta, told]), ("body", [], body)]))
 
 
-# There html5lib drops a line feed that doesn't stand directly after `<pre>`, where the Standard
+# There html5lib drops a line feed that isn't directly after `<pre>`, where the Standard
 # has it drop none.
 DROPPED = re.compile(r"<pre[^>]*>(?!</pre)(<[^>]*>)+\n", re.IGNORECASE)
 
 
 def made(index, is_browser):
-    """The kind of a random document, its text, and what it is to be built as, if that is known."""
+    """The kind of a random document, its text, and its expected tree, if that is known."""
     if index % 2 == 0:
         return "page", *page(trees.forest("flow", random.randint(1, 6), 0))
     while DROPPED.search((one := changed())[1].replace("\r", "\n")) and not is_browser:

@@ -1,4 +1,4 @@
-"""Equations of the definitions on documents, which a copy of crates/md_safe is to prove."""
+"""Equations about the definitions on documents, which a copy of crates/md_safe must prove."""
 
 import pathlib
 import shutil
@@ -38,7 +38,7 @@ def nodes_of(nodes):
 
 
 def equation(text, context, built):
-    """What the definitions are to make of a test."""
+    """The expected result of the definitions for a test."""
     fragment = ('(λ emits. constructed None '
                 '(at InBody (open_at 0 (codes "html") Empty ∷ []) [] 1) emits)')
     emitted = f"(run 2000 Data (with_line_feeds {equations.written(text.encode())}))"
@@ -51,7 +51,7 @@ def equation(text, context, built):
 
 
 def answered(made):
-    """Whether a copy of md_safe, and what is below it, proves these equations, and
+    """Whether a copy of md_safe, and the crates below it, proves these equations, and
     refuses a wrong one.
     """
     needed, lines = {"md_safe"}, (ROOT / "crates.txt").read_text().splitlines(keepends=True)

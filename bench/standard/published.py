@@ -11,8 +11,8 @@ HEADS = {"errors", "new-errors", "document-fragment", "script-on", "script-off",
 
 
 def tests(folder):
-    """Each test of a folder: its text, the fragment's context, if it is one, and the tree as it
-    is written there.
+    """Each test of a folder: its text, the fragment's context, if it is one, and the expected
+    tree.
     """
     for file in sorted(pathlib.Path(folder).glob("**/*.dat")):
         for block in ("\n" + file.read_text(encoding="utf-8",

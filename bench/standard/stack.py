@@ -27,7 +27,7 @@ MARKER = None
 
 
 class Stuck(Exception):
-    """What isn't written out."""
+    """A transition that isn't written out."""
 
 
 class Open:

@@ -1,4 +1,4 @@
-"""Texts and URLs to compare: of the HTML grammar, pages, put together of pieces, and changed ones.
+"""Texts and URLs to compare: of the HTML grammar, pages, joined pieces, and changed ones.
 """
 
 import json
@@ -55,7 +55,7 @@ URLS = [
 
 
 def pieces(random, of, least, most):
-    """Some pieces after one another."""
+    """Some joined pieces."""
     return "".join(random.choice(of) for _ in range(random.randint(least, most)))
 
 
@@ -92,7 +92,7 @@ def page(random, depth):
 
 
 def changed(random, text, of):
-    """A text with a few characters left out, doubled, put in or exchanged."""
+    """A text with a few characters removed, doubled, inserted or exchanged."""
     for _ in range(random.randint(1, 3)):
         at = random.randint(0, len(text))
         until = min(len(text), at + random.randint(0, 3))

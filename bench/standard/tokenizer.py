@@ -1,7 +1,7 @@
 """crates/md_safe/specs/Tokenizer.antt and Scheme.antt once more in Python, state by state,
 written by hand.
 
-equations.py ties this to the definitions: what it answers of a text, they compute to.
+equations.py compares this with the definitions: they compute to its result for a text.
 """
 
 SPACE = {9, 10, 12, 32}
@@ -85,7 +85,7 @@ def flushed(state, out, rest):
 
 
 def step(state, text):
-    """(tokens, state, rest), or (tokens,) where it stops, or STUCK"""
+    """(tokens, state, rest), or (tokens,) if it stops, or STUCK"""
     s = state[0]
     tag = state[1] if len(state) > 1 else None
     if not text:

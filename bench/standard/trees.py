@@ -1,13 +1,13 @@
 """Compares construction.py with html5lib on random forests, in a div, a td, a list's
 item and a section.
 
-trees.py COUNT SEED: every second forest keeps to the content model of
-crates/md_safe/specs/Contents.antt without a link in a link, and has to be built as its own tree;
-the others are changed ones, in which elements may stand anywhere. Every fourth stands between two
-pieces of a template that construction.py doesn't know: html5lib has to build what it builds of the
-template alone, with the forest's own tree where the mark stands in that. Each forest of the content
-model is also parsed as a fragment, as what `innerHTML` sets into one of CONTEXTS: html5lib has to
-build its own tree. Links have a `rel` now and then, and headings an `id`.
+trees.py COUNT SEED: every second forest fulfils the content model of
+crates/md_safe/specs/Contents.antt without a link in a link, and must be built as its own tree; the
+others are changed ones, in which elements may be anywhere. Every fourth is between two pieces of a
+template that construction.py doesn't know: html5lib must build the same as for the template alone,
+with the forest's own tree in place of the mark. Each forest of the content model is also parsed as
+a fragment, as `innerHTML` of one of CONTEXTS does: html5lib must build its own tree. Some links
+have a `rel`, and some headings an `id`.
 """
 
 import random
@@ -41,7 +41,7 @@ ATTRIBUTES = {
     "td": ["align"], "img": ["src", "alt"], "input": ["type", "checked"],
     **{f"h{rank}": ["id"] for rank in range(1, 7)},
 }
-# Before a text, the elements that are open there, and the insertion mode.
+# Texts before a forest, the elements that are open after each, and the insertion mode.
 PLACES = {
     "div": ("<!doctype html><body><div id=here>", ["html", "body", "div"], "body"),
     "td": (
@@ -53,10 +53,10 @@ PLACES = {
     "section": ("<!doctype html><body><section id=here>", ["html", "body", "section"], "body"),
 }
 AFTER = "<i id=after></i>"
-# Elements into which `innerHTML` sets a text.
+# Elements into which `innerHTML` inserts a text.
 CONTEXTS = ["div", "li", "section", "article", "td", "th", "blockquote", "details", "main", "dd",
             "figure", "aside", "body", "p", "h1", "a", "span", "button", "form"]
-# Pieces before and after a text, which is set where flow content may be set.
+# Pieces before and after a text, which is inserted where flow content is allowed.
 TEMPLATES = [
     ("<!doctype html><!-- c --><title>a<b</title><script>if (1 < 2) {}</script><div class=c>",
      "</div><p>after <b>it"),
@@ -83,7 +83,7 @@ def attributes(name):
 
 
 def forest(content, depth, wild):
-    """A forest of a content; each node is of another one as often as `wild` says."""
+    """A forest of a content; each node has another content as often as `wild` says."""
     out = []
     for _ in range(random.choice([0, 1, 1, 2, 3]) if depth else random.choice([0, 1])):
         here = random.choice(list(MODEL)) if random.random() < wild else content
@@ -105,7 +105,7 @@ def forest(content, depth, wild):
 
 
 def without_line_feeds(nodes):
-    """A forest whose texts have no line feed, since html5lib drops others too than the one after
+    """A forest whose texts have no line feed, since html5lib also drops others than the one after
     `<pre>`, and in cells none.
     """
     kept = [n.replace("\n", " ") if isinstance(n, str) else n for n in nodes]
@@ -114,7 +114,7 @@ def without_line_feeds(nodes):
 
 
 def tokens(nodes):
-    """What the tokenizer emits of a forest."""
+    """The tokens of a forest."""
     out = []
     for node in nodes:
         if isinstance(node, str):
@@ -143,7 +143,7 @@ def written(nodes):
 
 
 def own_tree(nodes):
-    """The tree that a forest is read as."""
+    """The tree of a forest's reading."""
     return [n if isinstance(n, str)
             else (n[1], sorted(n[2]), [] if n[0] == "void" else own_tree(n[3])) for n in nodes]
 
@@ -173,7 +173,7 @@ def parsed_tree(element):
 
 
 def differs(nodes, place, is_own):
-    """None if both build the same tree, "stuck", or what they build."""
+    """None if both build the same tree, "stuck", or the two trees."""
     before, names, mode = PLACES[place]
     parser = construction.built(mode, names, tokens(nodes))
     if parser is None:
@@ -193,14 +193,14 @@ def differs(nodes, place, is_own):
 
 
 def differs_in_fragment(nodes):
-    """None if html5lib builds of a forest, as a fragment, its own tree."""
+    """None if html5lib builds for a forest, as a fragment, its own tree."""
     context = random.choice(CONTEXTS)
     built = parsed_tree(html5lib.parseFragment(written(nodes), container=context))
     return None if built == own_tree(nodes) else f"{context}: {built} is not {own_tree(nodes)}"
 
 
 def with_forest(tree, own):
-    """A tree with another in the place of the mark."""
+    """A tree in which another one replaces the mark."""
     out = []
     for node in tree:
         if isinstance(node, str):
@@ -213,7 +213,8 @@ def with_forest(tree, own):
 
 
 def differs_in_template(nodes):
-    """None if html5lib builds of a forest in a template what it builds of the two apart, or both.
+    """None if html5lib builds for a forest in a template the same as for the two separately, or
+    both trees.
     """
     before, after = random.choice(TEMPLATES)
     alone = with_forest(parsed_tree(html5lib.parse(before + MARK + after)), own_tree(nodes))

@@ -1,4 +1,4 @@
--- What an answer says, from the text or the failure that it tells.
+-- The promises of an answer, from the text or the failure that it reports.
 use Rattle.std.proofs.Common.{◌≡◌, ◌≢◌, ℕ, ◌<◌, ◌≤◌, List, length, take, drop, refl, sym, ap, subst}
 use Rattle.std.proofs.Common.{inl, inr, arith, false, eqb}
 use Rattle.std.proofs.lemmas.Bool.{eqb-false}
@@ -87,7 +87,7 @@ text_of_run text old new answer handed =
     let known = text_is_plain text old new answer handed in
     record { plain = known.0; script_only = λ many. absurd (omega (arith, known.1, many)) }
 
--- a text is handed over with a status of its own
+-- a text is written with a status of its own
 pub text_status : (text old new : List ℕ) (answer : Answer) →
     IsHandedOver text old new answer → answer.status ≤ 1
 text_status text old new answer handed = (text_is_plain text old new answer handed).1

@@ -1,4 +1,4 @@
--- From what a safe text and its attributes promise to what C is handed.
+-- From the promises about a safe text and its attributes to those about C's result.
 use Rattle.std.proofs.Common.{◌≡◌, ℕ, ◌≤◌, Bool, true, false, cond, eqb, List, [], ◌∷◌, ◌++◌}
 use Rattle.std.proofs.Common.{length, take, drop, Option, Some, None, Result, Ok, Err, IfOk, IfErr}
 use Rattle.std.proofs.Common.{refl, sym, ap, ◌∙◌, subst, arith}
@@ -41,7 +41,7 @@ use Rattle.md_abi.specs.declared.attributes.CAttributes.{CAttributes}
 use Rattle.md_abi.specs.declared.refusal.Refusal.{Refusal}
 use Rattle.md_abi.proofs.GivenLemmas.{told_of}
 
--- ---- safe options stand for safe options of C
+-- ---- safe options of C encode safe options
 is_off : (flag : ℕ) → flag_of flag ≡ Some false → flag ≡ 0
 is_off flag stands = by (eqb flag 0) refl (eqb flag 1) stands
   where
@@ -83,7 +83,7 @@ keeps_images given options has keeps =
           is_off given.allow_any_img_src (has.any_img_src ∙ ap Some keeps.permitted_images);
     }
 
--- ---- a text of which a reading is emitted has one reading
+-- ---- a text has one reading if the tokenizer emits one of its readings
 pub reads_once : (text : List ℕ) → IsTokenizedAsRead text → HasOneReadingWith any_attribute text
 reads_once text read = record {
   forest = read.forest;
@@ -168,7 +168,7 @@ built-before whole start given text list (Ok made) is at built = λ h.
     subst IsBuiltAsWritten (sym (after text list (whole made) (start made) is at).0) (built h)
 built-before whole start given text list (Err why) is at built = tt
 
--- and so of another text, of which that is built
+-- and the same for another text with that result
 pub built-from : {S E : Type 0} (given text : List ℕ) (of : S → List ℕ) (r : Result S E) →
     IfOk r (λ made. IsBuiltAsWritten text → IsBuiltAsWritten (of made)) →
     (IsBuiltAsWritten given → IsBuiltAsWritten text) →
@@ -176,7 +176,7 @@ pub built-from : {S E : Type 0} (given text : List ℕ) (of : S → List ℕ) (r
 built-from given text of (Ok made) h built = λ b. h (built b)
 built-from given text of (Err why) h built = tt
 
--- what is asked for is what was read
+-- the requested attributes are those that were read
 asked_is : (given : CText) (read : Option (List ℕ)) → text_of given ≡ Some read → asked given ≡ read
 asked_is given read stands = ap (option_and_then (λ text. text)) stands
 

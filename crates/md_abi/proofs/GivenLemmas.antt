@@ -27,7 +27,7 @@ use Rattle.md_abi.specs.declared.option.COptions.{COptions}
 use Rattle.md_abi.specs.declared.failure.Failure.{Failure}
 use Rattle.md_abi.specs.declared.failure.Failure.TheVariants as failure
 
--- ---- safe options of C stand for safe options
+-- ---- safe options of C encode safe options
 
 flag_off : (flag : ℕ) (is_on : Bool) → flag ≡ 0 → flag_of flag ≡ Some is_on → is_on ≡ false
 flag_off flag is_on off stands =
@@ -84,7 +84,7 @@ keeps_ids given options has keeps = record {
   by_number = flag_on _ _ keeps.by_number has.number_ids;
 }
 
--- ---- what was read, and handed on as slices
+-- ---- the converted input, passed as slices
 
 pub record IsRead (events : List CEvent) (options : COptions) (names : List CReference)
     (slice : List Event)

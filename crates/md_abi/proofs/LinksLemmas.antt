@@ -16,7 +16,7 @@ use Rattle.md_abi.specs.declared.failure.Failure.TheVariants as failure
 use Rattle.md_abi.proofs.AnswerLemmas.{never}
 use Rattle.md_abi.proofs.WithinLemmas.{some_once}
 
--- what is told of the document for which some events stand
+-- the answer about the document that some events encode
 abbrev pub IsToldOf : List CEvent → Bool → Type 0
 IsToldOf events nested = (document : Forest) → StandFor event_of events (flatten document) →
     nested ≡ has_nested_link false document

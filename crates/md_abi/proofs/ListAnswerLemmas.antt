@@ -1,4 +1,4 @@
--- What an answer with a list after its text says, and what is handed over with a refusal.
+-- The promises of an answer with a list after its text, and of one with a refusal.
 use Rattle.std.proofs.Common.{◌≡◌, ℕ, ◌<◌, ◌≤◌, List, length, refl, sym, ap, ◌∙◌, subst, inl, inr}
 use Rattle.std.proofs.Common.{arith}
 use Rattle.md_abi.specs.Options.{KeepsImages}

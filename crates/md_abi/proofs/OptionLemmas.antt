@@ -1,4 +1,4 @@
--- A field that stands for no option is told as such.
+-- A field that encodes no option is reported as such.
 use Rattle.std.proofs.Common.{◌≡◌, ℕ, Option, Some, Result, Ok, Err, IfErr, is_some, sym, ap, ◌∙◌}
 use Rattle.std.proofs.Common.{subst}
 use Rattle.std.specs.Prelude.{IsErrAnd, slice_get}
@@ -20,7 +20,7 @@ module _ {A : Type 0} (options : COptions) (field : ℕ) (value : Option A)
   fault_of (failure.Line number) fault = absurd fault
   fault_of (failure.Refused index rule) fault = absurd fault
 
-  -- what `?` makes of it
+  -- the result of `?`
   pub fault_told : {T : Type 0} (r : Result T Failure) (why : Failure) →
       IsErrAnd r (λ made. made ≡ why) →
       IsFaultOf field value why → IfErr r (IsOptionFault options)

@@ -1,5 +1,5 @@
--- A list of what C hands in that is read in order: what was read, and after it what the
--- rest stands for.
+-- A list of C's input that is converted in order: the converted items, followed by those that the
+-- rest encodes.
 use Rattle.std.proofs.Common.{◌≡◌, ℕ, ◌+◌, ◌<◌, ◌≤◌, List, [], ◌∷◌, ◌++◌, length, map, get_or, drop}
 use Rattle.std.proofs.Common.{Option, Some, None, sym, ap, ◌∙◌}
 use Rattle.std.proofs.lemmas.List.{append_assoc, append-nil, map-append, at_drop_more, at_drop_all}
@@ -7,7 +7,7 @@ use Rattle.md_abi.specs.Standing.{StandFor, IsFirstWithout}
 
 module _ {A B : Type 0} (meaning : A → Option B) (given : List A) (index : ℕ) (read : List B)
     (whole : map Some read ++ map meaning (drop index given) ≡ map meaning given) where
-  -- the next one stands for a value
+  -- the next item encodes a value
   pub one_more : (next : A) (value : B) (more : List B) → index < length given →
       Some value ≡ meaning (get_or given index next) → more ≡ read ++ value ∷ [] →
       map Some more ++ map meaning (drop (index + 1) given) ≡ map meaning given
@@ -20,7 +20,7 @@ module _ {A B : Type 0} (meaning : A → Option B) (given : List A) (index : ℕ
       ∙ sym (at_drop_more (λ left. map Some read ++ map meaning left) given index next within)
       ∙ whole
 
-  -- the next one stands for none
+  -- the next one is invalid
   pub first_without : (next : A) (count : ℕ) → index < length given →
       None ≡ meaning (get_or given index next) →
       count ≡ length read → IsFirstWithout meaning given count

@@ -1,5 +1,5 @@
--- From what is promised where no link stands in a link to what C is handed, and what an answer says
--- of it.
+-- From the compiler's promises, if no link contains a link, to those about C's result and its
+-- answer.
 use Rattle.std.proofs.Common.{◌≡◌, ℕ, ◌<◌, ◌≤◌, List, map, Some, Result, Ok, Err, IfOk, IfErr}
 use Rattle.std.proofs.Common.{refl, sym, ap, ◌∙◌, subst, inl, inr, arith}
 use Rattle.std.specs.Prelude.{IsErrAnd}
@@ -38,7 +38,7 @@ use Rattle.md_abi.proofs.AttributedLemmas.{keeps_images, safe_told}
 use Rattle.md_abi.proofs.AnswerLemmas.{never, failed, failure_hands_over, failure_of_compile}
 use Rattle.md_abi.proofs.AnswerLemmas.{failure_says, text_of_compile}
 
--- ---- the compiler's error as a failure
+-- ---- the failure for a compiler's error
 
 fault_of : (given : Handed) (options : CompileOptions) (why : UnnestedError) →
     OfNested (AreNested given.events) why → OfNested (IsChecked given) why →
@@ -67,7 +67,7 @@ told_unnested given options why (Err made) same nests checked refused outside or
     subst (IsUnnestedFault given options) (sym same)
     (fault_of given options why nests checked refused outside order mdx of_node lost)
 
--- ---- what was read, and handed on as slices
+-- ---- the converted input, passed as slices
 
 module _ (events : List CEvent) (bytes : List ℕ) (options : COptions) (names : List CReference)
     (slice : List Event) (given : CompileOptions) (pairs : List (Bor (List ℕ) × Bor (List ℕ)))

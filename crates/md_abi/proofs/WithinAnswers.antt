@@ -1,4 +1,4 @@
--- What an answer within limits says of what C is handed.
+-- The promises of an answer within limits about C's result.
 use Rattle.std.proofs.Common.{◌≡◌, inl, ℕ, ◌<◌, ◌≤◌, List}
 use Rattle.std.proofs.Common.{refl, sym, subst, arith}
 use Rattle.md_tree.specs.Grammar.{handed}
@@ -102,7 +102,7 @@ module _ (events : List CEvent) (bytes : List ℕ) (options : COptions) (names :
     pub bounded : TellsOfEvents answer.status → IsBounded events limits
     pub shallow : TellsPastDepth answer.status → IsShallow events limits
 
-  -- a failure that tells of events is a refused one
+  -- a failure that reports events is a refused one
   tells : (claim : Type 0) (cause : Failure) → TellsPastDepth (answer_of cause).status →
       OfRefused claim cause → claim
   tells claim failure.Memory is h = absurd (omega (arith, is))

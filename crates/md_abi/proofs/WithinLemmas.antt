@@ -1,4 +1,4 @@
--- From what the compiler promises within limits to what C is handed, and what an answer says of it.
+-- From the compiler's promises within limits to those about C's result and its answer.
 use Rattle.std.proofs.Common.{◌≡◌, inl, inr, ℕ, ◌<◌, ◌≤◌, List, [], ◌∷◌, map, Some}
 use Rattle.std.proofs.Common.{Result, Ok, Err}
 use Rattle.std.proofs.Common.{IfOk, IfErr, OnOk, refl, sym, ap, ◌∙◌, subst, arith}
@@ -33,7 +33,7 @@ use Rattle.md_abi.specs.declared.within.WithinFailure.TheVariants.{TooLong, TooM
 use Rattle.md_abi.specs.declared.within.WithinFailure.TheVariants.{Failed}
 use Rattle.md_abi.proofs.GivenLemmas.{told_of, IsRead, rendered, explained}
 
--- ---- the compiler's error as a failure
+-- ---- the failure for a compiler's error
 
 pub refusal_within : (given : Handed) (why : WithinError) → OfWithin (IsOrder given) why →
     OfWithin (IsMdx given) why → OfWithin (IsOfNode given) why → OfWithin (IsLost given) why →
@@ -73,7 +73,7 @@ told_within given options limits why (Err made) same deep much longer checked re
     subst (IsFailureWithin given options limits) (sym same)
     (failure_within given options limits why deep much longer checked refusal)
 
--- ---- a list stands for one list alone
+-- ---- a list encodes only one list
 
 pub some_once : {B : Type 0} (xs ys : List B) → map Some xs ≡ map Some ys → xs ≡ ys
 some_once [] [] same = refl
@@ -84,7 +84,7 @@ some_once (x ∷ xs) (y ∷ ys) same =
     let others : map Some xs ≡ map Some ys = cc in
     ap (λ z. z ∷ xs) first ∙ ap (λ zs. y ∷ zs) (some_once xs ys others)
 
--- ---- what was read, and handed on as slices
+-- ---- the converted input, passed as slices
 
 module _ (events : List CEvent) (bytes : List ℕ) (options : COptions) (names : List CReference)
     (slice : List Event) (given : CompileOptions) (pairs : List (Bor (List ℕ) × Bor (List ℕ)))

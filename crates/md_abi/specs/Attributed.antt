@@ -1,4 +1,4 @@
--- What a text with attributes is of what C hands in.
+-- The promises about a text with attributes, in terms of C's input.
 use Rattle.std.specs.Prelude.{◌≡◌, ℕ, ◌≤◌, Bool, true, IsTrue, List, length, take, drop, Option}
 use Rattle.std.specs.Option.{option_map_or}
 use Rattle.md_text.specs.Ids.{are_distinct}
@@ -18,15 +18,15 @@ use Rattle.md_abi.specs.declared.reference.CReference.{CReference}
 use Rattle.md_abi.specs.declared.option.COptions.{COptions}
 use Rattle.md_abi.specs.declared.attributes.CAttributes.{CAttributes}
 
--- none of some ids begins as the ids of headings are to begin
+-- none of some ids begins with the prefix of the ids of headings
 abbrev pub none_begins_with : Option (List ℕ) → List (List ℕ) → Bool
 none_begins_with prefix ids = option_map_or (λ text. none_begins (shown text) ids) prefix true
 
--- the bytes before the index are tokenized as these tokens with ids on their headings, where a
--- prefix is asked for, and keep to what such a text keeps to; they are written as whole tags and
--- texts, so that no tag is cut off at their end; those after it are the list of these headings;
--- where no two ids among the tokens are equal, and none begins with the prefix, no two of the text
--- are equal
+-- the bytes before the index are tokenized as these tokens with ids on their headings, if a prefix
+-- is requested, and fulfil the promises about such a text; they are written as whole tags and
+-- texts, so that no tag is cut off at their end; the bytes after it are the list of these headings;
+-- if no two ids among the tokens are equal, and none begins with the prefix, no two of the text are
+-- equal
 pub record IsListedAfter (prefix : Option (List ℕ)) (tokens : List Token) (start : ℕ)
     (whole : List ℕ) : Type 0 where
   pub within : start ≤ length whole
@@ -38,10 +38,9 @@ pub record IsListedAfter (prefix : Option (List ℕ)) (tokens : List Token) (sta
       IsTrue (none_begins_with prefix (ids_among tokens)) →
       IsTrue (are_distinct (ids_among (with_ids prefix tokens)))
 
--- of what was handed in, with safe options, there is a text with all that is promised of one
--- without attributes; with the attributes that are asked for its tokens are those of the bytes
--- before the index, which are built as they are written where the text is built as it is read; the
--- list of the headings that got an id follows
+-- the input, with safe options, has a text with all promises about one without attributes; with the
+-- requested attributes its tokens are those of the bytes before the index, which are built as they
+-- are written if the text is built as it is read; the list of the headings that got an id follows
 pub record IsAttributedText (events : List CEvent) (bytes : List ℕ) (options : COptions)
     (names : List CReference) (attributes : CAttributes) (start : ℕ) (whole : List ℕ) : Type 0 where
   pub plain : List ℕ

@@ -1,4 +1,4 @@
--- What the compiler promises of a text. Only contracts of private functions speak of it.
+-- The promises of the compiler about a text. Only contracts of private functions cite this.
 use Rattle.std.specs.Prelude.{◌≡◌, ℕ, false, List}
 use Rattle.md_base.specs.Tree.{Forest, flatten}
 use Rattle.md_tree.specs.Grammar.{Handed, IsChecked}
@@ -14,7 +14,7 @@ use Rattle.md_safe.specs.Contents.{IsContained}
 use Rattle.md_safe.specs.Links.{has_nested_link}
 use Rattle.md_safe.specs.Built.{IsBuiltAsRead}
 
--- it is the meaning of the document that the events flatten, and safe where the options are
+-- it is the meaning of the document that the events flatten, and safe if the options are
 pub record IsCompiled (given : Handed) (options : CompileOptions) (text : List ℕ) : Type 0 where
   pub grammatical : IsChecked given
   pub means : (document : Forest) → flatten document ≡ given.events →

@@ -1,4 +1,4 @@
--- The event that one of C's stands for.
+-- The event that a C event encodes.
 use Rattle.std.specs.Prelude.{ℕ, ◌==◌, if◌then◌else◌, Option, Some, None}
 use Rattle.md_base.specs.declared.event.Kind.{Kind}
 use Rattle.md_base.specs.declared.event.Kind.TheVariants.{Enter, Exit}

@@ -1,5 +1,4 @@
--- What a failure says, and the answer that tells it. Only contracts of private
--- functions speak of it.
+-- The meaning of a failure, and the answer to it. Only contracts of private functions cite this.
 use Rattle.std.specs.Prelude.{◌≡◌, ℕ, List, Option, None}
 use Rattle.md_tree.specs.declared.rule.CompileError.{CompileError}
 use Rattle.md_tree.specs.declared.rule.CompileError.TheVariants as refusal
@@ -21,12 +20,12 @@ use Rattle.md_abi.specs.declared.option.COptions.{COptions}
 use Rattle.md_abi.specs.declared.failure.Failure.{Failure}
 use Rattle.md_abi.specs.declared.failure.Failure.TheVariants as failure
 
--- a compiler's refusal as a failure
+-- the failure for a compiler's refusal
 abbrev pub failure_of : CompileError → Failure
 failure_of refusal.Memory = failure.Memory
 failure_of (refusal.Event index rule) = failure.Refused index rule
 
--- that of a script
+-- the failure for a script's error
 abbrev pub failure_of_run : RunError → Failure
 failure_of_run run.Memory = failure.Memory
 failure_of_run (run.Line number) = failure.Line number
@@ -46,37 +45,37 @@ answer_of (failure.Line number) = about no_line number
 answer_of (failure.Refused index rule) =
     record { status = refused; rule = rule_number rule; index = index; length = 0 }
 
--- there is no memory, or the first event that stands for none is named
+-- memory ran out, or the first invalid event is reported
 abbrev pub IsEventFault : List CEvent → Failure → Type 0
 IsEventFault events failure.Memory = Unit {0}
 IsEventFault events (failure.Event index) = IsFirstWithout event_of events index
 IsEventFault events _ = ⊥
 
--- there is no memory, or the first reference that stands for none is named
+-- memory ran out, or the first invalid reference is reported
 abbrev pub IsNameFault : List CReference → Failure → Type 0
 IsNameFault names failure.Memory = Unit {0}
 IsNameFault names (failure.Name index) = IsFirstWithout reference_of names index
 IsNameFault names _ = ⊥
 
--- there is no memory, or a field that stands for no option is named
+-- memory ran out, or an invalid option's field is reported
 abbrev pub IsOptionFault : COptions → Failure → Type 0
 IsOptionFault options failure.Memory = Unit {0}
 IsOptionFault options (failure.Option number) = StandsForNone options number
 IsOptionFault options _ = ⊥
 
--- there is no memory, or the field with this number has no meaning
+-- memory ran out, or the field with this number has no meaning
 abbrev pub IsFaultOf : {A : Type 0} → ℕ → Option A → Failure → Type 0
 IsFaultOf field value failure.Memory = Unit {0}
 IsFaultOf field value (failure.Option number) = (number ≡ field) × (value ≡ None)
 IsFaultOf field value _ = ⊥
 
--- why what was read gives no text
+-- why the converted input has no text
 abbrev pub IsRefusalOf : Handed → Failure → Type 0
 IsRefusalOf given failure.Memory = Unit {0}
 IsRefusalOf given (failure.Refused index rule) = IsRefusal given (refusal.Event index rule)
 IsRefusalOf given _ = ⊥
 
--- why what is handed in gives no text
+-- why the input has no text
 abbrev pub Explains : List CEvent → List ℕ → COptions → List CReference → Failure → Type 0
 Explains events bytes options names failure.Memory = Unit {0}
 Explains events bytes options names (failure.Event index) = IsFirstWithout event_of events index

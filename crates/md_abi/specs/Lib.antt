@@ -1,5 +1,5 @@
--- The definitions of the C interface: what C's arguments stand for, and what an answer's
--- numbers and buffer say.
+-- The definitions of the C interface: the meaning of C's arguments, and of an answer's numbers and
+-- buffer.
 pub mod Numbers
 pub mod Names
 pub mod Standing

@@ -1,4 +1,4 @@
--- What an answer tells of links in links.
+-- The meaning of an answer about links in links.
 use Rattle.std.specs.Prelude.{◌≡◌, ◌≢◌, ◌⊎◌, false, true, List}
 use Rattle.md_base.specs.declared.event.Event.{Event}
 use Rattle.md_base.specs.Tree.{Forest, flatten}
@@ -13,8 +13,8 @@ use Rattle.md_abi.specs.declared.event.CEvent.{CEvent}
 abbrev pub AreRead : List CEvent → Type 0
 AreRead events = (read : List Event) × StandFor event_of events read
 
--- whether a link stands in a link of the document for which the events stand; or the first that
--- stands for none is told
+-- whether a link contains a link in the document that the events encode; or the first invalid event
+-- is reported
 pub record TellsOfLinks (events : List CEvent) (answer : Answer) : Type 0 where
   pub known : (answer.status ≡ written) ⊎ ((answer.status ≡ nested)
       ⊎ ((answer.status ≡ no_event) ⊎ (answer.status ≡ no_memory)))

@@ -8,7 +8,7 @@ use Rattle.md_base.specs.EventNames.{event_names}
 abbrev pub numbered_names : List Name
 numbered_names = map (λ entry. entry.1) event_names
 
--- the name under a number; the other number is read only of `Other`
+-- the name with a number; the other number is read only for `Other`
 abbrev pub name_of : ℕ → ℕ → Option Name
 name_of number other =
     if number == 0 then None

@@ -19,47 +19,47 @@ too_short = 1
 abbrev pub refused : ℕ
 refused = 2
 
--- an event stands for none
+-- an event is invalid
 abbrev pub no_event : ℕ
 no_event = 3
 
--- a named character reference stands for none
+-- a named character reference is invalid
 abbrev pub no_name : ℕ
 no_name = 4
 
--- an option stands for none
+-- an option is invalid
 abbrev pub no_option : ℕ
 no_option = 5
 
--- a line of a script can't be read
+-- a line of a script is invalid
 abbrev pub no_line : ℕ
 no_line = 6
 
--- there is no more memory
+-- memory ran out
 abbrev pub no_memory : ℕ
 no_memory = 7
 
--- attributes are asked for under options that aren't safe
+-- the call requests attributes under options that aren't safe
 abbrev pub unsafe_options : ℕ
 unsafe_options = 8
 
--- an attribute stands for none
+-- an attribute is invalid
 abbrev pub no_attribute : ℕ
 no_attribute = 9
 
--- the text is longer than it may be
+-- the text exceeds its limit
 abbrev pub too_long : ℕ
 too_long = 10
 
--- there is more to read and to print than there may be
+-- reading and printing exceed the work limit
 abbrev pub too_much : ℕ
 too_much = 11
 
--- a link stands in a link
+-- a link contains a link
 abbrev pub nested : ℕ
 nested = 12
 
--- the events nest deeper than they may
+-- the events nest deeper than the limit allows
 abbrev pub too_deep : ℕ
 too_deep = 13
 

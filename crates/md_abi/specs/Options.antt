@@ -1,4 +1,4 @@
--- The options that C's stand for, and which of these are safe.
+-- The options that C's fields encode, and which of these are safe.
 use Rattle.std.specs.Prelude.{◌≡◌, ℕ, ◌==◌, Bool, true, false, if◌then◌else◌, List, [], ◌∷◌, Option}
 use Rattle.std.specs.Prelude.{Some, None, is_some, option_map, slice_get, string_bytes}
 use Rattle.md_base.specs.Place.{text_when}
@@ -20,14 +20,14 @@ ending_of number =
     else if number == 2 then Some CarriageReturnLineFeed
     else None
 
--- a text that is set is UTF-8; what an unset one has for its bytes is not read
+-- a text that is set is UTF-8; the bytes of an unset one are not read
 abbrev pub text_of : CText → Option (Option (List ℕ))
 text_of given =
     if given.is_set == 0 then Some None
     else if given.is_set == 1 then option_map Some (text_when true given.bytes.now)
     else None
 
--- each option is what its field stands for
+-- each option is the one that its field encodes
 pub record HasOptions (given : COptions) (options : CompileOptions) : Type 0 where
   pub any_img_src : flag_of given.allow_any_img_src ≡ Some options.allow_any_img_src
   pub dangerous_html : flag_of given.allow_dangerous_html ≡ Some options.allow_dangerous_html
@@ -49,7 +49,7 @@ pub record HasOptions (given : COptions) (options : CompileOptions) : Type 0 whe
       ≡ Some (option_map string_bytes options.gfm_footnote_label_tag_name)
   pub number_ids : flag_of given.gfm_footnote_number_ids ≡ Some options.gfm_footnote_number_ids
 
--- which fields stand for an option, by the options' numbers from 0
+-- which fields encode an option, by the options' numbers from 0
 abbrev pub readable_fields : COptions → List Bool
 readable_fields given =
     is_some (flag_of given.allow_any_img_src) ∷
@@ -66,28 +66,27 @@ readable_fields given =
     is_some (flag_of given.gfm_footnote_number_ids) ∷
     []
 
--- the field with this number stands for no option
+-- the field with this number encodes no option
 abbrev pub StandsForNone : COptions → ℕ → Type 0
 StandsForNone given number = slice_get (readable_fields given) number ≡ Some false
 
--- nothing is written as it is given: HTML is escaped, and the heading of the footnotes
--- is the usual one
+-- nothing is written unescaped: HTML is escaped, and the heading of the footnotes is the usual one
 pub record KeepsGrammar (given : COptions) : Type 0 where
   pub escapes_html : given.allow_dangerous_html ≡ 0
   pub usual_tag : given.gfm_footnote_label_tag_name.is_set ≡ 0
   pub usual_attributes : given.gfm_footnote_label_attributes.is_set ≡ 0
 
--- besides, links keep to the permitted protocols
+-- besides, links use only the permitted protocols
 pub record KeepsLinks (given : COptions) : Type 0 where
   pub grammar : KeepsGrammar given
   pub permitted_links : given.allow_dangerous_protocol ≡ 0
 
--- besides, images keep to the permitted protocols: the safe options
+-- besides, images use only the permitted protocols: the safe options
 pub record KeepsImages (given : COptions) : Type 0 where
   pub links : KeepsLinks given
   pub permitted_images : given.allow_any_img_src ≡ 0
 
--- nothing is written as it is given, and ids go by number
+-- nothing is written unescaped, and ids are by number
 pub record KeepsIds (given : COptions) : Type 0 where
   pub grammar : KeepsGrammar given
   pub by_number : given.gfm_footnote_number_ids ≡ 1

@@ -1,4 +1,4 @@
--- The named character reference that one of C's stands for.
+-- The named character reference that a C reference encodes.
 use Rattle.std.specs.Prelude.{ℕ, true, List, Option, Some}
 use Rattle.std.specs.Borrow.{Bor}
 use Rattle.md_base.specs.Place.{text_when}
@@ -12,6 +12,6 @@ reference_of given = do
   text ← text_when true given.text.now
   Some (name, text)
 
--- the pair of the texts that two references point to
+-- the pair of texts of two references
 abbrev pub pair_of : Bor (List ℕ) × Bor (List ℕ) → List ℕ × List ℕ
 pair_of pair = (pair.0.now, pair.1.now)

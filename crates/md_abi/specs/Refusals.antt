@@ -1,5 +1,5 @@
--- Why there is no text with attributes, and the answer that tells it. Only contracts of private
--- functions speak of it, but for the two statuses.
+-- Why there is no text with attributes, and the answer to it. Only contracts of private functions
+-- cite this, except for the two statuses.
 use Rattle.std.specs.Prelude.{◌≡◌, ℕ, List, Option, None}
 use Rattle.md_tree.specs.Grammar.{Handed}
 use Rattle.md_text.specs.declared.options.CompileOptions.{CompileOptions}
@@ -18,7 +18,7 @@ use Rattle.md_abi.specs.declared.attributes.CAttributes.{CAttributes}
 use Rattle.md_abi.specs.declared.refusal.Refusal.{Refusal}
 use Rattle.md_abi.specs.declared.refusal.Refusal.TheVariants as refusal
 
--- the error of a safe text as a refusal
+-- the refusal for the error of a safe text
 abbrev pub refusal_of : SafeError → Refusal
 refusal_of safe.Options = refusal.Unsafe
 refusal_of (safe.Compile cause) = refusal.Failed (failure_of cause)
@@ -35,13 +35,13 @@ IsAttributeFault field value refusal.Unsafe = ⊥
 IsAttributeFault field value (refusal.Attribute number) = (number ≡ field) × (value ≡ None)
 IsAttributeFault field value (refusal.Failed failure) = ⊥
 
--- why what was read gives no safe text
+-- why the converted input has no safe text
 abbrev pub IsRefusalFor : Handed → CompileOptions → Refusal → Type 0
 IsRefusalFor handed options refusal.Unsafe = given.KeepsImages options → ⊥
 IsRefusalFor handed options (refusal.Attribute number) = ⊥
 IsRefusalFor handed options (refusal.Failed failure) = IsRefusalOf handed failure
 
--- why what is handed in gives no text with attributes
+-- why the input has no text with attributes
 abbrev pub ExplainsRefusal : List CEvent → List ℕ → COptions → List CReference →
     CAttributes → Refusal → Type 0
 ExplainsRefusal events bytes options names attributes refusal.Unsafe = KeepsImages options → ⊥

@@ -1,4 +1,4 @@
--- What a text is of what C hands in, and why there is none.
+-- The promises about a text in terms of C's input, and why there is none.
 use Rattle.std.specs.Prelude.{◌≡◌, ℕ, false, List}
 use Rattle.md_base.specs.declared.event.Event.{Event}
 use Rattle.md_tree.specs.declared.rule.Rule.{Rule}
@@ -26,11 +26,11 @@ use Rattle.md_abi.specs.declared.event.CEvent.{CEvent}
 use Rattle.md_abi.specs.declared.reference.CReference.{CReference}
 use Rattle.md_abi.specs.declared.option.COptions.{COptions}
 
--- the text is the meaning of a document of the grammar whose events, options and names are those
--- that were handed in; where the options are safe, it has one reading, with links and images of
--- permitted protocols alone, in which everything stands where it may, and the HTML Standard's
--- tokenizer emits that, with links and images of permitted schemes alone; where no link stands in a
--- link, tree construction builds it; where ids go by number no two ids are equal
+-- the text is the meaning of a document of the grammar with the events, options and names of the
+-- input; if the options are safe, it has one reading, whose links and images all have permitted
+-- protocols, and which fulfils the content model, and the HTML Standard's tokenizer emits that
+-- reading, with only permitted schemes in links and images; if no link contains a link, tree
+-- construction builds it; if ids are by number, no two ids are equal
 pub record IsRendered (events : List CEvent) (bytes : List ℕ) (options : COptions)
     (names : List CReference) (text : List ℕ) : Type 0 where
   pub document : Forest
@@ -51,7 +51,7 @@ pub record IsRendered (events : List CEvent) (bytes : List ℕ) (options : COpti
   pub safe_image_tokens : KeepsImages options → HasTokensWith has_safe_images text
   pub distinct_ids : KeepsIds options → HasDistinctIds text
 
--- what was handed in stands for events that are refused at this index by this rule
+-- the input encodes events that are refused at this index by this rule
 pub record IsRefusedFor (events : List CEvent) (bytes : List ℕ)
     (names : List CReference) (index : ℕ)
     (broken : Rule) : Type 0 where
@@ -67,7 +67,7 @@ abbrev pub IsRefusedBy : List CEvent → List ℕ → List CReference → ℕ �
 IsRefusedBy events bytes names index number =
     (broken : Rule) × (number ≡ rule_number broken) × IsRefusedFor events bytes names index broken
 
--- of a script
+-- the same for a script
 abbrev pub IsRefusedIn : List ℕ → ℕ → ℕ → Type 0
 IsRefusedIn script index number =
     (broken : Rule) × (number ≡ rule_number broken) × IsRefusedAt script index broken

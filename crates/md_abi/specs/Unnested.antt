@@ -1,4 +1,4 @@
--- What a text without a link in a link is of what C hands in, and where there is none for one.
+-- The promises about a text without a link in a link in terms of C's input, and when there is none.
 use Rattle.std.specs.Prelude.{◌≡◌, ◌≢◌, ◌⊎◌, ℕ, ◌<◌, ◌≤◌, false, true, List}
 use Rattle.md_base.specs.Tree.{Forest, flatten}
 use Rattle.md_tree.specs.Grammar.{IsGrammatical}
@@ -15,15 +15,15 @@ use Rattle.md_abi.specs.declared.event.CEvent.{CEvent}
 use Rattle.md_abi.specs.declared.reference.CReference.{CReference}
 use Rattle.md_abi.specs.declared.option.COptions.{COptions}
 
--- the text is that of what was handed in, with safe options, and tree construction builds the tree
--- that it is read as
+-- the text is that of the input, with safe options, and tree construction builds the tree of its
+-- reading
 pub record IsUnnestedText (events : List CEvent) (bytes : List ℕ) (options : COptions)
     (names : List CReference) (text : List ℕ) : Type 0 where
   pub safe : KeepsImages options
   pub rendered : IsRendered events bytes options names text
   pub tree : IsBuiltAsRead text
 
--- what was handed in stands for a document of the grammar in which a link stands in a link
+-- the input encodes a document of the grammar in which a link contains a link
 pub record IsNestedIn (events : List CEvent) (bytes : List ℕ) (names : List CReference)
     : Type 0 where
   pub document : Forest
@@ -33,7 +33,7 @@ pub record IsNestedIn (events : List CEvent) (bytes : List ℕ) (names : List CR
   pub grammatical : IsGrammatical bytes table document
   pub nested : has_nested_link false document ≡ true
 
--- a status of such a call, and which fields tell something
+-- a status of such a call, and the fields that it uses
 pub record IsOfUnnested (answer : Answer) : Type 0 where
   pub known : (answer.status ≤ unsafe_options) ⊎ (answer.status ≡ nested)
   pub without_lines : answer.status ≢ no_line

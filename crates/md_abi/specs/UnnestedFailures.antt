@@ -1,5 +1,5 @@
--- Why there is no text without a link in a link, and the answer that tells it. No contract of what
--- C calls speaks of it.
+-- Why there is no text without a link in a link, and the answer to it. No contract of a function
+-- for C cites this.
 use Rattle.std.specs.Prelude.{ℕ, List}
 use Rattle.md_tree.specs.Grammar.{Handed, IsChecked}
 use Rattle.md_text.specs.declared.options.CompileOptions.{CompileOptions}
@@ -23,7 +23,7 @@ use Rattle.md_abi.specs.declared.refusal.Refusal.TheVariants as refusal
 use Rattle.md_abi.specs.declared.unnested.UnnestedFailure.{UnnestedFailure}
 use Rattle.md_abi.specs.declared.unnested.UnnestedFailure.TheVariants.{Nested, Refused}
 
--- the compiler's error as a failure
+-- the failure for a compiler's error
 abbrev pub unnested_failure_of : UnnestedError → UnnestedFailure
 unnested_failure_of unnested.Nested = Nested
 unnested_failure_of (unnested.Safe cause) = Refused (refusal_of cause)
@@ -33,26 +33,26 @@ abbrev pub answer_of_unnested : UnnestedFailure → Answer
 answer_of_unnested Nested = about nested 0
 answer_of_unnested (Refused refusal) = answer_of_refusal refusal
 
--- a text of what was read
+-- a text of the converted input
 pub record IsCompiledUnnested (handed : Handed) (options : CompileOptions) (text : List ℕ)
     : Type 0 where
   pub compiled : IsCompiled handed options text
   pub safe : given.KeepsImages options
   pub tree : IsBuiltAsRead text
 
--- why what was read gives none
+-- why the converted input has none
 abbrev pub IsUnnestedFault : Handed → CompileOptions → UnnestedFailure → Type 0
 IsUnnestedFault handed options Nested = IsChecked handed × AreNested handed.events
 IsUnnestedFault handed options (Refused refusal) = IsRefusalFor handed options refusal
 
--- why a refusal has no text, where it is none of attributes
+-- why a refusal has no text, if it isn't about attributes
 abbrev pub ExplainsRefused : List CEvent → List ℕ → COptions → List CReference → Refusal → Type 0
 ExplainsRefused events bytes options names refusal.Unsafe = KeepsImages options → ⊥
 ExplainsRefused events bytes options names (refusal.Attribute number) = ⊥
 ExplainsRefused events bytes options names (refusal.Failed failure) =
     Explains events bytes options names failure
 
--- why what is handed in gives no text without a link in a link
+-- why the input has no text without a link in a link
 abbrev pub ExplainsUnnested : List CEvent → List ℕ → COptions → List CReference →
     UnnestedFailure → Type 0
 ExplainsUnnested events bytes options names Nested = IsNestedIn events bytes names

@@ -1,4 +1,4 @@
--- What a text within limits is of what C hands in, and why there is none.
+-- The promises about a text within limits in terms of C's input, and why there is none.
 use Rattle.std.specs.Prelude.{ℕ, ◌-◌, ◌^◌, ◌⊎◌, ◌≤◌, ◌<◌, ◌==◌, if◌then◌else◌, List, length}
 use Rattle.md_base.specs.declared.event.Event.{Event}
 use Rattle.md_base.specs.Tree.{Forest, flatten}
@@ -18,12 +18,12 @@ use Rattle.md_abi.specs.declared.reference.CReference.{CReference}
 use Rattle.md_abi.specs.declared.option.COptions.{COptions}
 use Rattle.md_abi.specs.declared.within.CLimits.{CLimits}
 
--- how deep events may nest: 0 stands for no limit
+-- how deep events may nest: 0 means no limit
 abbrev pub depth_limit : ℕ → ℕ
 depth_limit limit = if limit == 0 then 2 ^ 64 - 1 else limit
 
--- the text is that of what was handed in, and has at most as many bytes as it may; its document
--- uses no more again than there may be of work, and nests no deeper than it may
+-- the text is that of the input, and doesn't exceed its limit; neither do its document's reuse and
+-- nesting
 pub record IsRenderedWithin (events : List CEvent) (bytes : List ℕ) (options : COptions)
     (names : List CReference) (limits : CLimits) (text : List ℕ)
     : Type 0 where
@@ -32,8 +32,8 @@ pub record IsRenderedWithin (events : List CEvent) (bytes : List ℕ) (options :
   pub reused : reuse rendered.given bytes rendered.document ≤ limits.work
   pub shallow : height rendered.document ≤ depth_limit limits.depth
 
--- what was handed in stands for a document of the grammar whose meaning has more bytes than it may,
--- and that uses no more again
+-- the input encodes a document of the grammar whose meaning exceeds the limit on the text, and
+-- whose reuse doesn't exceed its limit
 pub record IsTooLong (events : List CEvent) (bytes : List ℕ) (options : COptions)
     (names : List CReference) (limits : CLimits)
     : Type 0 where
@@ -47,14 +47,13 @@ pub record IsTooLong (events : List CEvent) (bytes : List ℕ) (options : COptio
   pub longer : limits.text < length (meaning given table bytes document)
   pub reused : reuse given bytes document ≤ limits.work
 
--- what was handed in stands for events that give more work than there may be
+-- the input encodes events whose work exceeds the limit
 pub record GivesTooMuch (events : List CEvent) (limits : CLimits) : Type 0 where
   pub read : List Event
   pub events_stand : StandFor event_of events read
   pub more : limits.work < work read
 
--- what was handed in stands for a document of the grammar that uses more again than there may be
--- of work
+-- the input encodes a document of the grammar whose reuse exceeds the limit on work
 pub record ReusesTooMuch (events : List CEvent) (bytes : List ℕ) (options : COptions)
     (names : List CReference) (limits : CLimits)
     : Type 0 where
@@ -67,21 +66,21 @@ pub record ReusesTooMuch (events : List CEvent) (bytes : List ℕ) (options : CO
   pub grammatical : IsGrammatical bytes table document
   pub more : limits.work < reuse given bytes document
 
--- what was handed in stands for events that nest deeper than they may
+-- the input encodes events that nest deeper than the limit allows
 pub record NestsTooDeep (events : List CEvent) (limits : CLimits) : Type 0 where
   pub read : List Event
   pub events_stand : StandFor event_of events read
   pub deeper : depth_limit limits.depth < depth read
 
--- one of the two is so: there is more work, or more is used again
+-- the work or the reuse exceeds the limit
 abbrev pub IsTooMuch : List CEvent → List ℕ → COptions → List CReference → CLimits → Type 0
 IsTooMuch events bytes options names limits =
     GivesTooMuch events limits ⊎ ReusesTooMuch events bytes options names limits
 
--- no more work is given than there may be
+-- the work doesn't exceed its limit
 abbrev pub IsBounded : List CEvent → CLimits → Type 0
 IsBounded events limits = GivesTooMuch events limits → ⊥
 
--- the events nest no deeper than they may
+-- the nesting doesn't exceed its limit
 abbrev pub IsShallow : List CEvent → CLimits → Type 0
 IsShallow events limits = NestsTooDeep events limits → ⊥

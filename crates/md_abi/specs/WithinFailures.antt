@@ -1,5 +1,5 @@
--- Why there is no text within limits, and the answer that tells it. No contract of what C calls
--- speaks of it.
+-- Why there is no text within limits, and the answer to it. No contract of a function for C cites
+-- this.
 use Rattle.std.specs.Prelude.{ℕ, ◌≤◌, ◌<◌, List, length}
 use Rattle.md_tree.specs.Grammar.{Handed, IsChecked}
 use Rattle.md_text.specs.declared.options.CompileOptions.{CompileOptions}
@@ -24,7 +24,7 @@ use Rattle.md_abi.specs.declared.within.WithinFailure.{WithinFailure}
 use Rattle.md_abi.specs.declared.within.WithinFailure.TheVariants.{TooLong, TooMuch, TooDeep}
 use Rattle.md_abi.specs.declared.within.WithinFailure.TheVariants.{Failed}
 
--- the compiler's error as a failure
+-- the failure for a compiler's error
 abbrev pub within_failure_of : WithinError → WithinFailure
 within_failure_of within.TooLong = TooLong
 within_failure_of within.TooMuch = TooMuch
@@ -38,7 +38,7 @@ answer_of_within TooMuch = about too_much 0
 answer_of_within TooDeep = about too_deep 0
 answer_of_within (Failed failure) = answer_of failure
 
--- a text of what was read, within limits
+-- a text of the converted input, within limits
 pub record IsCompiledWithin (given : Handed) (options : CompileOptions) (limits : Limits)
     (text : List ℕ)
     : Type 0 where
@@ -48,7 +48,7 @@ pub record IsCompiledWithin (given : Handed) (options : CompileOptions) (limits 
   pub shallow : depth given.events ≤ limits.depth
   pub reused : IsReuseWithin options given limits.work
 
--- the text of what was read is too long
+-- the text of the converted input is too long
 pub record IsTooLongOf (given : Handed) (options : CompileOptions) (limits : Limits) : Type 0 where
   pub grammatical : IsChecked given
   pub longer : IsLonger options given limits.text
@@ -56,7 +56,7 @@ pub record IsTooLongOf (given : Handed) (options : CompileOptions) (limits : Lim
   pub shallow : depth given.events ≤ limits.depth
   pub reused : IsReuseWithin options given limits.work
 
--- why what was read gives no text within limits
+-- why the converted input has no text within limits
 abbrev pub IsFailureWithin : Handed → CompileOptions → Limits → WithinFailure → Type 0
 IsFailureWithin given options limits TooLong = IsTooLongOf given options limits
 IsFailureWithin given options limits TooMuch =
@@ -66,12 +66,12 @@ IsFailureWithin given options limits (Failed failure) =
     (depth given.events ≤ limits.depth) × (work given.events ≤ limits.work)
     × IsRefusalOf given failure
 
--- a claim about a refused event, where one is told
+-- a claim about a refused event, if one is reported
 abbrev pub OfRefused : Type 0 → Failure → Type 0
 OfRefused claim (failure.Refused index rule) = claim
 OfRefused claim _ = Unit {0}
 
--- why what is handed in gives no text within limits
+-- why the input has no text within limits
 abbrev pub ExplainsWithin : List CEvent → List ℕ → COptions → List CReference → CLimits →
     WithinFailure → Type 0
 ExplainsWithin events bytes options names limits TooLong =

@@ -1,4 +1,4 @@
-//! What a call answers.
+//! The answer of a call.
 
 ghost use Rattle.std.specs.Prelude.{◌≡◌};
 ghost use Rattle.md_abi.specs.Numbers.{rule_number};
@@ -23,51 +23,51 @@ const TOO_SHORT: u32 = 1;
 /// An event is refused.
 const REFUSED: u32 = 2;
 
-/// An event stands for none.
+/// An event is invalid.
 const NO_EVENT: u32 = 3;
 
-/// A named character reference stands for none.
+/// A named character reference is invalid.
 const NO_NAME: u32 = 4;
 
-/// An option stands for none.
+/// An option is invalid.
 const NO_OPTION: u32 = 5;
 
-/// A line of a script can't be read.
+/// A line of a script is invalid.
 const NO_LINE: u32 = 6;
 
-/// There is no more memory.
+/// Memory ran out.
 const MEMORY: u32 = 7;
 
-/// Attributes are asked for under options that aren't safe.
+/// The call requests attributes under options that aren't safe.
 const UNSAFE: u32 = 8;
 
-/// An attribute stands for none.
+/// An attribute is invalid.
 const NO_ATTRIBUTE: u32 = 9;
 
-/// The text is longer than it may be.
+/// The text exceeds its limit.
 const TOO_LONG: u32 = 10;
 
-/// There is more to read and to print than there may be.
+/// Reading and printing exceed the work limit.
 const TOO_MUCH: u32 = 11;
 
-/// A link stands in a link.
+/// A link contains a link.
 pub(crate) const NESTED: u32 = 12;
 
-/// The events nest deeper than they may.
+/// The events nest deeper than the limit allows.
 const TOO_DEEP: u32 = 13;
 
-/// What a call answers. A field of which the status says nothing is 0.
+/// The answer of a call. A field that the status doesn't use is 0.
 #[repr(C)]
 #[derive(Clone, Copy)]
 pub struct Answer {
-    /// Whether there is a text, or why not.
+    /// Whether there is a text, or why there is none.
     pub status: u32,
     /// The number of the rule that a refused event breaks, from 1.
     pub rule: u32,
     /// The index of an event or of a named character reference, the number of an option, or a
     /// script's line, from 1.
     pub index: usize,
-    /// How many bytes the text has.
+    /// The length of the text in bytes.
     pub length: usize,
 }
 
@@ -111,7 +111,7 @@ pub fn answer_to_within(failure: &WithinFailure) -> Answer
     }
 }
 
-/// The answer to a failure where no link may stand in a link.
+/// The answer to a failure of a call that allows no link in a link.
 pub fn answer_to_unnested(failure: &UnnestedFailure) -> Answer
     ensures { result ≡ answer_of_unnested failure.now }
 {
@@ -121,7 +121,7 @@ pub fn answer_to_unnested(failure: &UnnestedFailure) -> Answer
     }
 }
 
-/// The answer that tells only a status and an index.
+/// The answer with only a status and an index.
 pub(crate) fn about(status: u32, index: usize) -> Answer
     ensures { result ≡ record { status = status; rule = 0; index = index; length = 0 } }
 {
@@ -151,7 +151,7 @@ fn rule_number(rule: Rule) -> u32
     }
 }
 
-/// Writes a text into a buffer where there is room for it, and tells its length.
+/// Writes a text to a buffer if it fits, and reports its length.
 pub fn hand_over(text: &str, buffer: &mut [u8]) -> Answer
     ensures { IsHandedOver text.now buffer.old buffer.new result }
 {
@@ -163,7 +163,8 @@ pub fn hand_over(text: &str, buffer: &mut [u8]) -> Answer
     with_length(OK, bytes.len())
 }
 
-/// As [`hand_over`], of a text and a list after it; the answer's index tells where the list begins.
+/// The same as [`hand_over`] for a text and a list after it; the answer's index says where the list
+/// begins.
 pub fn hand_over_listed(whole: &str, start: usize, buffer: &mut [u8]) -> Answer
     ensures { IsListHandedOver whole.now start buffer.old buffer.new result }
 {
@@ -173,7 +174,7 @@ pub fn hand_over_listed(whole: &str, start: usize, buffer: &mut [u8]) -> Answer
     }
 }
 
-/// The answer that tells only a status and a length.
+/// The answer with only a status and a length.
 fn with_length(status: u32, length: usize) -> Answer
     ensures { result ≡ record { status = status; rule = 0; index = 0; length = length } }
 {

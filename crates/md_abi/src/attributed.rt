@@ -1,4 +1,4 @@
-//! From what C hands in to a text whose tags have attributes, and the headings that got one.
+//! Compiles C's input to a text whose tags have attributes, and lists the headings that got one.
 
 ghost use Rattle.std.specs.Prelude.{◌≡◌, ◌++◌, ◌∷◌, [], ℕ, List, IfOk, IfErr, OnOk, map, length};
 ghost use Rattle.std.specs.Prelude.{option_copied, string_bytes, take};
@@ -29,19 +29,19 @@ use std::alloc::{AllocError, Global};
 /// A text, and after it the list of its headings.
 #[derive(Drop)]
 pub struct Attributed {
-    /// Both, one after the other.
+    /// Both, in this order.
     pub whole: String,
-    /// How many bytes the text has: the list begins after them.
+    /// The length of the text in bytes: the list begins after them.
     pub start: usize,
 }
 
-/// The HTML of what is handed in, with the attributes that are asked for, and the headings
-/// that got an `id`.
+/// Compiles C's input to HTML with the requested attributes, and lists the headings that got an
+/// `id`.
 ///
 /// # Errors
 ///
-/// Tells what stands for none, that the options aren't safe, the refusal of the compiler, or that
-/// it is out of memory.
+/// Reports what is invalid, that the options aren't safe, the refusal of the compiler, or that
+/// memory ran out.
 pub fn compile_attributed(
     alloc: Global,
     given: CDocument,
@@ -69,7 +69,7 @@ pub fn compile_attributed(
     Ok(made)
 }
 
-/// The safe HTML of what was read.
+/// Compiles the converted input to safe HTML.
 fn compile_read_safely(
     alloc: Global,
     events: &[Event],
@@ -82,16 +82,16 @@ fn compile_read_safely(
     ensures err { IfErr result (IsRefusalFor (handed events.now bytes.now names.now) options.now) }
 {
     let html = compile_safe(alloc, events, bytes, options, names)?;
-    // What this promises of the text is promised here.
+    // The call brings the promises about the text into the proof.
     let _text = html.as_str();
     Ok(html)
 }
 
-/// A text with the attributes that are asked for, and after it the headings that got an `id`.
+/// Adds the requested attributes to a text, and appends the headings that got an `id`.
 ///
 /// # Errors
 ///
-/// Only where memory runs out.
+/// Returns an error only if memory runs out.
 pub fn add_asked(
     alloc: Global,
     html: &SafeHtml,
@@ -110,7 +110,7 @@ pub fn add_asked(
     }
 }
 
-/// A text with ids on its headings, where a prefix is given, and after it these headings.
+/// Adds ids to the headings of a text, if a prefix is given, and appends these headings.
 fn add_ids<H: Html>(alloc: Global, html: &H, prefix: Option<&str>) -> Result<Attributed, AllocError>
     ensures listed { IfOk result (λ made. (x : List Token) → IsTokenized (H.text html.now) x
         → IsListedAfter (option_copied prefix.entry) x made.start (string_bytes made.whole)) }
@@ -130,7 +130,7 @@ fn add_ids<H: Html>(alloc: Global, html: &H, prefix: Option<&str>) -> Result<Att
 ///
 /// # Errors
 ///
-/// Only where memory runs out.
+/// Returns an error only if memory runs out.
 pub fn with_list(alloc: Global, text: &str, headings: &[Heading]) -> Result<Attributed, AllocError>
     ensures whole { IfOk result
         (λ made. string_bytes made.whole ≡ text.now ++ listing (map listed headings.now)) }
@@ -144,7 +144,7 @@ pub fn with_list(alloc: Global, text: &str, headings: &[Heading]) -> Result<Attr
     Ok(Attributed { whole, start })
 }
 
-/// Adds a heading to the list.
+/// Appends a heading to the list.
 fn push_heading_line(alloc: Global, whole: &mut String, heading: &Heading) -> Result<(), AllocError>
     ensures { OnOk result
         (string_bytes whole.new ≡ string_bytes whole.old ++ heading_line (listed heading.now)) }

@@ -1,4 +1,4 @@
-//! Attributes as C asks for them.
+//! Attributes as C passes them.
 
 ghost use Rattle.std.specs.Prelude.{◌≡◌, Some, option_copied, IfOk, IfErr};
 ghost use Rattle.md_abi.specs.Options.{text_of};
@@ -8,20 +8,20 @@ use crate::option::CText;
 use crate::refusal::Refusal;
 use crate::text::read_utf8;
 
-/// What is added to the tags of a text; each is left out where it is unset.
+/// The attributes to add to the tags of a text; one that is unset isn't added.
 #[repr(C)]
 pub struct CAttributes<'a> {
-    /// The `rel` of each link that leads away and has none.
+    /// The `rel` of each link that leaves the page and has none.
     pub rel: CText<'a>,
-    /// What the `id` of each heading without one begins with; its number follows.
+    /// The prefix of the `id` of each heading without one; its number follows.
     pub heading_ids: CText<'a>,
 }
 
-/// The attribute that is asked for, where one is; `number` is its own.
+/// The requested attribute, if it is set; `number` is its own.
 ///
 /// # Errors
 ///
-/// Tells that it stands for none: it is neither set nor unset, or no UTF-8.
+/// Reports that the attribute is invalid: it is neither set nor unset, or isn't UTF-8.
 pub(crate) fn read_attribute<'a>(
     text: &CText<'a>,
     number: usize,

@@ -1,4 +1,4 @@
-//! Events as C hands them in.
+//! Events as C passes them.
 
 ghost use Rattle.std.specs.Prelude.{◌≡◌, ◌++◌, [], ◌∷◌, IfOk, IfErr, OnOk};
 ghost use Rattle.md_abi.specs.Events.{event_of, kind_of};
@@ -14,23 +14,23 @@ use std::alloc::{AllocError, Global};
 #[repr(C)]
 #[derive(Clone, Copy)]
 pub struct CEvent {
-    /// How many bytes of the document stand before it.
+    /// How many bytes of the document precede it.
     pub index: usize,
     /// The number of the name that it enters or exits.
     pub name: u16,
-    /// The number of its own of a name that is none of the others.
+    /// The number of `Other`, for the name that no other number encodes.
     pub other: u16,
-    /// 1 where it enters a node, 2 where it exits one.
+    /// 1 for entering a node, 2 for exiting one.
     pub kind: u8,
-    /// How many columns of a tab, from 0 to 4, are already taken.
+    /// How many columns of a tab precede the point, from 0 to 4.
     pub columns: u8,
 }
 
-/// The events that a slice stands for.
+/// The events that a slice encodes.
 ///
 /// # Errors
 ///
-/// Tells the index of the first event that stands for none, or that it is out of memory.
+/// Reports the index of the first invalid event, or that memory ran out.
 pub(crate) fn read_c_events(alloc: Global, events: &[CEvent]) -> Result<Vec<Event>, Failure>
     ensures ok { IfOk result (λ read. StandFor event_of events.now read.items) }
     ensures err { IfErr result (IsEventFault events.now) }
@@ -45,7 +45,7 @@ pub(crate) fn read_c_events(alloc: Global, events: &[CEvent]) -> Result<Vec<Even
     Ok(read)
 }
 
-/// Adds an event to those before it.
+/// Appends an event.
 fn add_event(events: &mut Vec<Event>, event: Event) -> Result<(), AllocError>
     ensures { OnOk result (events.new.items ≡ events.old.items ++ event ∷ []) }
 {
@@ -53,7 +53,7 @@ fn add_event(events: &mut Vec<Event>, event: Event) -> Result<(), AllocError>
     Ok(())
 }
 
-/// The event that one stands for.
+/// The event that a C event encodes.
 fn read_c_event(event: &CEvent) -> Option<Event>
     ensures { result ≡ event_of event.now }
 {
@@ -68,7 +68,7 @@ fn read_c_event(event: &CEvent) -> Option<Event>
     Some(Event { kind, name, point })
 }
 
-/// The kind under a number.
+/// The kind with a number.
 fn kind_under(number: u8) -> Option<Kind>
     ensures { result ≡ kind_of number }
 {

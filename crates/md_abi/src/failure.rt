@@ -4,21 +4,20 @@ use md_script::RunError;
 use md_tree::{CompileError, Rule};
 use std::alloc::{AllocError, AllocFailed};
 
-/// Why a call has no text to hand over.
+/// Why a call has no text.
 #[derive(Drop)]
 pub enum Failure {
-    /// There is no more memory.
+    /// Memory ran out.
     Memory,
-    /// The event at this index stands for none.
+    /// The event at this index is invalid.
     Event(usize),
-    /// The named character reference at this index stands for none.
+    /// The named character reference at this index is invalid.
     Name(usize),
-    /// The option with this number stands for none.
+    /// The option with this number is invalid.
     Option(usize),
-    /// The line with this number, from 1, can't be read.
+    /// The line with this number, from 1, is invalid.
     Line(usize),
-    /// An event breaks a rule; the index is the number of events where something is
-    /// open at the end.
+    /// An event breaks a rule. The index is the number of events if something is open at the end.
     Refused { index: usize, rule: Rule },
 }
 

@@ -1,4 +1,4 @@
-//! From what C hands in to a text.
+//! Compiles C's input to a text.
 
 ghost use Rattle.std.specs.Prelude.{string_bytes, IfOk, IfErr};
 ghost use Rattle.md_tree.specs.Grammar.{handed};
@@ -15,24 +15,24 @@ use md_html::compile;
 use md_text::CompileOptions;
 use std::alloc::Global;
 
-/// A document as C hands it in.
+/// A document as C passes it.
 #[derive(Clone, Copy)]
 pub struct CDocument<'a> {
     /// Its events.
     pub events: &'a [CEvent],
     /// Its bytes.
     pub bytes: &'a [u8],
-    /// How it is compiled.
+    /// The options for compiling it.
     pub options: &'a COptions<'a>,
-    /// The character references by name that it may have.
+    /// The named character references that it may have.
     pub names: &'a [CReference<'a>],
 }
 
-/// The HTML of what is handed in.
+/// Compiles C's input to HTML.
 ///
 /// # Errors
 ///
-/// Tells what stands for none, the refusal of the compiler, or that it is out of memory.
+/// Reports what is invalid, the refusal of the compiler, or that memory ran out.
 pub fn compile_given(alloc: Global, given: CDocument) -> Result<String, Failure>
     ensures ok { IfOk result (λ text. IsRendered given.entry.events.now given.entry.bytes.now
         given.entry.options.now given.entry.names.now (string_bytes text)) }
@@ -51,7 +51,7 @@ pub fn compile_given(alloc: Global, given: CDocument) -> Result<String, Failure>
     )
 }
 
-/// The HTML of what was read.
+/// Compiles the converted input to HTML.
 fn compile_read(
     alloc: Global,
     events: &[Event],

@@ -1,4 +1,4 @@
-//! What C hands in and what it is answered: layouts, numbers, and what they stand for.
+//! The C interface: its layouts, its numbers, and their meanings.
 #![tactic(auto)]
 
 mod answer;

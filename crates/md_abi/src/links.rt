@@ -1,4 +1,4 @@
-//! Whether a link stands in a link, of events as C hands them in.
+//! Whether a link contains a link, for events as C passes them.
 
 ghost use Rattle.std.specs.Prelude.{◌≡◌, OnOk, IfOk, IfErr, false};
 ghost use Rattle.md_base.specs.Tree.{Forest, flatten};
@@ -14,7 +14,7 @@ use crate::failure::Failure;
 use md_html::has_nested_link;
 use std::alloc::Global;
 
-/// The answer that tells whether a link stands in a link.
+/// The answer that says whether a link contains a link.
 pub fn answer_to_links(alloc: Global, events: &[CEvent]) -> Answer
     ensures { TellsOfLinks events.now result }
 {
@@ -25,7 +25,7 @@ pub fn answer_to_links(alloc: Global, events: &[CEvent]) -> Answer
     }
 }
 
-/// Whether of the document for which events stand a link stands in a link.
+/// Whether a link contains a link in the document that events encode.
 fn nested_link_in(alloc: Global, events: &[CEvent]) -> Result<bool, Failure>
     ensures read { OnOk result (AreRead events.now) }
     ensures ok { IfOk result (λ nested. (document : Forest)

@@ -5,10 +5,10 @@ ghost use Rattle.md_abi.specs.Names.{name_of};
 
 use md_base::{Name, names_by_number};
 
-/// The number of a name that is none of the others.
+/// The number of the name `Other`.
 const OTHER: u16 = 65535;
 
-/// The name under a number.
+/// The name with a number.
 pub(crate) fn name_under(number: u16, other: u16) -> Option<Name>
     ensures { result ≡ name_of number other }
 {
@@ -21,7 +21,7 @@ pub(crate) fn name_under(number: u16, other: u16) -> Option<Name>
     listed_name(names_by_number(), usize::from(number) - 1)
 }
 
-/// The name at a place.
+/// The name at an index.
 fn listed_name(names: &[Name], place: usize) -> Option<Name>
     ensures { result ≡ slice_get names.now place }
 {

@@ -1,4 +1,4 @@
-//! Options as C hands them in.
+//! Options as C passes them.
 
 ghost use Rattle.std.specs.Prelude.{◌≡◌, Some, option_map, option_copied, string_bytes};
 ghost use Rattle.std.specs.Prelude.{IfOk, IfErr};
@@ -15,32 +15,32 @@ use std::alloc::Global;
 pub struct CText<'a> {
     /// The text.
     pub bytes: &'a [u8],
-    /// 0 where it is unset, 1 where it is set.
+    /// 0 if it is unset, 1 if it is set.
     pub is_set: u8,
 }
 
-/// The options, each as the one of `CompileOptions` with its name; a flag is 0 or 1.
+/// The options, each with the name that it has in `CompileOptions`; a flag is 0 or 1.
 #[repr(C)]
 pub struct COptions<'a> {
     /// 1 to let images have any source, else 0.
     pub allow_any_img_src: u8,
-    /// 1 to leave HTML in the document as it is, else 0.
+    /// 1 to leave HTML in the document unchanged, else 0.
     pub allow_dangerous_html: u8,
     /// 1 to let links and images have any protocol, else 0.
     pub allow_dangerous_protocol: u8,
     /// 1 to print tasks without `disabled`, else 0.
     pub gfm_task_list_item_checkable: u8,
-    /// 1 to disarm some tags of HTML that is left as it is, else 0.
+    /// 1 to escape some tags in HTML that is left unchanged, else 0.
     pub gfm_tagfilter: u8,
     /// 0 for a line feed, 1 for a carriage return, 2 for both.
     pub default_line_ending: u8,
-    /// 1 to make footnotes' ids of their numbers instead of their identifiers, else 0.
+    /// 1 to derive footnotes' ids from their numbers instead of their identifiers, else 0.
     ///
-    /// The last option by its number; it stands where two bytes were never read.
+    /// The last option by its number. It takes the place of two bytes that were never read.
     pub gfm_footnote_number_ids: u8,
-    /// What `aria-label` says of a way back from a footnote; unset: `Back to content`.
+    /// The `aria-label` of a backreference from a footnote; unset: `Back to content`.
     pub gfm_footnote_back_label: CText<'a>,
-    /// What footnotes' ids begin with; unset: `user-content-`.
+    /// The prefix of footnotes' ids; unset: `user-content-`.
     pub gfm_footnote_clobber_prefix: CText<'a>,
     /// The heading of the footnotes; unset: `Footnotes`.
     pub gfm_footnote_label: CText<'a>,
@@ -50,11 +50,11 @@ pub struct COptions<'a> {
     pub gfm_footnote_label_tag_name: CText<'a>,
 }
 
-/// The options that these stand for.
+/// The options that the fields encode.
 ///
 /// # Errors
 ///
-/// Tells the number of an option that stands for none, or that it is out of memory.
+/// Reports the number of an invalid option, or that memory ran out.
 pub(crate) fn read_options(alloc: Global, given: &COptions) -> Result<CompileOptions, Failure>
     ensures ok { IfOk result (HasOptions given.now) }
     ensures err { IfErr result (IsOptionFault given.now) }
@@ -79,7 +79,7 @@ pub(crate) fn read_options(alloc: Global, given: &COptions) -> Result<CompileOpt
 ///
 /// # Errors
 ///
-/// Tells that it stands for none: it is neither 0 nor 1.
+/// Reports that the option is invalid: it is neither 0 nor 1.
 pub fn read_flag(flag: u8, number: usize) -> Result<bool, Failure>
     ensures ok { IfOk result (λ is_on. flag_of flag ≡ Some is_on) }
     ensures err { IfErr result (IsFaultOf number (flag_of flag)) }
@@ -91,7 +91,7 @@ pub fn read_flag(flag: u8, number: usize) -> Result<bool, Failure>
     }
 }
 
-/// The line ending under a number.
+/// The line ending with a number.
 fn read_ending(ending: u8, number: usize) -> Result<LineEnding, Failure>
     ensures ok { IfOk result (λ read. ending_of ending ≡ Some read) }
     ensures err { IfErr result (IsFaultOf number (ending_of ending)) }
@@ -104,12 +104,12 @@ fn read_ending(ending: u8, number: usize) -> Result<LineEnding, Failure>
     }
 }
 
-/// A copy of a text, where it is set; `number` is the option's.
+/// A copy of a text, if it is set; `number` is the option's.
 ///
 /// # Errors
 ///
-/// Tells that it stands for none: it is neither set nor unset, or no UTF-8; or that it is out of
-/// memory.
+/// Reports that the option is invalid: it is neither set nor unset, or isn't UTF-8; or that memory
+/// ran out.
 pub fn read_text(alloc: Global, text: &CText, number: usize) -> Result<Option<String>, Failure>
     ensures ok { IfOk result (λ read. text_of text.now ≡ Some (option_map string_bytes read)) }
     ensures err { IfErr result (IsFaultOf number (text_of text.now)) }
@@ -124,11 +124,11 @@ pub fn read_text(alloc: Global, text: &CText, number: usize) -> Result<Option<St
     }
 }
 
-/// A text, where it is set; `number` is the option's.
+/// A text, if it is set; `number` is the option's.
 ///
 /// # Errors
 ///
-/// Tells that it stands for none: it is neither set nor unset, or no UTF-8.
+/// Reports that the option is invalid: it is neither set nor unset, or isn't UTF-8.
 pub fn borrow_text<'a>(text: &CText<'a>, number: usize) -> Result<Option<&'a str>, Failure>
     ensures ok { IfOk result (λ read. text_of text.now ≡ Some (option_copied read)) }
     ensures err { IfErr result (IsFaultOf number (text_of text.now)) }

@@ -1,4 +1,4 @@
-//! Named character references as C hands them in.
+//! Named character references as C passes them.
 
 ghost use Rattle.std.specs.Prelude.{◌≡◌, IfOk, IfErr, OnOk, option_map, [], ◌∷◌, ◌++◌};
 ghost use Rattle.md_base.specs.Reference.{name_table};
@@ -13,17 +13,17 @@ use std::alloc::{AllocError, Global};
 /// A named character reference.
 #[repr(C)]
 pub struct CReference<'a> {
-    /// What stands between `&` and `;`.
+    /// The name between `&` and `;`.
     pub name: &'a [u8],
-    /// What it stands for.
+    /// The text of the reference.
     pub text: &'a [u8],
 }
 
-/// The names that a slice stands for, each with its text.
+/// The names that a slice encodes, each with its text.
 ///
 /// # Errors
 ///
-/// Tells the index of the first that stands for none, or that it is out of memory.
+/// Reports the index of the first invalid one, or that memory ran out.
 pub(crate) fn read_references<'a>(
     alloc: Global,
     references: &[CReference<'a>],
@@ -42,7 +42,7 @@ pub(crate) fn read_references<'a>(
     Ok(read)
 }
 
-/// Adds a name and its text to those before it.
+/// Appends a name and its text.
 fn add_pair<'a>(
     pairs: &mut Vec<(&'a str, &'a str)>,
     pair: (&'a str, &'a str),
@@ -53,7 +53,7 @@ fn add_pair<'a>(
     Ok(())
 }
 
-/// The name and the text of a reference, where both are UTF-8.
+/// The name and the text of a reference, if both are UTF-8.
 fn read_reference<'a>(reference: &CReference<'a>) -> Option<(&'a str, &'a str)>
     ensures { option_map pair_of result ≡ reference_of reference.now }
 {

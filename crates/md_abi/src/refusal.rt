@@ -4,12 +4,12 @@ use crate::failure::Failure;
 use md_html::SafeError;
 use std::alloc::AllocError;
 
-/// Why a call has no text with attributes to hand over.
+/// Why a call has no text with attributes.
 #[derive(Drop)]
 pub enum Refusal {
     /// The options aren't safe.
     Unsafe,
-    /// The attribute with this number stands for none.
+    /// The attribute with this number is invalid.
     Attribute(usize),
     /// There is no text at all.
     Failed(Failure),

@@ -1,4 +1,4 @@
-//! From what C hands in to a safe text of a document in which no link stands in a link.
+//! Compiles C's input to a safe text of a document in which no link contains a link.
 
 ghost use Rattle.std.specs.Prelude.{IfOk, IfErr};
 ghost use Rattle.md_tree.specs.Grammar.{handed};
@@ -17,10 +17,10 @@ use md_html::{SafeHtml, UnnestedError, compile_unnested};
 use md_text::CompileOptions;
 use std::alloc::Global;
 
-/// Why a call has no text without a link in a link to hand over.
+/// Why a call has no text without a link in a link.
 #[derive(Drop)]
 pub enum UnnestedFailure {
-    /// A link stands in a link.
+    /// A link contains a link.
     Nested,
     /// There is no safe text.
     Refused(Refusal),
@@ -52,12 +52,12 @@ impl From<UnnestedError> for UnnestedFailure {
     }
 }
 
-/// The safe HTML of what is handed in, where no link stands in a link.
+/// Compiles C's input to safe HTML, if no link contains a link.
 ///
 /// # Errors
 ///
-/// Tells what stands for none, that the options aren't safe, that a link stands in a link, the
-/// refusal of the compiler, or that it is out of memory.
+/// Reports what is invalid, that the options aren't safe, that a link contains a link, the refusal
+/// of the compiler, or that memory ran out.
 pub fn compile_given_unnested(alloc: Global, given: CDocument) -> Result<SafeHtml, UnnestedFailure>
     ensures ok { IfOk result (IsUnnestedText given.entry.events.now given.entry.bytes.now
         given.entry.options.now given.entry.names.now) }
@@ -76,7 +76,7 @@ pub fn compile_given_unnested(alloc: Global, given: CDocument) -> Result<SafeHtm
     )
 }
 
-/// The safe HTML of what was read, where no link stands in a link.
+/// Compiles the converted input to safe HTML, if no link contains a link.
 fn compile_read_unnested(
     alloc: Global,
     events: &[Event],
@@ -90,7 +90,7 @@ fn compile_read_unnested(
         (IsUnnestedFault (handed events.now bytes.now names.now) options.now) }
 {
     let html = compile_unnested(alloc, events, bytes, options, names)?;
-    // What this promises of the text is promised here.
+    // The call brings the promises about the text into the proof.
     let _text = html.as_str();
     Ok(html)
 }

@@ -1,4 +1,4 @@
-//! From what C hands in to a text within limits.
+//! Compiles C's input to a text within limits.
 
 ghost use Rattle.std.specs.Prelude.{◌≡◌, OnOk, IfOk, IfErr, string_bytes};
 ghost use Rattle.md_tree.specs.Grammar.{handed};
@@ -15,26 +15,26 @@ use md_html::{Limits, WithinError, compile_within};
 use md_text::CompileOptions;
 use std::alloc::Global;
 
-/// How long a text may be, how much work it may take, and how deep its events may nest.
+/// Limits on the length of a text, on its work, and on how deep its events nest.
 #[repr(C)]
 #[derive(Clone, Copy)]
 pub struct CLimits {
-    /// How many bytes the text may have.
+    /// The maximum length of the text in bytes.
     pub text: usize,
-    /// How much there may be to read and to print, and to use again.
+    /// The maximum of what is read, printed and used again.
     pub work: usize,
-    /// How many nodes may be open at once; 0 is no limit.
+    /// The maximum number of nodes that are open at once; 0 is no limit.
     pub depth: usize,
 }
 
-/// Why a call has no text within limits to hand over.
+/// Why a call has no text within limits.
 #[derive(Drop)]
 pub enum WithinFailure {
-    /// The text is longer than it may be.
+    /// The text exceeds its limit.
     TooLong,
-    /// There is more to read and to print, or to use again, than there may be.
+    /// Reading, printing and reuse exceed the work limit.
     TooMuch,
-    /// The events nest deeper than they may.
+    /// The events nest deeper than the limit allows.
     TooDeep,
     /// There is no text at all.
     Failed(Failure),
@@ -67,12 +67,12 @@ impl From<WithinError> for WithinFailure {
     }
 }
 
-/// The HTML of what is handed in, where it is within limits.
+/// Compiles C's input to HTML, if it is within limits.
 ///
 /// # Errors
 ///
-/// Tells what stands for none, that the events nest too deep, there is too much work or the text is
-/// too long, the refusal of the compiler, or that it is out of memory.
+/// Reports what is invalid, that the events nest too deep, there is too much work or the text is
+/// too long, the refusal of the compiler, or that memory ran out.
 pub fn compile_given_within(
     alloc: Global,
     given: CDocument,
@@ -101,14 +101,14 @@ pub fn compile_given_within(
     compile_read_within(alloc, read, &options, limits)
 }
 
-/// How many nodes may be open at once, where 0 is no limit.
+/// The maximum number of nodes that are open at once, where 0 is no limit.
 fn depth_limit(limit: usize) -> usize
     ensures { result ≡ depth_limit limit }
 {
     if limit == 0 { usize::MAX } else { limit }
 }
 
-/// What was read of a document.
+/// A document converted from C's input.
 #[derive(Clone, Copy)]
 struct ReadDocument<'a> {
     events: &'a [Event],
@@ -116,7 +116,7 @@ struct ReadDocument<'a> {
     names: &'a [(&'a str, &'a str)],
 }
 
-/// The HTML of what was read, where it is within limits.
+/// Compiles the converted input to HTML, if it is within limits.
 fn compile_read_within(
     alloc: Global,
     read: ReadDocument,

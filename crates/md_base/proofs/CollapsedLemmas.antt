@@ -1,5 +1,5 @@
--- A text with single spaces alone is collapsed already, and what a load of its bytes tells of
--- these.
+-- A text with only single spaces is collapsed already, and what a load of its bytes proves about
+-- them.
 use Rattle.std.proofs.Common.{◌≡◌, ℕ, zero, suc, ◌+◌, ◌-◌, ◌^◌, ◌%◌, ◌<◌, ◌≤◌, Bool, true, false}
 use Rattle.std.proofs.Common.{cond, leb, eqb, ltb, bit_or, bit_and, List, [], ◌∷◌, map, length}
 use Rattle.std.proofs.Common.{get_or, replicate, take_all, refl, sym, ap, ap₂, subst, add-one, ◌∙◌}
@@ -66,7 +66,7 @@ collapsed-single (b ∷ text) first ends singles =
     collapsed-black b text black ∙ sym (in_word-black b text black)
     ∙ in_word-single (b ∷ text) (as_singles (b ∷ text) singles) ends
 
--- ---- what a load tells
+-- ---- the facts that a load gives
 
 -- the mark of a byte, with the next one
 abbrev pub marked : Bool → Bool → Bool → Bool

@@ -70,7 +70,7 @@ by_decides ((field ∷ fields) ∷ variants) tests (inr x) (inl y) = apart_too y
 by_decides ((field ∷ fields) ∷ variants) tests (inr x) (inr y) =
     right_decides x y _ (by_decides variants tests.1 x y)
 
--- the same of the author's own values
+-- the same for the author's own values
 pub same_decides : (enum : Record) (tests : Tests enum.parts) (a b : enum.D) →
     Decides (by false false enum.parts (each_of enum.parts tests) (enum.as_values a)
     (enum.as_values b)) (a ≡ b)

@@ -39,7 +39,7 @@ fold_ascii bytes ascii =
     ∙ ap encode_utf8_all (sym (default_case_fold-ascii (chars bytes) (All-chars bytes ascii)
     ∙ ap (map to_ascii_lowercase) (chars-IsAscii bytes ascii)))
 
--- what is written and what stands for the rest, at a character
+-- the written text and the result for the rest, at a character
 pub fold_step : (written rest old : List ℕ) (c : ℕ) → IsUtf8 old → old ≡ encode_utf8 c ++ rest →
     (written ++ encode_utf8_all (full_fold c)) ++ encode_utf8_all (default_case_fold (chars rest))
     ≡ written ++ encode_utf8_all (default_case_fold (chars old))

@@ -1,5 +1,5 @@
 -- White space collapsed in one pass: before the first word, inside a word, and after one. The loop
--- of `collapse_white_space` goes by these steps.
+-- of `collapse_white_space` follows these steps.
 use Rattle.std.proofs.Common.{◌≡◌, ℕ, zero, suc, ◌<◌, ◌≤◌, Bool, true, false, not, eqb, cond, List}
 use Rattle.std.proofs.Common.{[], ◌∷◌, ◌++◌, length, get_or, refl, sym, ap, ◌∙◌, arith, inl, inr}
 use Rattle.std.proofs.Common.{encode_utf8}
@@ -16,7 +16,7 @@ abbrev spaced : List (List ℕ) → List ℕ
 spaced [] = []
 spaced (word ∷ words) = 32 ∷ join_with_byte 32 (word ∷ words)
 
--- the first part goes on with the word so far
+-- the first part continues the word so far
 abbrev word_on : List (List ℕ) → List ℕ
 word_on [] = []
 word_on (first ∷ parts) = first ++ spaced (filter is_nonempty parts)

@@ -1,5 +1,5 @@
--- Digits read as a number: what std's reader of numbers answers is what the rules of references
--- say, and what the check asks of a list's number.
+-- Digits read as a number: the result of std's reader of numbers is that of the rules of
+-- references, and what the check requires of a list's number.
 use Rattle.std.proofs.Common.{◌≡◌, ℕ, ◌<◌, ◌^◌, Bool, not, eqb, nat_lt, cond, ◌&&◌, ◌≢◌, inl, inr}
 use Rattle.std.proofs.Common.{subst, List, [], ◌∷◌, length, get_or, Option, Some, None, Result, Ok}
 use Rattle.std.proofs.Common.{Err, Decides, refl, sym, ap, ◌∙◌, arith}
@@ -38,7 +38,7 @@ is_number-Decides radix digits =
     (Decides-and some all (some_digits-Decides digits) (all_digits-Decides radix digits))
     (Decides-ltb (digits_value radix digits) (2 ^ 32))
 
--- ---- what `from_str_radix` answers where no plus stands first
+-- ---- the result of `from_str_radix` if the text doesn't begin with a plus
 
 abbrev chosen_number : ℕ → List ℕ → Bool → Option (List ℕ)
 chosen_number radix digits test = cond test (Some (character_of (digits_value radix digits))) None

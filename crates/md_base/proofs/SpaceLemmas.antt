@@ -59,7 +59,7 @@ is_utf8-padded before after bytes =
     (is_utf8-Decides padded))
     (is_utf8-Decides bytes)
 
--- ---- what `serialize` answers
+-- ---- the result of `serialize`
 
 abbrev chosen : List ℕ → Bool → Option (List ℕ)
 chosen bytes test = cond test (Some bytes) None

@@ -1,4 +1,4 @@
--- What a node's children tell of it, by their names.
+-- Facts about a node that the names of its children decide.
 use Rattle.std.specs.Prelude.{Bool, true, false, if◌then◌else◌, List, [], ◌∷◌, ◌++◌, Option, Some}
 use Rattle.std.specs.Prelude.{None, unwrap_or}
 use Rattle.md_base.specs.declared.event.Name.{Name}
@@ -6,18 +6,18 @@ use Rattle.md_base.specs.declared.event.Point.{Point}
 use Rattle.md_base.specs.Tree.{Forest, Empty, Node}
 use Rattle.md_base.specs.NameTests.{is_transparent, contributes}
 
--- the names on the spine: of the nodes that aren't transparent and are reached through
--- transparent ones alone
+-- the names of the nodes on the spine: those that aren't transparent and have only transparent
+-- ancestors
 abbrev pub spine_names : Forest → List Name
 spine_names Empty = []
 spine_names (Node name start end children rest) =
     (if is_transparent name then spine_names children else name ∷ []) ++ spine_names rest
 
--- the first of two, where there is one, else the second
+-- the first of two options if it has a value, else the second
 abbrev pub or_else : {A : Type 0} → Option A → Option A → Option A
 or_else first second = elim first [ None ↦ second | Some found ↦ Some found ]
 
--- what `tell` tells of the first node on the spine whose name passes a test
+-- the result of `tell` for the first node on the spine whose name passes a test
 abbrev pub first_on_spine : {A : Type 0} → (Name → Bool) → (Point → Point → Forest → A) → Forest →
     Option A
 first_on_spine test tell Empty = None
@@ -26,7 +26,7 @@ first_on_spine test tell (Node name start end children rest) = or_else
     else (if is_transparent name then first_on_spine test tell children else None))
     (first_on_spine test tell rest)
 
--- there is no node
+-- the forest has no node
 abbrev pub is_empty : Forest → Bool
 is_empty forest = elim forest [ Empty ↦ true | _ ↦ false ]
 

@@ -1,5 +1,5 @@
--- What the definitions of all crates rest on: `Tree` and its events, `Place`, names, identifiers
--- and references. Only the contract of `names_by_length` cites `NamesByLength`.
+-- The definitions that all crates use: `Tree` and its events, `Place`, names, identifiers and
+-- references. Only the contract of `names_by_length` cites `NamesByLength`.
 pub mod Identifier
 pub mod Collapsed
 pub mod Is

@@ -1,4 +1,4 @@
--- Tests on names, each true for the names that it lists.
+-- Tests on names. Each returns true for the names that it lists.
 use Rattle.std.specs.Prelude.{Bool, true, false, not, ◌||◌}
 use Rattle.md_base.specs.declared.event.Name.{Name}
 use Rattle.md_base.specs.declared.event.Name.TheVariants as name_variants
@@ -11,7 +11,7 @@ use name_variants.{GfmTableDelimiterRow}
 use name_variants.{GfmTableHead, ReferenceString, Label, LabelText, SpaceOrTab, Other}
 use Rattle.md_base.specs.Is.{is}
 
--- a node that its parent's pattern looks through
+-- a node whose children count as children of its parent in that parent's pattern
 abbrev pub is_transparent : Name → Bool
 is_transparent name =
     elim name [ Other number ↦ true | BlockQuotePrefix ↦ true | SpaceOrTab ↦ true | _ ↦ false ]
@@ -32,11 +32,11 @@ is_item_prefix name = elim name [ ListItemPrefix ↦ true | _ ↦ false ]
 abbrev pub is_item_value : Name → Bool
 is_item_value name = elim name [ ListItemValue ↦ true | _ ↦ false ]
 
--- a child after which a line ending is dropped
+-- a child after which a line ending isn't printed
 abbrev pub is_definition : Name → Bool
 is_definition name = elim name [ Definition ↦ true | GfmFootnoteDefinition ↦ true | _ ↦ false ]
 
--- a child that an item's end looks at
+-- a child that decides how an item ends
 abbrev pub contributes : Name → Bool
 contributes name = not (is_line_ending name || is_definition name || is SpaceOrTab name
     || is BlockQuotePrefix name)
@@ -89,7 +89,7 @@ is_table_head name = elim name [ GfmTableHead ↦ true | _ ↦ false ]
 abbrev pub is_delimiter_row : Name → Bool
 is_delimiter_row name = elim name [ GfmTableDelimiterRow ↦ true | _ ↦ false ]
 
--- the nodes by which a table reaches its delimiter row's values
+-- the nodes through which a table contains the values of its delimiter row
 abbrev pub leads_to_values : Name → Bool
 leads_to_values name =
     elim name [ GfmTableHead ↦ true | GfmTableDelimiterRow ↦ true | other ↦ is_transparent other ]

@@ -1,4 +1,4 @@
--- Character references: the text that a name or a number stands for.
+-- Character references: decodes a name or a number to its text.
 use Rattle.std.specs.Prelude.{ℕ, ◌%◌, ◌^◌, Bool, not, ◌&&◌, ◌||◌, ◌==◌, nat_lt, if◌then◌else◌, List}
 use Rattle.std.specs.Prelude.{length, map, Option, Some, None, option_map, find, bytes_eq}
 use Rattle.std.specs.Prelude.{encode_utf8}
@@ -8,7 +8,7 @@ use Rattle.std.specs.Char.{digit_value}
 use Rattle.std.specs.Int.{is_in_range}
 use Rattle.std.specs.Str.Parse.{digits_value}
 
--- the names and their texts that a slice of pairs of texts points to
+-- the names and their texts in a slice of pairs of texts
 abbrev pub name_table : List (Bor (List ℕ) × Bor (List ℕ)) → List (List ℕ × List ℕ)
 name_table = map (λ entry. (entry.0.now, entry.1.now))
 
@@ -22,24 +22,23 @@ is_number radix digits =
     not (length digits == 0) && list_all (λ digit. nat_lt (digit_value digit) radix) digits
     && nat_lt (digits_value radix digits) (2 ^ 32)
 
--- control characters, surrogates, noncharacters and codes past the last character
+-- control characters, surrogates, noncharacters and codes above the last character
 abbrev pub is_replaced : ℕ → Bool
 is_replaced code =
     is_in_range 0 8 code || code == 11 || is_in_range 14 31 code || is_in_range 127 159 code
     || is_in_range 0xD800 0xDFFF code || is_in_range 0xFDD0 0xFDEF code
     || code % 0x10000 == 0xFFFE || code % 0x10000 == 0xFFFF || nat_lt 0x10FFFF code
 
--- the character that a number stands for, U+FFFD where the code is replaced
+-- the character that a number encodes, U+FFFD where the code is replaced
 abbrev pub character_of : ℕ → List ℕ
 character_of code = encode_utf8 (if is_replaced code then 0xFFFD else code)
 
--- what digits of this radix stand for
+-- the character that digits of this radix encode
 abbrev pub numbered : ℕ → List ℕ → Option (List ℕ)
 numbered radix digits =
     if is_number radix digits then Some (character_of (digits_value radix digits)) else None
 
--- what a reference stands for, by its marker: `&` a name, `#` a decimal number, `x`
--- a hexadecimal one
+-- the text of a reference, by its marker: `&` a name, `#` a decimal number, `x` a hexadecimal one
 abbrev pub decoded : List (List ℕ × List ℕ) → ℕ → List ℕ → Option (List ℕ)
 decoded names marker value =
     if marker == 38 then named names value else if marker == 35 then numbered 10 value

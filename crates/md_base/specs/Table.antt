@@ -1,8 +1,8 @@
--- Values that stand in a table under texts.
+-- Tables of values whose keys are texts.
 use Rattle.std.specs.Prelude.{ℕ, List, map, Option, option_map, find, bytes_eq}
 use Rattle.std.specs.Borrow.{Bor}
 
--- the texts and values that a slice of such pairs points to
+-- the texts and values in a slice of such pairs
 abbrev pub entries_of : {A : Type 0} → List (Bor (List ℕ) × A) → List (List ℕ × A)
 entries_of = map (λ entry. (entry.0.now, entry.1))
 

@@ -5,7 +5,7 @@ use Rattle.md_base.specs.declared.event.Event.{Event}
 use Rattle.md_base.specs.declared.event.Name.{Name}
 use Rattle.md_base.specs.declared.event.Kind.TheVariants.{Enter, Exit}
 
--- a list of nodes, one after another; a node has a name, a start, an end and children
+-- a list of nodes in sequence; a node has a name, a start, an end and children
 pub data Forest : Type 0 where
   Empty : Forest
   Node : (name : Name) (start end : Point) (children rest : Forest) → Forest

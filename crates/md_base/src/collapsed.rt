@@ -1,4 +1,4 @@
-//! Texts whose white space is collapsed already.
+//! Detects texts whose white space is collapsed already.
 
 ghost use Rattle.std.specs.Prelude.{◌≡◌, ◌+◌, ◌≤◌, ◌<◌, ℕ, length, nat_le, IsTrue};
 ghost use Rattle.md_base.specs.Identifier.{collapsed};
@@ -6,17 +6,17 @@ ghost use Rattle.md_base.specs.Collapsed.{IsSingleAt, HasSingleSpaces};
 
 use std::simd::prelude::*;
 
-/// How many bytes are looked at together.
+/// The number of bytes that one step reads.
 const BLOCK_SIZE: usize = 16;
 
-/// How many of fewer bytes than a block has.
+/// Block size for texts shorter than `BLOCK_SIZE`.
 const HALF_BLOCK: usize = 8;
 
-/// How many of fewer bytes than these.
+/// Block size for texts shorter than `HALF_BLOCK`.
 const QUARTER_BLOCK: usize = 4;
 
-/// Whether white space is collapsed already, as in most identifiers: only single spaces stand
-/// between other bytes. `false` may also mean that there are other control characters.
+/// Whether white space is collapsed already, as in most identifiers: only single spaces separate
+/// other bytes. `false` may also mean that the text has other control characters.
 #[inline(always)]
 pub(crate) fn is_collapsed(text: &[u8]) -> bool
     ensures { IsTrue result → collapsed text.now ≡ text.now }
@@ -39,8 +39,8 @@ fn is_space_or_control(byte: u8) -> bool
     byte <= b' '
 }
 
-/// Whether each byte but the last is no control character, and no space before another one. Two
-/// loads, which may overlap, cover what is shorter than a block.
+/// Whether each byte but the last is no control character, and no space that precedes another space
+/// or control character. Two loads, which may overlap, cover texts shorter than a block.
 #[inline(always)]
 fn has_single_spaces(text: &[u8]) -> bool
     requires { 0 < length text.now }
@@ -61,8 +61,8 @@ fn has_single_spaces(text: &[u8]) -> bool
     has_single_bytes(text)
 }
 
-/// The same, block by block; the last block ends before the last byte, and may
-/// overlap the one before.
+/// The same, block by block. The last block ends before the last byte, and may overlap the previous
+/// one.
 #[inline(always)]
 fn has_single_blocks(text: &[u8]) -> bool
     requires { BLOCK_SIZE < length text.now }
@@ -96,7 +96,7 @@ fn has_single_bytes(text: &[u8]) -> bool
     true
 }
 
-/// The same of `N` bytes from an index.
+/// The same for the `N` bytes from an index.
 #[inline(always)]
 fn is_single_at<const N: usize>(text: &[u8], at: usize) -> bool
     requires { (N ≤ 64) × (at + N < length text.now) }

@@ -7,7 +7,7 @@ pub enum Kind {
     Exit,
 }
 
-/// What an event enters or exits.
+/// The kind of an event.
 #[derive(Clone, Copy, Debug, PartialEq, Eq)]
 pub enum Name {
     // bench/names.py: begin
@@ -201,27 +201,27 @@ pub enum Name {
     Other(u16),
 }
 
-/// A place in a document.
+/// A position in a document.
 #[derive(Clone, Copy, Debug, PartialEq, Eq)]
 pub struct Point {
-    /// The line, from 1; never read.
+    /// The line, from 1; the compiler never reads it.
     pub line: usize,
-    /// The column, from 1; never read.
+    /// The column, from 1; the compiler never reads it.
     pub column: usize,
-    /// How many bytes stand before it.
+    /// The number of bytes before this point.
     pub index: usize,
-    /// How many columns of a tab, from 0 to 4, are already taken.
+    /// How many columns of a tab precede this point, from 0 to 4.
     pub vs: usize,
 }
 
 /// The start or the end of a node.
 #[derive(Clone, Copy, Debug, PartialEq, Eq)]
 pub struct Event {
-    /// Whether it enters a node or exits it.
+    /// Whether the event enters or exits the node.
     pub kind: Kind,
     /// The name of that node.
     pub name: Name,
-    /// Where that node starts if it is entered, and where it ends if it is exited.
+    /// The start of the node in an entering event, its end in an exiting one.
     pub point: Point,
 }
 

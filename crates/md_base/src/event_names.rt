@@ -1,4 +1,4 @@
-//! The names of events: by their lengths as scripts write them, and by their numbers.
+//! Tables of event names: by the length of their spelling, and by number.
 
 ghost use Rattle.std.specs.Prelude.{◌≡◌, length, map};
 ghost use Rattle.md_base.specs.EventNames.{event_names};
@@ -7,8 +7,8 @@ ghost use Rattle.md_base.specs.NamesByLength.{IsByLength};
 use crate::event::Name;
 use crate::name_tables::{BY_LENGTH, BY_NUMBER};
 
-/// The names of events as scripts write them, each table at the length of its names; `Other`, which
-/// a script follows by its number, isn't among them.
+/// The names of events as scripts spell them. Each table stands at the index that is the length of
+/// its names. `Other` isn't listed, since scripts write its number after it.
 pub fn names_by_length() -> &'static [&'static [(&'static str, Name)]]
     ensures count { length result.now ≡ 36 }
     ensures tables { IsByLength result.now 0 }

@@ -12,12 +12,12 @@ use crate::text::is_ascii;
 use std::alloc::{AllocError, Global};
 use ucd_case::full_folding;
 
-/// The form in which identifiers are compared: each run of white space is one space, none is left
-/// at the ends, and case is folded.
+/// Returns an identifier in the form in which identifiers are compared: each run of white space
+/// becomes one space, white space at the ends is removed, and case is folded.
 ///
 /// # Errors
 ///
-/// `AllocError`, only where memory runs out.
+/// `AllocError`, only if memory runs out.
 ///
 /// # Examples
 ///
@@ -35,8 +35,8 @@ pub fn normalize_identifier(alloc: Global, value: &str) -> Result<String, AllocE
     fold_case(alloc, text.as_str())
 }
 
-/// The text with case folded. Most identifiers have no capital letter past ASCII,
-/// and take one copy.
+/// Returns the text with case folded. Most identifiers have no capital letter outside ASCII, and
+/// need only one copy.
 #[inline(always)]
 fn fold_case(alloc: Global, text: &str) -> Result<String, AllocError>
     ensures { IfOk result
@@ -49,7 +49,7 @@ fn fold_case(alloc: Global, text: &str) -> Result<String, AllocError>
     }
 }
 
-/// Whether to fold the text is to lower its ASCII letters.
+/// Whether lowering the ASCII letters of the text folds its case.
 #[tactic(auto, using(crate::proofs::FoldLemmas::fold_ascii))]
 #[inline(always)]
 fn is_lowered(text: &str) -> bool
@@ -62,7 +62,7 @@ fn is_lowered(text: &str) -> bool
     is_wide_lowered(text)
 }
 
-/// The same, of a text that isn't ASCII.
+/// The same for a text that isn't ASCII.
 #[inline(never)]
 fn is_wide_lowered(text: &str) -> bool
     ensures { IsTrue result
@@ -76,7 +76,7 @@ fn is_wide_lowered(text: &str) -> bool
     true
 }
 
-/// The same, of a character.
+/// The same for a character.
 #[inline(always)]
 fn is_character_lowered(character: char) -> bool
     ensures { IsTrue result
@@ -88,7 +88,7 @@ fn is_character_lowered(character: char) -> bool
     full_folding(character).is_empty()
 }
 
-/// The text with case folded. Most folded texts have the room of the text.
+/// Returns the text with case folded. Reserves the length of the text, which is enough for most.
 #[inline(never)]
 fn fold_wide_case(alloc: Global, text: &str) -> Result<String, AllocError>
     ensures { IfOk result
@@ -101,7 +101,7 @@ fn fold_wide_case(alloc: Global, text: &str) -> Result<String, AllocError>
     Ok(folded)
 }
 
-/// The folding of a character, which is itself where there is none.
+/// Pushes the folding of a character: the character itself if it has none.
 #[tactic(auto, using(crate::proofs::FoldLemmas::lowered_folds))]
 #[inline(always)]
 fn push_folded(text: &mut String, character: char) -> Result<(), AllocError>
@@ -129,7 +129,7 @@ fn push_characters(text: &mut String, characters: &[char]) -> Result<(), AllocEr
     Ok(())
 }
 
-/// The text with each run of white space as one space, and none at the ends.
+/// Returns the text with each run of white space as one space, and none at the ends.
 #[inline(never)]
 fn collapse_white_space(alloc: Global, value: &str) -> Result<String, AllocError>
     ensures { IfOk result (λ text. string_bytes text ≡ collapsed value.now) }

@@ -1,6 +1,6 @@
-//! What the rules of identifiers and of character references say of each byte and at each bound, a
-//! second time and apart from the definitions: values that are computed, as the contracts of
-//! functions that do nothing.
+//! Computed values of the rules of identifiers and of character references, for each byte and at
+//! each bound, as contracts of functions that do nothing. They state the rules a second time,
+//! independently of the definitions.
 
 ghost use Rattle.std.specs.Prelude.{◌≡◌, ◌∷◌, [], ◌++◌, Some, None, codes, map, drop, replicate};
 ghost use Rattle.std.specs.Prelude.{encode_utf8};
@@ -11,7 +11,7 @@ ghost use Rattle.md_base.specs.Identifier.{is_white, collapsed, normalized};
 ghost use Rattle.md_base.specs.Leaves.{replacement, in_each_plane, bytes_where, digits_after};
 ghost use Rattle.md_base.specs.Reference.{character_of, decoded};
 
-/// Which characters numbers stand for: of all codes under 256, at both sides of each bound above,
+/// The characters that numbers encode: for all codes under 256, on both sides of each higher bound,
 /// and at the ends of each plane.
 pub fn characters_are_as_written()
     ensures under_256 { map character_of (range_with_len 0 256)
@@ -33,7 +33,7 @@ pub fn characters_are_as_written()
         ≡ replicate 3 replacement }
 {}
 
-/// What references stand for, by their markers.
+/// The texts of references, by their markers.
 pub fn references_are_as_written()
     ensures markers { bytes_where (λ marker.
         is_some (decoded ((codes "1", codes "a") ∷ []) marker (codes "1")))
@@ -55,7 +55,7 @@ pub fn references_are_as_written()
     ensures other_name { decoded ((codes "a", codes "b") ∷ []) 38 (codes "A") ≡ None }
 {}
 
-/// Of all bytes those that are white space in an identifier, and what becomes of it.
+/// The bytes that are white space in an identifier, and how it is collapsed.
 pub fn white_space_is_as_written()
     ensures white { bytes_where is_white ≡ codes "\t\n\r " }
     ensures runs { bytes_where (λ byte.

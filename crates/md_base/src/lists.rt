@@ -1,4 +1,4 @@
-//! The protocols that links and images may have, and the tag names that the tag filter disarms.
+//! The protocols that links and images may have, and the tag names that the tag filter escapes.
 
 /// The protocols that a link's destination may have.
 pub const SAFE_PROTOCOL_HREF: [&str; 6] = ["http", "https", "irc", "ircs", "mailto", "xmpp"];
@@ -6,7 +6,7 @@ pub const SAFE_PROTOCOL_HREF: [&str; 6] = ["http", "https", "irc", "ircs", "mail
 /// The protocols that an image's destination may have.
 pub const SAFE_PROTOCOL_SRC: [&str; 2] = ["http", "https"];
 
-/// The tag names that the tag filter of GitHub flavored Markdown disarms.
+/// The tag names that the tag filter of GitHub flavored Markdown escapes.
 pub const GFM_HTML_TAGFILTER_NAMES: [&str; 9] = [
     "iframe",
     "noembed",

@@ -1,10 +1,10 @@
-//! Whether two names are one.
+//! Whether two names are equal.
 
 ghost use Rattle.std.specs.Prelude.{◌≡◌, ◌↔◌, IsTrue};
 
 use crate::event::Name;
 
-/// Whether two names are one: `==`, in a form that proofs can use.
+/// Whether two names are equal: `==`, in a form that proofs can use.
 ///
 /// # Examples
 ///

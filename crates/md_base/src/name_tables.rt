@@ -1,9 +1,9 @@
-//! Tables of all names of events but `Other`.
+//! Tables of all names of events except `Other`.
 // Written by bench/names.py from clients/numbers/numbers.txt. Don't edit it.
 
 use crate::event::Name;
 
-/// The names under their spellings, each table at the length of its names.
+/// The names by spelling, each table at the index that is the length of its names.
 pub(crate) static BY_LENGTH: [&[(&str, Name)]; 36] = [
     &[],
     &[],

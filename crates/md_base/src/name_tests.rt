@@ -1,11 +1,11 @@
-//! Tests on names, each true for the names that it lists.
+//! Tests on names. Each returns true for the names that it lists.
 
 ghost use Rattle.std.specs.Prelude.{◌≡◌};
 ghost use Rattle.md_base.specs.NameTests as tests;
 
 use crate::event::Name;
 
-/// A node that its parent's pattern looks through.
+/// A node whose children count as children of its parent in that parent's pattern.
 #[inline(always)]
 pub fn is_transparent(name: Name) -> bool
     ensures { result ≡ tests.is_transparent name }
@@ -24,7 +24,7 @@ pub fn is_link_definition(name: Name) -> bool
     matches!(name, Name::Definition)
 }
 
-/// A definition of a link, or of a footnote; a line ending right after it is dropped.
+/// A definition of a link or of a footnote; a line ending right after it isn't printed.
 #[inline(always)]
 pub fn is_definition(name: Name) -> bool
     ensures { result ≡ tests.is_definition name }
@@ -33,7 +33,7 @@ pub fn is_definition(name: Name) -> bool
 }
 
 /// A child that can be an item's last contributing one: any but line endings, spaces or tabs,
-/// prefixes of block quotes and definitions.
+/// prefixes of block quotes, and definitions.
 #[inline(always)]
 pub fn contributes(name: Name) -> bool
     ensures { result ≡ tests.contributes name }
@@ -49,7 +49,7 @@ pub fn contributes(name: Name) -> bool
     )
 }
 
-/// A fence of code or of mathematics.
+/// A fence of code or of math.
 #[inline(always)]
 pub fn is_fence(name: Name) -> bool
     ensures { result ≡ tests.is_fence name }

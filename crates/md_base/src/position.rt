@@ -5,7 +5,7 @@ ghost use Rattle.std.specs.Prelude.{◌≡◌};
 use crate::event::Position;
 
 impl Position {
-    /// The indices of the two points, whatever columns of tabs are taken there.
+    /// Returns the indices of the two points, whatever their columns of tabs are.
     ///
     /// # Examples
     ///

@@ -1,4 +1,4 @@
-//! Character references: the text that a name or a number stands for.
+//! Character references: decodes a name or a number to its text.
 
 ghost use Rattle.std.specs.Prelude.{◌≡◌, ◌≤◌, encode_utf8, option_copied, option_map, string_bytes};
 ghost use Rattle.std.specs.Prelude.{IfOk};
@@ -7,15 +7,15 @@ ghost use Rattle.md_base.specs.Reference.{name_table, named, numbered, decoded};
 
 use std::alloc::{AllocError, Global};
 
-/// The text that a character reference stands for. The marker is `&` for a name, which is looked
-/// up among the names, `#` for a decimal number and `x` for a hexadecimal one.
+/// Decodes a character reference. The marker is `&` for a name, which is looked up in the names,
+/// `#` for a decimal number and `x` for a hexadecimal one.
 ///
-/// `None` where the name isn't there, where the value isn't one or more such digits whose number
-/// fits a `u32`, and at another marker.
+/// Returns `None` if the name is unknown, if the value isn't one or more digits of that radix whose
+/// number fits a `u32`, or if the marker is another byte.
 ///
 /// # Errors
 ///
-/// `AllocError`, only where memory runs out: what stands for no text is `None`.
+/// `AllocError`, only if memory runs out: invalid references return `None`.
 ///
 /// # Examples
 ///
@@ -73,13 +73,13 @@ fn find_name<'a>(names: &[(&str, &'a str)], name: &str) -> Option<&'a str>
     None
 }
 
-/// The character whose code these digits write, where their number fits a `u32`.
+/// The character that these digits encode, if their number fits a `u32`.
 fn character_from_digits(digits: &str, radix: u32) -> Option<char>
     requires low { 2 ≤ radix }
     requires high { radix ≤ 36 }
     ensures { option_map encode_utf8 result ≡ numbered radix digits.now }
 {
-    // `from_str_radix` takes a plus sign, which a reference can't have.
+    // `from_str_radix` accepts a plus sign, which a reference can't have.
     if digits.starts_with('+') {
         return None;
     }
@@ -87,7 +87,7 @@ fn character_from_digits(digits: &str, radix: u32) -> Option<char>
     Some(character_from_code(code))
 }
 
-/// The character with this code, or U+FFFD where a reference may not stand for it.
+/// The character with this code, or U+FFFD if a reference may not encode that character.
 fn character_from_code(code: u32) -> char
     ensures { encode_utf8 result ≡ spec.character_of code }
 {

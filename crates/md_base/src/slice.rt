@@ -1,4 +1,4 @@
-//! The bytes between two points of a document, with the columns of the tabs that are cut there.
+//! The bytes between two points of a document, and the columns of the tabs that are cut there.
 
 ghost use Rattle.std.specs.Prelude.{◌≡◌, ◌+◌, ◌^◌, ◌<◌, ◌++◌, true, SomeIff, min, replicate};
 ghost use Rattle.std.specs.Prelude.{length, nat_le, ◌&&◌, is_some, option_copied, option_map};
@@ -11,10 +11,10 @@ use crate::event::{Point, Position};
 use crate::text::as_text;
 use std::alloc::{AllocError, Global};
 
-/// How many columns a tab has.
+/// The number of columns of a tab.
 const TAB_SIZE: usize = 4;
 
-/// The bytes of a node, with the columns of the tabs that are cut at its two ends.
+/// The bytes of a node, and the columns of the tabs that are cut at its two ends.
 ///
 /// # Examples
 ///
@@ -29,14 +29,14 @@ const TAB_SIZE: usize = 4;
 pub struct Slice<'a> {
     /// The bytes.
     pub bytes: &'a [u8],
-    /// How many spaces stand for a tab that is cut at the start.
+    /// How many spaces replace a tab that is cut at the start.
     pub before: usize,
-    /// How many spaces stand for a tab that is cut at the end.
+    /// How many spaces replace a tab that is cut at the end.
     pub after: usize,
 }
 
 impl<'a> Slice<'a> {
-    /// The slice between the points of a position; `None` where these don't fit the bytes.
+    /// Returns the slice between the points of a position, or `None` if these don't fit the bytes.
     ///
     /// # Examples
     ///
@@ -67,7 +67,8 @@ impl<'a> Slice<'a> {
         })
     }
 
-    /// The slice between two indices; `None` unless they are in order and within the bytes.
+    /// Returns the slice between two indices, or `None` unless they are in order and within the
+    /// bytes.
     ///
     /// # Examples
     ///
@@ -91,8 +92,8 @@ impl<'a> Slice<'a> {
         })
     }
 
-    /// The text of the bytes between the points of a position, without the spaces at its ends;
-    /// `None` where the points don't fit the bytes, or these aren't UTF-8.
+    /// Returns the bytes between the points of a position as text, without the spaces at its ends,
+    /// or `None` if the points don't fit the bytes or these aren't UTF-8.
     ///
     /// # Examples
     ///
@@ -114,7 +115,7 @@ impl<'a> Slice<'a> {
         between.as_str()
     }
 
-    /// How many bytes and spaces there are, or the greatest `usize` where there are more.
+    /// Returns the number of bytes and spaces, or the greatest `usize` if it is larger.
     ///
     /// # Examples
     ///
@@ -131,7 +132,7 @@ impl<'a> Slice<'a> {
             .saturating_add(self.after)
     }
 
-    /// The bytes as a text; `None` where they aren't UTF-8.
+    /// Returns the bytes as text, or `None` if they aren't UTF-8.
     ///
     /// # Examples
     ///
@@ -146,11 +147,11 @@ impl<'a> Slice<'a> {
         as_text(self.bytes)
     }
 
-    /// The bytes as a text between the spaces; `None` where they aren't UTF-8.
+    /// Returns the bytes as text between the spaces, or `None` if they aren't UTF-8.
     ///
     /// # Errors
     ///
-    /// `AllocError`, only where memory runs out: what isn't UTF-8 is `None`.
+    /// `AllocError`, only if memory runs out: bytes that aren't UTF-8 return `None`.
     ///
     /// # Examples
     ///
@@ -175,13 +176,13 @@ impl<'a> Slice<'a> {
     }
 }
 
-/// The bytes between two points; `None` where these don't fit the bytes.
+/// Returns the bytes between two points, or `None` if the points don't fit the bytes.
 #[inline(always)]
 fn bytes_at(bytes: &[u8], start: Point, end: Point) -> Option<&[u8]>
     ensures fits { is_some result ≡ fits bytes.now start end }
     ensures bytes { IfSome result (λ between. between.now ≡ bytes_between bytes.now start end) }
 {
-    // Few points stand in a tab.
+    // Few points lie inside a tab.
     if start.vs == 0 && end.vs == 0 {
         return bytes_within(bytes, start.index, end.index);
     }
@@ -191,7 +192,7 @@ fn bytes_at(bytes: &[u8], start: Point, end: Point) -> Option<&[u8]>
     bytes_within(bytes, byte_index(start)?, byte_index(end)?)
 }
 
-/// The bytes between two indices; `None` unless they are in order and within the bytes.
+/// Returns the bytes between two indices, or `None` unless they are in order and within the bytes.
 #[inline(always)]
 fn bytes_within(bytes: &[u8], start: usize, end: usize) -> Option<&[u8]>
     ensures fits { is_some result ≡ (nat_le start end && nat_le end (length bytes.now)) }
@@ -204,7 +205,7 @@ fn bytes_within(bytes: &[u8], start: usize, end: usize) -> Option<&[u8]>
     }
 }
 
-/// The index of the byte that a point stands before, after a tab that is cut there.
+/// The index of the byte after a point; inside a tab, of the byte after that tab.
 fn byte_index(point: Point) -> Option<usize>
     ensures { SomeIff result (spec.byte_index point < 2 ^ 64) (spec.byte_index point) }
 {

@@ -7,16 +7,16 @@ ghost use Rattle.md_base.specs.Place.{text_when};
 
 use std::simd::prelude::*;
 
-/// How many bytes are looked at together.
+/// The number of bytes that one step reads.
 const BLOCK_SIZE: usize = 16;
 
-/// How many of fewer bytes than a block has.
+/// Block size for texts shorter than `BLOCK_SIZE`.
 const HALF_BLOCK: usize = 8;
 
-/// How many of fewer bytes than these.
+/// Block size for texts shorter than `HALF_BLOCK`.
 const QUARTER_BLOCK: usize = 4;
 
-/// The bytes as a text; `None` where they aren't UTF-8.
+/// Returns the bytes as text, or `None` if they aren't UTF-8.
 #[inline(always)]
 pub(crate) fn as_text(bytes: &[u8]) -> Option<&str>
     ensures { option_copied result ≡ text_when true bytes.now }
@@ -28,7 +28,7 @@ pub(crate) fn as_text(bytes: &[u8]) -> Option<&str>
     }
 }
 
-/// Whether the bytes are UTF-8. Most are ASCII; what isn't is read as far as its first fault.
+/// Whether the bytes are UTF-8. Most are ASCII; others are read up to the first error.
 #[inline(never)]
 fn are_utf8(bytes: &[u8]) -> bool
     ensures { IsTrue result ↔ IsUtf8 bytes.now }
@@ -39,7 +39,7 @@ fn are_utf8(bytes: &[u8]) -> bool
     std::str::from_utf8(bytes).is_ok()
 }
 
-/// Whether the bytes are ASCII. Two loads, which may overlap, cover what is shorter than a block.
+/// Whether the bytes are ASCII. Two loads, which may overlap, cover bytes shorter than a block.
 #[inline(always)]
 pub(crate) fn is_ascii(bytes: &[u8]) -> bool
     ensures { IsTrue result → IsAscii bytes.now }
@@ -59,7 +59,7 @@ pub(crate) fn is_ascii(bytes: &[u8]) -> bool
     are_ascii_bytes(bytes)
 }
 
-/// The same, block by block; the last block ends with the bytes, and may overlap the one before.
+/// The same, block by block. The last block ends with the bytes, and may overlap the previous one.
 #[inline(always)]
 fn are_ascii_blocks(bytes: &[u8]) -> bool
     requires { BLOCK_SIZE ≤ length bytes.now }

@@ -11,7 +11,7 @@ use Rattle.md_blocks.specs.declared.block.Exit.{Exit as ExitOf}
 use Rattle.md_blocks.specs.declared.block.Leaf.{Leaf as LeafOf}
 use Rattle.md_blocks.specs.Tape.{leads}
 
--- what leads on from where a tape led
+-- appending blocks that start at the depth where the first ones end
 pub leads-append : (from : ℕ) (xs ys : List Block) (middle to : ℕ) → leads from xs middle ≡ true →
     leads middle ys to ≡ true → leads from (xs ++ ys) to ≡ true
 unfolding leads
@@ -44,7 +44,7 @@ exited tape later e depth less is one first =
     rw is (leads-append 0 tape (Exit e ∷ []) depth less first
     (both_true (lt-ltb 0 depth (omega arith)) (eq-eqb (depth - 1) less (omega arith))))
 
--- a leaf is put, or memory runs out
+-- the tape gets a leaf, or memory runs out
 pub put : (tape later : List Block) (l : LeafOf) (is_put : Bool) (depth : ℕ) →
     later ≡ (if is_put then tape ++ Leaf l ∷ [] else tape) → leads 0 tape depth ≡ true →
     leads 0 later depth ≡ true

@@ -1,2 +1,2 @@
--- What the contracts of the block pass cite.
+-- The definitions that the contracts of the block pass cite.
 pub mod Tape

@@ -1,10 +1,10 @@
--- How deep the blocks of a tape stand in one another.
+-- How deep the blocks of a tape nest.
 use Rattle.std.specs.Prelude.{ℕ, ◌+◌, ◌-◌, ◌==◌, ◌&&◌, nat_lt, Bool, List, [], ◌∷◌}
 use Rattle.md_blocks.specs.declared.block.Block.{Block}
 use Rattle.md_blocks.specs.declared.block.Block.TheVariants.{Enter, Exit, Leaf}
 
--- whether blocks lead from one depth to another: none is entered at depth 96, and none is exited
--- that wasn't entered
+-- the blocks change one depth to another: none is entered at depth 96, and none is exited that
+-- wasn't entered
 unfoldable pub leads : ℕ → List Block → ℕ → Bool
 leads from [] to = from == to
 leads from (Enter _ ∷ blocks) to = nat_lt from 96 && leads (from + 1) blocks to

@@ -1,10 +1,10 @@
-//! The blocks of the tape. All places are byte indices into the document.
+//! The blocks of the tape. All positions are byte indices into the document.
 
 ghost use Rattle.std.specs.Prelude.{◌≤◌, ◌≡◌, max};
 
 use md_lines::Span;
 
-/// A block of the tape: a block that holds others comes twice, where it begins and where it ends.
+/// A block of the tape. A container has two entries, one for its beginning and one for its end.
 #[derive(Clone, Copy, PartialEq, Eq, Debug)]
 pub enum Block {
     Enter(Container),
@@ -12,7 +12,7 @@ pub enum Block {
     Leaf(Leaf),
 }
 
-/// Where a block begins that holds other blocks.
+/// The beginning of a block that contains other blocks.
 #[derive(Clone, Copy, PartialEq, Eq, Debug)]
 pub enum Container {
     /// A quote, at the `>` of its first line.
@@ -20,29 +20,29 @@ pub enum Container {
     /// A list, at the marker of its first item.
     List { start: usize, is_ordered: bool },
     Item(Item),
-    /// The definition of a footnote, with its label, which stands behind `[^` and before `]:`.
+    /// The definition of a footnote. Its label is the text between `[^` and `]:`.
     FootnoteDefinition { label: Span },
 }
 
 /// An item of a list.
 #[derive(Clone, Copy, PartialEq, Eq, Debug)]
 pub struct Item {
-    /// Where its marker begins: at its number, or at `marker` where it has none.
+    /// The start of its marker: of its number, or `marker` if it has none.
     pub start: usize,
-    /// Where the last byte of its marker is: `-`, `+`, `*`, `.` or `)`.
+    /// The index of the last byte of its marker: `-`, `+`, `*`, `.` or `)`.
     pub marker: usize,
     pub task: Option<Task>,
 }
 
-/// A box at the beginning of an item that may be checked.
+/// The checkbox at the beginning of an item.
 #[derive(Clone, Copy, PartialEq, Eq, Debug)]
 pub struct Task {
-    /// Where its `[` is.
+    /// The index of its `[`.
     pub start: usize,
     pub is_checked: bool,
 }
 
-/// Which block that holds others.
+/// The kinds of containers.
 #[derive(Clone, Copy, PartialEq, Eq, Debug)]
 pub enum ContainerKind {
     Quote,
@@ -52,42 +52,42 @@ pub enum ContainerKind {
     FootnoteDefinition,
 }
 
-/// Where a block ends that holds other blocks.
+/// The end of a container.
 #[derive(Clone, Copy, PartialEq, Eq, Debug)]
 pub struct Exit {
     pub kind: ContainerKind,
-    /// How far the document was read when it ended.
+    /// The index up to which the document was read when the container ended.
     pub at: usize,
-    /// Whether no block was in it.
+    /// Whether it contains no block.
     pub is_empty: bool,
 }
 
-/// A block that holds no blocks.
+/// A block that contains no blocks.
 #[derive(Clone, Copy, PartialEq, Eq, Debug)]
 pub enum Leaf {
     Paragraph(LineRange),
-    /// A heading behind number signs, `marks`; its one line may be empty.
+    /// A heading with number signs, `marks`; its one line may be empty.
     AtxHeading { marks: Span, lines: LineRange },
-    /// A heading over a line of `=` or `-`, `underline`.
+    /// A heading with an `underline` of `=` or `-`.
     SetextHeading { lines: LineRange, underline: Span },
-    /// Code between fences, or from a fence on; `info` is the first word behind the fence.
+    /// Code between fences, or from a fence to the end; `info` is the first word after the fence.
     FencedCode { info: Span, lines: LineRange },
     IndentedCode(LineRange),
     Html(LineRange),
     ThematicBreak(Span),
     /// A table: the lines of its head, of its delimiters and of its rows.
     Table { columns: usize, lines: LineRange },
-    /// Math between lines of dollar signs, of which the first begins at `start`.
+    /// Math between lines of dollar signs, the first of which begins at `start`.
     Math { start: usize, lines: LineRange },
-    /// Front matter, from the document's beginning up to the line ending behind it.
+    /// Front matter, from the beginning of the document to the line ending after it.
     FrontMatter { ending: Span },
-    /// A blank line before a child of an item or between two items: its line ending.
+    /// A blank line before a child of an item, or between two items: its line ending.
     BlankLine { ending: Span },
-    /// A paragraph that had definitions alone, which ended at this index.
+    /// A paragraph that contained only definitions, and ended at this index.
     Definitions { at: usize },
 }
 
-/// Lines of a leaf: indices into the lines of all leaves, from `start` up to `end`.
+/// Lines of a leaf: a range of indices into the lines of all leaves.
 #[derive(Clone, Copy, PartialEq, Eq, Debug)]
 pub struct LineRange {
     pub start: usize,
@@ -96,7 +96,7 @@ pub struct LineRange {
 }
 
 impl LineRange {
-    /// The lines from `start` up to `end`; none where `end` comes before `start`.
+    /// The lines from `start` to `end`; none if `end` is less than `start`.
     #[inline(always)]
     pub fn new(start: usize, end: usize) -> Self
         ensures start { result.start ≡ start }

@@ -1,4 +1,4 @@
-//! The call, and what it answers.
+//! The block pass as one call, and its result.
 
 ghost use Rattle.std.specs.Prelude.{IsTrue};
 ghost use Rattle.md_blocks.specs.Tape.{leads};
@@ -13,10 +13,10 @@ use std::alloc::{AllocError, Global};
 /// The blocks of a document.
 #[derive(Drop)]
 pub struct Blocks {
-    /// The blocks in the document's order. What is entered is exited, the innermost first, and at
-    /// most [`MAX_DEPTH`](crate::MAX_DEPTH) blocks are in one another.
+    /// The blocks in document order. Each container that is entered is exited, the innermost first,
+    /// and at most [`MAX_DEPTH`](crate::MAX_DEPTH) of them nest.
     pub tape: Vec<Block>,
-    /// The lines of all leaves. Those of a leaf follow one another.
+    /// The lines of all leaves. The lines of one leaf are adjacent.
     pub lines: Vec<Line>,
     /// The definitions of links, and which footnotes are defined.
     pub definitions: Definitions,
@@ -24,19 +24,19 @@ pub struct Blocks {
 }
 
 impl Blocks {
-    /// The lines of a leaf; none for a range that isn't of these blocks.
+    /// Returns the lines of a leaf, or none for a range that doesn't belong to these blocks.
     #[inline(always)]
     pub fn lines_of(&self, range: LineRange) -> &[Line] {
         self.lines.get(range.start..range.end).unwrap_or(&[])
     }
 }
 
-/// Reads the blocks of a document. Any bytes are a document; a byte order mark at its beginning is
-/// left out.
+/// Reads the blocks of a document. Any bytes are a document; a byte order mark at the beginning is
+/// skipped.
 ///
 /// # Errors
 ///
-/// Only where memory runs out.
+/// Returns an error only if memory runs out.
 pub fn parse_blocks(
     alloc: Global,
     bytes: &[u8],

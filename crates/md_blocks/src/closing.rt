@@ -1,4 +1,4 @@
-//! Closing what is open: the leaf, and what no line goes on in.
+//! Closes open blocks: the leaf, and the containers that a line doesn't continue.
 
 ghost use Rattle.std.specs.Prelude.{◌≡◌, ◌≤◌, vec_len, OnOk};
 
@@ -9,7 +9,7 @@ use md_lines::{Place, trim_start};
 use std::alloc::AllocError;
 
 impl<'a> Pass<'a> {
-    /// Closes the open leaf, and what is deeper than so many open blocks.
+    /// Closes the open leaf and the containers beyond this depth.
     pub(crate) fn close_unmatched(&mut self, depth: usize) -> Result<(), AllocError>
         ensures { OnOk result (vec_len self.new.nesting.stack ≤ depth) }
     {
@@ -17,7 +17,7 @@ impl<'a> Pass<'a> {
         self.nesting.close_to(depth, self.at)
     }
 
-    /// Makes room for a child that is no item: what isn't matched is closed, and so is a list.
+    /// Prepares for a child that is no item: closes the containers that didn't match, and a list.
     pub(crate) fn make_room(&mut self, depth: usize) -> Result<(), AllocError>
         ensures { OnOk result (vec_len self.new.nesting.stack ≤ depth) }
     {
@@ -28,7 +28,7 @@ impl<'a> Pass<'a> {
         Ok(())
     }
 
-    /// Puts a blank line that stands before a child of an item, or between two items.
+    /// Writes a blank line that precedes a child of an item, or separates two items.
     #[inline]
     pub(crate) fn put_blank_line(&mut self) -> Result<(), AllocError>
         ensures { vec_len self.new.nesting.stack ≡ vec_len self.old.nesting.stack }
@@ -45,7 +45,8 @@ impl<'a> Pass<'a> {
         Ok(())
     }
 
-    /// Takes the definitions off the paragraph's beginning; whether anything is left.
+    /// Removes the definitions from the beginning of the paragraph; returns whether any line
+    /// remains.
     pub(crate) fn take_definitions(&mut self) -> Result<bool, AllocError>
         ensures { self.new.nesting ≡ self.old.nesting }
     {
@@ -74,7 +75,7 @@ impl<'a> Pass<'a> {
         Ok(self.leaf_start < self.lines.len())
     }
 
-    /// Puts the open leaf, if there is one, which is none then.
+    /// Writes the open leaf, if there is one, and closes it.
     pub(crate) fn close_leaf(&mut self) -> Result<(), AllocError>
         ensures { vec_len self.new.nesting.stack ≡ vec_len self.old.nesting.stack }
     {
@@ -95,7 +96,7 @@ impl<'a> Pass<'a> {
         }
     }
 
-    /// Puts a paragraph behind its definitions.
+    /// Writes a paragraph, without the definitions at its beginning.
     fn close_paragraph(&mut self) -> Result<(), AllocError>
         ensures { vec_len self.new.nesting.stack ≡ vec_len self.old.nesting.stack }
     {
@@ -110,7 +111,7 @@ impl<'a> Pass<'a> {
         self.nesting.put(Leaf::Definitions { at })
     }
 
-    /// Lines without the blank ones at their end.
+    /// Lines without blank lines at their end.
     fn without_blank_end(&self, lines: LineRange) -> LineRange {
         let mut end = lines.end;
         while end > lines.start {

@@ -1,4 +1,4 @@
-//! Fences, and the leaves that take any line.
+//! Fences, and the leaves that accept any line.
 
 use crate::html::HtmlKind;
 use crate::marker::{is_blank_from, run_end};
@@ -7,19 +7,19 @@ use crate::position::Position;
 use md_lines::{Span, trim_start};
 use std::alloc::AllocError;
 
-/// The fence that code or math began with.
+/// The opening fence of code or math.
 #[derive(Clone, Copy, PartialEq, Eq)]
 pub(crate) struct Fence {
     pub(crate) mark: u8,
-    /// How many marks it has.
+    /// The number of its marks.
     pub(crate) length: usize,
-    /// How many columns it is indented by, which its lines lose.
+    /// The columns of its indentation, which each line inside loses.
     pub(crate) indent: usize,
 }
 
 impl Fence {
-    /// The fence of at least so many marks at a position, in whose line no such mark comes again if
-    /// `is_last` says so.
+    /// The fence at a position, if it has at least `least` marks. If `is_last`, the rest of its
+    /// line must not have that mark.
     pub(crate) fn at(
         position: &Position<'_>,
         mark: u8,
@@ -41,7 +41,7 @@ impl Fence {
         })
     }
 
-    /// Whether a line closes what this fence began.
+    /// Whether a line closes the block of this fence.
     fn is_closed_by(self, position: &Position<'_>) -> bool {
         let end = run_end(position.line, position.text, self.mark);
         position.indent <= 3
@@ -50,7 +50,7 @@ impl Fence {
     }
 }
 
-/// The first word from an index on.
+/// The first word from an index.
 pub(crate) fn first_word(line: &[u8], from: usize) -> Span {
     let start = trim_start(line, from, line.len());
     let mut end = start;
@@ -61,7 +61,7 @@ pub(crate) fn first_word(line: &[u8], from: usize) -> Span {
 }
 
 impl<'a> Pass<'a> {
-    /// A line in a leaf behind a fence.
+    /// Reads a line inside a fenced leaf.
     pub(crate) fn continue_fenced(
         &mut self,
         fence: Fence,
@@ -75,7 +75,7 @@ impl<'a> Pass<'a> {
         Ok(())
     }
 
-    /// A line in HTML; whether it belongs to it.
+    /// Reads a line inside HTML; returns whether it belongs to it.
     pub(crate) fn continue_html(
         &mut self,
         kind: HtmlKind,

@@ -1,4 +1,4 @@
-//! What begins with a line: the blocks that hold others.
+//! Begins containers.
 
 ghost use Rattle.std.specs.Prelude.{◌≡◌, ◌≤◌, ◌<◌, ◌+◌, length, vec_len};
 ghost use Rattle.std.specs.Prelude.{OnOk, IfOk, IfSome, IsTrue};
@@ -11,7 +11,7 @@ use crate::position::Position;
 use std::alloc::AllocError;
 
 impl<'a> Pass<'a> {
-    /// Begins a block that holds others, if a byte begins one; whether it does.
+    /// Begins a container if the byte starts one; returns whether it does.
     pub(crate) fn begin_container(
         &mut self,
         byte: u8,
@@ -47,7 +47,7 @@ impl<'a> Pass<'a> {
         }
     }
 
-    /// A quote.
+    /// Begins a quote.
     fn begin_quote(&mut self, position: &mut Position<'_>, depth: usize) -> Result<(), AllocError>
         requires has_text { position.old.text < length position.old.line.now }
         requires shallow { depth < 96 }
@@ -61,7 +61,7 @@ impl<'a> Pass<'a> {
         Ok(())
     }
 
-    /// The definition of a footnote; whether there is one.
+    /// Begins the definition of a footnote; returns whether there is one.
     fn begin_footnote(
         &mut self,
         position: &mut Position<'_>,
@@ -85,7 +85,7 @@ impl<'a> Pass<'a> {
         Ok(true)
     }
 
-    /// An item, and a list where it is the first of one.
+    /// Begins an item, and a list if the item is its first.
     fn begin_item(
         &mut self,
         marker: Marker,
@@ -125,7 +125,7 @@ impl<'a> Pass<'a> {
         Ok(())
     }
 
-    /// The list of an item with such a marker: the open one, or a new one.
+    /// Chooses the list of an item with this marker: the open list, or a new one.
     fn begin_list(&mut self, marker: Marker, start: usize, depth: usize) -> Result<(), AllocError>
         requires shallow { depth < 95 }
         ensures { OnOk result (vec_len self.new.nesting.stack ≤ depth + 1) }
@@ -154,8 +154,8 @@ impl<'a> Pass<'a> {
             .enter(Container::List { start, is_ordered }, open)
     }
 
-    /// Reads the rest of an item's line behind the box of a task, which is a paragraph, whatever it
-    /// begins with.
+    /// Reads the rest of an item's line after its checkbox, as a paragraph, whatever its first byte
+    /// is.
     fn begin_task(&mut self, position: &mut Position<'_>) -> Result<(), AllocError>
         requires { position.old.text + 3 ≤ length position.old.line.now }
         ensures goes_on { position.old.at ≤ position.new.at }
@@ -172,7 +172,7 @@ impl<'a> Pass<'a> {
     }
 }
 
-/// The box of a task at a position, if a text begins there.
+/// The checkbox at a position, if text begins there.
 fn task_at(position: &Position<'_>, is_text: bool) -> Option<Task>
     ensures { IfSome result (λ _. position.now.text + 3 ≤ length position.now.line.now) }
 {
@@ -186,7 +186,7 @@ fn task_at(position: &Position<'_>, is_text: bool) -> Option<Task>
     })
 }
 
-/// A block that begins, with no child and no marker.
+/// A new open block, with no child and no marker.
 fn open_block(kind: ContainerKind) -> Open {
     Open {
         kind,

@@ -1,32 +1,32 @@
-//! Definitions of links and of footnotes, by their labels.
+//! Definitions of links and of footnotes, found by their labels.
 
 use crate::label::{folded_bytes, folded_label};
 use md_lines::{Cursor, Line, Place, Span, Title, read_destination, read_label, read_title};
 use std::alloc::{AllocError, Global};
 use std::collections::{BTreeMap, BTreeSet};
 
-/// So many bytes of a definition's destination and title are short.
+/// The maximum number of bytes of a short destination and title.
 const MOST_AGAIN: usize = 256;
 
 /// The definition of a link.
 #[derive(Clone, Copy, PartialEq, Eq, Debug)]
 pub struct Definition {
-    /// Its label, from behind `[` up to `]`. It may go over lines.
+    /// Its label, from after `[` to `]`. It may span lines.
     pub label: Span,
     /// Its destination, without angle brackets.
     pub destination: Span,
-    /// Its title; the line in which it begins is an index into the lines of all leaves.
+    /// Its title. The line in which it begins is an index into the lines of all leaves.
     pub title: Option<Title>,
     /// Whether its destination has neither a backslash nor an ampersand.
     pub is_plain: bool,
-    /// Whether its destination and title have over 256 bytes, which are not to be looked through at
+    /// Whether its destination and title have over 256 bytes, so that they shouldn't be scanned for
     /// each of its links.
     pub is_long: bool,
-    /// Which one it is of the document's definitions, counted from 0.
+    /// Its number among the definitions of the document, from 0.
     pub index: usize,
 }
 
-/// The definitions of a document: of links, and which footnotes are defined.
+/// The link definitions of a document, and the labels of its footnotes.
 #[derive(Drop)]
 pub struct Definitions {
     list: Vec<Definition>,
@@ -43,7 +43,7 @@ impl Definitions {
         }
     }
 
-    /// The definitions of links, in the document's order.
+    /// The definitions of links, in document order.
     #[inline(always)]
     pub fn list(&self) -> &[Definition] {
         self.list.as_slice()
@@ -61,12 +61,12 @@ impl Definitions {
         !self.footnotes.is_empty()
     }
 
-    /// The first definition with a label: the text of `lines` between two places in them. `None`
-    /// also where the label has no character but spaces, or isn't UTF-8.
+    /// Returns the first definition with a label: the text of `lines` between two places in them.
+    /// `None` also if the label has only spaces, or isn't UTF-8.
     ///
     /// # Errors
     ///
-    /// Only where memory runs out.
+    /// Returns an error only if memory runs out.
     pub fn find(
         &self,
         alloc: Global,
@@ -87,11 +87,11 @@ impl Definitions {
         }
     }
 
-    /// Whether a footnote is defined with a label, which is a part of the document.
+    /// Whether a footnote is defined with a label, which is a range of the document.
     ///
     /// # Errors
     ///
-    /// Only where memory runs out.
+    /// Returns an error only if memory runs out.
     pub fn has_footnote(
         &self,
         alloc: Global,
@@ -123,7 +123,7 @@ impl Definitions {
         Ok(())
     }
 
-    /// Adds a definition under its folded label, unless that label has one.
+    /// Adds a definition under its folded label, unless that label already has one.
     fn add(&mut self, label: String, definition: Definition) -> Result<(), AllocError> {
         let index = self.list.len();
         self.list.push(Definition {
@@ -137,15 +137,15 @@ impl Definitions {
     }
 }
 
-/// What is read of a definition behind its label.
+/// The parts of a definition after its label.
 #[derive(Clone, Copy)]
 struct Target {
     destination: Span,
     title: Option<Title>,
 }
 
-/// Reads a definition that begins with a line, at its `[`, and adds it: the line after it. `None`
-/// where none begins there.
+/// Reads a definition that begins in a line, at its `[`, and adds it. Returns the line after it, or
+/// `None` if there is no definition.
 pub(crate) fn read_definition(
     alloc: Global,
     bytes: &[u8],
@@ -174,7 +174,7 @@ pub(crate) fn read_definition(
     Ok(Some(cursor.place().line.saturating_add(1)))
 }
 
-/// Reads a definition from its `:` to the end of a line.
+/// Reads a definition from its `:` to the end of its last line.
 fn read_target(cursor: &mut Cursor<'_>) -> Option<Target> {
     if !cursor.take(b':') {
         return None;
@@ -203,13 +203,13 @@ fn read_target(cursor: &mut Cursor<'_>) -> Option<Target> {
     }
 }
 
-/// Goes past spaces and tabs; whether the line ends behind them.
+/// Skips spaces and tabs; returns whether the line ends after them.
 fn ends_line(cursor: &mut Cursor<'_>) -> bool {
     cursor.skip(md_lines::Class::Space);
     cursor.is_at_line_end()
 }
 
-/// A definition of what was read, as if it were the first one.
+/// A definition with these parts, with the index 0.
 fn definition_of(bytes: &[u8], label: Span, target: Target) -> Definition {
     let Target { destination, title } = target;
     let text = bytes.get(destination.start..destination.end).unwrap_or(&[]);

@@ -4,7 +4,7 @@ use crate::marker::is_blank_from;
 use md_lines::{Class, Line, Place, is, read_tag};
 use memchr::memchr;
 
-/// Which of the kinds of HTML a block is: it says where it ends.
+/// The kind of an HTML block, which decides where it ends.
 #[derive(Clone, Copy, PartialEq, Eq)]
 pub(crate) enum HtmlKind {
     /// `<script`, `<pre`, `<style` or `<textarea`, up to a closing tag of these.
@@ -19,12 +19,12 @@ pub(crate) enum HtmlKind {
     Data,
     /// A tag of a block, up to a blank line.
     Block,
-    /// Any other tag that is alone on its line, up to a blank line.
+    /// Any other tag alone on its line, up to a blank line.
     Tag,
 }
 
 impl HtmlKind {
-    /// Which kind begins with a text, at its `<`. What may interrupt a paragraph is no `Tag`.
+    /// The kind of block that a text begins, at its `<`. A `Tag` can't interrupt a paragraph.
     pub(crate) fn begun_by(text: &[u8], may_be_tag: bool) -> Option<HtmlKind> {
         if text.starts_with(b"<!--") {
             return Some(HtmlKind::Comment);
@@ -47,7 +47,7 @@ impl HtmlKind {
         }
     }
 
-    /// Whether a block of this kind ends with a line; `false` where a blank line ends it.
+    /// Whether a line ends a block of this kind; `false` if a blank line ends it.
     pub(crate) fn is_ended_by(self, line: &[u8]) -> bool {
         if self.ends_at_blank_line() {
             return false;
@@ -66,7 +66,7 @@ impl HtmlKind {
         false
     }
 
-    /// Whether a `>` behind a text ends a block of this kind.
+    /// Whether a `>` after a text ends a block of this kind.
     fn is_ended_behind(self, text: &[u8]) -> bool {
         match self {
             HtmlKind::Raw => {
@@ -89,7 +89,7 @@ impl HtmlKind {
     }
 }
 
-/// The kind of a block that begins with a tag whose name tells it.
+/// The kind of a block that begins with a tag, by the tag's name.
 fn kind_of_tag(text: &[u8]) -> Option<HtmlKind> {
     let is_closing = text.get(1) == Some(&b'/');
     let from = if is_closing { 2 } else { 1 };
@@ -108,7 +108,7 @@ fn kind_of_tag(text: &[u8]) -> Option<HtmlKind> {
     None
 }
 
-/// Whether a text is one opening or closing tag, with spaces and tabs behind it.
+/// Whether a text is one opening or closing tag, followed only by spaces and tabs.
 fn is_tag_alone(text: &[u8]) -> bool {
     let end = text.len();
     let lines = [Line {
@@ -123,7 +123,7 @@ fn is_tag_alone(text: &[u8]) -> bool {
     }
 }
 
-/// Whether a text ends in a word, whatever the case of its letters.
+/// Whether a text ends in a word, in any case.
 fn ends_in(text: &[u8], word: &[u8]) -> bool {
     match text.get(text.len().saturating_sub(word.len())..) {
         Some(end) => end.eq_ignore_ascii_case(word),
@@ -152,7 +152,7 @@ fn is_block(name: &[u8]) -> bool {
     false
 }
 
-/// The names of the tags that begin a block, at their lengths.
+/// The names of the tags that begin a block, at the index that is their length.
 static BLOCK_TAGS: [&[&str]; 11] = [
     &[],
     &["p"],

@@ -1,4 +1,4 @@
-//! Labels in the form in which they are compared.
+//! Folds labels to the form in which they are compared.
 
 ghost use Rattle.std.specs.Prelude.{◌≡◌, IfOk, IfSome, string_bytes};
 ghost use Rattle.md_base.specs.Identifier.{normalized};
@@ -7,8 +7,8 @@ use md_base::normalize_identifier;
 use md_lines::{Line, Place};
 use std::alloc::{AllocError, Global};
 
-/// A label in the form in which labels are compared, as the compiler compares identifiers: between
-/// two places in lines, of which the lines' text is read. `None` where it isn't UTF-8.
+/// Folds a label as the compiler folds identifiers: the text of some lines between two places in
+/// them. `None` if it isn't UTF-8.
 pub(crate) fn folded_label(
     alloc: Global,
     bytes: &[u8],
@@ -39,7 +39,7 @@ pub(crate) fn folded_label(
     folded_bytes(alloc, label.as_slice())
 }
 
-/// A label in the form in which labels are compared; `None` where it isn't UTF-8.
+/// Folds a label; `None` if it isn't UTF-8.
 pub(crate) fn folded_bytes(alloc: Global, label: &[u8]) -> Result<Option<String>, AllocError>
     ensures { IfOk result (λ text. IfSome text (λ folded.
         string_bytes folded ≡ normalized label.now)) }

@@ -1,5 +1,5 @@
-//! The block pass of a Markdown parser: a document's lines become a flat tape of blocks, in the
-//! document's order, with the lines of each leaf and the definitions of links and footnotes.
+//! The block pass of a Markdown parser. It reads a document's lines to a flat tape of blocks, in
+//! document order, with the lines of each leaf and the definitions of links and footnotes.
 #![tactic(auto)]
 
 mod block;

@@ -1,25 +1,25 @@
-//! What a line's text begins with: marks, markers and labels.
+//! Recognizes marks, markers and labels at the beginning of a line's text.
 
 ghost use Rattle.std.specs.Prelude.{◌≤◌, ◌<◌, ◌+◌, length, IfSome};
 
 use md_lines::{Span, trim_end, trim_start};
 
-/// How many digits an item's number may have.
+/// The maximum number of digits in an item's number.
 const MOST_DIGITS: usize = 9;
 
-/// How long a footnote's label may be.
+/// The maximum length of a footnote's label.
 const MOST_IN_LABEL: usize = 998;
 
 /// The marker of an item.
 #[derive(Clone, Copy)]
 pub(crate) struct Marker {
-    /// Its last byte.
+    /// The last byte.
     pub(crate) byte: u8,
-    /// How many digits are before that.
+    /// How many digits precede it.
     pub(crate) digits: usize,
 }
 
-/// Where a run of equal bytes ends that may begin at an index.
+/// The end of the run of a byte that begins at an index; that index if there is none.
 #[inline(always)]
 pub(crate) fn run_end(line: &[u8], from: usize, byte: u8) -> usize
     ensures after { from ≤ result }
@@ -32,13 +32,13 @@ pub(crate) fn run_end(line: &[u8], from: usize, byte: u8) -> usize
     at
 }
 
-/// Whether only spaces and tabs stand from an index on.
+/// Whether only spaces and tabs follow from an index.
 #[inline(always)]
 pub(crate) fn is_blank_from(line: &[u8], from: usize) -> bool {
     trim_start(line, from, line.len()) >= line.len()
 }
 
-/// Whether a space, a tab or the line's end is at an index.
+/// Whether there is a space, a tab or the line's end at an index.
 #[inline(always)]
 fn is_space_at(line: &[u8], at: usize) -> bool {
     matches!(line.get(at), None | Some(b' ' | b'\t'))
@@ -54,7 +54,7 @@ pub(crate) fn heading_marks(line: &[u8], at: usize) -> Option<Span> {
     }
 }
 
-/// The text of a heading behind its number signs, without those that close it.
+/// The text of a heading after its number signs, without the closing ones.
 pub(crate) fn heading_text(line: &[u8], from: usize) -> Span {
     let start = trim_start(line, from, line.len());
     let end = trim_end(line, start, line.len());
@@ -71,8 +71,8 @@ pub(crate) fn heading_text(line: &[u8], from: usize) -> Span {
     }
 }
 
-/// The marker of an item that begins at an index. In a paragraph an item must have a text, and a
-/// number must be 1.
+/// The marker of an item that begins at an index. An item that interrupts a paragraph must have
+/// text, and its number must be 1.
 pub(crate) fn item_marker(line: &[u8], at: usize, in_paragraph: bool) -> Option<Marker>
     ensures within { IfSome result (λ marker. at + marker.digits < length line.now) }
     ensures short { IfSome result (λ marker. marker.digits ≤ 9) }
@@ -97,7 +97,7 @@ pub(crate) fn item_marker(line: &[u8], at: usize, in_paragraph: bool) -> Option<
     Some(Marker { byte, digits })
 }
 
-/// Where the digits end that may begin at an index, of which at most nine are read.
+/// The end of the digits that begin at an index, of which at most nine are read.
 #[inline(always)]
 fn digits_end(line: &[u8], at: usize) -> usize
     ensures after { at ≤ result }
@@ -110,8 +110,8 @@ fn digits_end(line: &[u8], at: usize) -> usize
     end
 }
 
-/// The label of a footnote's definition that begins at an index, at its `[`: what stands between
-/// `[^` and `]:`.
+/// The label of a footnote's definition that begins at an index, at its `[`: the text between `[^`
+/// and `]:`.
 pub(crate) fn footnote_label(line: &[u8], at: usize) -> Option<Span>
     ensures { IfSome result (λ label. (at ≤ label.start) × (label.end + 2 ≤ length line.now)) }
 {
@@ -130,13 +130,13 @@ pub(crate) fn footnote_label(line: &[u8], at: usize) -> Option<Span>
     }
 }
 
-/// Whether a byte is in no footnote's label.
+/// Whether a byte can't occur in a footnote's label.
 #[inline(always)]
 fn ends_label(byte: u8) -> bool {
     byte == b']' || byte == b'[' || byte == b' ' || byte == b'\t' || byte == 0
 }
 
-/// Whether the box of a task is at an index: `Some(true)` where it is checked.
+/// The checkbox at an index: `Some(true)` if it is checked.
 pub(crate) fn task_box(line: &[u8], at: usize) -> Option<bool>
     ensures { IfSome result (λ _. at + 3 ≤ length line.now) }
 {

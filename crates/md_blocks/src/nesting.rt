@@ -1,4 +1,4 @@
-//! The tape, and the blocks that are open in it.
+//! The tape, and the open containers.
 
 ghost use Rattle.md_blocks.specs.Tape.{leads};
 ghost use Rattle.std.specs.Prelude.{IsTrue, ◌≡◌, ◌≤◌, ◌<◌, ◌+◌, vec_len, OnOk, IsSome};
@@ -6,17 +6,17 @@ ghost use Rattle.std.specs.Prelude.{IsTrue, ◌≡◌, ◌≤◌, ◌<◌, ◌+�
 use crate::block::{Block, Container, ContainerKind, Exit, Leaf};
 use std::alloc::{AllocError, Global};
 
-/// How deep blocks that hold blocks stand in one another at most: what would begin a deeper one is
-/// text. It bounds the work that a line takes.
+/// The maximum depth of nested containers. A marker that would begin a deeper one is text. This
+/// bounds the work for each line.
 pub const MAX_DEPTH: usize = 96;
 
-/// A block that holds others and that is open.
+/// An open container.
 #[derive(Clone, Copy)]
 pub(crate) struct Open {
     pub(crate) kind: ContainerKind,
-    /// How many columns a line is indented by that goes on in it, where it is an item.
+    /// For an item, how many columns a line must be indented by to continue it.
     pub(crate) indent: usize,
-    /// The last byte of the marker of an item, or of a list's items.
+    /// The last byte of the marker of an item, or of the markers of a list's items.
     pub(crate) marker: u8,
     pub(crate) has_child: bool,
 }
@@ -31,7 +31,7 @@ impl Open {
     }
 }
 
-/// The tape, and the blocks that are open in it, the outermost first.
+/// The tape, and the open containers, the outermost first.
 #[derive(Drop)]
 pub(crate) struct Nesting {
     pub(crate) tape: Vec<Block>,
@@ -41,7 +41,7 @@ pub(crate) struct Nesting {
 }
 
 impl Nesting {
-    /// An empty tape with room for so many blocks.
+    /// An empty tape with capacity for `room` blocks.
     pub(crate) fn new(alloc: Global, room: usize) -> Result<Self, AllocError> {
         let tape = Vec::with_capacity(alloc, room)?;
         Ok(Nesting {
@@ -66,7 +66,7 @@ impl Nesting {
         self.stack.last().copied()
     }
 
-    /// Begins a block that holds others. After an error nothing has begun.
+    /// Enters a container. After an error nothing is entered.
     pub(crate) fn enter(&mut self, container: Container, open: Open) -> Result<(), AllocError>
         requires { vec_len self.old.stack < 96 }
         ensures { vec_len self.new.stack ≤ vec_len self.old.stack + 1 }
@@ -82,7 +82,7 @@ impl Nesting {
         }
     }
 
-    /// Puts a leaf.
+    /// Writes a leaf.
     #[inline]
     pub(crate) fn put(&mut self, leaf: Leaf) -> Result<(), AllocError>
         ensures { self.new.stack ≡ self.old.stack }
@@ -91,7 +91,7 @@ impl Nesting {
         Ok(())
     }
 
-    /// Notes that the innermost open block has a child.
+    /// Records that the innermost open block has a child.
     #[inline(always)]
     pub(crate) fn note_child(&mut self)
         ensures { vec_len self.new.stack ≡ vec_len self.old.stack }
@@ -101,7 +101,7 @@ impl Nesting {
         }
     }
 
-    /// Ends the innermost blocks until so many are open.
+    /// Closes the innermost blocks until this many are open.
     pub(crate) fn close_to(&mut self, depth: usize, at: usize) -> Result<(), AllocError>
         ensures shrinks { vec_len self.new.stack ≤ vec_len self.old.stack }
         ensures closes { OnOk result (vec_len self.new.stack ≤ depth) }
@@ -112,7 +112,7 @@ impl Nesting {
         Ok(())
     }
 
-    /// Ends the innermost block.
+    /// Closes the innermost block.
     fn exit(&mut self, at: usize) -> Result<(), AllocError>
         requires { 0 < vec_len self.old.stack }
         ensures shrinks { vec_len self.new.stack ≤ vec_len self.old.stack }
@@ -130,7 +130,7 @@ impl Nesting {
         Ok(())
     }
 
-    /// Ends the innermost block if it is a list.
+    /// Closes the innermost block if it is a list.
     pub(crate) fn close_list(&mut self, at: usize) -> Result<(), AllocError>
         ensures { vec_len self.new.stack ≤ vec_len self.old.stack }
     {
@@ -158,7 +158,8 @@ impl Nesting {
         false
     }
 
-    /// How many blocks are open up to the innermost quote or footnote, with it; 0 where none is.
+    /// How many blocks are open up to and including the innermost quote or footnote; 0 if there is
+    /// none.
     pub(crate) fn depth_of_quote(&self) -> usize {
         let mut depth = 0;
         for (index, open) in self.stack.iter().enumerate() {

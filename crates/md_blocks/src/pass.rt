@@ -1,4 +1,4 @@
-//! The pass over a document's lines.
+//! The pass over the lines of a document.
 
 ghost use Rattle.std.specs.Prelude.{◌≡◌, ◌≤◌, vec_len, OnOk};
 
@@ -14,19 +14,19 @@ use crate::preamble::{front_matter, start_of};
 use md_lines::{Line, Span, after_ending, line_end};
 use std::alloc::{AllocError, Global};
 
-/// How many columns a line of code is indented by, and one that goes on in a footnote.
+/// How many columns indent a line of code, and a line that continues a footnote.
 pub(crate) const CODE_INDENT: usize = 4;
 
-/// For each block so many bytes of a document are expected.
+/// The expected number of bytes for each block.
 const BYTES_PER_BLOCK: usize = 40;
 
-/// For each line of a leaf so many bytes are expected.
+/// The expected number of bytes for each line of a leaf.
 const BYTES_PER_LINE: usize = 32;
 
-/// For this many blocks and lines there is room in any case.
+/// The minimum capacity for blocks, and for lines.
 const LEAST_ROOM: usize = 16;
 
-/// The leaf that is open.
+/// The open leaf.
 #[derive(Clone, Copy, PartialEq, Eq)]
 pub(crate) enum OpenLeaf {
     None,
@@ -38,16 +38,16 @@ pub(crate) enum OpenLeaf {
     Table { columns: usize },
 }
 
-/// A blank line that is put before the next child of an item, or between two items.
+/// A pending blank line, written before the next child of an item, or between two items.
 #[derive(Clone, Copy)]
 pub(crate) struct BlankLine {
-    /// How many blocks are open at least where it is put: those up to the innermost quote or
-    /// footnote around it.
+    /// The minimum number of open blocks for writing it: those up to the innermost quote or
+    /// footnote that contains it.
     pub(crate) depth: usize,
     pub(crate) ending: Span,
 }
 
-/// That no thematic break of a mark begins before a place.
+/// Records that no thematic break of a mark begins before an index.
 #[derive(Clone, Copy)]
 pub(crate) struct NoBreak {
     pub(crate) mark: u8,
@@ -66,13 +66,13 @@ pub(crate) struct Pass<'a> {
     pub(crate) leaf: OpenLeaf,
     /// The index of the open leaf's first line.
     pub(crate) leaf_start: usize,
-    /// How many cells are missing in the rows of all tables.
+    /// How many cells the rows of all tables lack so far.
     pub(crate) missing_cells: usize,
     pub(crate) blank_line: Option<BlankLine>,
-    /// Whether the last line was blank and another one changes nothing: no leaf and no quote is
-    /// open.
+    /// Whether the last line was blank and another blank line changes nothing: no leaf and no quote
+    /// is open.
     pub(crate) is_after_blank: bool,
-    /// How far the document is read.
+    /// The index up to which the document is read.
     pub(crate) at: usize,
     pub(crate) no_break: NoBreak,
 }
@@ -103,7 +103,7 @@ impl<'a> Pass<'a> {
         })
     }
 
-    /// What was read.
+    /// Returns the result.
     pub(crate) fn into_blocks(self) -> Blocks
         requires { vec_len self.nesting.stack ≤ 0 }
     {
@@ -140,7 +140,7 @@ impl<'a> Pass<'a> {
         self.close_unmatched(0)
     }
 
-    /// Reads front matter: where the document goes on behind it, or behind a byte order mark.
+    /// Reads front matter. Returns the index after it, or after a byte order mark.
     fn read_front_matter(&mut self) -> Result<usize, AllocError> {
         match front_matter(self.bytes) {
             Some(found) => {
@@ -172,7 +172,8 @@ impl<'a> Pass<'a> {
         Ok(())
     }
 
-    /// Goes past what tells that the line goes on in open blocks: in how many, from the outermost.
+    /// Skips the markers and indentation by which the line continues open blocks. Returns how many
+    /// it continues, from the outermost.
     #[inline(always)]
     fn match_containers(&self, position: &mut Position<'_>) -> usize {
         let mut matched = 0;
@@ -185,7 +186,7 @@ impl<'a> Pass<'a> {
         matched
     }
 
-    /// A line in a leaf that takes any line; whether one takes it.
+    /// Reads a line in a leaf that accepts any line; returns whether the open leaf is one.
     #[inline(always)]
     fn continue_leaf(&mut self, position: &mut Position<'_>) -> Result<bool, AllocError> {
         match self.leaf {
@@ -198,7 +199,7 @@ impl<'a> Pass<'a> {
         }
     }
 
-    /// A blank line, which goes on in so many open blocks.
+    /// Reads a blank line that continues `matched` open blocks.
     pub(crate) fn read_blank_line(
         &mut self,
         position: &mut Position<'_>,
@@ -223,7 +224,7 @@ impl<'a> Pass<'a> {
         Ok(())
     }
 
-    /// Opens a leaf, whose lines are those that are put next.
+    /// Opens a leaf. The lines that are pushed next belong to it.
     #[inline(always)]
     pub(crate) fn begin(&mut self, leaf: OpenLeaf)
         ensures { self.new.nesting ≡ self.old.nesting }
@@ -239,7 +240,8 @@ impl<'a> Pass<'a> {
     }
 }
 
-/// Goes past what tells that the line goes on in an open block; whether it does.
+/// Skips the marker or indentation by which the line continues an open block; returns whether it
+/// continues it.
 #[inline(always)]
 fn goes_on_in(open: Open, position: &mut Position<'_>) -> bool {
     match open.kind {
@@ -255,7 +257,7 @@ fn goes_on_in(open: Open, position: &mut Position<'_>) -> bool {
     }
 }
 
-/// Goes past a quote's mark; whether there is one.
+/// Skips a quote's mark; returns whether there was one.
 #[inline]
 fn goes_on_in_quote(position: &mut Position<'_>) -> bool {
     if position.indent > 3 || position.byte() != Some(b'>') {
@@ -265,7 +267,7 @@ fn goes_on_in_quote(position: &mut Position<'_>) -> bool {
     true
 }
 
-/// Goes past so many columns; whether they are there, or the line is blank.
+/// Skips `columns` columns of indentation; returns whether the line has them, or is blank.
 #[inline]
 fn goes_on_indented(columns: usize, position: &mut Position<'_>) -> bool {
     if position.indent < columns && !position.is_blank() {

@@ -4,25 +4,26 @@ ghost use Rattle.std.specs.Prelude.{◌≡◌, ◌+◌, ◌≤◌, ◌<◌, ◌%
 
 use md_lines::Line;
 
-/// How many columns a tab stop has.
+/// The number of columns between two tab stops.
 const TAB_STOP: usize = 4;
 
-/// A position in a line, and what comes next there: spaces and tabs, and then text.
+/// A position in a line, and the spaces, tabs and text that follow it.
 #[derive(Drop)]
 pub(crate) struct Position<'a> {
-    /// The document up to the line's end.
+    /// The document up to the end of the line.
     pub(crate) line: &'a [u8],
-    /// Where the next line begins.
+    /// The beginning of the next line.
     pub(crate) next: usize,
     /// The index of the byte at the position.
     pub(crate) at: usize,
-    /// The column of the position, counted from the line's beginning, or from where tab stops are.
+    /// The column of the position, from the beginning of the line, or from a tab stop.
     pub(crate) column: usize,
     /// Whether the position is within the columns of the tab at `at`.
     pub(crate) is_in_tab: bool,
-    /// Where the first byte is that is neither a space nor a tab; the line's end where none is.
+    /// The index of the first byte that is neither a space nor a tab; the end of the line if there
+    /// is none.
     pub(crate) text: usize,
-    /// How many columns are before that byte.
+    /// How many columns precede that byte.
     pub(crate) indent: usize,
     ghost before_text: { at ≤ text },
     ghost in_line: { text ≤ length line.now },
@@ -30,7 +31,7 @@ pub(crate) struct Position<'a> {
 }
 
 impl<'a> Position<'a> {
-    /// The position at the beginning of a line, which goes from `at` to the end of `line`.
+    /// The position at the beginning of a line, which extends from `at` to the end of `line`.
     #[inline(always)]
     pub(crate) fn new(line: &'a [u8], at: usize, next: usize) -> Self
         requires begins { at ≤ length line.now }
@@ -49,7 +50,7 @@ impl<'a> Position<'a> {
         }
     }
 
-    /// The first byte of the text; `None` where only spaces and tabs are left.
+    /// The first byte of the text; `None` if only spaces and tabs remain.
     #[inline(always)]
     pub(crate) fn byte(&self) -> Option<u8>
         ensures { IsSome result → self.now.text < length self.now.line.now }
@@ -61,13 +62,13 @@ impl<'a> Position<'a> {
         }
     }
 
-    /// Whether only spaces and tabs are left.
+    /// Whether only spaces and tabs remain.
     #[inline(always)]
     pub(crate) fn is_blank(&self) -> bool {
         self.text >= self.line.len()
     }
 
-    /// Goes past so many columns of the spaces and tabs, or past all where fewer are left.
+    /// Skips `columns` columns of spaces and tabs, or all if fewer remain.
     pub(crate) fn advance(&mut self, columns: usize)
         ensures at { self.old.at ≤ self.new.at }
         ensures line { self.new.line ≡ self.old.line }
@@ -87,7 +88,7 @@ impl<'a> Position<'a> {
         }
     }
 
-    /// Goes past the spaces and tabs, and past so many bytes of the text.
+    /// Skips the spaces and tabs, and `width` bytes of the text.
     pub(crate) fn pass(&mut self, width: usize)
         requires { self.old.text + width ≤ length self.old.line.now }
         ensures at { self.new.at ≡ self.old.text + width }
@@ -103,7 +104,7 @@ impl<'a> Position<'a> {
         self.indent = indent;
     }
 
-    /// Goes past the mark of a quote, and past a column of space behind it.
+    /// Skips the mark of a quote, and a column of space after it.
     #[inline(always)]
     pub(crate) fn pass_quote_mark(&mut self)
         requires { self.old.text < length self.old.line.now }
@@ -114,7 +115,7 @@ impl<'a> Position<'a> {
         self.advance(1);
     }
 
-    /// Goes to the line's end.
+    /// Moves to the end of the line.
     pub(crate) fn finish(&mut self)
         ensures at { self.old.at ≤ self.new.at }
         ensures line { self.new.line ≡ self.old.line }
@@ -125,7 +126,7 @@ impl<'a> Position<'a> {
         self.is_in_tab = false;
     }
 
-    /// The line from the position on, with the spaces and tabs that are left.
+    /// The line from the position, with the spaces and tabs that remain.
     #[inline(always)]
     pub(crate) fn rest(&self) -> Line
         ensures columns { self.now.is_in_tab ≡ true → result.columns ≡ self.now.column % 4 }
@@ -143,7 +144,7 @@ impl<'a> Position<'a> {
         }
     }
 
-    /// The line from the text on.
+    /// The line from the text.
     #[inline(always)]
     pub(crate) fn text_line(&self) -> Line {
         Line {
@@ -155,7 +156,7 @@ impl<'a> Position<'a> {
     }
 }
 
-/// How many columns the space or tab at an index takes from a column on.
+/// The width in columns of the space or tab at an index, if it begins at a column.
 #[inline(always)]
 fn width_at(line: &[u8], at: usize, column: usize) -> usize
     ensures { 1 ≤ result }
@@ -166,7 +167,8 @@ fn width_at(line: &[u8], at: usize, column: usize) -> usize
     }
 }
 
-/// Where the text begins behind the spaces and tabs at an index, and how many columns these take.
+/// The beginning of the text after the spaces and tabs at an index, and the width of these in
+/// columns.
 #[inline(always)]
 fn text_after(line: &[u8], from: usize, column: usize) -> (usize, usize)
     requires { from ≤ length line.now }

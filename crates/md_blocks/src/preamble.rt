@@ -1,21 +1,21 @@
-//! What stands before a document's first line: a byte order mark, and front matter.
+//! Skips what precedes the first line of a document: a byte order mark, and front matter.
 
 use md_lines::{Span, after_ending, line_end, trim_end};
 
 /// A byte order mark.
 const BYTE_ORDER_MARK: &[u8] = b"\xef\xbb\xbf";
 
-/// Front matter: what stands between two lines of three dashes, of which the first is the
-/// document's.
+/// Front matter: the lines between two lines of three dashes, the first of which is the first line
+/// of the document.
 #[derive(Clone, Copy, PartialEq, Eq, Debug)]
 pub struct FrontMatter {
-    /// What stands between the two lines, with the line endings of its own lines.
+    /// The text between the two lines, with its line endings.
     pub text: Span,
-    /// The line ending behind it.
+    /// The line ending after it.
     pub ending: Span,
 }
 
-/// Where a document begins: behind a byte order mark.
+/// The beginning of a document, after a byte order mark.
 pub(crate) fn start_of(bytes: &[u8]) -> usize {
     if bytes.starts_with(BYTE_ORDER_MARK) {
         BYTE_ORDER_MARK.len()
@@ -24,7 +24,7 @@ pub(crate) fn start_of(bytes: &[u8]) -> usize {
     }
 }
 
-/// The front matter with which a document begins.
+/// The front matter at the beginning of a document.
 pub fn front_matter(bytes: &[u8]) -> Option<FrontMatter> {
     let at = start_of(bytes);
     let end = line_end(bytes, at);

@@ -1,4 +1,4 @@
-//! What begins with a line: the leaves.
+//! Begins leaves.
 
 use crate::block::{Leaf, LineRange};
 use crate::code::{Fence, first_word};
@@ -10,12 +10,12 @@ use crate::table::{count_cells, delimiter_columns};
 use md_lines::{Class, Line, Span, is, trim_start};
 use std::alloc::AllocError;
 
-/// So many cells may be missing in the rows of all tables: what would be a row is text then.
+/// How many cells the rows of all tables may lack. A further such row is read as text.
 const MOST_MISSING: usize = 1 << 19;
 
 impl<'a> Pass<'a> {
-    /// Reads a line behind the prefixes of so many open blocks, where no leaf took it;
-    /// `is_whole` says that these are all.
+    /// Reads a line after the prefixes of `matched` open blocks, if no leaf accepted it; `is_whole`
+    /// says that these are all open blocks.
     pub(crate) fn begin_blocks(
         &mut self,
         position: &mut Position<'_>,
@@ -51,7 +51,7 @@ impl<'a> Pass<'a> {
         }
     }
 
-    /// Begins a leaf that a byte may begin, or reads the one line that it has; whether one begins.
+    /// Begins a leaf if the byte starts one, or reads its only line; returns whether it does.
     fn begin_leaf(
         &mut self,
         byte: u8,
@@ -77,7 +77,7 @@ impl<'a> Pass<'a> {
         }
     }
 
-    /// A heading behind number signs.
+    /// Reads a heading with number signs.
     fn begin_heading(&mut self, position: &Position<'_>, depth: usize) -> Result<bool, AllocError> {
         let Some(marks) = heading_marks(position.line, position.text) else {
             return Ok(false);
@@ -96,7 +96,7 @@ impl<'a> Pass<'a> {
         Ok(true)
     }
 
-    /// Code behind a fence.
+    /// Begins fenced code.
     fn begin_fenced(
         &mut self,
         mark: u8,
@@ -112,7 +112,7 @@ impl<'a> Pass<'a> {
         Ok(true)
     }
 
-    /// Math behind a line that begins with dollar signs.
+    /// Begins math after a line of dollar signs.
     fn begin_math(&mut self, position: &Position<'_>, depth: usize) -> Result<bool, AllocError> {
         let Some(fence) = Fence::at(position, b'$', 2, true) else {
             return Ok(false);
@@ -139,7 +139,7 @@ impl<'a> Pass<'a> {
         Ok(true)
     }
 
-    /// HTML.
+    /// Begins HTML.
     fn begin_html(
         &mut self,
         position: &Position<'_>,
@@ -159,7 +159,7 @@ impl<'a> Pass<'a> {
         Ok(true)
     }
 
-    /// A heading over a line of such bytes, which the open paragraph becomes.
+    /// Changes the open paragraph to a heading, if this line underlines it.
     fn begin_underlined(&mut self, mark: u8, position: &Position<'_>) -> Result<bool, AllocError> {
         let end = run_end(position.line, position.text, mark);
         if !is_blank_from(position.line, end) || !self.take_definitions()? {
@@ -172,7 +172,7 @@ impl<'a> Pass<'a> {
         Ok(true)
     }
 
-    /// A thematic break of such a mark.
+    /// Reads a thematic break of this mark.
     fn begin_break(
         &mut self,
         mark: u8,
@@ -188,7 +188,7 @@ impl<'a> Pass<'a> {
         Ok(true)
     }
 
-    /// Whether a thematic break begins at an index: three or more such marks, and spaces.
+    /// Whether a thematic break begins at an index: three or more of these marks, and spaces.
     fn is_break(&mut self, mark: u8, line: &[u8], from: usize) -> bool {
         if self.no_break.mark == mark && from < self.no_break.before {
             return false;
@@ -205,7 +205,7 @@ impl<'a> Pass<'a> {
         count >= 3
     }
 
-    /// A line that is indented as code is, and that no paragraph takes.
+    /// Reads a line with the indentation of code that doesn't continue a paragraph.
     fn read_indented(
         &mut self,
         position: &mut Position<'_>,
@@ -222,7 +222,7 @@ impl<'a> Pass<'a> {
         Ok(())
     }
 
-    /// A line of text: it goes on in a paragraph, is a row of a table, or begins a paragraph.
+    /// Reads a line of text: it continues a paragraph, is a row of a table, or begins a paragraph.
     fn read_text(
         &mut self,
         position: &Position<'_>,
@@ -243,7 +243,7 @@ impl<'a> Pass<'a> {
         Ok(())
     }
 
-    /// Whether a line is a row of the open table. A lone bar is none.
+    /// Whether a line is a row of the open table. A lone bar isn't.
     fn takes_row(&mut self, columns: usize, position: &Position<'_>) -> bool {
         let cells = count_cells(position.line, position.text_line());
         let missing = self
@@ -256,7 +256,8 @@ impl<'a> Pass<'a> {
         true
     }
 
-    /// Makes a table of the paragraph's last line, if this line has its delimiters; whether it has.
+    /// Begins a table whose head is the paragraph's last line, if this line is a delimiter row;
+    /// returns whether it is.
     fn begin_table(&mut self, position: &Position<'_>) -> Result<bool, AllocError> {
         if !self.options.tables {
             return Ok(false);
@@ -283,7 +284,7 @@ impl<'a> Pass<'a> {
     }
 }
 
-/// Whether a byte begins nothing but text.
+/// Whether a byte can only begin text.
 #[inline(always)]
 fn is_text(byte: u8) -> bool {
     byte >= 128 || is(byte, Class::Alphabetic)

@@ -4,8 +4,8 @@ ghost use Rattle.std.specs.Prelude.{◌≤◌, ◌<◌, length, IfSome};
 
 use md_lines::{Line, trim_end, trim_start};
 
-/// Where a cell ends that begins at an index: at the next bar with no backslash before it; `end`
-/// where there is none.
+/// The end of the cell that begins at an index: the next bar without a backslash before it, or
+/// `end`.
 #[inline]
 pub fn next_cell(bytes: &[u8], at: usize, end: usize) -> usize
     ensures after { at ≤ result }
@@ -22,7 +22,8 @@ pub fn next_cell(bytes: &[u8], at: usize, end: usize) -> usize
     to
 }
 
-/// How many cells a row has: from the first byte behind a leading bar, each up to a bar.
+/// The number of cells in a row. A cell begins after the leading bar or the previous bar, and ends
+/// at a bar or at the end of the row.
 pub(crate) fn count_cells(bytes: &[u8], line: Line) -> usize {
     let end = trim_end(bytes, line.start, line.end);
     let mut at = trim_start(bytes, line.start, end);
@@ -37,8 +38,8 @@ pub(crate) fn count_cells(bytes: &[u8], line: Line) -> usize {
     count
 }
 
-/// How many columns a row of delimiters has that begins at an index; `None` where none does, or
-/// where it has neither a bar nor a colon.
+/// The number of columns in the delimiter row at an index; `None` if there is no delimiter row, or
+/// if it has neither a bar nor a colon.
 pub(crate) fn delimiter_columns(line: &[u8], from: usize) -> Option<usize> {
     let row = &line[..trim_end(line, 0, line.len())];
     let mut at = from;
@@ -61,16 +62,16 @@ pub(crate) fn delimiter_columns(line: &[u8], from: usize) -> Option<usize> {
     }
 }
 
-/// A delimiter of a column.
+/// A delimiter of one column.
 #[derive(Clone, Copy)]
 struct Delimiter {
-    /// Where the next one begins.
+    /// The beginning of the next delimiter.
     end: usize,
     /// Whether it has a colon or a bar.
     has_mark: bool,
 }
 
-/// Reads a delimiter from an index on, with the bar behind it.
+/// Reads a delimiter at an index, and the bar after it.
 fn delimiter_end(row: &[u8], from: usize) -> Option<Delimiter>
     requires { from < length row.now }
     ensures { IfSome result (λ delimiter. from < delimiter.end) }

@@ -2,8 +2,8 @@
 `bench/cases.py` makes.
 
 It goes over trees, and was written from the rules (docs/DEFINITIONS_MEANING.md has them) and apart
-from the crates, which go over lists of events. What a name means is told in the module of what it
-is about: `prose`, `raw`, `media`, `tables` or `footnotes`. A name or an option that none of them
+from the crates, which go over lists of events. The meaning of a name is defined in the module of
+its subject: `prose`, `raw`, `media`, `tables` or `footnotes`. A name or an option that none of them
 knows is an error: whoever makes a case of one adds a method there, from the rules. Lists and block
 quotes have none, so the container around a node is a footnote definition or nothing, and no
 paragraph is in a tight list. Nothing here is run by itself.

@@ -23,7 +23,7 @@ class Around(NamedTuple):
 
 
 def meaning_of(*names):
-    """Makes a method, of a node and what is around it, the rule of these names."""
+    """Makes a method, whose arguments are a node and its context, the rule of these names."""
     def rule(method):
         RULES.update(dict.fromkeys(names, method))
         return method

@@ -1,2 +1,3 @@
--- What `serve` does where the reader and the writer are bytes in memory, said only of these bytes.
+-- The behaviour of `serve` if the reader and the writer are bytes in memory, in terms of these
+-- bytes.
 pub mod Memory

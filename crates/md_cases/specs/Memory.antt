@@ -1,16 +1,16 @@
--- What `serve` does over bytes in memory: said only of the bytes in and the bytes out.
+-- The behaviour of `serve` with bytes in memory, in terms of the input and output bytes.
 use Rattle.std.specs.Prelude.{◌≡◌, ℕ, List, ◌++◌}
 use Rattle.md_script.specs.Run.{IsTextOf, ExplainsRun}
 use Rattle.md_script.specs.declared.serving.ServeError.{ServeError}
 use Rattle.md_script.specs.declared.serving.ServeError.TheVariants.{Run, Input, Output}
 
--- the script has a text, and after what was there stands this text
+-- the script has a text, and this text was appended
 pub record IsAppended (script before after : List ℕ) : Type 0 where
   pub text : List ℕ
   pub compiled : IsTextOf script text
   pub written : after ≡ before ++ text
 
--- the script has a text, and after what was there stands the front of it
+-- the script has a text, and a prefix of it was appended
 pub record IsPartAppended (script before after : List ℕ) : Type 0 where
   pub front : List ℕ
   pub others : List ℕ

@@ -1,4 +1,4 @@
-//! What a script answers, by `run` and by the calls that it makes.
+//! The output for a script, by `run` and by the calls that it makes.
 
 use crate::parts::{QUESTION, answer_questions};
 use crate::reading::{REFERENCE_NAMES, Script};
@@ -6,8 +6,8 @@ use md_html::{CompileError, Counted, WithinError};
 use md_script::{RunError, run};
 use std::alloc::{AllocError, Global};
 
-/// What is said of a script: its text or why it has none, and a line for each call that answers
-/// otherwise; of one that begins with questions, what is answered to them.
+/// The output for a script: its text or why it has none, and a line for each call with another
+/// result; for a script that begins with questions, the answers to them.
 pub(crate) fn answer(alloc: Global, script: &[u8]) -> Result<String, AllocError> {
     if script.starts_with(QUESTION.as_bytes()) {
         return answer_questions(alloc, script);
@@ -18,7 +18,7 @@ pub(crate) fn answer(alloc: Global, script: &[u8]) -> Result<String, AllocError>
     Ok(said)
 }
 
-/// Says which calls answer otherwise, where each line of the script can be read.
+/// Reports the calls with another result, if each line of the script is valid.
 fn say_calls(
     alloc: Global,
     said: &mut String,
@@ -31,7 +31,7 @@ fn say_calls(
     say_reading(alloc, said, &mut Script::new(alloc), script, answer)
 }
 
-/// Reads the script, and says which calls answer otherwise.
+/// Reads the script, and reports the calls with another result.
 fn say_reading<'a>(
     alloc: Global,
     said: &mut String,
@@ -46,7 +46,7 @@ fn say_reading<'a>(
     }
 }
 
-/// Says which of the calls that a script makes answer otherwise.
+/// Reports which of the calls that a script makes have another result.
 fn say_others(
     alloc: Global,
     said: &mut String,
@@ -63,8 +63,8 @@ fn say_others(
     say_unless(said, keeps_limit(alloc, script, answer), "compile_within")
 }
 
-/// Whether `compile_within` answers what `run` does where the text may be as long as it is, and
-/// that it is too long where it may have a byte less.
+/// Whether `compile_within` returns the same as `run` if the limit is the text's length, and an
+/// error if the limit is a byte less.
 fn keeps_limit(alloc: Global, script: &Script<'_>, answer: &Result<String, RunError>) -> bool {
     let length = match answer {
         Ok(text) => text.len(),
@@ -74,7 +74,7 @@ fn keeps_limit(alloc: Global, script: &Script<'_>, answer: &Result<String, RunEr
     is_same_within(within, answer) && (length == 0 || is_too_long(alloc, script, length - 1))
 }
 
-/// Whether a call within limits answers what `run` does.
+/// Whether a call within limits returns the same as `run`.
 fn is_same_within(answer: Result<String, WithinError>, wanted: &Result<String, RunError>) -> bool {
     match answer {
         Ok(text) => Ok(text) == *wanted,
@@ -83,7 +83,7 @@ fn is_same_within(answer: Result<String, WithinError>, wanted: &Result<String, R
     }
 }
 
-/// Whether the text is too long where it may have so many bytes.
+/// Whether the text is too long for a limit of `length` bytes.
 fn is_too_long(alloc: Global, script: &Script<'_>, length: usize) -> bool {
     match script.compile_within(alloc, &REFERENCE_NAMES, length) {
         Err(WithinError::TooLong) => true,
@@ -91,12 +91,12 @@ fn is_too_long(alloc: Global, script: &Script<'_>, length: usize) -> bool {
     }
 }
 
-/// Whether a call answers what `run` does.
+/// Whether a call returns the same as `run`.
 fn is_same(answer: Result<String, CompileError>, wanted: &Result<String, RunError>) -> bool {
     answer.map_err(RunError::from) == *wanted
 }
 
-/// The text that was counted; `Memory` unless each event was visited twice.
+/// The text of a counted call; `Memory` unless each event was visited twice.
 fn text_of(
     script: &Script<'_>,
     answer: Result<Counted, CompileError>,
@@ -118,7 +118,7 @@ fn said_of(alloc: Global, answer: &Result<String, RunError>) -> Result<String, A
     }
 }
 
-/// Says which call answers otherwise, unless it answers the same.
+/// Reports a call, unless its result is the same.
 fn say_unless(said: &mut String, is_same: bool, call: &str) -> Result<(), AllocError> {
     if is_same {
         return Ok(());

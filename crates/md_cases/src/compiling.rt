@@ -8,7 +8,7 @@ use md_html::{
 use std::alloc::Global;
 
 impl Script<'_> {
-    /// What `compile` answers under these names of references.
+    /// The result of `compile` with these names of references.
     pub(crate) fn compile(
         &self,
         alloc: Global,
@@ -18,7 +18,7 @@ impl Script<'_> {
         compile(alloc, events, self.document, &self.options, names)
     }
 
-    /// What `compile_counted` answers.
+    /// The result of `compile_counted`.
     pub(crate) fn compile_counted(
         &self,
         alloc: Global,
@@ -28,7 +28,7 @@ impl Script<'_> {
         compile_counted(alloc, events, self.document, &self.options, names)
     }
 
-    /// What `compile_checked` answers, once the events are checked.
+    /// The result of `compile_checked`, once the events are checked.
     pub(crate) fn compile_checked(
         &self,
         alloc: Global,
@@ -38,8 +38,9 @@ impl Script<'_> {
         compile_checked(alloc, &checked, &self.options).map_err(CompileError::from)
     }
 
-    /// What `compile_within` answers where a text may have so many bytes, the work is just what
-    /// there is, or what is used again if that is more, and the depth is that of the events.
+    /// The result of `compile_within` if the text may have `text` bytes, and the other limits are
+    /// exact: that on work is the work, or the reuse if that is more, and that on depth is the
+    /// depth of the events.
     pub(crate) fn compile_within(
         &self,
         alloc: Global,

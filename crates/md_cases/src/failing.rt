@@ -1,8 +1,8 @@
-//! Makes each call that takes memory, those that take none, and those of `serve` where a read or a
-//! write fails, and writes which of them answered wrong.
+//! Makes each call that takes memory, those that take none, and those of `serve` in which a read or
+//! a write fails, and prints which of them returned a wrong result.
 //!
-//! A call that runs out of memory is made once more, and the second answer counts: so where one
-//! request for memory is refused the same is written.
+//! A call that runs out of memory is repeated, and the second result counts. So the output is the
+//! same if one request for memory is refused.
 
 mod appending;
 mod attributes;
@@ -19,10 +19,10 @@ use log::Log;
 use std::alloc::Global;
 use std::io;
 
-/// Makes the calls that a word asks for, and writes which of them answered wrong, or that each
-/// was made: `plain` the calls that need nothing that takes memory, `checked` what is needed
-/// for the others that take none, `methods` this and those, `memory` all that takes memory,
-/// else everything.
+/// Makes the calls of a word, and prints which of them returned a wrong result, or that each was
+/// made: `plain` selects the calls that need nothing that takes memory, `checked` the calls that
+/// prepare the other calls without memory, `methods` both of these, `memory` all that takes memory,
+/// any other word everything.
 pub fn ask_each<R: Print + AllocGlobal>(rt: &R, word: &[u8]) -> io::Result<()> {
     let mut log = Log {
         refusals: 0,
@@ -32,7 +32,7 @@ pub fn ask_each<R: Print + AllocGlobal>(rt: &R, word: &[u8]) -> io::Result<()> {
     log.close(rt)
 }
 
-/// Makes the calls that this word asks for.
+/// Makes the calls of this word.
 fn ask(alloc: Global, log: &mut Log, word: &[u8]) {
     if word.starts_with(b"plain") {
         plain::ask_each(log);

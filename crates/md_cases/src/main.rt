@@ -1,13 +1,12 @@
-//! Runs the worked cases that come on standard input, and writes what each answers; then makes
-//! calls whose memory, reads and writes fail (`failing`).
+//! Runs the worked cases from standard input, and prints their results; then makes calls whose
+//! memory, reads and writes fail (`failing`).
 //!
-//! Where the first word of standard input isn't `worked`, it says which of those calls are made,
-//! and nothing else is read: so no memory is taken before them. Where there is no word nothing is
-//! asked, which is an error.
+//! If the first word of standard input isn't `worked`, the word selects the failing calls, and
+//! nothing else is read. So no memory is taken before them. An empty input is an error.
 //!
-//! A case begins with a line `%%%% GROUP: NAME`. Its script goes on to the line ending
-//! before the next such line. For each case that line is written, and then the text, or `! `
-//! and why there is none.
+//! A case begins with a line `%%%% GROUP: NAME`. Its script ends at the line ending before the next
+//! such line. For each case the program prints that line, and then the text, or `! ` and why there
+//! is none.
 #![tactic(auto)]
 
 mod answers;
@@ -21,16 +20,16 @@ use md_script::{ServeError, read_input};
 use std::io::Read;
 use std::process::ExitCode;
 
-/// How a case begins.
+/// The beginning of a case.
 const MARK: &[u8] = b"%%%% ";
 
-/// What is said where standard input is empty.
+/// The message for an empty standard input.
 const NOTHING_ASKED: &str = "no case is asked: bench/cases.py --write writes stdin and stdout";
 
-/// The status then.
+/// The status for it.
 const FAILED: u8 = 1;
 
-/// A case: its first line, and where its script begins.
+/// A case: its first line, and the start of its script.
 #[derive(Clone, Copy)]
 struct Case<'a> {
     title: &'a [u8],
@@ -57,7 +56,7 @@ fn main(rt: HostRuntime) -> ExitCode {
     }
 }
 
-/// Answers the cases if the first word asks for them, and makes the calls.
+/// Runs the cases if the first word selects them, and makes the calls.
 fn ask<R: Input + Print + AllocGlobal>(rt: &R, word: &[u8]) -> Result<(), ServeError> {
     if word.starts_with(b"worked") {
         answer_cases(rt)?;
@@ -65,7 +64,7 @@ fn ask<R: Input + Print + AllocGlobal>(rt: &R, word: &[u8]) -> Result<(), ServeE
     make_each(rt, word)
 }
 
-/// Makes the calls that a word asks for.
+/// Makes the calls of a word.
 fn make_each<R: Print + AllocGlobal>(rt: &R, word: &[u8]) -> Result<(), ServeError> {
     match failing::ask_each(rt, word) {
         Ok(()) => Ok(()),
@@ -73,13 +72,13 @@ fn make_each<R: Print + AllocGlobal>(rt: &R, word: &[u8]) -> Result<(), ServeErr
     }
 }
 
-/// Answers each case.
+/// Runs each case.
 fn answer_cases<R: Input + Print + AllocGlobal>(rt: &R) -> Result<(), ServeError> {
     let input = read_input(rt.alloc(), &mut rt.reader())?;
     answer_each(rt, input.as_slice())
 }
 
-/// Answers each case of an input: one ends before the line that begins the next.
+/// Runs each case of an input: one ends before the line that begins the next.
 fn answer_each<R: Print + AllocGlobal>(rt: &R, input: &[u8]) -> Result<(), ServeError> {
     let mut case: Option<Case<'_>> = None;
     let mut start: usize = 0;
@@ -97,7 +96,7 @@ fn answer_each<R: Print + AllocGlobal>(rt: &R, input: &[u8]) -> Result<(), Serve
     answer_until(rt, case, input, start)
 }
 
-/// Answers a case whose script ends before the line that starts at an index.
+/// Runs a case whose script ends before the line that starts at an index.
 fn answer_until<R: Print + AllocGlobal>(
     rt: &R,
     case: Option<Case<'_>>,
@@ -112,7 +111,7 @@ fn answer_until<R: Print + AllocGlobal>(
     write_answer(rt, case.title, script)
 }
 
-/// Writes a case's first line and its answer.
+/// Prints a case's first line and its result.
 fn write_answer<R: Print + AllocGlobal>(
     rt: &R,
     title: &[u8],

@@ -1,5 +1,5 @@
-//! Cases of the calls below the compiler: a script that begins with questions is given a line
-//! for each of them.
+//! Cases for the calls below the compiler: for a script that begins with questions, a line for each
+//! of them.
 //!
 //! A question is a line `? PART CALL ARGUMENT`. Lines `=NAME TEXT` may follow, names with their
 //! texts; then the script.
@@ -16,10 +16,10 @@ mod written;
 use crate::reading::Script;
 use std::alloc::{AllocError, Global};
 
-/// How a question begins.
+/// The beginning of a question.
 pub(crate) const QUESTION: &str = "? ";
 
-/// Questions, names with their texts, and the script that they are asked of.
+/// Questions, names with their texts, and the script that they are about.
 #[derive(Drop)]
 struct Asked<'a> {
     questions: Vec<&'a str>,
@@ -34,7 +34,7 @@ struct Call<'a> {
     argument: &'a str,
 }
 
-/// What is answered to each question of a script.
+/// The answers to the questions of a script.
 pub(crate) fn answer_questions(alloc: Global, input: &[u8]) -> Result<String, AllocError> {
     let mut asked = Asked {
         questions: Vec::new(alloc),
@@ -58,7 +58,7 @@ fn answer_read<'a>(
     }
 }
 
-/// What is answered to each question.
+/// The answer to each question.
 fn answers_to(alloc: Global, asked: &Asked<'_>) -> Result<String, AllocError> {
     let mut said = String::new(alloc);
     for question in &asked.questions {
@@ -67,7 +67,7 @@ fn answers_to(alloc: Global, asked: &Asked<'_>) -> Result<String, AllocError> {
     Ok(said)
 }
 
-/// Says a question and what is answered to it, on a line of its own.
+/// Prints a question and its answer, on a line of its own.
 fn say_answer(
     alloc: Global,
     said: &mut String,
@@ -81,7 +81,7 @@ fn say_answer(
     write!(said, "{question}: {answer}")
 }
 
-/// What is answered to a question.
+/// The answer to a question.
 fn answer_to(alloc: Global, asked: &Asked<'_>, question: &str) -> Result<String, AllocError> {
     let (part, call) = word_and_rest(question);
     let (name, argument) = word_and_rest(call);
@@ -99,7 +99,7 @@ fn answer_to(alloc: Global, asked: &Asked<'_>, question: &str) -> Result<String,
     }
 }
 
-/// What is answered where there is no such call.
+/// The answer if there is no such call.
 fn no_such_call(alloc: Global) -> Result<String, AllocError> {
     String::from_str(alloc, "no such call")
 }
@@ -109,12 +109,12 @@ fn word_and_rest(text: &str) -> (&str, &str) {
     text.split_once(' ').unwrap_or((text, ""))
 }
 
-/// Whether something is so.
+/// Prints a boolean.
 fn boolean(alloc: Global, is_so: bool) -> Result<String, AllocError> {
     format!(in alloc; "{is_so}")
 }
 
-/// A number that may not be there.
+/// Prints an optional number.
 fn number(alloc: Global, number: Option<usize>) -> Result<String, AllocError> {
     match number {
         Some(number) => format!(in alloc; "{number}"),
@@ -122,7 +122,7 @@ fn number(alloc: Global, number: Option<usize>) -> Result<String, AllocError> {
     }
 }
 
-/// Reads the questions and the names, after which the script is.
+/// Reads the questions and the names; the script comes after them.
 fn read_head<'a>(asked: &mut Asked<'a>, input: &'a [u8]) -> Result<&'a [u8], AllocError> {
     let mut length: usize = 0;
     for line in input.split(|byte| *byte == b'\n') {
@@ -134,7 +134,7 @@ fn read_head<'a>(asked: &mut Asked<'a>, input: &'a [u8]) -> Result<&'a [u8], All
     Ok(input.get(length..).unwrap_or(&[]))
 }
 
-/// Takes a line that is a question or a name, and tells whether it is.
+/// Reads a line that is a question or a name; returns whether it is.
 fn take_line<'a>(asked: &mut Asked<'a>, line: &'a [u8]) -> Result<bool, AllocError> {
     let text = std::str::from_utf8(line).unwrap_or("");
     if let Some(question) = text.strip_prefix(QUESTION) {
@@ -155,7 +155,7 @@ fn document<'a>(asked: &Asked<'a>) -> &'a str {
     std::str::from_utf8(asked.script.document).unwrap_or("")
 }
 
-/// A text where `\n` stands for a line feed.
+/// A text in which `\n` is replaced by a line feed.
 fn with_line_feeds(alloc: Global, text: &str) -> Result<String, AllocError> {
     text.replace(alloc, "\\n", "\n")
 }

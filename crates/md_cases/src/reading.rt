@@ -1,11 +1,11 @@
-//! Scripts read apart from the program's own reader, so that the calls that `run` makes
-//! are asked as well.
+//! Reads scripts independently of the program's own reader, so that the calls that `run` makes are
+//! tested as well.
 
 use md_base::names_by_length;
 use md_html::{CompileOptions, Event, Kind, LineEnding, Name, Point};
 use std::alloc::{AllocError, Global};
 
-/// What a script stands for.
+/// The content of a script.
 #[derive(Drop)]
 pub(crate) struct Script<'a> {
     pub(crate) events: Vec<Event>,
@@ -27,7 +27,7 @@ pub(crate) static REFERENCE_NAMES: [(&str, &str); 9] = [
 ];
 
 impl<'a> Script<'a> {
-    /// A script of no line.
+    /// A script without lines.
     pub(crate) fn new(alloc: Global) -> Self {
         Script {
             events: Vec::new(alloc),
@@ -36,8 +36,7 @@ impl<'a> Script<'a> {
         }
     }
 
-    /// Reads the lines before the document, which is what comes after them, and tells whether
-    /// each could be read.
+    /// Reads the lines before the document, and the document; returns whether each line is valid.
     pub(crate) fn read(&mut self, alloc: Global, input: &'a [u8]) -> Result<bool, AllocError> {
         let mut length: usize = 0;
         for line in input.split(|byte| *byte == b'\n') {
@@ -54,7 +53,7 @@ impl<'a> Script<'a> {
     }
 }
 
-/// Takes a line, and tells whether it could be read.
+/// Reads a line; returns whether it is valid.
 fn take_line(alloc: Global, script: &mut Script<'_>, line: &[u8]) -> Result<bool, AllocError> {
     match std::str::from_utf8(line) {
         Ok(line) => take_text(alloc, script, line),
@@ -62,7 +61,7 @@ fn take_line(alloc: Global, script: &mut Script<'_>, line: &[u8]) -> Result<bool
     }
 }
 
-/// Takes a line of text, and tells whether it could be read.
+/// Reads a line of text; returns whether it is valid.
 fn take_text(alloc: Global, script: &mut Script<'_>, line: &str) -> Result<bool, AllocError> {
     if let Some(option) = line.strip_prefix('!') {
         return take_option(alloc, &mut script.options, option);
@@ -99,7 +98,7 @@ fn event(kind: Kind, node: &str) -> Option<Event> {
     })
 }
 
-/// Sets an option, and tells whether there is one.
+/// Sets an option; returns whether it exists.
 fn take_option(
     alloc: Global,
     options: &mut CompileOptions,
@@ -148,7 +147,7 @@ fn set_flag(options: &mut CompileOptions, name: &str) -> bool {
     true
 }
 
-/// The name of a spelling.
+/// The name with a spelling.
 pub(crate) fn name_of(text: &str) -> Option<Name> {
     if let Some(number) = text.strip_prefix("Other") {
         return Some(Name::Other(number.parse().ok()?));
@@ -156,7 +155,7 @@ pub(crate) fn name_of(text: &str) -> Option<Name> {
     listed(names_by_length().get(text.len())?, text)
 }
 
-/// The name beside a spelling.
+/// The name next to a spelling in a list.
 fn listed(names: &[(&str, Name)], text: &str) -> Option<Name> {
     for (spelling, name) in names {
         if *spelling == text {

@@ -1,5 +1,5 @@
--- What blocks mean leaves no element open, and opens no more than twice as many as nodes lie in one
--- another: one induction over them. Of other contents it is known that they open none.
+-- The text of blocks leaves no element open, and opens at most twice as many as the nesting of the
+-- nodes: one induction over them. Other contents are known to open none.
 use Rattle.std.proofs.Common.{◌≡◌, ℕ, ◌-◌, ◌*◌, ◌≤◌, suc, max, Bool, true, false, ◌||◌}
 use Rattle.std.proofs.Common.{cond, List, [], ◌∷◌, ◌++◌, refl, sym, ap, ◌∙◌, subst, arith}
 use Rattle.std.proofs.Common.{append-nil}
@@ -44,7 +44,7 @@ abbrev WaitsIn : ℕ → Option (List ℕ) → Type 0
 WaitsIn n None = Unit {0}
 WaitsIn n (Some x) = Waits n x
 
--- so many are open in the texts of some footnotes
+-- the number of elements open in the texts of some footnotes
 abbrev pub TextsLead : ℕ → List Footnote → Type 0
 TextsLead n [] = Unit {0}
 TextsLead n (footnote ∷ others) = Leads 0 0 n footnote.text × TextsLead n others
@@ -102,7 +102,7 @@ footnote-blocks : (name : Name) → named GfmFootnoteDefinition name ≡ true �
 footnote-blocks GfmFootnoteDefinition is = refl
 footnote-blocks _ is = lie is
 
--- a node that is looked through means what its children mean
+-- a transparent node has the meaning of its children
 through : (d : Document) (p : Place) (name : Name) (n : ℕ) → is_transparent name ≡ true →
     Opens d n (inner_of d p name) → Opens d n (here_of d p name)
 through d p (Other number) n is b = record {
@@ -131,7 +131,7 @@ heading-here t BlockQuotePrefix n x solid h = lie (sym solid)
 heading-here t SpaceOrTab n x solid h = lie (sym solid)
 heading-here t _ n x solid h = tt
 
--- a node that isn't looked through
+-- a node that isn't transparent
 solid : (d : Document) (p : Place) (name : Name) (n : ℕ) → is_transparent name ≡ false →
     suc (suc (n - 2)) ≤ n → IsBuilt d.given.bytes Blocks (Node name p.start p.end p.children p.rest)
     → Ready (read_in d) p.around p.before Blocks → Waits n p.before.heading →

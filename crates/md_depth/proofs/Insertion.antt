@@ -1,5 +1,5 @@
--- What is put before an end tag of a text opens no more than it does by itself, beside what is open
--- there.
+-- A text inserted before an end tag of another one opens at most as many elements as it does alone,
+-- in addition to those open there.
 use Rattle.std.proofs.Common.{◌≡◌, ℕ, ◌+◌, ◌-◌, ◌≤◌, ◌==◌, zero, suc, max, Bool, true, false, cond}
 use Rattle.std.proofs.Common.{List, [], ◌∷◌, ◌++◌, refl, ap, sym, ◌∙◌, subst, arith}
 use Rattle.std.proofs.Math.Nat.{le_trans}
@@ -47,7 +47,7 @@ top-grows s (byte ∷ x) =
     le_trans (step-cases (λ r. s.top ≤ r.top) s byte (omega arith) (λ _. omega arith) (omega arith)
     (omega arith) (omega arith)) (top-grows (step s byte) x)
 
--- no more are open than were at most
+-- at most as many are open as before
 below-top : (s : State) (x : List ℕ) → s.level ≤ s.top → (run s x).level ≤ (run s x).top
 below-top s [] low = low
 below-top s (byte ∷ x) low =
@@ -126,7 +126,7 @@ run-raised t s (byte ∷ x) few =
     ap (λ s. run s x) (step-raised t s byte (le_trans (top-grows (step s byte) x) few))
     ∙ run-raised t (step s byte) x few
 
--- where a text goes on with `<` and ends as it is to, no tag has begun
+-- if a text continues with `<` and ends as required, no tag has begun
 begins-out : (s : State) (z : List ℕ) → (run s (60 ∷ z)).spot ≡ Out → s.spot ≡ Out
 begins-out s z ends = by s.spot refl ends
   where

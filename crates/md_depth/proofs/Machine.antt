@@ -1,5 +1,5 @@
--- How many elements are open in a text, told byte by byte: a tag begins with `<`, an end tag with
--- `</`, and a void tag with `<br`, `<hr` or `<i`. What else stands in a tag has no `<`.
+-- The number of open elements in a text, byte by byte: a tag begins with `<`, an end tag with `</`,
+-- and a void tag with `<br`, `<hr` or `<i`. No other part of a tag has a `<`.
 use Rattle.std.specs.List.{list_all}
 use Rattle.std.proofs.Common.{◌≡◌, ℕ, ◌+◌, ◌≤◌, ◌==◌, zero, suc, max, Bool, true, false, not, cond}
 use Rattle.std.proofs.Common.{List, [], ◌∷◌, ◌++◌, refl, ap, sym, ◌∙◌, arith}
@@ -7,7 +7,7 @@ use Rattle.std.proofs.lemmas.Bool.{and_parts}
 use Rattle.md_base.proofs.Lies.{lie}
 use Rattle.md_text.proofs.HtmlNames.{no_angle}
 
--- where a text is read: anywhere, behind `<`, behind `<b`, behind `<h`, or behind `<` twice
+-- the state of reading a text: anywhere, after `<`, after `<b`, after `<h`, or after `<` twice
 pub data Spot : Type 0 where
   Out : Spot
   Begun : Spot
@@ -40,7 +40,7 @@ closed s = record { spot = Out; level = lower s.level; top = s.top }
 abbrev pub to : Spot → State → State
 to spot s = record { spot = spot; level = s.level; top = s.top }
 
--- behind a first letter that a void tag may have
+-- after a first letter that a void tag may have
 abbrev pub second : State → ℕ → State
 second s byte = cond (byte == 114) (voided s) (cond (byte == 60) (to Bad s) (opened s))
 
@@ -76,8 +76,8 @@ quiet (byte ∷ x) h l t =
     by true h = lie h
     by false h = refl
 
--- a text leads from so many open elements to so many, above those that are open around it, and no
--- more than so many are open in it
+-- a text changes the number of open elements from `a` to `b`, above those open before it, and at
+-- most `n` are open in it
 pub record Leads (a b n : ℕ) (x : List ℕ) : Type 0 where
   pub leads : (l t : ℕ) → l + n ≤ t → run (at (l + a) t) x ≡ at (l + b) t
 

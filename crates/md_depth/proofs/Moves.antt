@@ -10,7 +10,7 @@ use Rattle.md_safe.proofs.Laid.{Adds, laid-append}
 use Rattle.md_depth.proofs.Machine.{State, at, run, run-append, quiet, Leads, leads-quiet}
 use Rattle.md_depth.proofs.Machine.{leads-open, leads-close, leads-void, leads-kept}
 
--- pieces lead from so many open elements to so many, as a text does
+-- pieces change the number of open elements as a text does
 pub record Moves (e : List ℕ) (n a b : ℕ) (pieces : List Piece) : Type 0 where
   pub moves : (s : State) (text : List ℕ) (l t : ℕ) → l + n ≤ t → run s text ≡ at (l + a) t →
       run s (laid_after e text pieces) ≡ at (l + b) t

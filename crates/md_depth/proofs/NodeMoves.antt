@@ -22,7 +22,7 @@ use Rattle.md_depth.proofs.Moves.{Moves, none, more, adds-escaped}
 use Rattle.md_depth.proofs.SpanMoves.{Room, Below, span-moves, autolink-moves}
 use Rattle.md_depth.proofs.BlockMoves.{flow-moves, is_tabular, table-moves}
 
--- what is looked through, stands in other nodes alone, or prints more or less than its children
+-- a name that is transparent, occurs only in other nodes, or prints more or less than its children
 abbrev is_marked : Name → Bool
 is_marked name =
     is_transparent name || ((is_part name || is_source name) || (is_text name || (is_shown name

@@ -1,5 +1,5 @@
--- The elements of a reading are open in its text, as the bytes tell it: so what keeps to a bound on
--- how many are open has a reading that nests no deeper.
+-- The elements of a reading are open in its text, byte by byte. So a text with a bound on how many
+-- are open has a reading that nests no deeper.
 use Rattle.std.specs.Str.{bytes_eq}
 use Rattle.std.specs.Prelude.{IsTrue}
 use Rattle.std.specs.List.{list_all}
@@ -36,7 +36,7 @@ of-tag holds (rule ∷ rules) name attributes each is =
       | inr later ↦ of-tag holds rules name attributes each.1 later
     ]
 
--- behind `<` a name opens an element, or is that of a void tag
+-- after `<` a name opens an element, or is that of a void tag
 abbrev Opens : List ℕ → Type 0
 Opens name = (l t : ℕ) → run (to Begun (at l t)) name ≡ at (suc l) (max t (suc l))
 
@@ -103,7 +103,7 @@ levels-open l t inner rest = omega arith
 levels-void : (l t rest : ℕ) → max (max t (suc l)) (l + rest) ≡ max t (l + max 1 rest)
 levels-void l t rest = omega arith
 
--- a text of a forest opens as many as nest in it, and closes them
+-- the text of a forest opens as many elements as nest in it, and closes them
 pub opens : (forest : Forest) → is_forest forest ≡ true → (l t : ℕ) → l ≤ t →
     run (at l t) (written forest) ≡ at l (max t (l + levels forest))
 opens Empty h l t low = ap (λ top. at l top) none

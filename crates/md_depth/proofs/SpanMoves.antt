@@ -41,7 +41,7 @@ use Rattle.md_depth.proofs.Moves as moves
 use Rattle.md_depth.proofs.Moves.{Moves, ◌▸◌, none, adds-quiet, more, laid, plain, part, IsOpening}
 use Rattle.md_depth.proofs.Moves.{IsClosing, open_tag, close_tag, void_tag, kept}
 
--- room for two more than so many
+-- the bound with two more
 abbrev pub Room : ℕ → ℕ → Type 0
 Room m n = suc (suc m) ≤ n
 

@@ -1,4 +1,4 @@
-//! The functions that C calls.
+//! The functions for C.
 
 ghost use Rattle.std.specs.Prelude.{◌≡◌};
 ghost use Rattle.md_script.specs.Run.{IsTextOf};
@@ -35,31 +35,31 @@ use md_markdown_abi::{
 use md_script::run;
 use std::alloc::Global;
 
-/// The version of what C sees: the layouts of structs, and every number.
+/// The version of the C interface: the layouts of structs, and every number.
 const VERSION: u32 = 3;
 
-/// The HTML of a list of events over a document's bytes, into a buffer.
+/// Compiles a list of events over a document's bytes to HTML, and writes it to a buffer.
 ///
-/// Its six parameters are those of C's call, which has nine in the same order: none for `alloc`,
-/// one for `options`, and two for each of the four slices.
+/// Its six parameters are those of the call in C, which has nine in the same order: none for
+/// `alloc`, one for `options`, and two for each of the four slices.
 ///
-/// A C caller passes nothing for `alloc`, and for each slice a pointer, which isn't
-/// null, and a length.
+/// A C caller passes nothing for `alloc`, and for each slice a pointer, which isn't null, and a
+/// length.
 ///
 /// # Statuses
 ///
-/// - 0: the text is in the buffer's first `length` bytes; what lies after it is as it was.
-/// - 1: the buffer is too short. It is as it was, and `length` is what the text needs: call
-///   again with as much.
-/// - 2: the event at `index`, or the end where that is the number of events, breaks the rule
-///   with the number `rule`.
-/// - 3: the event at `index` isn't valid: its kind or its name has no such number.
+/// - 0: the text is in the buffer's first `length` bytes; the rest of the buffer is unchanged.
+/// - 1: the buffer is too short. It is unchanged, and `length` is the length of the text: call
+///   again with at least that much.
+/// - 2: the event at `index`, or the end if that is the number of events, breaks the rule with the
+///   number `rule`.
+/// - 3: the event at `index` isn't valid: no kind or no name has its number.
 /// - 4: the named character reference at `index` isn't UTF-8.
 /// - 5: the option with the number `index` isn't valid.
-/// - 7: there is no more memory.
+/// - 7: memory ran out.
 ///
-/// With all but 0 the buffer is as it was. Which of 2 to 5 is told, if several are true, is left
-/// open.
+/// With all statuses except 0 the buffer is unchanged. If several of 2 to 5 are true, it isn't
+/// specified which is reported.
 #[unsafe(no_mangle)]
 pub extern "C" fn bivdrazo_compile(
     alloc: Global,
@@ -69,7 +69,7 @@ pub extern "C" fn bivdrazo_compile(
     names: &[CReference],
     buffer: &mut [u8],
 ) -> Answer
-    // The text is the meaning of what was handed in, and safe where the options are.
+    // The text is the meaning of the input, and safe if the options are.
     ensures text { HandsOver (IsRendered events.now bytes.now options.now names.now)
         buffer.old buffer.new result }
     ensures refused { result.status ≡ refused →
@@ -91,34 +91,34 @@ pub extern "C" fn bivdrazo_compile(
     }
 }
 
-/// The HTML of a list of events over a document's bytes, whose options are safe, with attributes
-/// that are added to its tags, into a buffer; and after it the headings that got an `id`.
+/// Compiles a list of events over a document's bytes, with safe options, to HTML with attributes
+/// added to its tags, and writes to a buffer the HTML, and after it the headings that got an `id`.
 ///
-/// Where `rel` is set, each start tag `a` whose `href` isn't empty and doesn't begin with `#`, and
-/// which has no `rel`, has one with this text, escaped. Where `heading_ids` is set, each start tag
-/// from `h1` to `h6` without an `id` has one: this text, escaped, and the heading's number, from 1.
-/// Then each of these headings follows the text: a NUL, its level, a space, its number, a space,
-/// and its text without tags, escaped.
+/// If `rel` is set, each start tag `a` whose `href` isn't empty and doesn't begin with `#`, and
+/// which has no `rel`, gets one with this text, escaped. If `heading_ids` is set, each start tag
+/// from `h1` to `h6` without an `id` gets one: this text, escaped, and the heading's number,
+/// from 1. Then each of these headings follows the text: a NUL, its level, a space, its number, a
+/// space, and its text without tags, escaped.
 ///
-/// Where no two ids of the text are equal, and none begins with what is asked for headings, no
-/// two ids are equal.
+/// If no two ids of the text are equal, and none begins with the prefix for headings, no two ids of
+/// the result are equal.
 ///
-/// Its seven parameters are those of C's call, which has ten in the same order: none for `alloc`,
-/// one each for `options` and `attributes`, and two for each of the four slices. What a C caller
-/// passes is told at [`bivdrazo_compile`].
+/// Its seven parameters are those of the call in C, which has ten in the same order: none for
+/// `alloc`, one each for `options` and `attributes`, and two for each of the four slices.
+/// [`bivdrazo_compile`] describes the arguments of a C caller.
 ///
 /// # Statuses
 ///
-/// - 0: the text is in the buffer's first `index` bytes, and the headings in those from there up to
-///   `length`; what lies after them is as it was.
-/// - 1: the buffer is too short. It is as it was, and `length` is what both need, `index` what the
-///   text has: call again with as much.
-/// - 2 to 5, 7: as of [`bivdrazo_compile`].
+/// - 0: the text is in the buffer's first `index` bytes, and the headings in those from there to
+///   `length`; the rest of the buffer is unchanged.
+/// - 1: the buffer is too short. It is unchanged, `length` is the length of both, and `index` that
+///   of the text: call again with at least `length`.
+/// - 2 to 5, 7: as for [`bivdrazo_compile`].
 /// - 8: the options aren't safe.
 /// - 9: the attribute with the number `index` isn't valid: `rel` has 0, `heading_ids` 1.
 ///
-/// With all but 0 the buffer is as it was. Which of 2 to 5, 8 and 9 is told, if several are
-/// true, is left open.
+/// With all statuses except 0 the buffer is unchanged. If several of 2 to 5, 8 and 9 are true, it
+/// isn't specified which is reported.
 #[unsafe(no_mangle)]
 pub extern "C" fn bivdrazo_compile_attributed(
     alloc: Global,
@@ -129,8 +129,8 @@ pub extern "C" fn bivdrazo_compile_attributed(
     attributes: &CAttributes,
     buffer: &mut [u8],
 ) -> Answer
-    // The text is safe, the meaning of what was handed in with these attributes; the list of
-    // headings follows.
+    // The text is safe, and is the meaning of the input with these attributes; the list of headings
+    // follows.
     ensures text { HandsOver (IsAttributedText events.now bytes.now options.now names.now
         attributes.now result.index)
         buffer.old buffer.new result }
@@ -156,21 +156,21 @@ pub extern "C" fn bivdrazo_compile_attributed(
     }
 }
 
-/// The HTML of a list of events over a document's bytes, whose options are safe, where no link
-/// stands in a link, into a buffer: wherever flow content may be set, the HTML Standard's tree
-/// construction builds the tree that it is read as.
+/// Compiles a list of events over a document's bytes, with safe options, to HTML, if no link
+/// contains a link, and writes it to a buffer: wherever flow content may be inserted, the HTML
+/// Standard's tree construction builds the tree of its reading.
 ///
-/// Its six parameters are those of C's call, as [`bivdrazo_compile`] tells them.
+/// Its six parameters are those of the call in C, as [`bivdrazo_compile`] describes them.
 ///
 /// # Statuses
 ///
-/// - 0 to 5, 7: as of [`bivdrazo_compile`].
+/// - 0 to 5, 7: as for [`bivdrazo_compile`].
 /// - 8: the options aren't safe.
-/// - 12: a link stands in a link, of which neither stands in an image. Links are also automatic
-///   ones that are none by letters alone, and calls of footnotes.
+/// - 12: a link contains a link, and neither is in an image. Calls of footnotes are links too, and
+///   so are autolinks, except literal ones.
 ///
-/// With all but 0 the buffer is as it was. Which of 2 to 5 and 8 is told, if several are true, is
-/// left open. 12 is told only where the events are those of a document.
+/// With all statuses except 0 the buffer is unchanged. If several of 2 to 5 and 8 are true, it
+/// isn't specified which is reported. 12 is reported only if the events are those of a document.
 #[unsafe(no_mangle)]
 pub extern "C" fn bivdrazo_compile_unnested(
     alloc: Global,
@@ -180,7 +180,7 @@ pub extern "C" fn bivdrazo_compile_unnested(
     names: &[CReference],
     buffer: &mut [u8],
 ) -> Answer
-    // The text is safe, the meaning of what was handed in, and built as it is read.
+    // The text is safe, is the meaning of the input, and is built as it is read.
     ensures text { HandsOver
         (IsUnnestedText events.now bytes.now options.now names.now)
         buffer.old buffer.new result }
@@ -205,33 +205,33 @@ pub extern "C" fn bivdrazo_compile_unnested(
     }
 }
 
-/// As [`bivdrazo_compile`], where the text has at most as many bytes as `limits` say, there is
-/// at most as much work, no more is used again than that, and the events nest no deeper: what it
-/// costs goes by these, though no clause says so. Printing stops soon after the text is too long.
+/// The same as [`bivdrazo_compile`], if the text has at most as many bytes as `limits` allow,
+/// neither its work nor its reuse exceeds their limit, and the events nest no deeper than theirs.
+/// The cost depends on these limits, though no clause says so. Printing stops soon after the text
+/// is too long.
 ///
-/// The work is counted from the events alone: what is read of the bytes, by the places of the
-/// events; for each row of a table's body, five for each of its columns. What is used again is
-/// counted once the events are known to be a document: for each link and image that leads to a
-/// definition, what is read in that one, and one for each of its events; for each footnote call,
-/// five times its length, four times that of the prefix of ids, and that of the label of the way
-/// back.
+/// The work is counted from the events alone: what is read of the bytes, by the points of the
+/// events; for each row of a table's body, five for each of its columns. The reuse is counted once
+/// the events are known to be a document: for each link and image that refers to a definition, what
+/// is read in that definition, and one for each of its events; for each footnote call, five times
+/// its length, four times that of the prefix of ids, and that of the backreference's label.
 ///
-/// Its seven parameters are those of C's call, which has ten in the same order: none for `alloc`,
-/// one each for `options` and `limits`, and two for each of the four slices. What a C caller passes
-/// is told at [`bivdrazo_compile`].
+/// Its seven parameters are those of the call in C, which has ten in the same order: none for
+/// `alloc`, one each for `options` and `limits`, and two for each of the four slices.
+/// [`bivdrazo_compile`] describes the arguments of a C caller.
 ///
 /// # Statuses
 ///
-/// - 0 to 5, 7: as of [`bivdrazo_compile`]. With 1, `length` isn't more than the text may have.
-/// - 10: the text is longer than it may be.
-/// - 11: there is more work than there may be, whether or not the events are a document, or they
-///   are a document that uses more again.
-/// - 13: the events nest deeper than they may, whether or not they are a document; where the limit
-///   is 0 they never do.
+/// - 0 to 5, 7: as for [`bivdrazo_compile`]. With 1, `length` doesn't exceed the limit on the text.
+/// - 10: the text exceeds its limit.
+/// - 11: the work exceeds its limit, whether or not the events are a document, or they are a
+///   document whose reuse exceeds it.
+/// - 13: the events nest deeper than their limit allows, whether or not they are a document; if the
+///   limit is 0, this is never reported.
 ///
-/// With all but 0 the buffer is as it was. Which of 3 to 5 is told, if several are true, is left
-/// open. With 0, 1, 2, 10 and 11 the events nest no deeper than they may; with 0, 1, 2 and 10 there
-/// isn't more work than there may be; with 0, 1 and 10 no more is used again either.
+/// With all statuses except 0 the buffer is unchanged. If several of 3 to 5 are true, it isn't
+/// specified which is reported. With 0, 1, 2, 10 and 11 the nesting doesn't exceed its limit; with
+/// 0, 1, 2 and 10 the work doesn't either; with 0, 1 and 10 the reuse doesn't either.
 #[unsafe(no_mangle)]
 pub extern "C" fn bivdrazo_compile_within(
     alloc: Global,
@@ -242,7 +242,7 @@ pub extern "C" fn bivdrazo_compile_within(
     limits: &CLimits,
     buffer: &mut [u8],
 ) -> Answer
-    // The text is as that of `bivdrazo_compile`, and within limits.
+    // The text is that of `bivdrazo_compile`, and within limits.
     ensures text { HandsOver
         (IsRenderedWithin events.now bytes.now options.now names.now limits.now)
         buffer.old buffer.new result }
@@ -272,21 +272,21 @@ pub extern "C" fn bivdrazo_compile_within(
     }
 }
 
-/// Whether a link stands in a link, of which neither stands in an image, in the document for which
-/// the events stand; nothing is compiled. Links are also automatic ones that are none by letters
-/// alone, and calls of footnotes.
+/// Whether a link contains a link, and neither is in an image, in the document that the events
+/// encode; it compiles nothing. Calls of footnotes are links too, and so are autolinks, except
+/// literal ones.
 ///
 /// A C caller passes nothing for `alloc`, and for the slice a pointer, which isn't null, and a
 /// length.
 ///
 /// # Statuses
 ///
-/// - 0: no link stands in a link.
-/// - 12: a link stands in a link.
-/// - 3: the event at `index` isn't valid: its kind or its name has no such number.
-/// - 7: there is no more memory.
+/// - 0: no link contains a link.
+/// - 12: a link contains a link.
+/// - 3: the event at `index` isn't valid: no kind or no name has its number.
+/// - 7: memory ran out.
 ///
-/// Of events that are no document's either of 0 and 12 is told.
+/// For events that aren't those of a document, the answer is either 0 or 12.
 #[unsafe(no_mangle)]
 pub extern "C" fn bivdrazo_has_nested_link(alloc: Global, events: &[CEvent]) -> Answer
     ensures { TellsOfLinks events.now result }
@@ -294,22 +294,22 @@ pub extern "C" fn bivdrazo_has_nested_link(alloc: Global, events: &[CEvent]) -> 
     answer_to_links(alloc, events)
 }
 
-/// The HTML of an event script, into a buffer.
+/// Compiles an event script to HTML, and writes it to a buffer.
 ///
 /// A C caller passes nothing for `alloc`, and for each slice a pointer, which isn't
 /// null, and a length.
 ///
 /// # Statuses
 ///
-/// - 0: the text is in the buffer's first `length` bytes; what lies after it is as it was.
-/// - 1: the buffer is too short. It is as it was, and `length` is what the text needs: call
-///   again with as much.
-/// - 2: the event at `index`, or the end where that is the number of events, breaks the rule
-///   with the number `rule`.
-/// - 6: the line with the number `index`, from 1, is the first that can't be read.
-/// - 7: there is no more memory.
+/// - 0: the text is in the buffer's first `length` bytes; the rest of the buffer is unchanged.
+/// - 1: the buffer is too short. It is unchanged, and `length` is the length of the text: call
+///   again with at least that much.
+/// - 2: the event at `index`, or the end if that is the number of events, breaks the rule with the
+///   number `rule`.
+/// - 6: the line with the number `index`, from 1, is the first invalid one.
+/// - 7: memory ran out.
 ///
-/// With all but 0 the buffer is as it was.
+/// With all statuses except 0 the buffer is unchanged.
 #[unsafe(no_mangle)]
 pub extern "C" fn bivdrazo_run(alloc: Global, script: &[u8], buffer: &mut [u8]) -> Answer
     ensures text { HandsOver (IsTextOf script.now) buffer.old buffer.new result }
@@ -324,7 +324,7 @@ pub extern "C" fn bivdrazo_run(alloc: Global, script: &[u8], buffer: &mut [u8]) 
     }
 }
 
-/// The version of what C sees.
+/// Returns the version of the C interface.
 #[unsafe(no_mangle)]
 pub extern "C" fn bivdrazo_version() -> u32
     ensures { result ≡ 3 }
@@ -332,36 +332,36 @@ pub extern "C" fn bivdrazo_version() -> u32
     VERSION
 }
 
-/// The version of what C sees of Markdown.
+/// The version of the C interface for Markdown.
 const MARKDOWN_VERSION: u32 = 4;
 
-/// The HTML of a Markdown document, with attributes that are added to its tags where the options
-/// ask for them, into a buffer; and after it the headings that got an `id`.
+/// Compiles a Markdown document to HTML, with attributes added to its tags if the options request
+/// them, and writes to a buffer the HTML, and after it the headings that got an `id`.
 ///
 /// The attributes and the list of headings are those of [`bivdrazo_compile_attributed`], by the
-/// options `rel` and `heading_ids`. Where more nodes than `max_depth` would be open at once, 0 being
-/// no such bound, the document is shown as it is written.
+/// options `rel` and `heading_ids`. If more nodes than `max_depth` would be open at once, the
+/// document is shown as it is written; 0 is no such limit.
 ///
-/// Its four parameters are those of C's call, which has five in the same order: none for `alloc`,
-/// one for `options`, and two for each of the slices. What a C caller passes is told at
-/// [`bivdrazo_compile`].
+/// Its four parameters are those of the call in C, which has five in the same order: none for
+/// `alloc`, one for `options`, and two for each of the slices. [`bivdrazo_compile`] describes the
+/// arguments of a C caller.
 ///
 /// # Statuses
 ///
-/// - 0: the text is in the buffer's first `index` bytes, and the headings in those from there up to
-///   `length`; what lies after them is as it was.
-/// - 1: the buffer is too short. It is as it was, and `length` is what both need, `index` what the
-///   text has: call again with as much.
-/// - 35: the options are of another version than 4.
+/// - 0: the text is in the buffer's first `index` bytes, and the headings in those from there to
+///   `length`; the rest of the buffer is unchanged.
+/// - 1: the buffer is too short. It is unchanged, `length` is the length of both, and `index` that
+///   of the text: call again with at least `length`.
+/// - 35: the options have another version than 4.
 /// - 5: the option with the number `index` isn't valid.
 /// - 32: the document has `length` bytes, more than `max_input`.
-/// - 34: the document isn't UTF-8 from the byte at `index` on.
-/// - 37: there is more work than `max_work`.
+/// - 34: the document isn't UTF-8 from the byte at `index`.
+/// - 37: the work exceeds `max_work`.
 /// - 33: the text is longer than `max_output`.
-/// - 7: there is no more memory.
+/// - 7: memory ran out.
 ///
-/// Of 35, 5, 32 and 34 the first that is true is told, and none of the others where one is, unless 7
-/// is told.
+/// Of 35, 5, 32 and 34 the first that is true is reported, and no other status if one of them is
+/// true, unless 7 is reported.
 #[unsafe(no_mangle)]
 pub extern "C" fn bivdrazo_markdown_into(
     alloc: Global,
@@ -369,7 +369,8 @@ pub extern "C" fn bivdrazo_markdown_into(
     options: &CMarkdownOptions,
     buffer: &mut [u8],
 ) -> Answer
-    // The text is made of the document, safe, with these attributes; the list of headings follows.
+    // The text is that of the document, and safe, with these attributes; the list of headings
+    // follows.
     ensures text { HandsOver (IsMarkdownText text.now options.now result.index)
         buffer.old buffer.new result }
     ensures told { TellsOfMarkdown text.now options.now result }
@@ -381,15 +382,15 @@ pub extern "C" fn bivdrazo_markdown_into(
     }
 }
 
-/// Where the front matter of a Markdown document stands: what is between the two lines of `---`
-/// with which it begins.
+/// Finds the front matter of a Markdown document: the text between the two lines of `---` at its
+/// beginning.
 ///
 /// A C caller passes for the slice a pointer, which isn't null, and a length.
 ///
 /// # Statuses
 ///
-/// - 0: it is the `length` bytes from the byte at `index` on; where there is none both are 0.
-/// - 34: the document isn't UTF-8 from the byte at `index` on.
+/// - 0: it is the `length` bytes from the byte at `index`; if there is none, both are 0.
+/// - 34: the document isn't UTF-8 from the byte at `index`.
 #[unsafe(no_mangle)]
 pub extern "C" fn bivdrazo_front_matter(text: &[u8]) -> Answer
     ensures { TellsOfFrontMatter text.now result }
@@ -397,7 +398,7 @@ pub extern "C" fn bivdrazo_front_matter(text: &[u8]) -> Answer
     answer_to_front_matter(text)
 }
 
-/// The version of what C sees of Markdown.
+/// Returns the version of the C interface for Markdown.
 #[unsafe(no_mangle)]
 pub extern "C" fn bivdrazo_markdown_version() -> u32
     ensures { result ≡ 4 }

@@ -1,4 +1,5 @@
-//! Events to HTML for programs in C and whatever calls as C does: a static library.
+//! Converts events to HTML for programs in C, and in languages that call as C does: a static
+//! library.
 #![tactic(auto)]
 
 mod export;

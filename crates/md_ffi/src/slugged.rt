@@ -1,4 +1,4 @@
-//! Markdown whose headings get ids that are made of their texts.
+//! Markdown whose headings get ids that are derived from their texts.
 
 ghost use Rattle.md_abi.specs.Buffer.{HandsOver};
 ghost use Rattle.md_markdown_abi.specs.Answers.{TellsOfMarkdown, IsOfMarkdown};
@@ -8,17 +8,17 @@ use md_abi::{Answer, hand_over_listed};
 use md_markdown_abi::{CMarkdownOptions, answer_to_markdown, markdown_slugged};
 use std::alloc::Global;
 
-/// As [`bivdrazo_markdown_into`](crate::export::bivdrazo_markdown_into), with an `id` on each
-/// heading that is made of the heading's text, nearly as GitHub makes it.
+/// The same as [`bivdrazo_markdown_into`](crate::export::bivdrazo_markdown_into), with an `id` on
+/// each heading that is derived from the heading's text, nearly as GitHub does.
 ///
-/// Where `heading_ids` is set, each of these ids begins with that text. Where an id is taken, a
-/// hyphen and a number follow it, from 1 on: so no two ids are equal where no two of the text
+/// If `heading_ids` is set, each of these ids begins with that text. If an id is taken, a hyphen
+/// and a number follow it, from 1: so no two ids are equal, provided that no two of the text
 /// without these are, as with `number_ids`. After the list of the headings follow their ids, in the
-/// same order: before each a NUL and `#`. No clause says which ids these are.
+/// same order: a NUL and `#` before each. No clause says which ids these are.
 ///
 /// # Statuses
 ///
-/// Those of [`bivdrazo_markdown_into`](crate::export::bivdrazo_markdown_into).
+/// The statuses of [`bivdrazo_markdown_into`](crate::export::bivdrazo_markdown_into).
 #[unsafe(no_mangle)]
 pub extern "C" fn bivdrazo_markdown_slugs_into(
     alloc: Global,
@@ -26,7 +26,7 @@ pub extern "C" fn bivdrazo_markdown_slugs_into(
     options: &CMarkdownOptions,
     buffer: &mut [u8],
 ) -> Answer
-    // The text is made of the document, safe, with these attributes; the lists follow.
+    // The text is that of the document, and safe, with these attributes; the lists follow.
     ensures text { HandsOver (IsSluggedText text.now options.now result.index)
         buffer.old buffer.new result }
     ensures told { TellsOfMarkdown text.now options.now result }

@@ -29,7 +29,7 @@ unended-below (x ∷ xs) =
     more : (m n : ℕ) → m ≤ n → suc m ≤ suc n
     more m n h = omega (arith, h)
 
--- so long is what is left
+-- the length of the rest
 pub length-unended : (xs : List ℕ) → length (unended xs) ≡ unended_length xs
 length-unended xs = length-take-le (unended_length xs) xs (unended-below xs)
 

@@ -1,5 +1,5 @@
--- The lemmas: counting calls one after another, entries found by their places, numbers, lists, and
--- texts without the line endings at their ends.
+-- The lemmas: counting calls in sequence, entries found by their indices, numbers, lists, and texts
+-- without the line endings at their ends.
 mod Tally
 mod Placing
 mod MappedPlaces

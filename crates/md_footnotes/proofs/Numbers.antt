@@ -12,7 +12,7 @@ use Rattle.md_footnotes.specs.Entries.{Counted, tally}
 use Rattle.md_meaning.proofs.Identifiers.{is_in, others_than, Apart, same, itself, bytes_eq-sym}
 use Rattle.md_meaning.proofs.Identifiers.{is_in-distinct, distinct-apart, count-missing}
 
--- the place of an identifier among some, from 1; after them all where it isn't there
+-- the position of an identifier among some, from 1; after all of them if it isn't among them
 abbrev pub number_among : List Counted → List ℕ → ℕ
 number_among [] identifier = 1
 number_among (first ∷ others) identifier = if bytes_eq first.identifier identifier then 1
@@ -124,7 +124,7 @@ count-below (y ∷ ys) x = more (bytes_eq y x) (count_of ys x) (length ys) (coun
     more true m n h = omega (arith, h)
     more false m n h = omega (arith, h)
 
--- the place of what stands at an index, where no two are the same
+-- the position of the entry at an index, if no two are equal
 not_there : (y x : List ℕ) (ys : List (List ℕ)) (i : ℕ) → is_in y ys ≡ false →
     slice_get ys i ≡ Some x →
     bytes_eq x y ≡ false

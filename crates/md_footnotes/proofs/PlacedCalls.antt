@@ -101,7 +101,7 @@ Keeps entries order calls =
     (calls_in entries order ≡ calls) × (counts_in entries ≡ tally calls)
     × AreBelow (length entries) order
 
--- it is so after a call more of an identifier that is there, and of a new one
+-- the same after one more call of an existing identifier, and of a new one
 call-again : (entries : List (String Global × ℕ)) (order : List ℕ) (calls : List (List ℕ))
     (q : List ℕ) (i : ℕ) →
     place_in entries q ≡ Some i → Keeps entries order calls →
@@ -169,7 +169,7 @@ count-kept entries calls q i h same =
     ap (λ o. option_map_or (λ place. count_in entries place) o 0) (sym h)
     ∙ count-at entries q ∙ ap (λ cs. count_among cs q) same ∙ count-same calls q
 
--- what stands at an index of what is kept
+-- the entry at an index
 pub entry-called :
     (entries : List (String Global × ℕ)) (f : List ℕ → ℕ) (names : List (List ℕ)) (i : ℕ)
     (e : String Global × ℕ) →

@@ -40,7 +40,7 @@ place-below (e ∷ entries) q i h =
     later None t below = absurd (none-some i t)
     later (Some j) t below = next j (ap (λ o. unwrap_or o 0) t) (below j refl)
 
--- the count, the number and the text of what stands at a place
+-- the count, the number and the text of the entry at an index
 pub count-at : (entries : List (String Global × ℕ)) (q : List ℕ) →
     option_map_or (λ place. option_map_or (λ e. e.1) (slice_get entries place) 0)
     (place_in entries q) 0 ≡ count_among (counts_in entries) q
@@ -146,7 +146,7 @@ counted-new (e ∷ entries) key h =
           ∷ cs) (counted-new entries key (none-mapped (place_in entries (string_bytes key)) t))
     ] h
 
--- a footnote more with an identifier that is there, and with one that isn't
+-- one more footnote with an existing identifier, and with a new one
 pub noted-present : (entries : List (String Global × String Global)) (q text : List ℕ) (i : ℕ) →
     place_in entries q ≡ Some i → footnotes_in entries
     ≡ noted (footnotes_in entries) (record { identifier = q; text = text })

@@ -1,4 +1,4 @@
--- Counting calls one after another is to tally them.
+-- Counting calls in sequence is the same as tallying them.
 use Rattle.std.proofs.Common.{◌≡◌, ℕ, ◌+◌, suc, true, false, ◌||◌, not, cond, List, [], ◌∷◌, ◌++◌}
 use Rattle.std.proofs.Common.{map, refl, ap, sym, ◌∙◌, append-nil, arith, bytes_eq}
 use Rattle.std.specs.Prelude.{if◌then◌else◌}

@@ -1,5 +1,5 @@
--- What is seen of footnotes, of which the public clauses speak; and what the other clauses of this
--- crate speak of: the entries that are kept, and words for parts of what is printed.
+-- The state of footnotes for public clauses; for the other clauses of this crate, the stored
+-- entries and definitions for parts of the printed text.
 pub mod Seen
 pub mod Entries
 pub mod Words

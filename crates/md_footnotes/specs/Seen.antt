@@ -1,4 +1,4 @@
--- What is seen of footnotes while a document is printed.
+-- The footnotes and calls that the printer has found.
 use Rattle.std.specs.Prelude.{ℕ, List, []}
 use Rattle.md_text.specs.declared.options.CompileOptions.{CompileOptions}
 use Rattle.md_meaning.specs.Meaning.At.{Footnote, Given}
@@ -8,8 +8,7 @@ pub record Seen : Type 0 where
   pub calls : List (List ℕ)
   pub footnotes : List Footnote
 
--- what the section of footnotes is printed by: of what is given it reads the options
--- and the calls alone
+-- the context for printing the section of footnotes, which reads only the options and the calls
 abbrev pub given_by : CompileOptions → List (List ℕ) → Given
 given_by options calls = record {
   bytes = [];

@@ -1,4 +1,4 @@
--- Words for parts of what is printed. Only contracts inside this crate speak of it.
+-- Definitions for parts of the printed text. Only contracts inside this crate cite this.
 use Rattle.std.specs.Prelude.{ℕ, ◌-◌, Bool, List, [], ◌∷◌, ◌++◌, take, drop, find, option_map}
 use Rattle.std.specs.Prelude.{bytes_eq, codes, string_bytes}
 use Rattle.std.specs.Option.{option_map_or}
@@ -9,7 +9,7 @@ use Rattle.md_meaning.specs.Meaning.At.{Footnote}
 use Rattle.md_meaning.specs.Meaning.Footnotes.{option_or, id_of, call_id, unended_length, body}
 use Rattle.md_meaning.specs.Meaning.Footnotes.{backreferences}
 
--- a call with a number, which is one of its footnote's
+-- a call of the footnote with this number, with its occurrence
 abbrev pub tags : CompileOptions → List ℕ → ℕ → ℕ → List Piece
 tags options identifier number occurrence = Text (codes "<sup><a href=\"#")
     ∷ Text (id_of options (codes "fn-") identifier number) ∷ Text (codes "\" id=\"")
@@ -22,14 +22,14 @@ abbrev pub text_of : List Footnote → List ℕ → List ℕ
 text_of footnotes identifier = option_map_or (λ footnote. footnote.text)
     (find (λ footnote. bytes_eq footnote.identifier identifier) footnotes) []
 
--- a footnote in the section: with a number, so many calls and a text
+-- a footnote in the section, with its number, its number of calls and its text
 abbrev pub item_of : CompileOptions → List ℕ → ℕ → ℕ → List ℕ → List Piece
 item_of options identifier number count text =
     Forced ∷ Text (codes "<li id=\"") ∷ Text (id_of options (codes "fn-") identifier number)
     ∷ Text (codes "\">") ∷ Forced
     ∷ (body text (backreferences options identifier number count) ++ on_own_line (codes "</li>"))
 
--- what the options say of the section
+-- the tag name of the section's heading, and below its other options
 abbrev pub tag_of : CompileOptions → List ℕ
 tag_of options =
     option_or (option_map string_bytes options.gfm_footnote_label_tag_name) (codes "h2")
@@ -50,6 +50,6 @@ label_of options =
 abbrev pub unended : List ℕ → List ℕ
 unended text = take (unended_length text) text
 
--- a text ends in `</p>`, but for CR and LF
+-- a text ends in `</p>`, ignoring CR and LF
 abbrev pub ends_in_paragraph : List ℕ → Bool
 ends_in_paragraph text = bytes_eq (drop (unended_length text - 4) (unended text)) (codes "</p>")

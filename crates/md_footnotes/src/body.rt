@@ -1,4 +1,4 @@
-//! A footnote's text with the ways back put into it or after it.
+//! Writes a footnote's text with its backreferences inside or after it.
 
 ghost use Rattle.std.specs.Prelude.{◌≡◌, ◌<◌, ◌-◌, MatchOption, IfSome, OnOk, Some, None};
 ghost use Rattle.std.specs.Prelude.{if◌then◌else◌, length, string_bytes};
@@ -23,7 +23,7 @@ fn without_break(text: &[u8]) -> Option<&[u8]>
     }
 }
 
-/// A text without the CR and LF at its end.
+/// A text without the CR and LF bytes at its end.
 fn without_endings(text: &[u8]) -> &[u8]
     ensures { result.now ≡ unended text.now }
 {
@@ -34,7 +34,7 @@ fn without_endings(text: &[u8]) -> &[u8]
     kept
 }
 
-/// Where a `</p>` begins that ends a text, not counting CR and LF after it.
+/// The offset of a `</p>` that ends a text, ignoring CR and LF after it.
 fn paragraph_end(text: &str) -> Option<usize>
     ensures place { result
         ≡ (if ends_in_paragraph text.now then Some (unended_length text.now - 4) else None) }
@@ -48,11 +48,11 @@ fn paragraph_end(text: &str) -> Option<usize>
     }
 }
 
-/// Adds a footnote's text and the ways back: before a `</p>` at its end, else after it.
+/// Appends a footnote's text and its backreferences: before a `</p>` at its end, else after it.
 ///
 /// # Errors
 ///
-/// Only where memory runs out.
+/// Returns an error only if memory runs out.
 pub(crate) fn push_body(
     settings: &Settings,
     out: &mut String,

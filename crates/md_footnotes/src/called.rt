@@ -1,26 +1,27 @@
-//! A footnote that is called, and what the section is printed by.
+//! A footnote that is called, and the settings for printing the section.
 
 use md_text::CompileOptions;
 use std::alloc::Global;
 
-/// The identifier of some calls, with what is known of them.
+/// The calls of one identifier.
 #[derive(Clone, Copy)]
 pub(crate) struct Called<'a> {
     /// Their identifier.
     pub(crate) identifier: &'a str,
-    /// Their footnote's number: the place of its first call among those of all footnotes, from 1.
+    /// The number of their footnote: the position of its first call among those of all footnotes,
+    /// from 1.
     pub(crate) number: usize,
-    /// How many calls there are.
+    /// The number of calls.
     pub(crate) count: usize,
 }
 
-/// What the section is printed by, whichever footnotes are called.
+/// The settings for printing the section, the same for all footnotes.
 #[derive(Clone, Copy)]
 pub(crate) struct Settings<'a> {
-    /// What numbers are written with.
+    /// The allocator for writing numbers.
     pub(crate) alloc: Global,
     /// The options.
     pub(crate) options: &'a CompileOptions,
-    /// The line ending that is used.
+    /// The line ending to print.
     pub(crate) ending: &'a str,
 }

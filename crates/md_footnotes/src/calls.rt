@@ -1,4 +1,4 @@
-//! Footnote calls: which identifiers are called, in which order, and how often.
+//! Footnote calls: the identifiers, their order, and the number of calls of each.
 
 ghost use Rattle.std.specs.Prelude.{◌≡◌, ◌==◌, ◌∷◌, [], ◌++◌, ◌<◌, ◌+◌, ◌^◌, OnOk, IfSome};
 ghost use Rattle.std.specs.Prelude.{string_bytes, option_map, slice_get, length};
@@ -12,14 +12,14 @@ use std::alloc::{AllocError, Global};
 use std::collections::BTreeMap;
 use std::marker::Model;
 
-/// The calls that were seen, in their order.
+/// The calls so far, in order.
 #[derive(Drop)]
 pub(crate) struct Calls {
-    /// The identifiers in the order of their first calls, each with how often it is called.
+    /// The identifiers in the order of their first calls, each with its number of calls.
     counts: Vec<(String, usize)>,
     places: Places,
-    /// The place of each call's identifier, in the order of the calls. No count passes the length
-    /// of this list, so each fits.
+    /// The index of each call's identifier, in the order of the calls. No count exceeds the length
+    /// of this list, so counts don't overflow.
     order: Vec<usize>,
 }
 
@@ -36,7 +36,7 @@ impl Model for Calls {
         × AreBelow (length c.counts.items) c.order.items };
 }
 
-/// One call more of the identifier at a place.
+/// Counts one more call of the identifier at an index.
 fn count_again(counts: &mut Vec<(String, usize)>, place: usize)
     requires within { place < length counts.old.items }
     requires fits { count_in counts.old.items place < 2 ^ 63 }
@@ -46,7 +46,7 @@ fn count_again(counts: &mut Vec<(String, usize)>, place: usize)
     counts[place].1 = count + 1;
 }
 
-/// How often the identifier at a place is called.
+/// The number of calls of the identifier at an index.
 fn count_at(counts: &[(String, usize)], place: usize) -> usize
     ensures { result ≡ count_in counts.now place }
 {
@@ -68,11 +68,11 @@ impl Calls {
         }
     }
 
-    /// One call more of an identifier.
+    /// Records a call.
     ///
     /// # Errors
     ///
-    /// Only where memory runs out.
+    /// Returns an error only if memory runs out.
     pub(crate) fn count(&mut self, identifier: String) -> Result<(), AllocError>
         ensures { OnOk result (self.new ≡ self.old ++ string_bytes identifier ∷ []) }
     {
@@ -92,8 +92,8 @@ impl Calls {
         }
     }
 
-    /// The number of an identifier, in the order of first calls; that of the next new one where it
-    /// isn't called yet.
+    /// Returns the number of an identifier, in the order of first calls; for an identifier without
+    /// calls, the number that it would get.
     pub(crate) fn number(&self, identifier: &str) -> usize
         ensures { result ≡ place_among (distinct (self.now ++ identifier.now ∷ [])) identifier.now }
     {
@@ -104,7 +104,7 @@ impl Calls {
         }
     }
 
-    /// How often an identifier is called.
+    /// Returns the number of calls of an identifier.
     pub(crate) fn count_of(&self, identifier: &str) -> usize
         ensures count { result ≡ meaning.count_of self.now identifier.now }
         ensures fits { result + 1 < 2 ^ 64 }
@@ -115,14 +115,14 @@ impl Calls {
         }
     }
 
-    /// Nothing is called.
+    /// Whether there are no calls.
     pub(crate) fn is_empty(&self) -> bool
         ensures { result ≡ (length self.now == 0) }
     {
         self.order.len() == 0
     }
 
-    /// The footnote with the number after an index.
+    /// Returns the footnote whose number is one more than the index.
     pub(crate) fn at(&self, index: usize) -> Option<Called>
         ensures identifier { option_map (λ c. c.identifier.now) result
             ≡ slice_get (distinct self.now) index }

@@ -1,15 +1,15 @@
-//! Numbers in decimal digits.
+//! Writes numbers in decimal.
 
 ghost use Rattle.std.specs.Prelude.{◌≡◌, ◌++◌, OnOk, IfSome, string_bytes};
 ghost use Rattle.std.specs.Fmt.{decimal};
 
 use std::alloc::{AllocError, Global};
 
-/// Adds a number. Most have one digit, of which no text is made first.
+/// Appends a number. Most numbers have one digit, which needs no buffer.
 ///
 /// # Errors
 ///
-/// Only where memory runs out.
+/// Returns an error only if memory runs out.
 pub(crate) fn push_decimal(alloc: Global, out: &mut String, number: usize) -> Result<(), AllocError>
     ensures { OnOk result (string_bytes out.new ≡ string_bytes out.old ++ decimal number) }
 {
@@ -19,7 +19,7 @@ pub(crate) fn push_decimal(alloc: Global, out: &mut String, number: usize) -> Re
     }
 }
 
-/// A number of one digit, but for zero, which is none of a footnote or a call.
+/// A number of one digit, except zero, which no footnote or call has.
 fn digit(number: usize) -> Option<&'static str>
     ensures { IfSome result (λ digit. digit.now ≡ decimal number) }
 {

@@ -1,4 +1,4 @@
-//! What is seen of footnotes while a document is printed.
+//! The footnotes and calls that the printer has found.
 
 ghost use Rattle.std.specs.Prelude.{◌≡◌, ◌∷◌, [], ◌++◌, OnOk, string_bytes};
 ghost use Rattle.md_meaning.specs.Meaning.Layout.{laid_after};
@@ -16,7 +16,7 @@ use md_text::CompileOptions;
 use std::alloc::{AllocError, Global};
 use std::marker::Model;
 
-/// The calls that were seen, in their order, and the first footnote with each identifier.
+/// The calls so far, in order, and the first footnote with each identifier.
 #[derive(Drop)]
 pub struct Footnotes {
     calls: Calls,
@@ -42,11 +42,11 @@ impl Footnotes {
         }
     }
 
-    /// One call more of the footnote with an identifier.
+    /// Records a call of the footnote with an identifier.
     ///
     /// # Errors
     ///
-    /// Only where memory runs out.
+    /// Returns an error only if memory runs out.
     pub fn call(&mut self, identifier: String) -> Result<(), AllocError>
         ensures calls { OnOk result
             (self.new.calls ≡ self.old.calls ++ string_bytes identifier ∷ []) }
@@ -55,11 +55,11 @@ impl Footnotes {
         self.calls.count(identifier)
     }
 
-    /// One footnote more, unless there is one with its identifier.
+    /// Adds a footnote, unless there is one with its identifier.
     ///
     /// # Errors
     ///
-    /// Only where memory runs out.
+    /// Returns an error only if memory runs out.
     pub fn note(&mut self, identifier: String, text: String) -> Result<(), AllocError>
         ensures footnotes { OnOk result (self.new.footnotes ≡ noted self.old.footnotes
             (record { identifier = string_bytes identifier; text = string_bytes text })) }
@@ -68,12 +68,12 @@ impl Footnotes {
         self.notes.note(identifier, text)
     }
 
-    /// Adds a call of the footnote with an identifier, numbered after those that were seen. Where
-    /// memory runs out a part of it may be added.
+    /// Appends a call of the footnote with an identifier, numbered after the calls so far. If
+    /// memory runs out, a part of it may be appended.
     ///
     /// # Errors
     ///
-    /// Only where memory runs out.
+    /// Returns an error only if memory runs out.
     pub fn push_call(
         &self,
         alloc: Global,
@@ -92,12 +92,12 @@ impl Footnotes {
         push_tags(alloc, out, options, &called, called.count + 1)
     }
 
-    /// Adds the section of footnotes, where there is a call: the footnotes that are called, in the
-    /// order of their first calls. Where memory runs out a part of it may be added.
+    /// Appends the section of footnotes, if there is a call: the footnotes that are called, in the
+    /// order of their first calls. If memory runs out, a part of it may be appended.
     ///
     /// # Errors
     ///
-    /// Only where memory runs out.
+    /// Returns an error only if memory runs out.
     pub fn push_section(
         &self,
         alloc: Global,

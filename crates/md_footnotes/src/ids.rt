@@ -1,4 +1,4 @@
-//! The ids of footnotes and of their calls, and texts that options give.
+//! The ids of footnotes and of their calls, and the texts of options.
 
 ghost use Rattle.std.specs.Prelude.{◌≡◌, ◌==◌, ◌&&◌, not, [], ◌++◌, if◌then◌else◌, codes, OnOk};
 ghost use Rattle.std.specs.Prelude.{string_bytes, option_map};
@@ -11,11 +11,11 @@ use crate::decimal::push_decimal;
 use md_text::{CompileOptions, push_encoded, push_sanitized};
 use std::alloc::{AllocError, Global};
 
-/// Adds a text that an option gives, escaped, or what stands where it gives none.
+/// Appends the text of an option, escaped, or its default.
 ///
 /// # Errors
 ///
-/// Only where memory runs out.
+/// Returns an error only if memory runs out.
 pub(crate) fn push_option(
     out: &mut String,
     given: &Option<String>,
@@ -30,7 +30,7 @@ pub(crate) fn push_option(
     }
 }
 
-/// Adds what an id is told apart by: the footnote's number where ids go by number, else its
+/// Appends the part that distinguishes an id: the footnote's number if ids are by number, else its
 /// identifier as a URL.
 fn push_name(
     alloc: Global,
@@ -49,11 +49,11 @@ fn push_name(
     }
 }
 
-/// Adds an id: the prefix, what it is the id of, and what it is told apart by.
+/// Appends an id: the prefix, the kind of id, and the part that distinguishes it.
 ///
 /// # Errors
 ///
-/// Only where memory runs out.
+/// Returns an error only if memory runs out.
 pub(crate) fn push_id(
     alloc: Global,
     out: &mut String,
@@ -69,8 +69,8 @@ pub(crate) fn push_id(
     push_name(alloc, out, options, called)
 }
 
-/// Adds `-` and which of its footnote's calls it is; where ids go by identifier from
-/// the second one on.
+/// Appends `-` and the call's number among those of its footnote; if ids are by identifier, nothing
+/// for the first call.
 fn push_occurrence(
     alloc: Global,
     out: &mut String,
@@ -88,11 +88,11 @@ fn push_occurrence(
     push_decimal(alloc, out, occurrence)
 }
 
-/// Adds the id of one of a footnote's calls, by its occurrence from 1.
+/// Appends the id of one of a footnote's calls, by its occurrence from 1.
 ///
 /// # Errors
 ///
-/// Only where memory runs out.
+/// Returns an error only if memory runs out.
 pub(crate) fn push_call_id(
     alloc: Global,
     out: &mut String,

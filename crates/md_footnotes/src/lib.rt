@@ -1,5 +1,5 @@
-//! What is seen of footnotes while a document is printed, what their calls print, and the
-//! section at its end.
+//! The footnotes and calls that the printer has found, the tags of calls, and the section of
+//! footnotes.
 #![tactic(auto)]
 
 mod body;

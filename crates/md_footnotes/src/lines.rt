@@ -22,11 +22,11 @@ fn bytes_begin_line(text: &[u8]) -> bool
     }
 }
 
-/// Adds a line ending where one is needed.
+/// Appends a line ending if one is needed.
 ///
 /// # Errors
 ///
-/// Only where memory runs out.
+/// Returns an error only if memory runs out.
 pub(crate) fn need(out: &mut String, ending: &str) -> Result<(), AllocError>
     ensures { OnOk result
         (string_bytes out.new

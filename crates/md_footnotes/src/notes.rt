@@ -1,4 +1,4 @@
-//! The footnotes that were seen, each with its identifier.
+//! The footnotes so far, each with its identifier.
 
 ghost use Rattle.std.specs.Prelude.{◌≡◌, [], OnOk, string_bytes, slice_get};
 ghost use Rattle.std.specs.Option.{option_map_or};
@@ -29,7 +29,7 @@ impl Model for Notes {
     ghost invariant = { λ f. FindsPlaces f.places f.texts.items };
 }
 
-/// The text at a place.
+/// The text at an index.
 fn noted_text(texts: &[(String, String)], place: usize) -> &str
     ensures { result.now ≡ option_map_or (λ e. string_bytes e.1) (slice_get texts.now place) [] }
 {
@@ -50,11 +50,11 @@ impl Notes {
         }
     }
 
-    /// One footnote more, unless there is one with its identifier.
+    /// Adds a footnote, unless there is one with its identifier.
     ///
     /// # Errors
     ///
-    /// Only where memory runs out.
+    /// Returns an error only if memory runs out.
     pub(crate) fn note(&mut self, identifier: String, text: String) -> Result<(), AllocError>
         ensures { OnOk result
             (self.new ≡ noted self.old
@@ -66,7 +66,7 @@ impl Notes {
         }
     }
 
-    /// The text of the footnote with an identifier; nothing where there is none.
+    /// Returns the text of the footnote with an identifier; empty if there is none.
     pub(crate) fn text_of(&self, identifier: &str) -> &str
         ensures { result.now ≡ words.text_of self.now identifier.now }
     {

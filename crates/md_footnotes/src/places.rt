@@ -1,5 +1,5 @@
-//! Entries in the order in which they came, found by their identifiers in few steps,
-//! whoever chose these.
+//! Entries in insertion order, found by their identifiers in few steps, whatever identifiers an
+//! attacker chooses.
 
 ghost use Rattle.std.specs.Prelude.{◌≡◌, ◌∷◌, [], ◌++◌, OnOk, OnErr, None, string_bytes};
 ghost use Rattle.std.specs.BTreeMap.{get_by_text};
@@ -8,21 +8,21 @@ ghost use Rattle.md_footnotes.specs.Entries.{place_in, FindsPlaces};
 use std::alloc::AllocError;
 use std::collections::BTreeMap;
 
-/// The place of each identifier among some entries.
+/// The index of each identifier among some entries.
 pub(crate) type Places = BTreeMap<String, usize>;
 
-/// The place of an identifier, if it has one.
+/// The index of an identifier, if it has one.
 pub(crate) fn place_under(places: &Places, identifier: &str) -> Option<usize>
     ensures { result ≡ get_by_text places.now identifier.now }
 {
     places.get(identifier).copied()
 }
 
-/// Puts an entry with a new identifier after all others.
+/// Appends an entry with a new identifier.
 ///
 /// # Errors
 ///
-/// Only where memory runs out.
+/// Returns an error only if memory runs out.
 pub(crate) fn put_last<V: Drop>(
     entries: &mut Vec<(String, V)>,
     places: &mut Places,

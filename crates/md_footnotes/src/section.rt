@@ -1,4 +1,4 @@
-//! The section of footnotes at a document's end.
+//! The section of footnotes at the end of a document.
 
 ghost use Rattle.std.specs.Prelude.{◌≡◌, ◌∷◌, [], ◌++◌, codes, OnOk, string_bytes};
 ghost use Rattle.std.specs.List.{flat_map};
@@ -16,7 +16,7 @@ use crate::notes::Notes;
 use md_text::CompileOptions;
 use std::alloc::AllocError;
 
-/// Adds the beginning of a footnote, up to its text.
+/// Appends the beginning of a footnote, up to its text.
 fn push_item_start(settings: &Settings, out: &mut String, called: &Called) -> Result<(), AllocError>
     ensures { OnOk result
         (string_bytes out.new ≡ laid_after settings.now.ending.now (string_bytes out.old)
@@ -31,7 +31,7 @@ fn push_item_start(settings: &Settings, out: &mut String, called: &Called) -> Re
     out.push_str(settings.ending)
 }
 
-/// Adds the end of a footnote.
+/// Appends the end of a footnote.
 fn push_item_end(out: &mut String, ending: &str) -> Result<(), AllocError>
     ensures { OnOk result (string_bytes out.new
         ≡ laid_after ending.now (string_bytes out.old) (on_own_line (codes "</li>"))) }
@@ -40,7 +40,7 @@ fn push_item_end(out: &mut String, ending: &str) -> Result<(), AllocError>
     out.push_str("</li>")
 }
 
-/// Adds a footnote, its text and the ways back.
+/// Appends a footnote, its text and its backreferences.
 fn push_item(
     settings: &Settings,
     out: &mut String,
@@ -58,7 +58,7 @@ fn push_item(
     push_item_end(out, settings.ending)
 }
 
-/// Adds the footnotes that are called, in the order of their first calls.
+/// Appends the footnotes that are called, in the order of their first calls.
 fn push_items(
     settings: &Settings,
     out: &mut String,
@@ -78,7 +78,7 @@ fn push_items(
     Ok(())
 }
 
-/// Adds the tag of the section's heading.
+/// Appends the tag name of the section's heading.
 fn push_tag(out: &mut String, options: &CompileOptions) -> Result<(), AllocError>
     ensures { OnOk result
         (string_bytes out.new ≡ string_bytes out.old ++ words.tag_of options.now) }
@@ -86,7 +86,7 @@ fn push_tag(out: &mut String, options: &CompileOptions) -> Result<(), AllocError
     push_option(out, &options.gfm_footnote_label_tag_name, "h2")
 }
 
-/// Adds the text of the section's heading.
+/// Appends the text of the section's heading.
 fn push_heading(out: &mut String, options: &CompileOptions) -> Result<(), AllocError>
     ensures { OnOk result
         (string_bytes out.new ≡ string_bytes out.old ++ words.heading_of options.now) }
@@ -104,7 +104,7 @@ fn attributes_of(options: &CompileOptions) -> &str
     }
 }
 
-/// Adds the section's tag and the opening tag of its heading.
+/// Appends the section's tag and the opening tag of its heading.
 fn push_heading_start(settings: &Settings, out: &mut String) -> Result<(), AllocError>
     ensures { OnOk result
         (string_bytes out.new ≡ laid_after settings.now.ending.now (string_bytes out.old)
@@ -120,7 +120,7 @@ fn push_heading_start(settings: &Settings, out: &mut String) -> Result<(), Alloc
     out.push_str(">")
 }
 
-/// Adds the closing tag of the section's heading and the list's tag.
+/// Appends the closing tag of the section's heading and the list's tag.
 fn push_heading_end(settings: &Settings, out: &mut String) -> Result<(), AllocError>
     ensures { OnOk result
         (string_bytes out.new ≡ laid_after settings.now.ending.now (string_bytes out.old)
@@ -134,7 +134,7 @@ fn push_heading_end(settings: &Settings, out: &mut String) -> Result<(), AllocEr
     out.push_str("<ol>")
 }
 
-/// Adds the beginning of the section, up to its footnotes.
+/// Appends the beginning of the section, up to its footnotes.
 fn push_start(settings: &Settings, out: &mut String) -> Result<(), AllocError>
     ensures { OnOk result
         (string_bytes out.new ≡ laid_after settings.now.ending.now (string_bytes out.old)
@@ -145,7 +145,7 @@ fn push_start(settings: &Settings, out: &mut String) -> Result<(), AllocError>
     push_heading_end(settings, out)
 }
 
-/// Adds the end of the section.
+/// Appends the end of the section.
 fn push_end(out: &mut String, ending: &str) -> Result<(), AllocError>
     ensures { OnOk result (string_bytes out.new ≡ laid_after ending.now (string_bytes out.old)
         (Forced ∷ Text (codes "</ol>") ∷ Forced ∷ Text (codes "</section>") ∷ Forced ∷ [])) }
@@ -157,12 +157,12 @@ fn push_end(out: &mut String, ending: &str) -> Result<(), AllocError>
     out.push_str(ending)
 }
 
-/// Adds the section of footnotes, where there is a call: the footnotes that are called, in the
+/// Appends the section of footnotes, if there is a call: the footnotes that are called, in the
 /// order of their first calls.
 ///
 /// # Errors
 ///
-/// Only where memory runs out.
+/// Returns an error only if memory runs out.
 pub(crate) fn push_section(
     settings: &Settings,
     out: &mut String,

@@ -1,4 +1,4 @@
-//! What a call prints.
+//! Writes the tags of a call.
 
 ghost use Rattle.std.specs.Prelude.{◌≡◌, ◌∷◌, [], codes, OnOk, string_bytes};
 ghost use Rattle.std.specs.Fmt.{decimal};
@@ -12,7 +12,7 @@ use crate::ids::{push_call_id, push_id};
 use md_text::CompileOptions;
 use std::alloc::{AllocError, Global};
 
-/// Adds the beginning of a call, with the ids.
+/// Appends the beginning of a call, with its ids.
 fn push_ids(
     alloc: Global,
     out: &mut String,
@@ -33,7 +33,7 @@ fn push_ids(
     push_call_id(alloc, out, options, called, occurrence)
 }
 
-/// Adds the rest of a call, around its number.
+/// Appends the rest of a call, with its number.
 fn push_number(alloc: Global, out: &mut String, number: usize) -> Result<(), AllocError>
     ensures { OnOk result (string_bytes out.new ≡ laid_after [] (string_bytes out.old)
         (Text (codes "\" data-footnote-ref=\"\" aria-describedby=\"footnote-label\">")
@@ -44,11 +44,11 @@ fn push_number(alloc: Global, out: &mut String, number: usize) -> Result<(), All
     out.push_str("</a></sup>")
 }
 
-/// Adds a call of a footnote, by its occurrence from 1 among its calls.
+/// Appends a call of a footnote, by its occurrence from 1 among its calls.
 ///
 /// # Errors
 ///
-/// Only where memory runs out.
+/// Returns an error only if memory runs out.
 pub(crate) fn push_tags(
     alloc: Global,
     out: &mut String,

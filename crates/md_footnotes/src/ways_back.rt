@@ -1,4 +1,4 @@
-//! The ways back from a footnote to its calls.
+//! Backreferences from a footnote to its calls.
 
 ghost use Rattle.std.specs.Prelude.{◌≡◌, ◌∷◌, [], ◌++◌, ◌==◌, codes, OnOk, string_bytes};
 ghost use Rattle.std.specs.Prelude.{if◌then◌else◌};
@@ -12,7 +12,7 @@ use crate::ids::{push_call_id, push_option};
 use md_text::CompileOptions;
 use std::alloc::{AllocError, Global};
 
-/// Adds `<sup>` occurrence `</sup>`, from the second one on.
+/// Appends `<sup>` occurrence `</sup>`, from the second occurrence on.
 fn push_mark(alloc: Global, out: &mut String, occurrence: usize) -> Result<(), AllocError>
     ensures { OnOk result (string_bytes out.new ≡ string_bytes out.old ++ (if occurrence == 1
         then [] else codes "<sup>" ++ (decimal occurrence ++ codes "</sup>"))) }
@@ -25,7 +25,7 @@ fn push_mark(alloc: Global, out: &mut String, occurrence: usize) -> Result<(), A
     out.push_str("</sup>")
 }
 
-/// Adds the beginning of a way back to a call, up to its label.
+/// Appends the beginning of a backreference to a call, up to its label.
 fn push_href(
     alloc: Global,
     out: &mut String,
@@ -43,7 +43,7 @@ fn push_href(
     out.push_str("\" data-footnote-backref=\"\" aria-label=\"")
 }
 
-/// Adds the label of a way back.
+/// Appends the label of a backreference.
 fn push_label(out: &mut String, options: &CompileOptions) -> Result<(), AllocError>
     ensures { OnOk result
         (string_bytes out.new ≡ string_bytes out.old ++ words.label_of options.now) }
@@ -51,7 +51,7 @@ fn push_label(out: &mut String, options: &CompileOptions) -> Result<(), AllocErr
     push_option(out, &options.gfm_footnote_back_label, "Back to content")
 }
 
-/// Adds the rest of a way back, from the end of its label on.
+/// Appends the rest of a backreference, from the end of its label.
 fn push_arrow(alloc: Global, out: &mut String, occurrence: usize) -> Result<(), AllocError>
     ensures { OnOk result (string_bytes out.new ≡ string_bytes out.old
         ++ (codes "\" class=\"data-footnote-backref\">" ++ ((226 ∷ 134 ∷ 169 ∷ [])
@@ -64,7 +64,7 @@ fn push_arrow(alloc: Global, out: &mut String, occurrence: usize) -> Result<(), 
     out.push_str("</a>")
 }
 
-/// Adds the way back to a call.
+/// Appends the backreference to a call.
 fn push_backreference(
     alloc: Global,
     out: &mut String,
@@ -81,7 +81,7 @@ fn push_backreference(
     push_arrow(alloc, out, occurrence)
 }
 
-/// Adds a space, unless nothing is done yet.
+/// Appends a space, except before the first backreference.
 fn push_space(out: &mut String, done: usize) -> Result<(), AllocError>
     ensures { OnOk result
         (string_bytes out.new ≡ string_bytes out.old ++ (if done == 0 then [] else codes " ")) }
@@ -89,11 +89,11 @@ fn push_space(out: &mut String, done: usize) -> Result<(), AllocError>
     if done == 0 { Ok(()) } else { out.push_str(" ") }
 }
 
-/// Adds the ways back from a footnote to its calls, with single spaces between.
+/// Appends the backreferences from a footnote to its calls, separated by single spaces.
 ///
 /// # Errors
 ///
-/// Only where memory runs out.
+/// Returns an error only if memory runs out.
 pub(crate) fn push_backreferences(
     alloc: Global,
     out: &mut String,

@@ -1,4 +1,4 @@
-//! Brackets: links, images and calls of footnotes.
+//! Reads brackets: links, images and calls of footnotes.
 
 ghost use Rattle.std.specs.Prelude.{◌≡◌, OnOk, false, vec_len};
 
@@ -7,36 +7,36 @@ use md_lines::{Cursor, Place, Span, Title, read_destination, read_label, read_ti
 use md_marks::{Leaf, Mark};
 use std::alloc::AllocError;
 
-/// The most bytes that a label has.
+/// The maximum length of a label in bytes.
 const MOST_OF_LABEL: usize = 999;
 
-/// So many brackets are open at most: what would be a deeper one is text.
+/// The maximum number of open brackets: a deeper one is text.
 const MOST_OPEN: usize = 32;
 
-/// A bracket that is open.
+/// An open bracket.
 #[derive(Clone, Copy, Debug, PartialEq, Eq)]
 pub(crate) struct Bracket {
     /// Its token.
     token: usize,
-    /// How many runs of delimiters are before it.
+    /// How many runs of delimiters precede it.
     delimiters: usize,
     /// The place after it.
     inside: Place,
     is_image: bool,
-    /// Whether another one stands in it.
+    /// Whether it contains another bracket.
     has_bracket: bool,
 }
 
-/// Where a link or an image leads.
+/// The target of a link or an image.
 #[derive(Clone, Copy, Debug, PartialEq, Eq)]
 pub(crate) enum Target {
-    /// To what stands behind it.
+    /// The resource after it.
     Resource(Span, Option<Title>),
-    /// To the definition with an index.
+    /// The definition with an index.
     Definition(usize),
 }
 
-/// Where a link or an image leads, and the place after it.
+/// The target of a link or an image, and the place after it.
 #[derive(Clone, Copy, Debug, PartialEq, Eq)]
 pub(crate) struct Found {
     target: Target,
@@ -44,7 +44,7 @@ pub(crate) struct Found {
 }
 
 impl<'a> Reader<'a> {
-    /// A `[`, or the `![` of an image.
+    /// Reads a `[`, or the `![` of an image.
     pub(crate) fn open_bracket(
         &mut self,
         here: Place,
@@ -75,7 +75,7 @@ impl<'a> Reader<'a> {
         Ok(inside)
     }
 
-    /// A `]`: the place after the link, the image or the call that it ends.
+    /// Reads a `]`. Returns the place after the link, the image or the call that it ends.
     pub(crate) fn read_bracket_end(
         &mut self,
         leaf: &Leaf,
@@ -122,8 +122,7 @@ impl<'a> Reader<'a> {
         self.definitions.has_footnote(self.alloc, leaf.bytes, label)
     }
 
-    /// Makes a call of a footnote of an open bracket and what stands in it. The `!` before a call
-    /// is text.
+    /// Changes an open bracket and its content to a call of a footnote. A `!` before it is text.
     fn put_footnote_call(&mut self, open: &Bracket, here: Place) -> Result<Place, AllocError> {
         let start = open.inside.at.saturating_sub(1);
         let after = here.at.saturating_add(1);
@@ -140,7 +139,7 @@ impl<'a> Reader<'a> {
         })
     }
 
-    /// Makes a link or an image of an open bracket and what stands in it.
+    /// Changes an open bracket and its content to a link or an image.
     fn put_link(
         &mut self,
         bracket: &Bracket,
@@ -171,7 +170,7 @@ impl<'a> Reader<'a> {
         Ok(end)
     }
 
-    /// Where a bracket leads that ends there, and the place after that.
+    /// The target of a bracket that ends there, and the place after the target.
     fn find_target(
         &mut self,
         leaf: &Leaf,
@@ -224,7 +223,7 @@ impl<'a> Reader<'a> {
     }
 }
 
-/// A destination and a title between parentheses at a place, and the place after them.
+/// A destination and a title in parentheses at a place, and the place after them.
 fn read_resource(leaf: &Leaf, place: Place) -> Option<Found> {
     let mut cursor = Cursor::new(leaf.bytes, leaf.lines, place);
     if !cursor.take(b'(') {

@@ -1,4 +1,4 @@
-//! From tokens to events.
+//! Writes events for tokens.
 
 ghost use Rattle.std.specs.Prelude.{◌≡◌, OnOk, false};
 
@@ -14,11 +14,10 @@ use md_marks::{BareLink, Leaf, Mark, Token, address, domain_end, is_www, url, ww
 use md_writer::Writer;
 use std::alloc::AllocError;
 
-/// So many of emphasis, strong and strikethrough stand in one another at most: what would be a
-/// deeper one is text.
+/// The maximum depth of nested emphasis, strong and strikethrough: a deeper one is text.
 const MOST_SPANS: usize = 32;
 
-/// What stands around a token.
+/// The context of a token.
 #[derive(Drop)]
 pub(crate) struct Around<'e> {
     pub(crate) leaf: Leaf<'e>,
@@ -26,17 +25,17 @@ pub(crate) struct Around<'e> {
     options: InlineOptions,
     pub(crate) targets: &'e [Target],
     pub(crate) definitions: &'e Definitions,
-    /// Whether texts may hold bare links that aren't tokens.
+    /// Whether texts may contain bare links that aren't tokens.
     has_late_links: bool,
     /// How many links are open.
     pub(crate) links: usize,
     /// How many images are open.
     images: usize,
-    /// How many of emphasis, strong and strikethrough are open, with those that are text.
+    /// How many of emphasis, strong and strikethrough are open, including those that are text.
     spans: usize,
 }
 
-/// Writes the events of the tokens that a reader made of a leaf.
+/// Writes the events of a leaf's tokens.
 pub(crate) fn write_tokens(
     writer: &mut Writer,
     reader: &Reader,
@@ -54,7 +53,7 @@ pub(crate) fn write_tokens(
         images: 0,
         spans: 0,
     };
-    // The text that isn't written yet.
+    // The start of the text that isn't written yet.
     let mut start = 0;
     let mut end = 0;
     for token in reader.tokens.iter() {
@@ -78,7 +77,7 @@ pub(crate) fn write_tokens(
 }
 
 impl<'e> Around<'e> {
-    /// What a token is where it stands: an end of a span that stands too deep is text.
+    /// The mark of a token in its context: an end of a span that is nested too deep is text.
     #[inline(always)]
     fn mark_of(&mut self, token: &Token) -> Mark {
         let depth = match token.mark {
@@ -100,7 +99,7 @@ impl<'e> Around<'e> {
         }
     }
 
-    /// Writes a token that is no text.
+    /// Writes a token that isn't text.
     fn write_token(&mut self, writer: &mut Writer, token: &Token) -> Result<(), AllocError> {
         let (start, end) = (token.start, token.end);
         match token.mark {
@@ -144,7 +143,7 @@ impl<'e> Around<'e> {
         }
     }
 
-    /// Writes HTML, unless it is left out.
+    /// Writes HTML, unless it is to be left out.
     fn write_html(&self, writer: &mut Writer, token: &Token) -> Result<(), AllocError>
         ensures left_out { self.now.options.html ≡ false
             → self.now.options.comments ≡ false → OnOk result (writer.new.events.items
@@ -172,7 +171,7 @@ impl<'e> Around<'e> {
         }
     }
 
-    /// Writes a text in which bare links may stand.
+    /// Writes a text that may contain bare links.
     fn write_text_with_links(
         &self,
         writer: &mut Writer,
@@ -211,7 +210,7 @@ impl<'e> Around<'e> {
         writer.data(from, end)
     }
 
-    /// Writes a node whose data may go over lines.
+    /// Writes a node whose data may span lines.
     fn write_lines(
         &self,
         writer: &mut Writer,
@@ -242,8 +241,7 @@ impl<'e> Around<'e> {
     }
 }
 
-/// The bare link whose mark stands at a place, which begins at `low` or later and ends with the
-/// text.
+/// The bare link whose mark is at an index. It begins at `low` or later, and ends with the text.
 fn bare_link(text: &[u8], low: usize, at: usize) -> Option<BareLink> {
     let high = text.len();
     match text.get(at) {

@@ -23,7 +23,7 @@ pub struct Inlines<'a> {
 }
 
 impl<'a> Inlines<'a> {
-    /// A pass over a document, whose URLs are read against a base where there is one.
+    /// A pass over a document; URLs are resolved against a base, if there is one.
     pub fn new(
         alloc: Global,
         bytes: &'a [u8],
@@ -44,11 +44,11 @@ impl<'a> Inlines<'a> {
         }
     }
 
-    /// Writes the events of a leaf's lines.
+    /// Writes the events of a leaf.
     ///
     /// # Errors
     ///
-    /// Only where memory runs out.
+    /// Returns an error only if memory runs out.
     pub fn write_leaf(&mut self, writer: &mut Writer, lines: &[Line]) -> Result<(), AllocError> {
         let leaf = Leaf::new(self.source.bytes, lines);
         self.reader.read(&leaf)?;
@@ -59,16 +59,16 @@ impl<'a> Inlines<'a> {
     ///
     /// # Errors
     ///
-    /// Only where memory runs out.
+    /// Returns an error only if memory runs out.
     pub fn write_string(&self, writer: &mut Writer, text: Span) -> Result<(), AllocError> {
         write_string(writer, self.source.bytes, text.start, text.end)
     }
 
-    /// Writes the definitions to which what is written refers by their labels.
+    /// Writes the definitions that the written events refer to by label.
     ///
     /// # Errors
     ///
-    /// Only where memory runs out.
+    /// Returns an error only if memory runs out.
     pub fn write_definitions(&self, writer: &mut Writer) -> Result<(), AllocError> {
         for (index, definition) in self.definitions.list().iter().enumerate() {
             if writer.is_referred(index) {

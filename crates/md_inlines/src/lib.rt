@@ -1,4 +1,4 @@
-//! The inline pass of a Markdown parser: the lines of a leaf become events.
+//! The inline pass of a Markdown parser: converts the lines of a leaf to events.
 #![tactic(auto)]
 
 mod brackets;

@@ -1,4 +1,4 @@
-//! Links, images and calls of footnotes as events.
+//! Writes the events of links, images and calls of footnotes.
 
 use crate::brackets::Target;
 use crate::emission::Around;
@@ -12,7 +12,7 @@ use md_writer::Writer;
 use std::alloc::AllocError;
 
 impl<'e> Around<'e> {
-    /// Writes a link that is written out as such; in a link it is text.
+    /// Writes an autolink; inside a link it is text.
     pub(crate) fn write_link(
         &self,
         writer: &mut Writer,
@@ -24,8 +24,8 @@ impl<'e> Around<'e> {
         writer.leaf(name, start, end)
     }
 
-    /// Writes a link to a URL between angle brackets. Where that has character references, they
-    /// are read in its text and in its destination.
+    /// Writes an autolink of a URL in angle brackets. Its character references are decoded both in
+    /// the text and in the destination.
     pub(crate) fn write_url_link(
         &self,
         writer: &mut Writer,
@@ -51,7 +51,7 @@ impl<'e> Around<'e> {
         writer.exit(Name::Link, end)
     }
 
-    /// Writes a call of a footnote; in a link it is text.
+    /// Writes a call of a footnote; inside a link it is text.
     pub(crate) fn write_call(
         &self,
         writer: &mut Writer,
@@ -72,7 +72,7 @@ impl<'e> Around<'e> {
         writer.exit(Name::GfmFootnoteCall, end)
     }
 
-    /// Writes the end of a link's or an image's label, and where it leads.
+    /// Writes the end of a link's or an image's label, and its target.
     pub(crate) fn write_link_end(
         &self,
         writer: &mut Writer,
@@ -99,8 +99,8 @@ impl<'e> Around<'e> {
         writer.exit(name, token.end)
     }
 
-    /// Writes where a link or an image leads by a definition: what that has, or its label where
-    /// it is long.
+    /// Writes the target of a link or an image by a definition: the definition's content, or its
+    /// label if the content is long.
     fn write_defined(
         &self,
         writer: &mut Writer,
@@ -119,7 +119,7 @@ impl<'e> Around<'e> {
         writer.exit(Name::Resource, end)
     }
 
-    /// Writes a destination and a title, which stands in such lines.
+    /// Writes a destination and a title, which is in these lines.
     fn write_resource(
         &self,
         writer: &mut Writer,

@@ -1,4 +1,4 @@
-//! The tokens of a leaf, mark by mark.
+//! Reads the tokens of a leaf, mark by mark.
 
 use crate::brackets::{Bracket, Target};
 use crate::options::InlineOptions;
@@ -7,7 +7,7 @@ use md_lines::{Place, trim_end};
 use md_marks::{Delimiters, Dollars, Endings, Leaf, Mark, Ticks, Token, next_mark, push_token};
 use std::alloc::{AllocError, Global};
 
-/// Reads leaves, one after another.
+/// Reads leaves in sequence.
 #[derive(Drop)]
 pub(crate) struct Reader<'a> {
     pub(crate) alloc: Global,
@@ -15,23 +15,23 @@ pub(crate) struct Reader<'a> {
     pub(crate) options: InlineOptions,
     /// The tokens of the leaf so far.
     pub(crate) tokens: Vec<Token>,
-    /// Where the text begins that is no token yet.
+    /// The start of the text that isn't a token yet.
     pub(crate) from: usize,
     pub(crate) delimiters: Delimiters,
-    /// The brackets that are open.
+    /// The open brackets.
     pub(crate) brackets: Vec<Bracket>,
-    /// How many of them can't begin a link, since one stands behind them.
+    /// How many of them can't begin a link, since a link follows them.
     pub(crate) inactive: usize,
-    /// How many more are open that are text, since they stand too deep.
+    /// How many more are open but are text, since they are nested too deep.
     pub(crate) deeper: usize,
-    /// Where the links and images of the leaf lead.
+    /// The targets of the links and images of the leaf.
     pub(crate) targets: Vec<Target>,
     pub(crate) ticks: Ticks,
     pub(crate) dollars: Dollars,
     pub(crate) endings: Endings,
     /// Before this place no link begins with `www.`.
     pub(crate) no_www_before: usize,
-    /// Whether texts may hold bare links that aren't tokens.
+    /// Whether texts may contain bare links that aren't tokens.
     pub(crate) has_late_links: bool,
 }
 
@@ -60,7 +60,7 @@ impl<'a> Reader<'a> {
         }
     }
 
-    /// Makes the tokens of a leaf.
+    /// Reads the tokens of a leaf.
     pub(crate) fn read(&mut self, leaf: &Leaf) -> Result<(), AllocError> {
         self.clear();
         let mut place = leaf.first();
@@ -75,7 +75,7 @@ impl<'a> Reader<'a> {
         self.delimiters.resolve(&mut self.tokens, 0)
     }
 
-    /// Forgets a leaf.
+    /// Resets the state for a new leaf.
     fn clear(&mut self) {
         self.tokens.clear();
         self.delimiters.truncate(0);
@@ -89,7 +89,8 @@ impl<'a> Reader<'a> {
         self.has_late_links = false;
     }
 
-    /// Reads from a place to the end of its line, or to a mark that goes over it: where it goes on.
+    /// Reads from a place to the end of its line, or to a mark that spans the end; returns the
+    /// place where reading continues.
     fn read_line(&mut self, leaf: &Leaf, place: Place) -> Result<Place, AllocError> {
         let text = leaf.until_end(place.line);
         let mut at = next_mark(leaf.bytes, place.at, text.len());
@@ -112,7 +113,7 @@ impl<'a> Reader<'a> {
         self.end_line(leaf, place.line)
     }
 
-    /// Reads what may be a mark: where it goes on.
+    /// Reads a possible mark; returns the place where reading continues.
     fn read_mark(&mut self, leaf: &Leaf, here: Place, byte: u8) -> Result<Place, AllocError> {
         match byte {
             b'.' => self.read_dot(leaf, here),
@@ -146,7 +147,7 @@ impl<'a> Reader<'a> {
         push_token(&mut self.tokens, mark, start, end, index)
     }
 
-    /// Makes a token of the text before a place, and begins the next text after so many bytes.
+    /// Adds a token for the text before an index, and begins the next text `after` bytes later.
     pub(crate) fn end_text(&mut self, at: usize, after: usize) -> Result<(), AllocError> {
         if self.from < at {
             push_token(&mut self.tokens, Mark::Text, self.from, at, 0)?;
@@ -155,8 +156,8 @@ impl<'a> Reader<'a> {
         Ok(())
     }
 
-    /// Ends a line: a text goes on over it where the next line follows at once and no space is
-    /// before its end.
+    /// Ends a line. The text continues across the line ending if the next line follows directly and
+    /// no space precedes the line ending.
     fn end_line(&mut self, leaf: &Leaf, line: usize) -> Result<Place, AllocError> {
         let end = leaf.end(line);
         let next_line = line.saturating_add(1);
@@ -185,8 +186,8 @@ impl<'a> Reader<'a> {
     }
 }
 
-/// Whether a full stop or a colon at a place is plain text: no `w` is before that, or no `/` is
-/// behind this.
+/// Whether a full stop or a colon at an index is plain text: no `w` precedes the full stop, or no
+/// `/` follows the colon.
 #[inline(always)]
 fn is_plain(text: &[u8], at: usize, byte: u8) -> bool {
     match byte {

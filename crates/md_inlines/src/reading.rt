@@ -1,4 +1,4 @@
-//! What each mark begins: a method for each.
+//! Reads each kind of mark, by one method for each.
 
 use crate::reader::Reader;
 use md_base::Name;
@@ -11,7 +11,7 @@ use md_references::reference_length;
 use std::alloc::AllocError;
 
 impl<'a> Reader<'a> {
-    /// A full stop: it may be that of `www.`.
+    /// Reads a full stop, which may be that of `www.`.
     pub(crate) fn read_dot(&mut self, leaf: &Leaf, here: Place) -> Result<Place, AllocError> {
         let low = self.from.max(leaf.start(here.line));
         let may_begin = self.options.bare_links && here.at >= self.no_www_before;
@@ -32,7 +32,7 @@ impl<'a> Reader<'a> {
         }
     }
 
-    /// A colon: it may be that of a URL.
+    /// Reads a colon, which may be that of a URL.
     pub(crate) fn read_colon(&mut self, leaf: &Leaf, here: Place) -> Result<Place, AllocError> {
         if !self.options.bare_links || !leaf.rest(here).starts_with(b"://") {
             return Ok(here);
@@ -48,7 +48,7 @@ impl<'a> Reader<'a> {
         }
     }
 
-    /// Adds a token of a line, with the text before it: the place after it.
+    /// Adds a token inside a line, and one for the text before it; returns the place after it.
     fn put(
         &mut self,
         line: usize,
@@ -61,12 +61,12 @@ impl<'a> Reader<'a> {
         Ok(Place { line, at: end })
     }
 
-    /// Whether a bracket is open that may begin a link.
+    /// Whether there is an open bracket that may begin a link.
     fn is_in_link(&self) -> bool {
         self.brackets.len() > self.inactive
     }
 
-    /// A backslash: an escape, or a break at the end of a line.
+    /// Reads a backslash: an escape, or a break at the end of a line.
     pub(crate) fn read_escape(&mut self, leaf: &Leaf, here: Place) -> Result<Place, AllocError> {
         let after = here.at.saturating_add(1);
         if let Some(byte) = leaf.rest(here).get(1) {
@@ -98,7 +98,7 @@ impl<'a> Reader<'a> {
         })
     }
 
-    /// Backticks: code, where as many follow.
+    /// Reads backticks: code, if as many follow.
     pub(crate) fn read_code(&mut self, leaf: &Leaf, here: Place) -> Result<Place, AllocError> {
         let length = run_length(leaf.rest(here), b'`');
         let inside = Place {
@@ -111,7 +111,7 @@ impl<'a> Reader<'a> {
         }
     }
 
-    /// `$` or `$$`: math, where the same follows.
+    /// Reads `$` or `$$`: math, if the same follows.
     pub(crate) fn read_math(&mut self, leaf: &Leaf, here: Place) -> Result<Place, AllocError> {
         if !self.options.math {
             return Ok(here);
@@ -135,7 +135,7 @@ impl<'a> Reader<'a> {
         }
     }
 
-    /// Adds a token between two marks of so many bytes: the place after the second.
+    /// Adds a token between two marks of `length` bytes; returns the place after the second.
     fn put_between(
         &mut self,
         mark: Mark,
@@ -153,7 +153,7 @@ impl<'a> Reader<'a> {
         })
     }
 
-    /// `&`: it may begin a character reference.
+    /// Reads `&`, which may begin a character reference.
     pub(crate) fn read_reference(&mut self, leaf: &Leaf, here: Place) -> Result<Place, AllocError> {
         match reference_length(leaf.rest(here)) {
             Some(length) => {
@@ -164,7 +164,7 @@ impl<'a> Reader<'a> {
         }
     }
 
-    /// `<`: it may begin a link between angle brackets, or HTML.
+    /// Reads `<`, which may begin a link in angle brackets, or HTML.
     pub(crate) fn read_angle(&mut self, leaf: &Leaf, here: Place) -> Result<Place, AllocError> {
         if let Some(link) = autolink_at(leaf.rest(here)) {
             let mark = match link.name {
@@ -190,7 +190,7 @@ impl<'a> Reader<'a> {
         }
     }
 
-    /// A run of `*`, `_` or `~`.
+    /// Reads a run of `*`, `_` or `~`.
     pub(crate) fn read_delimiter(
         &mut self,
         leaf: &Leaf,
@@ -225,7 +225,7 @@ impl<'a> Reader<'a> {
         })
     }
 
-    /// `!`: it may begin an image.
+    /// Reads `!`, which may begin an image.
     pub(crate) fn read_image_start(
         &mut self,
         leaf: &Leaf,

@@ -1,10 +1,10 @@
-//! The document that is read.
+//! The input document.
 
 use md_lines::Line;
 use md_urls::Base;
 use std::alloc::Global;
 
-/// A document: its bytes, the lines of all its leaves, and against what its URLs are read.
+/// A document: its bytes, the lines of all its leaves, and the base of its URLs.
 #[derive(Clone, Copy)]
 pub(crate) struct Source<'a> {
     pub(crate) alloc: Global,

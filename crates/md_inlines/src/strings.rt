@@ -1,4 +1,4 @@
-//! Texts in which only escapes and character references are read.
+//! Writes texts in which only escapes and character references are read.
 
 ghost use Rattle.std.specs.Prelude.{◌<◌, length};
 
@@ -9,7 +9,7 @@ use md_writer::Writer;
 use memchr::memchr2;
 use std::alloc::AllocError;
 
-/// Writes the events of a text of escapes and references.
+/// Writes the events of a text with escapes and references.
 pub(crate) fn write_string(
     writer: &mut Writer,
     bytes: &[u8],
@@ -19,7 +19,7 @@ pub(crate) fn write_string(
     write_decoded(writer, bytes, start, end, true)
 }
 
-/// Writes the events of a URL between angle brackets, in which a backslash is one.
+/// Writes the events of a URL in angle brackets, in which a backslash isn't an escape.
 pub(crate) fn write_url(
     writer: &mut Writer,
     bytes: &[u8],
@@ -29,7 +29,7 @@ pub(crate) fn write_url(
     write_decoded(writer, bytes, start, end, false)
 }
 
-/// Writes the events of a text of references, and of escapes where they are read.
+/// Writes the events of a text with references, and with escapes if `has_escapes`.
 fn write_decoded(
     writer: &mut Writer,
     bytes: &[u8],
@@ -62,8 +62,8 @@ fn write_decoded(
     writer.data(from, end)
 }
 
-/// How long the reference is that begins at a place, or the backslash there that escapes what
-/// follows it; 0 where the byte there stands for itself.
+/// The length of the reference that begins at an index, or of the backslash there that escapes the
+/// next byte; 0 for any other byte.
 #[inline(always)]
 pub(crate) fn code_length(text: &[u8], at: usize, has_escapes: bool) -> usize
     requires { at < length text.now }
@@ -75,7 +75,7 @@ pub(crate) fn code_length(text: &[u8], at: usize, has_escapes: bool) -> usize
     }
 }
 
-/// Whether the backslash at a place escapes what follows it.
+/// Whether the backslash at an index escapes the next byte.
 fn is_escape(text: &[u8], at: usize) -> bool {
     match text.get(at.saturating_add(1)) {
         Some(byte) => is(*byte, Class::Punctuation),
@@ -83,7 +83,7 @@ fn is_escape(text: &[u8], at: usize) -> bool {
     }
 }
 
-/// Whether a character reference stands in a text.
+/// Whether a text contains a character reference.
 pub(crate) fn has_reference(text: &[u8]) -> bool {
     for (index, byte) in text.iter().enumerate() {
         if *byte == b'&' && reference_length(&text[index..]).is_some() {

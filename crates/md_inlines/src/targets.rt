@@ -1,4 +1,4 @@
-//! Where links and images lead: destinations, titles and definitions.
+//! Targets of links and images: destinations, titles and definitions.
 
 use crate::source::Source;
 use crate::strings::write_string;
@@ -12,16 +12,16 @@ use std::alloc::AllocError;
 /// The destination of a link, an image or a definition.
 #[derive(Clone, Copy, Debug, PartialEq, Eq)]
 pub(crate) struct Destination {
-    /// Where it stands.
+    /// Its range.
     pub(crate) place: Span,
     /// Whether it has neither an escape nor a reference.
     pub(crate) is_plain: bool,
-    /// The index of the definition that it is of.
+    /// The index of its definition, if it has one.
     pub(crate) definition: Option<usize>,
 }
 
 impl Destination {
-    /// One that stands behind a link's text.
+    /// The destination of a resource.
     pub(crate) fn inline(place: Span) -> Destination {
         Destination {
             place,
@@ -30,7 +30,7 @@ impl Destination {
         }
     }
 
-    /// That of a definition.
+    /// The destination of a definition.
     pub(crate) fn defined(definition: &Definition) -> Destination {
         Destination {
             place: definition.destination,
@@ -58,7 +58,7 @@ pub(crate) fn write_definition(
     writer.exit(Name::Definition, definition.destination.end)
 }
 
-/// Writes a destination, if it has any byte. What it is read against a base stands behind the
+/// Writes a destination, if it isn't empty. A URL resolved against a base is appended to the
 /// document.
 pub(crate) fn write_destination(
     writer: &mut Writer,
@@ -79,7 +79,7 @@ pub(crate) fn write_destination(
     writer.exit(name, place.end)
 }
 
-/// Writes a title, if it has any byte, of the lines in which it stands.
+/// Writes a title, if it isn't empty, from the lines that contain it.
 pub(crate) fn write_title(
     writer: &mut Writer,
     bytes: &[u8],

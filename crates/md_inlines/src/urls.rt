@@ -1,4 +1,4 @@
-//! URLs that are read against a base.
+//! Resolves URLs against a base.
 
 use crate::source::Source;
 use crate::strings::code_length;
@@ -9,7 +9,8 @@ use md_urls::Base;
 use md_writer::{Url, Writer};
 use std::alloc::{AllocError, Global};
 
-/// What becomes of a destination's URL where there is a base. That of a definition is read once.
+/// The resolution of a destination's URL, if there is a base. That of a definition is computed
+/// once.
 pub(crate) fn url_of(
     writer: &mut Writer,
     source: &Source,
@@ -31,7 +32,7 @@ pub(crate) fn url_of(
     }
 }
 
-/// Reads a destination's URL against a base.
+/// Resolves a destination's URL against a base.
 fn resolve(
     writer: &mut Writer,
     source: &Source,
@@ -54,7 +55,7 @@ fn resolve(
     }
 }
 
-/// A text of escapes and references as it is meant.
+/// A text with its escapes and references decoded.
 fn decoded(alloc: Global, text: &[u8]) -> Result<Vec<u8>, AllocError> {
     let mut meant = Vec::with_capacity(alloc, text.len())?;
     let mut from = 0;

@@ -48,7 +48,7 @@ calls-entered bytes (Node name start end children rest) =
     own GfmFootnoteCall = refl
     own _ = refl
 
--- what calls take, told by the texts of options
+-- the length of calls, by the texts of options
 calls-taken : (options : CompileOptions) (calls : ℕ) →
     calls * call_fixed options ≡ 600 * calls + 6 * (calls * call_texts options)
 calls-taken options calls =

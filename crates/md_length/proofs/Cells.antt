@@ -1,5 +1,5 @@
--- The cells of tables' rows are bounded by what work counts for them: behind a table's columns each
--- row counts all of them, and its head has one row before.
+-- The cells of tables' rows are bounded by what work counts for them: after a table's columns are
+-- known, each row counts all of them, and its head has one row before.
 use Rattle.std.proofs.Common.{◌≡◌, ℕ, ◌+◌, ◌*◌, ◌≤◌, Bool, true, false, ◌&&◌}
 use Rattle.std.proofs.Common.{not, List, [], ◌∷◌, ◌++◌, length, refl, sym, ap, ◌∙◌, arith}
 use Rattle.std.proofs.Common.{append_assoc}
@@ -200,7 +200,7 @@ aligned-few (Node name start end children rest) =
     own GfmTableDelimiterCellValue few = omega arith
     own _ few = omega (arith, few)
 
--- ---- rows behind their columns
+-- ---- rows after their columns are known
 -- a row counts what it has
 own-row : (name : Name) (columns : List AlignKind) (k : ℕ) (end : Point) → length columns ≤ k →
     5 * (if is GfmTableRow name then length columns else 0)

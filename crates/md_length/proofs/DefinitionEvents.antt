@@ -1,4 +1,4 @@
--- What is counted of the definitions, told of their nodes.
+-- The lengths of the definitions, by their nodes.
 use Rattle.std.proofs.Common.{◌≡◌, ℕ, zero, suc, ◌+◌, Bool, true, false, ◌&&◌}
 use Rattle.std.proofs.Common.{◌||◌, not, List, [], ◌∷◌, ◌++◌, length, map, drop, refl, sym, ap, ◌∙◌}
 use Rattle.std.proofs.Common.{subst, append_assoc, append-nil}
@@ -136,7 +136,7 @@ dropped (e ∷ events) zero event following split = cc
 dropped (e ∷ events) (suc index) event following split =
     dropped events index event following split
 
--- behind the events of some nodes
+-- after the events of some nodes
 behind : (events : List Event) (index : ℕ) (forest : Forest) (tail : List Event) →
     drop index events ≡ flatten forest ++ tail → drop (index_after index forest) events ≡ tail
 behind events index Empty tail split = split

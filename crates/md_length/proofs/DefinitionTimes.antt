@@ -1,4 +1,4 @@
--- What definitions take is at most so many times what is counted of them.
+-- The length of definitions is at most a constant times their counted length.
 use Rattle.std.proofs.Common.{◌≡◌, ℕ, zero, suc, ◌+◌, ◌*◌, ◌≤◌, Bool, true, false}
 use Rattle.std.proofs.Common.{List, [], ◌∷◌, ◌++◌, length, refl, sym, ap, ◌∙◌}
 use Rattle.std.proofs.Common.{subst, arith, Option, Some, None}
@@ -60,7 +60,7 @@ cost-short names forest =
     read-times : (times length : ℕ) → 42 ≤ times → 42 * length ≤ times * length
     read-times times length few = mul-le-mul_right length few
 
--- each is at most so many times the other
+-- each is at most a constant times the other
 abbrev AreTimes : ℕ → List ℕ → List ℕ → Type 0
 AreTimes times [] lengths = lengths ≡ []
 AreTimes times (most ∷ costs) [] = ⊥

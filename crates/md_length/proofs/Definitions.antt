@@ -1,5 +1,5 @@
--- Where a definition leads takes no more than what its nodes may print, and that no more than
--- what is read in it and its events.
+-- The target of a definition takes no more than its nodes may print, and that no more than what is
+-- read in the definition and its events.
 use Rattle.std.proofs.Common.{◌≡◌, ℕ, suc, ◌*◌, ◌≤◌, Bool, true, false, ◌&&◌}
 use Rattle.std.proofs.Common.{◌||◌, not, List, [], ◌∷◌, ◌++◌, length, map, refl, sym, ap, ◌∙◌}
 use Rattle.std.proofs.Common.{subst, arith, Option, Some, None, bytes_eq}
@@ -33,7 +33,7 @@ use Rattle.md_length.proofs.Kept.{kept, both-kept, target-kept}
 use Rattle.md_length.proofs.Pieces.{size, layout-short}
 use Rattle.md_length.proofs.Strings.{around_in, strings-short, has_strings, picked}
 
--- ---- what stands in a definition
+-- ---- the content of a definition
 abbrev is_sources : Content → Bool
 is_sources content = elim content [ Sources ↦ true | _ ↦ false ]
 
@@ -119,7 +119,7 @@ definition_costs names (Node name start end children rest) =
     (definition_costs names children ++ when (is Definition name) (cost names children ∷ []))
     ++ definition_costs names rest
 
--- as many take no more than so much each
+-- a number of items, each with a maximum length
 abbrev pub AreBelow : List Defined → List ℕ → Type 0
 AreBelow [] costs = costs ≡ []
 AreBelow (defined ∷ definitions) [] = ⊥
@@ -176,7 +176,7 @@ definitions-below given around before content (Node name start end children rest
     )
     own-below _ inside = refl
 
--- where the first definition leads that has an identifier
+-- the target of the first definition that has an identifier
 suc-at : (m : ℕ) (ms : List ℕ) (place : Option ℕ) →
     length_at (m ∷ ms) (option_map (λ place. suc place) place) ≡ length_at ms place
 suc-at m ms None = refl

@@ -36,7 +36,7 @@ childless (Node name start end children rest) fits = lie fits.0
 abbrev pub shows : Name → Forest → List Symbol
 shows name children = shown (standing_of name) (spine children)
 
--- the cells of what stands in a head, by what is shown
+-- the cells of a head's content, by its symbols
 abbrev HasOneRow : Bool → List AlignKind → List Symbol → ℕ → Type 0
 HasOneRow begun columns symbols amount =
     amount ≤ paid begun (after is_first_row begun symbols) (length columns)

@@ -1,4 +1,4 @@
--- What is kept of nodes to be printed elsewhere, and where a link or an image leads.
+-- What of nodes is kept to be printed elsewhere, and the target of a link or an image.
 use Rattle.std.proofs.Common.{◌≡◌, ℕ, ◌+◌, ◌*◌, ◌≤◌, Bool, true, false}
 use Rattle.std.proofs.Common.{◌&&◌, List, [], ◌∷◌, ◌++◌, length, refl}
 use Rattle.std.proofs.Common.{arith, Option, Some, None, unwrap_or, lit≤}
@@ -30,7 +30,7 @@ use Rattle.md_length.proofs.Strings.{around_in}
 abbrev pub title_length : Option (List ℕ) → ℕ
 title_length title = option_map_or (λ text. length text) title 0
 
--- where something leads, as it is found so far
+-- a target, as found so far
 abbrev pub kept : Found → ℕ
 kept found = 6 * option_map_or (λ text. length text) found.destination 0
     + title_length found.title + option_map_or weight found.resource 0
@@ -93,7 +93,7 @@ calls-few given around before (Node name start end children rest) =
       few,
     )
 
--- ---- where a link or an image leads
+-- ---- the target of a link or an image
 pub media-leads : (given : Given) (at : At) (resource : Option Target) →
     (target_of at.children referral.Missing ≡ referral.Missing → ⊥) →
     (target_of at.children referral.Missing ≡ referral.Resource → is_some resource ≡ true) →

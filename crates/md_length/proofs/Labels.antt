@@ -1,5 +1,5 @@
--- The identifiers of footnote calls are no longer than twelve times their labels, each of which is
--- read once.
+-- The identifiers of footnote calls are at most twelve times as long as their labels, each of which
+-- is read once.
 use Rattle.std.proofs.Common.{ℕ, ◌+◌, ◌*◌, ◌≤◌, Bool, true, false, List, [], length}
 use Rattle.std.proofs.Common.{arith, Option, Some, None, unwrap_or}
 use Rattle.std.specs.Prelude.{if◌then◌else◌, option_map}
@@ -92,7 +92,7 @@ pub labels-short : (bytes : List ℕ) (forest : Forest) →
     called (λ identifier. length identifier) bytes forest ≤ 12 * lengths forest
 labels-short bytes forest = omega (arith, labels-left bytes forest referral.Missing)
 
--- ---- what is taken for each call, where that goes by the length of its identifier
+-- ---- the length of each call, if it depends on the length of its identifier
 pub called-split : (f : List ℕ → ℕ) (fixed : ℕ) (bytes : List ℕ) (forest : Forest) →
     ((identifier : List ℕ) → f identifier ≤ fixed + 24 * length identifier) →
     called f bytes forest

@@ -11,7 +11,7 @@ use Rattle.md_base.specs.Tree.{Forest, Empty, Node, flatten, exiting}
 use Rattle.md_length.specs.Work.{is_read, read_length, covered_from}
 use Rattle.md_length.specs.Lengths.{lengths, GoesForward}
 
--- what is read from an index on, where so many nodes that are read are open
+-- the length of what is read from an index, if this many nodes that are read are open
 abbrev read_from : ℕ → ℕ → List Event → ℕ
 read_from index depth events = covered_from is_read index depth events
 

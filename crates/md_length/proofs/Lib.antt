@@ -1,4 +1,4 @@
--- How long what is made of a text is, and what stands at a place; pieces.
+-- Lengths of converted texts, and of texts at positions; pieces.
 pub mod Texts
 pub mod Places
 pub mod Pieces

@@ -1,4 +1,4 @@
--- What definitions take where links and images lead to them is bounded by what is used again.
+-- The reuse bounds the length of definitions for the links and images that refer to them.
 use Rattle.std.proofs.Common.{◌≡◌, ℕ, ◌+◌, ◌*◌, ◌≤◌}
 use Rattle.std.proofs.Common.{List, [], ◌∷◌, ◌++◌, refl, sym, ap}
 use Rattle.std.proofs.Common.{subst, arith, Option}
@@ -47,7 +47,7 @@ led-append : (lengths : List ℕ) (leads : Mention → Option ℕ) (xs ys : List
 led-append lengths leads [] ys = omega arith
 led-append lengths leads (x ∷ xs) ys = omega (arith, led-append lengths leads xs ys)
 
--- a link or an image leads to a definition of which this is known
+-- a link or an image refers to a definition with this known
 abbrev IsLed : Given → List ℕ → (Mention → Option ℕ) → Name → Point → Point → Forest → Type 0
 IsLed given costs leads name start end children = led given children
     ≤ length_at costs (leads (mention_of reading.Media (target_of children referral.Missing)))
@@ -74,7 +74,7 @@ links-led given costs leads (Node name start end children rest) each =
     own Image h = h
     own _ h = omega arith
 
--- the check leads them to the definitions that the meaning finds
+-- the check resolves them to the definitions that the meaning finds
 target-led : (bytes : List ℕ) (names : List (List ℕ × List ℕ)) (options : CompileOptions)
     (document : Forest) → IsGrammatical bytes names document →
     (name : Name) (start end : Point) (children : Forest) →

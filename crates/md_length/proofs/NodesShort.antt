@@ -33,7 +33,7 @@ use Rattle.md_length.proofs.Prints.{prints-short}
 use Rattle.md_length.proofs.Strings.{notes, notes-append}
 use Rattle.md_length.proofs.Kept.{kept, held, target-kept, media-leads}
 
--- what is printed beside a node's own text is what it uses, where its resource leads and the
+-- what a node prints besides its own text is what it uses again, its resource's target and the
 -- heading that waits for it
 extra-covered : (given : Given) (at : At) (waits : Bool) (name : Name) →
     IsSound name at.place.start at.place.end at.children →
@@ -59,7 +59,7 @@ extra-covered given at waits GfmFootnoteCall sound found few rare under other =
 extra-covered given at waits HeadingSetextText sound found few rare under other = lie (sym other)
 extra-covered given at waits _ sound found few rare under other = omega arith
 
--- a name of which something is found
+-- a name that adds something to the spine
 abbrev is_found : Name → Bool
 is_found name = elim name [
   | HeadingSetextText ↦ true
@@ -71,7 +71,7 @@ is_found name = elim name [
   | _ ↦ false
 ]
 
--- where something leads, and its title
+-- a target, and its title
 abbrev pub is_source : Name → Bool
 is_source name = elim name [
   | DefinitionDestinationString ↦ true

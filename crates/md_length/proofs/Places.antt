@@ -108,7 +108,7 @@ numbered-short radix digits = by (is_number radix digits)
         character-short (if is_replaced code then 0xFFFD else code)
     by false = lit≤ tt
 
--- what a reference stands for
+-- the text of a reference
 pub decoded-short : (names : List (List ℕ × List ℕ)) (marker : ℕ) (value : List ℕ) →
     length (unwrap_or (decoded names marker value) []) ≤ 4 + longest names
 decoded-short names marker value =

@@ -1,4 +1,4 @@
--- What is printed of a text, and where something leads: no more than so many bytes for each byte.
+-- The printed length of a text, and of a target: at most so many bytes for each byte.
 use Rattle.std.proofs.Common.{◌≡◌, ℕ, suc, ◌+◌, ◌-◌, ◌*◌, ◌≤◌}
 use Rattle.std.proofs.Common.{Bool, true, false, ◌&&◌, ◌||◌, List, [], ◌∷◌, ◌++◌}
 use Rattle.std.proofs.Common.{length, arith, codes, lit≤}
@@ -110,7 +110,7 @@ picture-short options target label =
       size-append (title_attribute target.title) (said (codes " />")),
     )
 
--- an autolink leads to its text after at most seven bytes
+-- an autolink links to its text with a prefix of at most seven bytes
 autolink-short : (given : Given) (at : At) (plain : Bool) (prefix : List ℕ) → length prefix ≤ 7 →
     size (autolink given at plain prefix) ≤ 86 + 12 * span at.place.start at.place.end
 autolink-short given at true prefix few =

@@ -1,4 +1,4 @@
--- A link or an image that leads to its resource finds one among its children.
+-- A link or an image whose target is its resource has a resource among its children.
 use Rattle.std.proofs.Common.{◌≡◌, ◌⊎◌, inl, inr, ℕ, Bool, true, ◌&&◌, List, Option, Some, None}
 use Rattle.std.proofs.Common.{refl}
 use Rattle.std.specs.Prelude.{is_some}

@@ -1,4 +1,4 @@
--- A table's head comes before its body, and a head has one row, told of their spines.
+-- A table's head comes before its body, and a head has one row, by their spines.
 use Rattle.std.proofs.Common.{◌≡◌, ℕ, ◌+◌, ◌≤◌, Bool, true, false, ◌&&◌}
 use Rattle.std.proofs.Common.{◌||◌, not, List, [], ◌∷◌, ◌++◌, refl, ap, ◌∙◌, subst}
 use Rattle.std.proofs.Common.{arith}

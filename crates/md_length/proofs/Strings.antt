@@ -32,7 +32,7 @@ use Rattle.md_length.specs.Costs.{own, cost}
 use Rattle.md_length.proofs.Pieces.{size, size-append}
 use Rattle.md_length.proofs.PrintedTexts.{escaped-short, reference-short, line_ending-short}
 
--- what was computed of all names of which a test holds, of one of them
+-- a fact computed for all names that pass a test, for one of them
 pub picked : {A : Type 0} (b : Bool) (x y : A) → (if b then x else y) ≡ y → b ≡ true → x ≡ y
 picked true x y h e = h
 picked false x y h e = lie e

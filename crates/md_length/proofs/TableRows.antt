@@ -35,7 +35,7 @@ use Rattle.md_length.proofs.Spined.{paid-twice, own_alignments}
 use Rattle.md_length.proofs.HeadRows.{childless, shows, next-rows, inner-rows, goes_on, head-rows}
 
 -- ---- the rows of a table
--- behind a head no columns come
+-- after a head no columns follow
 none-aligned : (forest : Forest) (around : Role) (before : Option Symbol) → Fits Rows forest →
     AreShaped forest around before → spined is_head in_table true (spine forest) ≡ true →
     alignments forest ≡ []
@@ -70,7 +70,7 @@ paid-most true ended amount = omega arith
 paid-most false true amount = omega arith
 paid-most false false amount = omega arith
 
--- the columns that are known behind a node
+-- the columns that are known after a node
 abbrev behind_node : Name → Forest → ℕ → ℕ
 behind_node name children k = k + ((if is_column name then 1 else 0) + values children)
 

@@ -21,7 +21,7 @@ use Rattle.md_text.specs.Url.{hex_digit, percent, stays, normalized_url, sanitiz
 use Rattle.md_text.specs.Url.{has_permitted_protocol}
 use Rattle.md_text.specs.Filter.{filtered_byte, tag_filtered, begins_disarmed_name, past_slash}
 
--- ---- what is made of each element by itself
+-- ---- the result for each element
 pub flat_map-short : {X : Type 0} (f : X → List ℕ) (k : ℕ) → ((x : X) → length (f x) ≤ k) →
     (xs : List X) → length (flat_map f xs) ≤ k * length xs
 flat_map-short f k each [] = omega arith

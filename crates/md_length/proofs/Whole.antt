@@ -33,7 +33,7 @@ use Rattle.md_length.proofs.Parts.{uses-parts, cost-split, calls-sum, numbers-sh
 use Rattle.md_length.proofs.Pieces.{size-append, layout-short}
 use Rattle.md_length.proofs.Sections.{section-short}
 
--- what each call takes besides what goes by its identifier's length
+-- the length of each call besides what depends on its identifier's length
 abbrev pub call_fixed : CompileOptions → ℕ
 call_fixed options = 600 + 6 * (4 * option_length options.gfm_footnote_clobber_prefix
     + option_length options.gfm_footnote_back_label)
@@ -71,7 +71,8 @@ calls-few-nodes bytes (Node name start end children rest) =
     own true = omega arith
     own false = omega arith
 
--- what is given to the nodes of a document: first nothing, then the calls, then the definitions too
+-- the context of a document's nodes: first without calls and definitions, then with the calls, then
+-- also with the definitions
 abbrev pub alone_in : CompileOptions → List (List ℕ × List ℕ) → List ℕ → Forest → Given
 alone_in options names bytes document = record {
   bytes = bytes;

@@ -1,7 +1,7 @@
--- The longest text that a name stands for.
+-- The length of the longest text of a named reference.
 use Rattle.std.specs.Prelude.{ℕ, max, List, [], ◌∷◌, length}
 
--- of the names of a table, 0 where it has none
+-- the maximum over the names of a table, 0 if it is empty
 abbrev pub longest : List (List ℕ × List ℕ) → ℕ
 longest [] = 0
 longest (entry ∷ names) = max (length entry.1) (longest names)

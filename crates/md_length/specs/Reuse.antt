@@ -1,5 +1,5 @@
--- How much a document uses again when it is printed: definitions where they are referred to, and
--- in footnote calls their labels and the texts of options.
+-- How much a document uses again when it is printed: definitions for the links and images that
+-- refer to them, and for footnote calls their labels and the texts of options.
 use Rattle.std.specs.Prelude.{ℕ, ◌+◌, ◌*◌, suc, Bool, true, false, if◌then◌else◌, List, [], ◌∷◌}
 use Rattle.std.specs.Prelude.{map, drop, length, slice_get, Option, Some, None, string_bytes}
 use Rattle.std.specs.Prelude.{String}
@@ -16,29 +16,30 @@ use Rattle.md_tree.specs.Mentions.{mentions_of}
 use Rattle.md_tree.specs.Numbers.{definition_for}
 use Rattle.md_length.specs.Work.{enters, before_definition, read_length, covered}
 
--- what is read in the definition that the event at an index enters, and one for each event in it
+-- the length of what is read in the definition that the event at an index enters, plus one for each
+-- event in it
 abbrev pub definition_length : List Event → ℕ → ℕ
 definition_length events entry =
     let inside = before_definition (drop (suc entry) events) in
     read_length inside + length inside
 
--- of each definition, in the order of their exits
+-- the same for each definition, in the order of their exits
 abbrev pub definition_lengths : Forest → List ℕ
 definition_lengths document =
     map (definition_length (flatten document)) (definition_entries 0 document)
 
--- the length at a place, and 0 where there is none
+-- the length at an index, and 0 if there is none
 abbrev pub length_at : List ℕ → Option ℕ → ℕ
 length_at lengths None = 0
 length_at lengths (Some place) = option_map_or (λ found. found) (slice_get lengths place) 0
 
--- for each of some mentions the length of the definition to which it leads
+-- for each of some mentions the length of the definition that it refers to
 abbrev pub led_lengths : List ℕ → (Mention → Option ℕ) → List Mention → ℕ
 led_lengths lengths leads [] = 0
 led_lengths lengths leads (mention ∷ mentions) =
     length_at lengths (leads mention) + led_lengths lengths leads mentions
 
--- for each link and image that leads to a definition what is counted of that one
+-- for each link and image that refers to a definition, the length of that definition
 abbrev pub referred : List ℕ → Forest → ℕ
 referred bytes document =
     led_lengths (definition_lengths document) (definition_for bytes (mentions_of document))
@@ -58,14 +59,14 @@ entries is (event ∷ events) = (if enters is event then 1 else 0) + entries is 
 abbrev pub option_length : Option (String Global) → ℕ
 option_length text = option_map_or (λ set. length (string_bytes set)) text 0
 
--- the texts of options that a call prints: the prefix in its link, its id, the way back and the
--- id of its footnote; the label of the way back
+-- the lengths of the option texts that a call prints: the prefix in its link, its id, the
+-- backreference and the id of its footnote; the label of the backreference
 abbrev pub call_texts : CompileOptions → ℕ
 call_texts options = 4 * option_length options.gfm_footnote_clobber_prefix
     + option_length options.gfm_footnote_back_label
 
--- what is counted of the definitions to which links and images lead; for each call the texts of
--- options; and five times the lengths of calls, whose labels are printed four times, as URLs
+-- the lengths of the definitions that links and images refer to; for each call the option texts;
+-- and five times the lengths of calls, whose labels are printed four times, as URLs
 abbrev pub reuse : CompileOptions → List ℕ → Forest → ℕ
 reuse options bytes document = referred bytes document
     + entries is_call (flatten document) * call_texts options

@@ -1,5 +1,5 @@
--- What the lengths ask of the labels of a document's links and images. Only proofs speak of it:
--- each document of the grammar is so.
+-- The conditions that the lengths need on the labels of a document's links and images. Only proofs
+-- use it: each document of the grammar fulfils them.
 use Rattle.std.specs.Prelude.{◌≡◌}
 use Rattle.md_base.specs.declared.event.Name.{Name}
 use Rattle.md_base.specs.declared.event.Name.TheVariants.{Link, Image, Label}
@@ -9,7 +9,7 @@ use Rattle.md_base.specs.Tree.{Forest}
 use Rattle.md_tree.specs.declared.mention.Referral.TheVariants.{Missing, Resource}
 use Rattle.md_tree.specs.Rules.{target_of}
 
--- a link or an image has a target; no resource stands in a label or in a footnote's prefix
+-- a link or an image has a target; no resource is inside a label or a footnote's prefix
 abbrev pub IsSound : Name → Point → Point → Forest → Type 0
 IsSound Link start end children = target_of children Missing ≡ Missing → ⊥
 IsSound Image start end children = target_of children Missing ≡ Missing → ⊥

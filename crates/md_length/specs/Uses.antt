@@ -1,5 +1,5 @@
--- What some nodes print that isn't their own text: numbers of lists, ranks, where links and images
--- lead by a definition, cells that fill rows, footnote calls. Only proofs speak of it.
+-- What some nodes print that isn't their own text: numbers of lists, ranks, targets of links and
+-- images in definitions, cells that fill rows, footnote calls. Only proofs use it.
 use Rattle.std.specs.Prelude.{ℕ, ◌+◌, ◌*◌, if◌then◌else◌, List, [], ◌∷◌, length}
 use Rattle.std.specs.Option.{option_map_or}
 use Rattle.std.specs.Fmt.{decimal}
@@ -19,27 +19,27 @@ use Rattle.md_meaning.specs.Meaning.Media.{target_defined}
 use Rattle.md_shape.specs.Built.{rank_in}
 use Rattle.md_length.specs.Reuse.{is_media, option_length}
 
--- what a target takes where it is printed
+-- the length of a target when it is printed
 abbrev pub weight : Target → ℕ
 weight target = 6 * length target.destination + option_map_or (λ text. length text) target.title 0
 
--- an id of a footnote, or of a call: what it begins with, its identifier as a URL, and numbers
+-- the length of an id of a footnote, or of a call: its prefix, its identifier as a URL, and numbers
 abbrev pub id_cost : CompileOptions → List ℕ → ℕ
 id_cost options identifier =
     64 + 6 * option_length options.gfm_footnote_clobber_prefix + 6 * length identifier
 
--- a call: the id that it leads to, and its own
+-- the length of a call: the id that it links to, and its own
 abbrev pub call_cost : CompileOptions → List ℕ → ℕ
 call_cost options identifier = 140 + 2 * id_cost options identifier
 
--- what the definition takes to which a link or an image leads
+-- the length of the definition that a link or an image refers to
 abbrev pub led : Given → Forest → ℕ
 led given children = elim (target_of children Missing) [
   | Label place ↦ weight (target_defined given (identifier_of given.bytes children))
   | _ ↦ 0
 ]
 
--- the text of a list's number
+-- the length of a list's number
 abbrev pub number_length : List ℕ → Forest → ℕ
 number_length bytes children =
     option_map_or (λ place. length (text_in bytes place)) (number_in_list children) 0
@@ -55,7 +55,7 @@ used given columns name children = elim name [
   | _ ↦ 0
 ]
 
--- the columns of the table around a node's children
+-- the columns of the innermost table for a node's children
 abbrev pub columns_in : List AlignKind → Name → Forest → List AlignKind
 columns_in columns name children = if is GfmTable name then alignments children else columns
 
@@ -65,29 +65,29 @@ uses given columns (Node name start end children rest) =
     used given columns name children + uses given (columns_in columns name children) children
     + uses given columns rest
 
--- a way back to a call
+-- the length of a backreference to a call
 abbrev pub back_cost : CompileOptions → List ℕ → ℕ
 back_cost options identifier =
     160 + 6 * option_length options.gfm_footnote_back_label + id_cost options identifier
 
--- a footnote in the section, without its text and its ways back
+-- the length of a footnote in the section, without its text and its backreferences
 abbrev pub item_cost : CompileOptions → List ℕ → ℕ
 item_cost options identifier = 32 + id_cost options identifier
 
--- what some identifiers take
+-- the sum over some identifiers
 abbrev pub sum_of : (List ℕ → ℕ) → List (List ℕ) → ℕ
 sum_of f [] = 0
 sum_of f (identifier ∷ identifiers) = f identifier + sum_of f identifiers
 
--- ---- the same apart, of some nodes
--- the texts of lists' numbers
+-- ---- the same separately, for some nodes
+-- the lengths of lists' numbers
 abbrev pub numbers : List ℕ → Forest → ℕ
 numbers bytes Empty = 0
 numbers bytes (Node name start end children rest) =
     (if is ListOrdered name then number_length bytes children else 0) + numbers bytes children
     + numbers bytes rest
 
--- what definitions take where links and images lead to them
+-- the lengths of definitions for the links and images that refer to them
 abbrev pub referred : Given → Forest → ℕ
 referred given Empty = 0
 referred given (Node name start end children rest) =
@@ -101,7 +101,7 @@ cells columns (Node name start end children rest) =
     (if is GfmTableRow name then length columns else 0)
     + cells (columns_in columns name children) children + cells columns rest
 
--- what is taken for each footnote call
+-- the sum over the footnote calls
 abbrev pub called : (List ℕ → ℕ) → List ℕ → Forest → ℕ
 called f bytes Empty = 0
 called f bytes (Node name start end children rest) =

@@ -1,4 +1,4 @@
-//! What holds of every document, as the contracts of functions that do nothing.
+//! Facts about every document, as contracts of functions that do nothing.
 
 ghost use Rattle.std.specs.Prelude.{◌+◌, ◌≤◌, ◌<◌, ◌^◌, ℕ, List, length};
 ghost use Rattle.md_base.specs.Tree.{Forest, flatten};
@@ -9,8 +9,8 @@ ghost use Rattle.md_length.specs.Bound.{text_bound};
 ghost use Rattle.md_length.specs.Reuse.{reuse};
 ghost use Rattle.md_length.specs.Work.{work};
 
-/// The text of each document of the grammar is bounded by how many events it has, their work and
-/// what the document uses again.
+/// The length of the text of each document of the grammar is bounded by its number of events, their
+/// work and its reuse.
 pub fn text_is_bounded()
     ensures { (options : CompileOptions) (names : List (List ℕ × List ℕ))
         (bytes : List ℕ) (document : Forest)

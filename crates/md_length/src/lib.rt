@@ -1,5 +1,5 @@
-//! How long the text of a document may be: by how many events it has, how much there is to read and
-//! to print, and how much is used again.
+//! Bounds on the length of a document's text: by its number of events, by how much there is to read
+//! and to print, and by how much is used again.
 #![tactic(auto)]
 
 pub mod laws;

@@ -1,3 +1,3 @@
--- What the contracts of the scanners cite.
+-- The definitions that the contracts of the scanners cite.
 pub mod Lines
 pub mod Reading

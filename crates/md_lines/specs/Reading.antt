@@ -1,8 +1,8 @@
--- How much a cursor has before it.
+-- How much input remains for a cursor.
 use Rattle.std.specs.Prelude.{ℕ, ◌+◌, ◌-◌, ◌*◌, length}
 use Rattle.md_lines.specs.declared.cursor.Cursor.{Cursor}
 
--- what is left of the cursor's line, and more than that for each line after it
+-- the rest of the cursor's line, and for each line after it more than its length
 abbrev pub left : Cursor → ℕ
 left cursor =
     (length cursor.lines.now - cursor.line) * 18446744073709551616 + (cursor.end - cursor.at)

@@ -11,13 +11,14 @@ pub enum Class {
     Alphanumeric = 4,
     /// An ASCII letter.
     Alphabetic = 8,
-    /// What may be a mark in a text: an escape, code, a link, emphasis, math, a bare address.
+    /// A byte that may begin a mark in text: an escape, code, a link, emphasis, math, a bare
+    /// address.
     Mark = 16,
-    /// What may end a link's destination that has no angle brackets, or counts in it.
+    /// A byte that may end a link's destination without angle brackets, or that counts in it.
     Destination = 32,
-    /// What the name of a tag's attribute has: a letter, a digit, `_`, `:`, `.` or `-`.
+    /// A byte of an attribute's name: a letter, a digit, `_`, `:`, `.` or `-`.
     Name = 64,
-    /// What an attribute's value has where no quotes are around it.
+    /// A byte of an unquoted attribute value.
     Unquoted = 128,
 }
 
@@ -27,7 +28,7 @@ pub fn is(byte: u8, class: Class) -> bool {
     CLASSES[byte as usize] & class as u8 != 0
 }
 
-/// Of each byte the sum of its classes.
+/// The sum of the classes of each byte.
 static CLASSES: [u8; 256] = [
     160, 160, 160, 160, 160, 160, 160, 160, 160, 33, 32, 160, 160, 32, 160, 160, 160, 160, 160,
     160, 160, 160, 160, 160, 160, 160, 160, 160, 160, 160, 160, 160, 33, 146, 2, 130, 146, 130,

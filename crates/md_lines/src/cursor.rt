@@ -1,4 +1,4 @@
-//! A place in the lines of a leaf, and going on from it.
+//! A place in the lines of a leaf, and a cursor that moves from it.
 
 ghost use Rattle.std.specs.Prelude.{◌≤◌, ◌<◌, length, IsTrue};
 
@@ -13,15 +13,15 @@ pub struct Place {
     pub at: usize,
 }
 
-/// Reads the lines of a leaf, from a place in them on: the text of each line, and between two lines
-/// a line feed.
+/// Reads the lines of a leaf from a place in them: the text of each line, with a line feed between
+/// two lines.
 #[derive(Clone, Copy)]
 pub struct Cursor<'a> {
     pub(crate) bytes: &'a [u8],
     pub(crate) lines: &'a [Line],
     pub(crate) line: usize,
     pub(crate) at: usize,
-    /// Where the text of its line ends.
+    /// The end of the text of its line.
     pub(crate) end: usize,
     ghost within: { end ≤ length bytes.now },
     ghost in_lines: { line ≤ length lines.now },
@@ -43,7 +43,7 @@ impl<'a> Cursor<'a> {
         }
     }
 
-    /// The place that it has reached.
+    /// The current place.
     #[inline(always)]
     pub fn place(&self) -> Place {
         Place {
@@ -52,7 +52,7 @@ impl<'a> Cursor<'a> {
         }
     }
 
-    /// The byte index that it has reached.
+    /// The current byte index.
     #[inline(always)]
     pub fn at(&self) -> usize {
         self.at
@@ -70,13 +70,13 @@ impl<'a> Cursor<'a> {
         }
     }
 
-    /// Whether nothing but the line's end, or that of the last line, is next.
+    /// Whether the text of the current line has ended.
     #[inline(always)]
     pub fn is_at_line_end(&self) -> bool {
         self.at >= self.end
     }
 
-    /// Goes past the next byte; at the end of the last line it stays.
+    /// Moves past the next byte; at the end of the last line it doesn't move.
     #[inline]
     pub fn advance(&mut self)
         ensures { left self.new ≤ left self.old }
@@ -88,7 +88,7 @@ impl<'a> Cursor<'a> {
         }
     }
 
-    /// Goes past the next byte if it is this one; whether it is.
+    /// Moves past the next byte if it is this one; returns whether it is.
     #[inline]
     pub fn take(&mut self, byte: u8) -> bool
         ensures never_back { left self.new ≤ left self.old }
@@ -102,7 +102,7 @@ impl<'a> Cursor<'a> {
         }
     }
 
-    /// Goes past the bytes of a class that come next in the line; whether there is one.
+    /// Skips the bytes of a class that come next in the line; returns whether there was one.
     #[inline]
     pub fn skip(&mut self, class: Class) -> bool
         ensures never_back { left self.new ≤ left self.old }
@@ -117,7 +117,7 @@ impl<'a> Cursor<'a> {
         has_any
     }
 
-    /// Goes past spaces, tabs and line ends; whether there is one.
+    /// Skips spaces, tabs and line ends; returns whether there was one.
     pub fn skip_spaces(&mut self) -> bool
         ensures { left self.new ≤ left self.old }
     {
@@ -129,7 +129,7 @@ impl<'a> Cursor<'a> {
         has_any
     }
 
-    /// Goes to the beginning of the next line; whether there is one.
+    /// Moves to the beginning of the next line; returns whether there is one.
     #[inline]
     pub(crate) fn next_line(&mut self) -> bool
         ensures never_back { left self.new ≤ left self.old }
@@ -145,7 +145,7 @@ impl<'a> Cursor<'a> {
     }
 }
 
-/// Where the text of a line ends.
+/// The end of the text of a line.
 #[inline(always)]
 fn end_of(bytes: &[u8], lines: &[Line], line: usize) -> usize
     ensures { result ≤ length bytes.now }

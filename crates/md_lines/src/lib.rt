@@ -1,5 +1,5 @@
-//! Scanners over the lines of a Markdown document: classes of bytes, line endings, and what may go
-//! on in the next line of a block: tags, labels, destinations and titles.
+//! Scanners over the lines of a Markdown document: classes of bytes, line endings, and the parts of
+//! a block that may continue on the next line: tags, labels, destinations and titles.
 #![tactic(auto)]
 
 mod class;

@@ -8,9 +8,8 @@ ghost use Rattle.md_lines.specs.Lines.{ends_no_line};
 
 use std::simd::prelude::*;
 
-/// A line of a leaf block, without the prefixes of the blocks that hold it: its text goes from
-/// `start` up to `end`, then comes the line ending up to `next`, all byte indices into the
-/// document.
+/// A line of a leaf block, without the prefixes of its containers. Its text extends from `start` to
+/// `end`, its line ending from `end` to `next`, all byte indices into the document.
 #[derive(Clone, Copy, PartialEq, Eq, Debug)]
 pub struct Line {
     pub start: usize,
@@ -22,11 +21,11 @@ pub struct Line {
     ghost ending_in_order: { end ≤ next },
 }
 
-/// How many bytes are looked at together.
+/// The number of bytes that one step reads.
 const LANES: usize = 16;
 
-/// Where the first line ending at or after `from` begins: the index of a line feed or of a
-/// carriage return; the length of the bytes where there is none, and `from` where it is past them.
+/// The beginning of the first line ending at or after `from`: the index of a line feed or of a
+/// carriage return. The length of the bytes if there is none, and `from` if it is beyond them.
 #[inline]
 pub fn line_end(bytes: &[u8], from: usize) -> usize
     ensures within { from ≤ length bytes.now → result ≤ length bytes.now }
@@ -40,7 +39,7 @@ pub fn line_end(bytes: &[u8], from: usize) -> usize
     from + line_length(&bytes[from..])
 }
 
-/// How many bytes come before the first that ends a line.
+/// The number of bytes before the first that ends a line.
 #[inline(always)]
 fn line_length(bytes: &[u8]) -> usize
     ensures within { result ≤ length bytes.now }
@@ -57,7 +56,7 @@ fn line_length(bytes: &[u8]) -> usize
     line_length_from(bytes, at)
 }
 
-/// The same, byte by byte from an index on up to which no byte ends a line.
+/// The same, byte by byte from an index; no byte before it ends a line.
 #[inline(always)]
 fn line_length_from(bytes: &[u8], from: usize) -> usize
     requires { from ≤ prefix_len ends_no_line bytes.now }
@@ -71,7 +70,7 @@ fn line_length_from(bytes: &[u8], from: usize) -> usize
     at
 }
 
-/// Whether a byte ends no line.
+/// Whether a byte is neither a line feed nor a carriage return.
 #[inline(always)]
 fn ends_no_line(byte: u8) -> bool
     ensures { result ≡ ends_no_line byte }
@@ -79,7 +78,7 @@ fn ends_no_line(byte: u8) -> bool
     byte != b'\n' && byte != b'\r'
 }
 
-/// Of as many bytes as are looked at together, how many come before the first that ends a line.
+/// Among the bytes of one step, the number before the first that ends a line.
 #[inline(always)]
 fn run_in(bytes: &[u8], at: usize) -> usize
     requires { at + 16 ≤ length bytes.now }
@@ -90,7 +89,7 @@ fn run_in(bytes: &[u8], at: usize) -> usize
     first_set(endings.to_bitmask())
 }
 
-/// The place of the lowest bit that is set, or the number of lanes where none is.
+/// The index of the lowest set bit, or the number of lanes if none is set.
 #[inline(always)]
 fn first_set(marks: u64) -> usize
     ensures { result ≡ (if marks == 0 then 16 else trailing_zeros w64 marks) }
@@ -102,8 +101,8 @@ fn first_set(marks: u64) -> usize
     }
 }
 
-/// Where the next line begins after a line ending that begins at `end`: a carriage return and a
-/// line feed are one ending. At the end of the bytes it is `end` itself.
+/// The beginning of the next line, after a line ending that begins at `end`: a carriage return and
+/// a line feed are one ending. At the end of the bytes it is `end` itself.
 #[inline(always)]
 pub fn after_ending(bytes: &[u8], end: usize) -> usize
     ensures within { end ≤ length bytes.now → result ≤ length bytes.now }

@@ -10,23 +10,24 @@ use std::simd::prelude::*;
 /// How many bytes are looked at together.
 const LANES: usize = 16;
 
-/// How many characters a label may have.
+/// The maximum number of characters in a label.
 const MOST_IN_LABEL: usize = 999;
 
-/// How deep parentheses may be in one another in a destination.
+/// How deep parentheses in a destination may nest.
 const MOST_NESTED: usize = 32;
 
 /// A link's title, without its marks.
 #[derive(Clone, Copy, PartialEq, Eq, Debug)]
 pub struct Title {
-    /// Its text, as byte indices. It may go over lines.
+    /// Its text, as byte indices. It may span lines.
     pub text: Span,
-    /// The line in which it begins, as an index into the lines that were read.
+    /// The line in which it begins, as an index into the lines read.
     pub line: usize,
 }
 
-/// Goes past a link's label, from behind its `[` to its `]`; whether it is one. A label has other
-/// characters than spaces, at most 999 in all, and no bracket but those behind a backslash.
+/// Reads a link's label, from after its `[` to its `]`; returns whether it is valid. A label has a
+/// character other than spaces, at most 999 characters in all, and no bracket without a backslash
+/// before it.
 pub fn read_label(cursor: &mut Cursor<'_>) -> bool {
     let mut is_blank = true;
     let mut count = 0;
@@ -49,7 +50,7 @@ pub fn read_label(cursor: &mut Cursor<'_>) -> bool {
     false
 }
 
-/// Goes past a backslash, and past a punctuation mark that it escapes; whether there is one.
+/// Skips a backslash and the punctuation mark that it escapes; returns whether there was one.
 fn skip_escape(cursor: &mut Cursor<'_>) -> bool {
     cursor.advance();
     match cursor.peek() {
@@ -61,7 +62,7 @@ fn skip_escape(cursor: &mut Cursor<'_>) -> bool {
     }
 }
 
-/// Goes past a link's destination, which ends in its line: its text without angle brackets, as
+/// Reads a link's destination, which ends in its line; returns its text without angle brackets, as
 /// byte indices.
 pub fn read_destination(cursor: &mut Cursor<'_>) -> Option<Span> {
     if cursor.take(b'<') {
@@ -71,7 +72,7 @@ pub fn read_destination(cursor: &mut Cursor<'_>) -> Option<Span> {
     }
 }
 
-/// A destination behind its `<`, to behind its `>`.
+/// Reads a destination in angle brackets, from after its `<` to after its `>`.
 fn pointed_destination(cursor: &mut Cursor<'_>) -> Option<Span> {
     let from = cursor.at;
     let mut at = from;
@@ -89,8 +90,8 @@ fn pointed_destination(cursor: &mut Cursor<'_>) -> Option<Span> {
     None
 }
 
-/// A destination with no angle brackets: parentheses in it are paired, and it has no space and no
-/// control character but NUL.
+/// Reads a destination without angle brackets: its parentheses are paired, and it has no space and
+/// no control character except NUL.
 fn bare_destination(cursor: &mut Cursor<'_>) -> Option<Span> {
     let line = &cursor.bytes[..cursor.end];
     let from = cursor.at;
@@ -123,8 +124,8 @@ fn bare_destination(cursor: &mut Cursor<'_>) -> Option<Span> {
     }
 }
 
-/// The index, from another one on, of the next byte that may end a destination or counts in it;
-/// that of the line's end where there is none.
+/// The index, at or after `from`, of the next byte that may end a destination or that counts in it;
+/// the length of the line if there is none.
 fn next_of_destination(line: &[u8], from: usize) -> usize
     ensures { from ≤ result }
 {
@@ -144,7 +145,7 @@ fn next_of_destination(line: &[u8], from: usize) -> usize
     at
 }
 
-/// The index of the first such byte among the first ones of a text, else how many these are.
+/// The index of the first such byte among the first 16 of a text, else 16.
 #[inline(always)]
 fn first_of_destination(text: &[u8]) -> usize
     requires { 16 ≤ length text.now }
@@ -164,8 +165,7 @@ fn first_of_destination(text: &[u8]) -> usize
     }
 }
 
-/// Where the text goes on behind a backslash at an index: behind the punctuation mark that it
-/// escapes, if one comes.
+/// The index after the backslash at `at`, and after the punctuation mark that it escapes, if any.
 #[inline(always)]
 fn after_escape(line: &[u8], at: usize) -> usize
     requires { at < length line.now }
@@ -178,7 +178,7 @@ fn after_escape(line: &[u8], at: usize) -> usize
     }
 }
 
-/// Goes past a link's title in quotes or parentheses. It may go over lines.
+/// Reads a link's title in quotes or parentheses. It may span lines.
 pub fn read_title(cursor: &mut Cursor<'_>) -> Option<Title> {
     let open = cursor.peek()?;
     let close = match open {
@@ -210,15 +210,15 @@ pub fn read_title(cursor: &mut Cursor<'_>) -> Option<Title> {
 
 /// Where a title ends.
 enum Ending {
-    /// At this byte index, at which its closing mark stands.
+    /// At this byte index, the place of its closing mark.
     At(usize),
     /// Not in this line.
     Later,
-    /// Nowhere: it has a parenthesis that must not be in it.
+    /// Nowhere: it has a parenthesis that it must not have.
     Never,
 }
 
-/// Where a title ends in a line, from an index on.
+/// The end of a title in a line, searched from an index.
 fn title_end(line: &[u8], from: usize, open: u8, close: u8) -> Ending {
     let mut at = from;
     while at < line.len() {

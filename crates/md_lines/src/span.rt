@@ -1,8 +1,8 @@
-//! Places in a document's bytes.
+//! Ranges of a document's bytes.
 
 ghost use Rattle.std.specs.Prelude.{◌≡◌, ◌≤◌, max};
 
-/// A part of a document's bytes: from `start` up to `end`, both byte indices.
+/// A range of a document's bytes, from `start` to `end`, both byte indices.
 #[derive(Clone, Copy, PartialEq, Eq, Debug)]
 pub struct Span {
     pub start: usize,
@@ -11,7 +11,7 @@ pub struct Span {
 }
 
 impl Span {
-    /// The part from `start` up to `end`; empty where `end` stands before `start`.
+    /// The range from `start` to `end`; empty if `end` is less than `start`.
     #[inline(always)]
     pub fn new(start: usize, end: usize) -> Self
         ensures start { result.start ≡ start }
@@ -23,7 +23,7 @@ impl Span {
         }
     }
 
-    /// Whether it has no byte.
+    /// Whether the range is empty.
     #[inline(always)]
     pub fn is_empty(self) -> bool {
         self.start == self.end

@@ -7,19 +7,19 @@ use crate::class::{Class, is};
 use crate::cursor::{Cursor, Place};
 use crate::line::Line;
 
-/// What is read where an attribute may come.
+/// The result of reading an attribute.
 #[derive(Clone, Copy, PartialEq, Eq)]
 enum Attribute {
-    /// One was read.
+    /// An attribute was read.
     Read,
-    /// None comes.
+    /// There is no attribute.
     Missing,
-    /// What comes is no tag.
+    /// The text isn't a tag.
     Malformed,
 }
 
-/// Where an opening or a closing tag ends that begins at a `<`; `None` where none begins there. It
-/// may go over lines.
+/// Returns the end of an opening or closing tag that begins at a `<`, or `None` if there is no tag.
+/// A tag may span lines.
 pub fn read_tag(bytes: &[u8], lines: &[Line], place: Place) -> Option<Place> {
     let mut cursor = Cursor::new(bytes, lines, place);
     cursor.advance();
@@ -42,7 +42,7 @@ pub fn read_tag(bytes: &[u8], lines: &[Line], place: Place) -> Option<Place> {
     }
 }
 
-/// Goes past a tag's name; whether there is one.
+/// Skips a tag's name; returns whether there was one.
 fn skip_name(cursor: &mut Cursor<'_>) -> bool {
     match cursor.peek() {
         Some(byte) if is(byte, Class::Alphabetic) => {}
@@ -55,7 +55,7 @@ fn skip_name(cursor: &mut Cursor<'_>) -> bool {
     true
 }
 
-/// Goes past a tag's attributes, and the spaces behind them; whether they are well formed.
+/// Skips a tag's attributes and the spaces after them; returns whether they are well formed.
 fn skip_attributes(cursor: &mut Cursor<'_>) -> bool {
     'attributes: loop {
         match read_attribute(cursor) {
@@ -66,7 +66,7 @@ fn skip_attributes(cursor: &mut Cursor<'_>) -> bool {
     }
 }
 
-/// Goes past spaces, and an attribute where one comes.
+/// Reads spaces, and an attribute if there is one.
 fn read_attribute(cursor: &mut Cursor<'_>) -> Attribute
     ensures { result ≡ Attribute.Read → left cursor.new < left cursor.old }
 {
@@ -96,7 +96,7 @@ fn read_attribute(cursor: &mut Cursor<'_>) -> Attribute
     }
 }
 
-/// Goes past an attribute's value; whether there is one.
+/// Skips an attribute's value; returns whether there was one.
 fn skip_value(cursor: &mut Cursor<'_>) -> bool
     ensures { left cursor.new ≤ left cursor.old }
 {
@@ -109,7 +109,7 @@ fn skip_value(cursor: &mut Cursor<'_>) -> bool
     }
 }
 
-/// Goes past a value up to its closing quote; whether there is one.
+/// Skips a value up to its closing quote; returns whether there was one.
 fn skip_quoted(cursor: &mut Cursor<'_>, quote: u8) -> bool
     ensures { left cursor.new ≤ left cursor.old }
 {
@@ -125,7 +125,8 @@ fn skip_quoted(cursor: &mut Cursor<'_>, quote: u8) -> bool
     }
 }
 
-/// The index of the next such byte in a line, from an index on; past its end where there is none.
+/// The next index of a byte in a line, searched from an index; at or beyond the line's end if it
+/// doesn't occur.
 fn index_of(line: &[u8], from: usize, byte: u8) -> usize
     ensures { from ≤ result }
 {

@@ -1,11 +1,11 @@
-//! Spaces and tabs at the ends of a part of a line.
+//! Trims spaces and tabs at the ends of a part of a line.
 
 ghost use Rattle.std.specs.Prelude.{◌≤◌};
 
 use crate::class::{Class, is};
 
-/// Where the first byte from `start` stands that is neither a space nor a tab; `end` where there
-/// is none before it.
+/// The index of the first byte from `start` that is neither a space nor a tab; `end` if all bytes
+/// before it are.
 #[inline]
 pub fn trim_start(bytes: &[u8], start: usize, end: usize) -> usize
     ensures after { start ≤ result }
@@ -21,7 +21,7 @@ pub fn trim_start(bytes: &[u8], start: usize, end: usize) -> usize
     at
 }
 
-/// Where the spaces and tabs begin that stand right before `end`, not before `start`.
+/// The index where the spaces and tabs before `end` begin, at least `start`.
 #[inline]
 pub fn trim_end(bytes: &[u8], start: usize, end: usize) -> usize
     ensures within { result ≤ end }

@@ -1,4 +1,4 @@
--- What an answer about Markdown says, from the text or the failure that it tells.
+-- The promises of an answer about Markdown, from the text or the failure that it reports.
 use Rattle.std.proofs.Common.{◌≡◌, ◌≢◌, ℕ, ◌≤◌, List, length, refl, sym, ap, ◌∙◌, subst}
 use Rattle.std.proofs.Common.{inl, inr, arith, ◌⊎◌}
 use Rattle.md_abi.specs.Failures.{answer_of}
@@ -16,7 +16,7 @@ use Rattle.md_markdown_abi.specs.declared.failure.MarkdownFailure.{MarkdownFailu
 use Rattle.md_markdown_abi.specs.declared.failure.MarkdownFailure.TheVariants as variant
 use variant.{NoVersion, InputTooLong, NotUtf8, OutputTooLong, TooMuchWork, Failed}
 
--- ---- what is handed over with a failure
+-- ---- the result of a call with a failure
 pub markdown_hands_over :
     (claim : ℕ → List ℕ → Type 0) (old : List ℕ) (why : MarkdownFailure) (answer : Answer) →
     answer ≡ answer_of_markdown why → HandsOver (claim answer.index) old old answer
@@ -33,9 +33,9 @@ markdown_hands_over claim old why answer is =
     of (Failed cause) =
         failure_hands_over (claim (answer_of cause).index) old cause (answer_of cause) refl
 
--- ---- what is told of a document
+-- ---- the answer about a document
 module _ (bytes : List ℕ) (options : CMarkdownOptions) where
-  -- with a status that is none of those that tell something
+  -- with a status that reports nothing else
   of_read : (answer : Answer) → answer.status ≢ 35 → answer.status ≢ 5 → answer.status ≢ 32 →
       answer.status ≢ 34 → IsRead bytes options → TellsOfMarkdown bytes options answer
   of_read answer version option input utf8 read = record {

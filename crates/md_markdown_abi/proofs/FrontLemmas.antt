@@ -1,4 +1,4 @@
--- What an answer about front matter tells.
+-- The promises of an answer about front matter.
 use Rattle.std.proofs.Common.{◌≡◌, ℕ, ◌+◌, ◌≤◌, List, length, refl, sym, subst, inl, inr, arith}
 use Rattle.std.specs.Str.{IsUtf8, IsValidUpTo}
 use Rattle.md_abi.specs.declared.answer.Answer.{Answer}

@@ -1,4 +1,4 @@
--- From what is promised of a text, and why there is none, to what C is told.
+-- From the promises about a text, and the reason why there is none, to C's answer.
 use Rattle.std.proofs.Common.{◌+◌, ◌*◌, ◌≡◌, ℕ, ◌≤◌, Bool, true, List, Option, Some, Result, Ok, Err}
 use Rattle.std.proofs.Common.{take, [], ◌∷◌, ◌++◌, IfErr, is_some, refl, sym, ap, ◌∙◌}
 use Rattle.std.proofs.Common.{subst}
@@ -43,12 +43,12 @@ pub is_on : (value : Option Bool) (flag : Bool) → value ≡ Some flag → valu
     flag ≡ true
 is_on value flag is on = cc
 
--- what is asked for is what was read
+-- the requested attributes are those that were read
 pub asked_is : (given : CText) (read : Option (List ℕ)) → text_of given ≡ Some read →
     asked given ≡ read
 asked_is given read stands = ap (option_and_then (λ text. text)) stands
 
--- C asks for a base where there is one
+-- C requests a base if there is one
 pub base_is : (given : CMarkdownOptions) (options : MarkdownOptions) →
     HasMarkdownOptions given options → is_some (asked given.base) ≡ is_some options.base
 base_is given options has =
@@ -115,7 +115,7 @@ module _ {A : Type 0} (options : CMarkdownOptions) (field : ℕ) (value : Option
   fault_of (failure.Line number) fault = absurd fault
   fault_of (failure.Refused index rule) fault = absurd fault
 
-  -- what `?` makes of it
+  -- the result of `?`
   pub fault_told : {T : Type 0} (r : Result T Failure) (why : Failure) →
       IsErrAnd r (λ made. made ≡ why) →
       IsFaultOf field value why → IfErr r (IsOptionFault options)

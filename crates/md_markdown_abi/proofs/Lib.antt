@@ -1,4 +1,4 @@
--- The lemmas of Markdown for C: from what is handed in to a text, and what an answer says.
+-- The lemmas about Markdown for C: from the input to a text, and the promises of an answer.
 pub mod AnswerLemmas
 pub mod GivenLemmas
 pub mod SluggedLemmas

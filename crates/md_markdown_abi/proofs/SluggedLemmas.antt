@@ -1,4 +1,4 @@
--- From what a text with ids promises to what C is handed.
+-- From the promises about a text with ids to those about C's result.
 use Rattle.std.proofs.Common.{◌≡◌, ℕ, ◌≤◌, List, [], ◌∷◌, ◌++◌, length, take, drop}
 use Rattle.std.proofs.Common.{Option, Some, sym, ap, ◌∙◌, subst}
 use Rattle.std.proofs.Common.{arith}

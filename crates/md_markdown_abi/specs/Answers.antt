@@ -1,4 +1,4 @@
--- What an answer about Markdown tells, by its status, and which of its fields tell something.
+-- The meaning of an answer about Markdown, by its status, and the fields that each status uses.
 use Rattle.std.specs.Prelude.{◌≡◌, ◌≢◌, ◌⊎◌, ℕ, ◌<◌, ◌≤◌, List, length}
 use Rattle.std.specs.Str.{IsUtf8, IsValidUpTo}
 use Rattle.md_abi.specs.Numbers.{too_short, no_option, no_memory}
@@ -8,19 +8,20 @@ use Rattle.md_markdown_abi.specs.Numbers.{not_utf8, no_version, too_much_work}
 use Rattle.md_markdown_abi.specs.Options.{StandsForNone, AreReadable}
 use Rattle.md_markdown_abi.specs.declared.option.CMarkdownOptions.{CMarkdownOptions}
 
--- a status with which each option was read
+-- a status that means that each option was read
 pub record IsPastOptions (status : ℕ) : Type 0 where
   pub version : status ≢ no_version
   pub option : status ≢ no_option
   pub memory : status ≢ no_memory
 
--- a status with which the document was found not to be too long
+-- a status that means that the document wasn't found to be too long
 pub record IsPastLength (status : ℕ) : Type 0 where
   pub options : IsPastOptions status
   pub input : status ≢ input_too_long
 
--- what an answer tells besides a text: another version, an option that stands for none, a document
--- that is too long or from a byte on no UTF-8; with a status that comes after these they aren't so
+-- what an answer reports other than a text: another version, an invalid option, a document that is
+-- too long or isn't UTF-8 from some byte; a status that comes after these means that none of them
+-- is true
 pub record TellsOfMarkdown (bytes : List ℕ) (options : CMarkdownOptions) (answer : Answer)
     : Type 0 where
   pub other_version : answer.status ≡ no_version → options.version ≢ markdown_version
@@ -39,7 +40,7 @@ IsMarkdownStatus status =
     (status ≤ too_short) ⊎ ((status ≡ no_option) ⊎ ((status ≡ no_memory)
     ⊎ ((input_too_long ≤ status) × ((status ≤ no_version) ⊎ (status ≡ too_much_work)))))
 
--- an index is told of a text, an option or a byte; a length of a text or a document
+-- an index is reported for a text, an option or a byte; a length for a text or a document
 pub record IsOfMarkdown (answer : Answer) : Type 0 where
   pub known : IsMarkdownStatus answer.status
   pub no_rule : answer.rule ≡ 0

@@ -1,4 +1,4 @@
--- What a failure says, and the answer that tells it. No contract of what C calls speaks of it.
+-- The meaning of a failure, and the answer to it. No contract of a function for C cites this.
 use Rattle.std.specs.Prelude.{◌≡◌, ◌≢◌, ℕ, ◌<◌, ◌≤◌, List, length}
 use Rattle.std.specs.Str.{IsValidUpTo}
 use Rattle.md_abi.specs.Failures.{answer_of}
@@ -16,7 +16,7 @@ use Rattle.md_markdown_abi.specs.declared.failure.MarkdownFailure.{MarkdownFailu
 use Rattle.md_markdown_abi.specs.declared.failure.MarkdownFailure.TheVariants as variant
 use variant.{NoVersion, InputTooLong, NotUtf8, OutputTooLong, TooMuchWork, Failed}
 
--- why there is no text within limits, as a failure
+-- the failure for the reason why there is no text within limits
 abbrev pub failure_within : MarkdownWithinError → MarkdownFailure
 failure_within within.TooLong = OutputTooLong
 failure_within within.TooMuch = TooMuchWork
@@ -35,14 +35,14 @@ answer_of_markdown OutputTooLong = tell output_too_long 0 0
 answer_of_markdown TooMuchWork = tell too_much_work 0 0
 answer_of_markdown (Failed cause) = answer_of cause
 
--- why there is no text, where an option or memory is at fault
+-- why there is no text, if an option or memory is the reason
 abbrev pub ExplainsFault : List ℕ → CMarkdownOptions → Failure → Type 0
 ExplainsFault bytes options failure.Memory = options.version ≡ markdown_version
 ExplainsFault bytes options (failure.Option number) =
     (options.version ≡ markdown_version) × StandsForNone options number
 ExplainsFault bytes options _ = ⊥
 
--- why there is no text of a document
+-- why a document has no text
 abbrev pub ExplainsMarkdown : List ℕ → CMarkdownOptions → MarkdownFailure → Type 0
 ExplainsMarkdown bytes options NoVersion = options.version ≢ markdown_version
 ExplainsMarkdown bytes options (InputTooLong size) =
@@ -52,13 +52,13 @@ ExplainsMarkdown bytes options OutputTooLong = IsRead bytes options
 ExplainsMarkdown bytes options TooMuchWork = IsRead bytes options
 ExplainsMarkdown bytes options (Failed cause) = ExplainsFault bytes options cause
 
--- there is no memory, or a field that stands for no option is named
+-- memory ran out, or an invalid option's field is reported
 abbrev pub IsOptionFault : CMarkdownOptions → Failure → Type 0
 IsOptionFault options failure.Memory = Unit {0}
 IsOptionFault options (failure.Option number) = StandsForNone options number
 IsOptionFault options _ = ⊥
 
--- the document is longer than it may be, or is no UTF-8 from a byte on
+-- the document exceeds its limit, or isn't UTF-8 from some byte
 abbrev pub IsDocumentFault : List ℕ → ℕ → MarkdownFailure → Type 0
 IsDocumentFault bytes most (InputTooLong size) = (size ≡ length bytes) × (most < length bytes)
 IsDocumentFault bytes most (NotUtf8 index) = (length bytes ≤ most) × IsValidUpTo bytes index

@@ -1,4 +1,4 @@
--- The options of Markdown that C's stand for.
+-- The options of Markdown that C's fields encode.
 use Rattle.std.specs.Prelude.{◌≡◌, ℕ, ◌==◌, ◌+◌, ◌-◌, ◌*◌, ◌^◌, min, Bool, false, if◌then◌else◌}
 use Rattle.std.specs.Prelude.{List, [], ◌∷◌, replicate, true}
 use Rattle.std.specs.Prelude.{Option, Some, None, is_some, option_map, slice_get, string_bytes}
@@ -9,7 +9,7 @@ use Rattle.md_markdown.specs.declared.options.DocumentHtml.TheVariants.{WithoutC
 use Rattle.md_markdown.specs.declared.options.MarkdownOptions.{MarkdownOptions}
 use Rattle.md_markdown_abi.specs.declared.option.CMarkdownOptions.{CMarkdownOptions}
 
--- 0 text, 1 left out, 2 text without comments
+-- 0 as text, 1 not at all, 2 as text without comments
 abbrev pub html_of : ℕ → Option DocumentHtml
 html_of number =
     if number == 0 then Some Text
@@ -17,7 +17,7 @@ html_of number =
     else if number == 2 then Some WithoutComments
     else None
 
--- each option is what its field stands for
+-- each option is the one that its field encodes
 pub record HasMarkdownOptions (given : CMarkdownOptions) (options : MarkdownOptions) : Type 0 where
   pub number_ids : flag_of given.number_ids ≡ Some options.number_ids
   pub hard_breaks : flag_of given.hard_breaks ≡ Some options.hard_breaks
@@ -35,7 +35,7 @@ pub record HasMarkdownOptions (given : CMarkdownOptions) (options : MarkdownOpti
       text_of given.footnote_back_label ≡ Some (option_map string_bytes options.footnote_back_label)
   pub base : text_of given.base ≡ Some (option_map string_bytes options.base)
 
--- which fields stand for an option, by the options' numbers from 0
+-- which fields encode an option, by the options' numbers from 0
 abbrev pub readable_fields : CMarkdownOptions → List Bool
 readable_fields given =
     is_some (flag_of given.number_ids) ∷
@@ -54,23 +54,23 @@ readable_fields given =
     is_some (flag_of given.tables) ∷
     []
 
--- each field stands for an option
+-- each field encodes an option
 abbrev pub AreReadable : CMarkdownOptions → Type 0
 AreReadable given = readable_fields given ≡ replicate 14 true
 
--- the field with this number stands for no option
+-- the field with this number encodes no option
 abbrev pub StandsForNone : CMarkdownOptions → ℕ → Type 0
 StandsForNone given number = slice_get (readable_fields given) number ≡ Some false
 
--- how much work a document of so many bytes may be where no bound is set: 2^20, and 64 for each
--- byte, and no more than there are numbers
+-- the work that a document of so many bytes is allowed if no limit is set: 2^20, and 64 for each
+-- byte, and at most the greatest number
 abbrev pub work_by_length : ℕ → ℕ
 work_by_length bytes = min (min (bytes * 64) (2 ^ 64 - 1) + 2 ^ 20) (2 ^ 64 - 1)
 
--- how much work there may be: 2^64 - 2 goes by the document's length
+-- the work limit: 2^64 - 2 means that it depends on the document's length
 abbrev pub most_work : ℕ → ℕ → ℕ
 most_work given bytes = if given == 2 ^ 64 - 2 then work_by_length bytes else given
 
--- how many nodes may be open at once: 0 is no bound of its own
+-- the maximum number of nodes that are open at once: 0 means no limit of its own
 abbrev pub most_nesting : ℕ → ℕ
 most_nesting given = if given == 0 then 2 ^ 64 - 1 else given

@@ -1,4 +1,5 @@
--- What a text whose headings have ids made of their texts is of the Markdown that C hands in.
+-- The promises about a text whose headings have ids derived from their texts, in terms of C's
+-- input.
 use Rattle.std.specs.Prelude.{◌≡◌, ℕ, ◌≤◌, true, IsTrue, List, ◌∷◌, ◌++◌, length, take, drop}
 use Rattle.std.specs.List.{flat_map}
 use Rattle.md_text.specs.Encode.{encoded}
@@ -15,14 +16,14 @@ use Rattle.md_abi.specs.Attributes.{asked, with_rel, listing}
 use Rattle.md_markdown_abi.specs.Text.{IsPlainOf}
 use Rattle.md_markdown_abi.specs.declared.option.CMarkdownOptions.{CMarkdownOptions}
 
--- ids in the list: before each a NUL and `#`; in none, as it is escaped, is a NUL
+-- the ids in the list: a NUL and `#` before each; no escaped id has a NUL
 abbrev pub id_listing : List (List ℕ) → List ℕ
 id_listing ids = flat_map (λ id. 0 ∷ 35 ∷ encoded true id) ids
 
 -- the bytes before the index are tokenized as these tokens with an id on each heading that had
--- none, and keep to what such a text keeps to; they are written as whole tags and texts; those
--- after it are the list of these headings, and then of their ids; where no two ids among the tokens
--- are equal, no two of the text are
+-- none, and fulfil the promises about such a text; they are written as whole tags and texts; the
+-- bytes after it are the list of these headings, and then of their ids; if no two ids among the
+-- tokens are equal, no two of the text are
 pub record IsSluggedAfter (tokens : List Token) (start : ℕ) (whole : List ℕ) : Type 0 where
   pub ids : List (List ℕ)
   pub within : start ≤ length whole
@@ -34,9 +35,9 @@ pub record IsSluggedAfter (tokens : List Token) (start : ℕ) (whole : List ℕ)
   pub distinct : IsTrue (are_distinct (ids_among tokens)) →
       IsTrue (are_distinct (ids_among (with_given_ids ids tokens)))
 
--- there is a text of the document, as without ids; with the `rel` that is
--- asked for, and with ids, its tokens are those of the bytes before the index, which are built as
--- they are written, and are no more than they may be; the lists follow
+-- the document has a text, as without ids; with the requested `rel`, and with ids, its tokens are
+-- those of the bytes before the index, which are built as they are written, and don't exceed their
+-- limit; the lists follow
 pub record IsSluggedText (bytes : List ℕ) (options : CMarkdownOptions) (start : ℕ)
     (whole : List ℕ) : Type 0 where
   pub plain : List ℕ

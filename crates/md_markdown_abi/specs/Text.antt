@@ -1,4 +1,4 @@
--- What a text is of the Markdown that C hands in, and what is read of that.
+-- The promises about a text in terms of C's input of Markdown, and how the input is read.
 use Rattle.std.specs.Prelude.{◌≡◌, ℕ, ◌+◌, ◌*◌, ◌≤◌, List, length, take, is_some}
 use Rattle.std.specs.Str.{IsUtf8}
 use Rattle.md_text.specs.Ids.{HasDistinctIds}
@@ -17,9 +17,9 @@ use Rattle.md_markdown_abi.specs.Numbers.{markdown_version}
 use Rattle.md_markdown_abi.specs.Options.{AreReadable}
 use Rattle.md_markdown_abi.specs.declared.option.CMarkdownOptions.{CMarkdownOptions}
 
--- a text is made of the document and safe: it is tokenized as it is read, each element stands where
--- it may, tree construction builds it, elements nest no deeper than they may, and where ids go by
--- number no two are equal
+-- a text is that of the document and safe: it is tokenized as it is read, the content model allows
+-- each element at its place, tree construction builds it, the nesting of its elements doesn't
+-- exceed its limit, and if ids are by number, no two are equal
 pub record IsPlainOf (bytes : List ℕ) (options : CMarkdownOptions) (plain : List ℕ)
     : Type 0 where
   pub made : IsMadeOf (is_some (asked options.base)) bytes plain
@@ -29,9 +29,9 @@ pub record IsPlainOf (bytes : List ℕ) (options : CMarkdownOptions) (plain : Li
   pub nesting : NestsWithin (2 * most_depth + 5) plain
   pub distinct_ids : options.number_ids ≡ 1 → HasDistinctIds plain
 
--- there is such a text of the document; with the attributes that are asked for its tokens are those
--- of the bytes before the index, which are built as they are written, and are no more than they may
--- be; the list of the headings that got an id follows
+-- the document has such a text; with the requested attributes its tokens are those of the bytes
+-- before the index, which are built as they are written, and don't exceed their limit; the list of
+-- the headings that got an id follows
 pub record IsMarkdownText (bytes : List ℕ) (options : CMarkdownOptions) (start : ℕ)
     (whole : List ℕ) : Type 0 where
   pub plain : List ℕ
@@ -43,12 +43,12 @@ pub record IsMarkdownText (bytes : List ℕ) (options : CMarkdownOptions) (start
   pub built : IsBuiltAsWritten (take start whole)
   pub fits : start ≤ options.max_output
 
--- the options are laid out as they are read, and each field stands for one
+-- the options have the layout that is read, and each field encodes an option
 pub record AreRead (options : CMarkdownOptions) : Type 0 where
   pub version : options.version ≡ markdown_version
   pub readable : AreReadable options
 
--- the options are read, and the document has no more bytes than it may
+-- the options are read, and the document doesn't exceed its limit in bytes
 pub record IsReadable (bytes : List ℕ) (options : CMarkdownOptions) : Type 0 where
   pub options_read : AreRead options
   pub fits : length bytes ≤ options.max_input

@@ -1,4 +1,4 @@
-//! What a call of Markdown answers.
+//! The answer of a call with Markdown.
 
 ghost use Rattle.std.specs.Prelude.{◌≡◌};
 ghost use Rattle.md_markdown_abi.specs.Failures.{answer_of_markdown, tell};
@@ -6,22 +6,22 @@ ghost use Rattle.md_markdown_abi.specs.Failures.{answer_of_markdown, tell};
 use crate::failure::MarkdownFailure;
 use md_abi::{Answer, answer_to};
 
-/// There is what was asked for.
+/// The requested result exists.
 pub(crate) const OK: u32 = 0;
 
-/// The document has more bytes than it may.
+/// The document exceeds its limit in bytes.
 const INPUT_TOO_LONG: u32 = 32;
 
-/// The text has more bytes than it may.
+/// The text exceeds its limit in bytes.
 const OUTPUT_TOO_LONG: u32 = 33;
 
 /// The document isn't UTF-8.
 pub(crate) const NOT_UTF8: u32 = 34;
 
-/// The options are of another version.
+/// The options have another version.
 const NO_VERSION: u32 = 35;
 
-/// There is more work than there may be.
+/// The work exceeds its limit.
 const TOO_MUCH_WORK: u32 = 37;
 
 /// The answer to a failure.
@@ -38,7 +38,7 @@ pub fn answer_to_markdown(failure: &MarkdownFailure) -> Answer
     }
 }
 
-/// The answer that tells no rule.
+/// The answer without a rule.
 pub(crate) fn tell(status: u32, index: usize, length: usize) -> Answer
     ensures { result ≡ tell status index length }
 {

@@ -1,15 +1,15 @@
-//! A document's bytes as a text.
+//! Reads a document's bytes as text.
 
 ghost use Rattle.std.specs.Prelude.{◌≡◌, ◌≤◌, length, IfOk, IfErr, IsUtf8};
 ghost use Rattle.md_markdown_abi.specs.Failures.{IsDocumentFault};
 
 use crate::failure::MarkdownFailure;
 
-/// The text of a document that has at most `most` bytes.
+/// Returns the text of a document that has at most `most` bytes.
 ///
 /// # Errors
 ///
-/// Tells how many bytes it has where these are more, or from which byte on it isn't UTF-8.
+/// Reports how many bytes it has if these are more, or from which byte it isn't UTF-8.
 pub(crate) fn read_document(bytes: &[u8], most: usize) -> Result<&str, MarkdownFailure>
     ensures ok { IfOk result (λ text. (text.now ≡ bytes.now) × IsUtf8 bytes.now) }
     ensures fits { IfOk result (λ _. length bytes.now ≤ most) }

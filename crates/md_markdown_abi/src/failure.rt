@@ -1,23 +1,23 @@
-//! Why there is no text of a document.
+//! Why a document has no text.
 
 use md_abi::Failure;
 use md_markdown::MarkdownWithinError;
 use std::alloc::AllocError;
 
-/// Why a call has no text of a document to hand over.
+/// Why a call has no text of a document.
 #[derive(Drop)]
 pub enum MarkdownFailure {
-    /// The options aren't laid out as they are read.
+    /// The layout of the options isn't the one that is read.
     NoVersion,
-    /// The document has this many bytes, which are more than it may have.
+    /// The document has this many bytes, which exceed its limit.
     InputTooLong(usize),
-    /// The document isn't UTF-8 from the byte with this index on.
+    /// The document isn't UTF-8 from the byte with this index.
     NotUtf8(usize),
-    /// The text is longer than it may be.
+    /// The text exceeds its limit.
     OutputTooLong,
-    /// There is more to read and to print, or to use again, than there may be.
+    /// Reading, printing and reuse exceed the work limit.
     TooMuchWork,
-    /// Of an option, or of memory.
+    /// An invalid option, or memory ran out.
     Failed(Failure),
 }
 

@@ -1,4 +1,4 @@
-//! Where a document's front matter stands.
+//! Finds a document's front matter.
 
 ghost use Rattle.std.specs.Prelude.{◌+◌, ◌≤◌, length, IfSome};
 ghost use Rattle.md_markdown_abi.specs.Front.{TellsOfFrontMatter, IsPlaceTold};
@@ -7,8 +7,8 @@ use crate::answer::{NOT_UTF8, OK, tell};
 use md_abi::Answer;
 use md_blocks::front_matter;
 
-/// The answer that tells where a document's front matter stands: its index is how many bytes stand
-/// before it, its length how many it has. Both are 0 where there is none.
+/// The answer with the position of a document's front matter: its index is the number of bytes
+/// before the front matter, its length that of the front matter. Both are 0 if there is none.
 pub fn answer_to_front_matter(bytes: &[u8]) -> Answer
     ensures { TellsOfFrontMatter bytes.now result }
 {
@@ -18,7 +18,7 @@ pub fn answer_to_front_matter(bytes: &[u8]) -> Answer
     }
 }
 
-/// The same of a document that is UTF-8.
+/// The same for a document that is UTF-8.
 fn tell_place(bytes: &[u8]) -> Answer
     ensures { IsPlaceTold bytes.now result }
 {
@@ -28,7 +28,7 @@ fn tell_place(bytes: &[u8]) -> Answer
     }
 }
 
-/// How many bytes stand before the front matter, and how many it has.
+/// The number of bytes before the front matter, and its length.
 fn front_matter_place(bytes: &[u8]) -> Option<(usize, usize)>
     ensures { IfSome result (λ place. place.0 + place.1 ≤ length bytes.now) }
 {

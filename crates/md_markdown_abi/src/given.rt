@@ -1,4 +1,4 @@
-//! From what C hands in to a text, and the list of its headings.
+//! Compiles C's input to a text, and lists its headings.
 
 ghost use Rattle.std.specs.Prelude.{IfOk, IfErr, OnOk, string_bytes};
 ghost use Rattle.md_markdown_abi.specs.Text.{IsMarkdownText, IsRead};
@@ -11,14 +11,14 @@ use md_abi::{Attributed, add_asked, borrow_text};
 use md_markdown::markdown_within;
 use std::alloc::Global;
 
-/// The HTML of a document, with the attributes that are asked for, and the headings that got an
+/// Compiles a document to HTML, with the requested attributes, and lists the headings that got an
 /// `id`.
 ///
 /// # Errors
 ///
-/// Tells, in this order, that the options are of another version or which of them stands for none,
-/// that the document is too long or isn't UTF-8, that there is too much work or the text is too
-/// long; or that it is out of memory.
+/// Reports, in this order, that the options have another version or which of them is invalid, that
+/// the document is too long or isn't UTF-8, that there is too much work or the text is too long; or
+/// that memory ran out.
 pub fn markdown_given(
     alloc: Global,
     bytes: &[u8],

@@ -1,4 +1,4 @@
-//! Markdown as C hands it in, and what it is answered: layouts, numbers, and what they stand for.
+//! The C interface for Markdown: its layouts, its numbers, and their meanings.
 #![tactic(auto)]
 
 mod answer;

@@ -1,4 +1,4 @@
-//! The options of Markdown as C hands them in.
+//! The options of Markdown as C passes them.
 
 ghost use Rattle.std.specs.Prelude.{◌≡◌, ◌≢◌, Some, OnOk, IfOk, IfErr};
 ghost use Rattle.md_abi.specs.Failures.{IsFaultOf};
@@ -13,34 +13,34 @@ use md_abi::{CText, Failure, read_flag, read_text};
 use md_markdown::{DocumentHtml, Limits, MarkdownOptions};
 use std::alloc::Global;
 
-/// The version of what C sees of Markdown: the options' layout, and every number.
+/// The version of the C interface for Markdown: the options' layout, and every number.
 const VERSION: u32 = 4;
 
-/// A bound on work that stands for [`work_by_length`].
+/// The work limit that selects [`work_by_length`].
 const BY_LENGTH: usize = 18_446_744_073_709_551_614;
 
-/// The work that any document may be.
+/// The work that every document is allowed.
 const LEAST_WORK: usize = 1_048_576;
 
-/// How much more it may be for each byte of the document.
+/// The additional work that is allowed for each byte of the document.
 const WORK_OF_A_BYTE: usize = 64;
 
-/// A bound on nesting that stands for none.
+/// The nesting limit that means no limit.
 const ANY_DEPTH: usize = 0;
 
-/// How Markdown is read and printed; a flag is 0 or 1. Four bytes that are never read follow the
-/// flags.
+/// The options for reading and printing Markdown; a flag is 0 or 1. Four bytes that are never read
+/// follow the flags.
 #[repr(C)]
 pub struct CMarkdownOptions<'a> {
-    /// The version of what C sees by which this is laid out.
+    /// The version of the C interface that has this layout.
     pub version: u32,
-    /// 1 to make footnotes' ids of their numbers, else 0.
+    /// 1 to derive footnotes' ids from their numbers, else 0.
     pub number_ids: u8,
     /// 1 to print `<br />` for soft breaks, else 0.
     pub hard_breaks: u8,
-    /// 1 to make links of bare URLs and addresses, else 0.
+    /// 1 to read bare URLs and addresses as links, else 0.
     pub bare_links: u8,
-    /// What becomes of HTML in the document: 0 text, 1 left out, 2 text without comments.
+    /// How to print HTML in the document: 0 as text, 1 not at all, 2 as text without comments.
     pub html: u8,
     /// 1 to read math, else 0.
     pub math: u8,
@@ -50,34 +50,34 @@ pub struct CMarkdownOptions<'a> {
     pub footnotes: u8,
     /// 1 to read tables, else 0.
     pub tables: u8,
-    /// What footnotes' ids begin with; unset: `user-content-`.
+    /// The prefix of footnotes' ids; unset: `user-content-`.
     pub footnote_prefix: CText<'a>,
     /// The heading of the footnotes; unset: `Footnotes`.
     pub footnote_label: CText<'a>,
-    /// What `aria-label` says of a way back from a footnote; unset: `Back to content`.
+    /// The `aria-label` of a backreference from a footnote; unset: `Back to content`.
     pub footnote_back_label: CText<'a>,
-    /// The URL against which those of links and images are read; unset: none.
+    /// The base against which the URLs of links and images are resolved; unset: none.
     pub base: CText<'a>,
-    /// The `rel` of each link that leads away; unset: none.
+    /// The `rel` of each link that leaves the page; unset: none.
     pub rel: CText<'a>,
-    /// What the `id` of each heading begins with, its number follows; unset: there are no ids.
+    /// The prefix of the `id` of each heading, which its number follows; unset: there are no ids.
     pub heading_ids: CText<'a>,
-    /// How many bytes the document may have.
+    /// The maximum length of the document in bytes.
     pub max_input: usize,
-    /// How many bytes the text may have.
+    /// The maximum length of the text in bytes.
     pub max_output: usize,
-    /// How much work there may be; 2^64 - 2 goes by the document's length.
+    /// The work limit; 2^64 - 2 means that it depends on the document's length.
     pub max_work: usize,
-    /// How many nodes may be open at once in what isn't shown as it is written; 0: as many as any
-    /// document may.
+    /// The maximum number of nodes that are open at once in a document that isn't shown as it is
+    /// written; 0: as many as any document may have.
     pub max_depth: usize,
 }
 
-/// Whether options are laid out as this reads them.
+/// Whether the options have the layout that is read.
 ///
 /// # Errors
 ///
-/// Tells that they aren't.
+/// Reports that they don't.
 pub(crate) fn check_version(given: &CMarkdownOptions) -> Result<(), MarkdownFailure>
     ensures ok { OnOk result (given.now.version ≡ markdown_version) }
     ensures err { IfErr result
@@ -89,11 +89,11 @@ pub(crate) fn check_version(given: &CMarkdownOptions) -> Result<(), MarkdownFail
     Ok(())
 }
 
-/// The options that these stand for.
+/// The options that the fields encode.
 ///
 /// # Errors
 ///
-/// Tells the number of an option that stands for none, or that it is out of memory.
+/// Reports the number of an invalid option, or that memory ran out.
 pub(crate) fn read_markdown_options(
     alloc: Global,
     given: &CMarkdownOptions,
@@ -117,7 +117,7 @@ pub(crate) fn read_markdown_options(
     })
 }
 
-/// What becomes of HTML, by its number; `number` is the option's.
+/// How to print HTML, by its number; `number` is the option's.
 fn read_html(html: u8, number: usize) -> Result<DocumentHtml, Failure>
     ensures ok { IfOk result (λ read. html_of html ≡ Some read) }
     ensures err { IfErr result (IsFaultOf number (html_of html)) }
@@ -130,7 +130,7 @@ fn read_html(html: u8, number: usize) -> Result<DocumentHtml, Failure>
     }
 }
 
-/// The bounds on a text of a document of so many bytes, and on how deep its nodes nest.
+/// The limits on the text of a document of `bytes` bytes, and on how deep its nodes nest.
 pub(crate) fn limits_of(given: &CMarkdownOptions, bytes: usize) -> Limits
     ensures text { result.text ≡ given.now.max_output }
     ensures work { result.work ≡ most_work given.now.max_work bytes }
@@ -153,7 +153,7 @@ pub(crate) fn limits_of(given: &CMarkdownOptions, bytes: usize) -> Limits
     }
 }
 
-/// How much work a document of so many bytes may be where no bound is set.
+/// The work that a document of `bytes` bytes is allowed if no limit is set.
 fn work_by_length(bytes: usize) -> usize
     ensures { result ≡ work_by_length bytes }
 {

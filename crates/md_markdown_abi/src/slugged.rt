@@ -1,5 +1,5 @@
-//! From what C hands in to a text whose headings have ids made of their texts, and the lists of
-//! these headings and ids.
+//! Compiles C's input to a text whose headings have ids derived from their texts, and lists these
+//! headings and ids.
 
 ghost use Rattle.std.specs.Prelude.{◌≡◌, ◌++◌, List, IfOk, IfErr, OnOk, map, take, option_copied};
 ghost use Rattle.std.specs.Prelude.{◌∷◌, true, string_bytes};
@@ -23,12 +23,12 @@ use md_slugs::with_heading_slugs;
 use md_text::push_encoded;
 use std::alloc::{AllocError, Global};
 
-/// The HTML of a document with an `id` in each heading, made of the heading's text; where
-/// `heading_ids` is set, behind that prefix. The headings follow, and then their ids.
+/// Compiles a document to HTML, with an `id` on each heading that is derived from the heading's
+/// text, with the prefix `heading_ids` if that is set. The headings follow, and then their ids.
 ///
 /// # Errors
 ///
-/// Those of [`markdown_given`](crate::markdown_given).
+/// The errors of [`markdown_given`](crate::markdown_given).
 pub fn markdown_slugged(
     alloc: Global,
     bytes: &[u8],
@@ -53,8 +53,8 @@ pub fn markdown_slugged(
     Ok(made)
 }
 
-/// A text with the `rel` that is asked for and with ids on its headings, and after it these
-/// headings and their ids.
+/// A text with the requested `rel` and with ids on its headings, and after it these headings and
+/// their ids.
 fn add_slugs(
     alloc: Global,
     html: &SafeHtml,
@@ -73,7 +73,7 @@ fn add_slugs(
     }
 }
 
-/// The same of a text without a `rel` to be added.
+/// The same for a text without a `rel` to add.
 fn slugged<H: Html>(alloc: Global, html: &H, prefix: &str) -> Result<Attributed, AllocError>
     ensures slugged { IfOk result (λ made. (x : List Token) → IsTokenized (H.text html.now) x
         → IsSluggedAfter x made.start (string_bytes made.whole)) }
@@ -86,7 +86,7 @@ fn slugged<H: Html>(alloc: Global, html: &H, prefix: &str) -> Result<Attributed,
     Ok(made)
 }
 
-/// Adds a list of ids.
+/// Appends a list of ids.
 fn push_ids(whole: &mut String, ids: &[String]) -> Result<(), AllocError>
     ensures { OnOk result (string_bytes whole.new
         ≡ string_bytes whole.old ++ id_listing (map string_bytes ids.now)) }
@@ -97,7 +97,7 @@ fn push_ids(whole: &mut String, ids: &[String]) -> Result<(), AllocError>
     Ok(())
 }
 
-/// Adds an id to the list.
+/// Appends an id to the list.
 fn push_id(whole: &mut String, id: &str) -> Result<(), AllocError>
     ensures { OnOk result (string_bytes whole.new
         ≡ string_bytes whole.old ++ (0 ∷ 35 ∷ encoded true id.now)) }

@@ -1,20 +1,20 @@
-//! Links between angle brackets: `<https://a>`, `<a@b>`.
+//! Links in angle brackets: `<https://a>`, `<a@b>`.
 
 use md_base::Name;
 
-/// A link between angle brackets: its name, and its length with both brackets.
+/// A link in angle brackets: its name, and its length with both brackets.
 #[derive(Clone, Copy, Debug, PartialEq, Eq)]
 pub struct Autolink {
     pub name: Name,
     pub length: usize,
 }
 
-/// The most bytes that the name of a protocol has.
+/// The maximum length of a protocol's name in bytes.
 const MOST_OF_PROTOCOL: usize = 32;
-/// The most bytes that a part of a host has.
+/// The maximum length of a part of a host in bytes.
 const MOST_OF_PART: usize = 63;
 
-/// The link with which a text begins, whose first byte is `<`.
+/// The link at the beginning of a text, whose first byte is `<`.
 pub fn autolink_at(text: &[u8]) -> Option<Autolink> {
     let inside = text.get(1..)?;
     let length = url_length(inside);
@@ -31,7 +31,7 @@ pub fn autolink_at(text: &[u8]) -> Option<Autolink> {
     })
 }
 
-/// How long the URL is that a `>` follows; 0 where there is none.
+/// The length of the URL before a `>`; 0 if there is none.
 fn url_length(text: &[u8]) -> usize {
     let protocol = text
         .iter()
@@ -59,7 +59,7 @@ fn url_length(text: &[u8]) -> usize {
     }
 }
 
-/// How long the address is that a `>` follows.
+/// The length of the address before a `>`.
 fn address_length(text: &[u8]) -> Option<usize> {
     let name = text.iter().take_while(|byte| is_of_name(**byte)).count();
     if name == 0 || !matches!(text.get(name), Some(b'@')) {
@@ -76,7 +76,7 @@ fn address_length(text: &[u8]) -> Option<usize> {
     Some(name.saturating_add(1).saturating_add(length))
 }
 
-/// Whether a byte may stand in the name of an address.
+/// Whether a byte may occur in the name of an address.
 fn is_of_name(byte: u8) -> bool {
     byte.is_ascii_alphanumeric()
         || matches!(
@@ -103,8 +103,8 @@ fn is_of_name(byte: u8) -> bool {
         )
 }
 
-/// Whether letters, digits, `-` and full stops are a host: each part has a byte at least and 63 at
-/// most, and neither begins nor ends with `-`.
+/// Whether letters, digits, `-` and full stops are a host: each part has 1 to 63 bytes, and neither
+/// begins nor ends with `-`.
 fn is_host(text: &[u8]) -> bool {
     let mut length: usize = 0;
     let mut before = b'.';

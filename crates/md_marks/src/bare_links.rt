@@ -1,11 +1,11 @@
-//! Bare URLs and addresses in texts, as GitHub flavored Markdown has them.
+//! Finds bare URLs and addresses in text, as GitHub flavored Markdown defines them.
 
 ghost use Rattle.std.specs.Prelude.{◌≤◌, length};
 
 use md_base::Name;
 use md_lines::{Class, is};
 
-/// A bare link: the event's name, and its place.
+/// A bare link: the event's name, and its range.
 #[derive(Clone, Copy, Debug, PartialEq, Eq)]
 pub struct BareLink {
     pub name: Name,
@@ -13,8 +13,8 @@ pub struct BareLink {
     pub end: usize,
 }
 
-/// The link with `://` at `colon`, which begins at `low` or later and ends before `high`. One by
-/// `ftp`, which GFM has too, is text: no safe text keeps that protocol.
+/// The link with `://` at `colon`, which begins at `low` or later and ends before `high`. A link
+/// with `ftp`, which GFM has too, is text, since no safe text keeps that protocol.
 pub fn url(bytes: &[u8], low: usize, colon: usize, high: usize) -> Option<BareLink> {
     let rest = bytes.get(colon..high)?.strip_prefix(b"://")?;
     let before = bytes.get(low..colon)?;
@@ -58,7 +58,7 @@ pub fn www(bytes: &[u8], low: usize, dot: usize, high: usize) -> Option<BareLink
     })
 }
 
-/// Whether `www` stands before `dot`, not before `low`.
+/// Whether `www` precedes `dot`, and doesn't begin before `low`.
 pub fn is_www(bytes: &[u8], low: usize, dot: usize) -> bool {
     let before = bytes.get(low..dot).unwrap_or(b"");
     match before.len().checked_sub(3) {
@@ -121,7 +121,7 @@ pub fn address(bytes: &[u8], low: usize, at: usize, high: usize) -> Option<BareL
     })
 }
 
-/// Whether a text ends in a word, whatever the case of its letters.
+/// Whether a text ends in a word, in any case.
 fn ends_in(text: &[u8], word: &[u8]) -> bool {
     let start = text.len().saturating_sub(word.len());
     match text.get(start..) {
@@ -130,7 +130,7 @@ fn ends_in(text: &[u8], word: &[u8]) -> bool {
     }
 }
 
-/// How long the host of an address is with which a text begins.
+/// The length of the host at the beginning of a text, in an address.
 fn host_length(text: &[u8]) -> Option<usize> {
     let mut has_dot = false;
     let mut length = text.len();
@@ -149,7 +149,7 @@ fn host_length(text: &[u8]) -> Option<usize> {
     (has_dot && last.is_ascii_alphabetic()).then_some(length)
 }
 
-/// Whether a letter or a digit stands so many bytes after a place.
+/// Whether there is a letter or a digit `after` bytes after an index.
 fn is_alphanumeric_at(text: &[u8], index: usize, after: usize) -> bool {
     match text.get(index.saturating_add(after)) {
         Some(byte) => byte.is_ascii_alphanumeric(),
@@ -157,7 +157,7 @@ fn is_alphanumeric_at(text: &[u8], index: usize, after: usize) -> bool {
     }
 }
 
-/// How long the resource of an address of XMPP is, with its slash, that begins at `from`.
+/// The length of the resource of an XMPP address, with its slash, that begins at `from`.
 fn resource_length(text: &[u8], from: usize) -> usize {
     let Some(rest) = text.get(from..) else {
         return 0;
@@ -175,8 +175,8 @@ fn resource_length(text: &[u8], from: usize) -> usize {
     }
 }
 
-/// How long the domain is with which a text begins: letters, digits, `-`, `_` and full stops, with
-/// no `_` in the last two parts.
+/// The length of the domain at the beginning of a text: letters, digits, `-`, `_` and full stops,
+/// with no `_` in the last two parts.
 fn domain_length(text: &[u8], needs_dot: bool) -> Option<usize> {
     let mut has_dot = false;
     let mut is_last_marked = false;
@@ -202,8 +202,8 @@ fn domain_length(text: &[u8], needs_dot: bool) -> Option<usize> {
     (is_domain && length > 0).then_some(length)
 }
 
-/// Where a link from `start` ends: before white space, `<` or `high`, and before marks that belong
-/// to the text around it.
+/// The end of a link from `start`: before white space, `<` or `high`, and before marks that belong
+/// to the surrounding text.
 fn link_end(bytes: &[u8], start: usize, high: usize) -> Option<usize> {
     let rest = bytes.get(start..high)?;
     let length = rest
@@ -214,8 +214,8 @@ fn link_end(bytes: &[u8], start: usize, high: usize) -> Option<usize> {
     Some(start.saturating_add(trimmed_length(link)))
 }
 
-/// How long a link is without the marks at its end that belong to the text around it: punctuation,
-/// closing parentheses that it doesn't open, and a character reference.
+/// The length of a link without the marks at its end that belong to the surrounding text:
+/// punctuation, closing parentheses that it doesn't open, and a character reference.
 fn trimmed_length(link: &[u8]) -> usize
     ensures { result ≤ length link.now }
 {
@@ -239,7 +239,8 @@ fn trimmed_length(link: &[u8]) -> usize
     end
 }
 
-/// How long the character reference is, without its `;`, that ends before `last`; 0 if none does.
+/// The length, without its `;`, of the character reference that ends before `last`; 0 if there is
+/// none.
 fn reference_length(link: &[u8], last: usize) -> usize {
     let Some(text) = link.get(..last) else {
         return 0;
@@ -258,7 +259,7 @@ fn reference_length(link: &[u8], last: usize) -> usize {
     }
 }
 
-/// Where a domain ends that goes on at a place.
+/// The end of a domain that continues at an index.
 pub fn domain_end(text: &[u8], at: usize) -> usize {
     let rest = text.get(at..).unwrap_or(b"");
     let length = rest

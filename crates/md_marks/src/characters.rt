@@ -1,4 +1,4 @@
-//! Classes of characters, as the rules of emphasis tell them apart.
+//! Classes of characters, as the rules of emphasis distinguish them.
 
 ghost use Rattle.std.specs.Prelude.{◌≡◌, [], false};
 
@@ -8,7 +8,7 @@ use ucd_category::GeneralCategory;
 /// A class of characters.
 #[derive(Clone, Copy, Debug, PartialEq, Eq)]
 pub enum CharacterClass {
-    /// White space, and where a text begins or ends.
+    /// White space, and the beginning and end of a text.
     Space,
     /// Punctuation.
     Punctuation,
@@ -16,7 +16,7 @@ pub enum CharacterClass {
     Word,
 }
 
-/// The class of the character with which a text ends.
+/// The class of the last character of a text.
 pub fn class_before(text: &[u8]) -> CharacterClass
     ensures { text.now ≡ [] → result ≡ CharacterClass.Space }
 {
@@ -27,7 +27,7 @@ pub fn class_before(text: &[u8]) -> CharacterClass
     }
 }
 
-/// The class of the character with which a text begins.
+/// The class of the first character of a text.
 pub fn class_after(text: &[u8]) -> CharacterClass
     ensures { text.now ≡ [] → result ≡ CharacterClass.Space }
 {
@@ -38,7 +38,7 @@ pub fn class_after(text: &[u8]) -> CharacterClass
     }
 }
 
-/// The class of a character of one byte.
+/// The class of a one-byte character.
 fn class_of_byte(byte: u8) -> CharacterClass {
     if byte.is_ascii_alphanumeric() {
         CharacterClass::Word
@@ -51,7 +51,7 @@ fn class_of_byte(byte: u8) -> CharacterClass {
     }
 }
 
-/// The character of two to four bytes with which a text ends.
+/// The last character of a text, if it has two to four bytes.
 fn last_character(text: &[u8]) -> Option<char> {
     for length in 2..5 {
         let start = text.len().checked_sub(length)?;
@@ -62,7 +62,7 @@ fn last_character(text: &[u8]) -> Option<char> {
     None
 }
 
-/// The character of two to four bytes with which a text begins.
+/// The first character of a text, if it has two to four bytes.
 fn first_character(text: &[u8]) -> Option<char> {
     for length in 2..5 {
         if let Ok(character) = str::from_utf8(text.get(..length)?) {
@@ -87,7 +87,8 @@ fn class_of(character: char) -> CharacterClass {
     }
 }
 
-/// Whether a run of a byte opens and whether it closes, by the characters before and after it.
+/// Whether a run of a byte can open and whether it can close, by the characters before and after
+/// it.
 pub fn flanks(
     byte: u8,
     length: usize,

@@ -1,21 +1,21 @@
-//! Where code and math end that a text holds.
+//! Finds the ends of inline code and math.
 
 use crate::leaf::{Leaf, run_length};
 use md_lines::Place;
 use memchr::memchr;
 use std::alloc::{AllocError, Global};
 
-/// Where runs of backticks stand last in a leaf, so that none is looked for twice.
+/// The last positions of runs of backticks in a leaf, so that none is searched twice.
 #[derive(Drop)]
 pub struct Ticks {
-    /// By the length of a run, where the last one begins.
+    /// For each length, the beginning of the last run.
     last: Vec<usize>,
-    /// Whether all runs of the leaf are there.
+    /// Whether all runs of the leaf are recorded.
     is_known: bool,
 }
 
 impl Ticks {
-    /// Nothing is known.
+    /// Nothing is known yet.
     pub fn new(alloc: Global) -> Ticks {
         Ticks {
             last: Vec::new(alloc),
@@ -23,17 +23,17 @@ impl Ticks {
         }
     }
 
-    /// Forgets a leaf.
+    /// Resets the state for a new leaf.
     pub fn clear(&mut self) {
         self.last.clear();
         self.is_known = false;
     }
 
-    /// Where a run of so many backticks begins, at a place or later.
+    /// Returns the beginning of a run of `length` backticks, at a place or later.
     ///
     /// # Errors
     ///
-    /// Only where memory runs out.
+    /// Returns an error only if memory runs out.
     pub fn find(
         &mut self,
         leaf: &Leaf,
@@ -54,7 +54,7 @@ impl Ticks {
         Ok(None)
     }
 
-    /// The same in a line that ends where this text does.
+    /// The same in a line that ends with this text.
     fn find_in_line(
         &mut self,
         text: &[u8],
@@ -91,7 +91,7 @@ impl Ticks {
     }
 }
 
-/// Which ends of math a leaf is known not to have from some place on.
+/// The ends of math that a leaf is known not to have after some place.
 #[derive(Clone, Copy, Debug, PartialEq, Eq)]
 pub struct Dollars {
     lacks_single: bool,
@@ -99,7 +99,7 @@ pub struct Dollars {
 }
 
 impl Dollars {
-    /// Nothing is known.
+    /// Nothing is known yet.
     pub fn new() -> Dollars {
         Dollars {
             lacks_single: false,
@@ -107,8 +107,8 @@ impl Dollars {
         }
     }
 
-    /// Where math ends that goes on at a place, after one `$` or two: where the same mark begins
-    /// again. Places that are asked for go forward.
+    /// Returns the end of math that continues at a place, after one `$` or two: the place where the
+    /// same mark begins again. Calls must move forward in the leaf.
     pub fn find(&mut self, leaf: &Leaf, place: Place, is_double: bool) -> Option<Place> {
         if (is_double && self.lacks_double) || (!is_double && self.lacks_single) {
             return None;
@@ -130,8 +130,8 @@ impl Dollars {
     }
 }
 
-/// Where `$` or `$$` ends math, after `after`, in a line that begins at `start` and ends where the
-/// text does.
+/// The index where `$` or `$$` ends math, after `after`, in a line that begins at `start` and ends
+/// with the text.
 fn math_end(
     text: &[u8],
     start: usize,
@@ -153,8 +153,8 @@ fn math_end(
     None
 }
 
-/// Whether a single `$` may end math: no space and no backslash is before it, and no letter or
-/// digit after it.
+/// Whether a single `$` may end math: no space and no backslash precedes it, and no letter or digit
+/// follows it.
 fn ends_single(text: &[u8], start: usize, at: usize) -> bool {
     let before = text.get(start..at).unwrap_or(b"");
     let is_inside = match before.last() {

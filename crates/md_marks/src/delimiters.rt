@@ -1,31 +1,31 @@
-//! Runs of `*`, `_` and `~`, and which of them are a pair.
+//! Pairs runs of `*`, `_` and `~`.
 
 ghost use Rattle.std.specs.Prelude.{◌≡◌, ◌<◌, ◌-◌, IsTrue};
 
 use crate::token::{Mark, Token, set_mark};
 use std::alloc::{AllocError, Global};
 
-/// A run of one mark. Each byte of it is a token of its own.
+/// A run of one mark. Each of its bytes is a token.
 #[derive(Clone, Copy, Debug, PartialEq, Eq)]
 pub struct Delimiter {
     /// The token of its first byte.
     pub token: usize,
-    /// How many bytes it has.
+    /// Its length in bytes.
     pub length: usize,
-    /// How many bytes at its beginning close something.
+    /// How many bytes at its beginning are already closers.
     pub used: usize,
-    /// How many bytes are left.
+    /// How many bytes remain.
     pub available: usize,
     pub byte: u8,
     pub opens: bool,
     pub closes: bool,
 }
 
-/// How many kinds of closing runs there are, by what fits them.
+/// The number of kinds of closers, by what they match.
 const KINDS: usize = 14;
 
 impl Delimiter {
-    /// Which kind of closing run it is.
+    /// The kind of the run as a closer.
     fn kind(&self) -> usize
         ensures { result < 14 }
     {
@@ -37,7 +37,7 @@ impl Delimiter {
         by_byte + by_opening + self.length % 3
     }
 
-    /// Whether it opens what another one closes.
+    /// Whether it opens what another run closes.
     fn fits(&self, closer: &Delimiter) -> bool
         ensures { IsTrue result → self.now.byte ≡ closer.now.byte }
     {
@@ -52,7 +52,7 @@ impl Delimiter {
         !is_both || !matches!(thirds, (1, 2) | (2, 1))
     }
 
-    /// The run with so many bytes fewer that are left.
+    /// The run with `width` bytes fewer remaining.
     fn without(self, width: usize) -> Delimiter
         ensures { result.available ≡ self.available - width }
     {
@@ -62,7 +62,7 @@ impl Delimiter {
         }
     }
 
-    /// How many bytes of each run are a pair.
+    /// How many bytes of each run form a pair.
     fn width(&self, closer: &Delimiter) -> usize {
         if closer.byte == b'~' {
             self.length
@@ -74,16 +74,16 @@ impl Delimiter {
     }
 }
 
-/// The runs of a leaf for which no pair is known yet.
+/// The runs of a leaf that have no pair yet.
 #[derive(Drop)]
 pub struct Delimiters {
     list: Vec<Delimiter>,
-    /// Those before the one that is looked at that may open something.
+    /// Those before the current one that may be openers.
     openers: Vec<usize>,
 }
 
 impl Delimiters {
-    /// None.
+    /// No runs.
     pub fn new(alloc: Global) -> Delimiters {
         Delimiters {
             list: Vec::new(alloc),
@@ -91,7 +91,7 @@ impl Delimiters {
         }
     }
 
-    /// How many they are.
+    /// The number of runs.
     pub fn len(&self) -> usize {
         self.list.len()
     }
@@ -100,22 +100,22 @@ impl Delimiters {
     ///
     /// # Errors
     ///
-    /// Only where memory runs out.
+    /// Returns an error only if memory runs out.
     pub fn push(&mut self, delimiter: Delimiter) -> Result<(), AllocError> {
         self.list.push(delimiter)?;
         Ok(())
     }
 
-    /// Forgets the runs from an index on.
+    /// Removes the runs from an index.
     pub fn truncate(&mut self, length: usize) {
         self.list.truncate(length);
     }
 
-    /// Pairs the runs from an index on, and forgets them.
+    /// Pairs the runs from an index, and removes them.
     ///
     /// # Errors
     ///
-    /// Only where memory runs out.
+    /// Returns an error only if memory runs out.
     pub fn resolve(&mut self, tokens: &mut Vec<Token>, from: usize) -> Result<(), AllocError> {
         if self.list.len() <= from {
             return Ok(());
@@ -134,8 +134,8 @@ impl Delimiters {
         Ok(())
     }
 
-    /// Pairs a run with those before it that fit, the nearest first. `bottoms` has for each kind
-    /// how many of the openers are known not to fit it.
+    /// Pairs a run with the earlier ones that match, the nearest first. `bottoms` has for each kind
+    /// the number of openers that are known not to match.
     fn close(&mut self, tokens: &mut Vec<Token>, at: usize, bottoms: &mut [usize; KINDS]) {
         let Some(first) = self.list.get(at).copied() else {
             return;
@@ -168,7 +168,7 @@ impl Delimiters {
         }
     }
 
-    /// The place among the openers of the last one that fits.
+    /// The index of the last opener that matches.
     fn opener_height(&self, closer: &Delimiter, bottom: usize) -> Option<usize> {
         for height in (bottom..self.openers.len()).rev() {
             let index = self.openers.get(height)?;
@@ -180,7 +180,7 @@ impl Delimiters {
         None
     }
 
-    /// Makes a pair of bytes of an opener and of a closer. Openers in between are none any more.
+    /// Pairs bytes of an opener and of a closer. The openers between them are removed.
     fn pair(&mut self, tokens: &mut Vec<Token>, height: usize, closer_at: usize) {
         let Some(opener_at) = self.openers.get(height).copied() else {
             return;
@@ -212,7 +212,7 @@ impl Delimiters {
     }
 }
 
-/// Makes a start and an end of bytes of two runs, each a token of all its bytes.
+/// Marks bytes of two runs as start and end, each as one token.
 fn mark_pair(tokens: &mut Vec<Token>, opener: &Delimiter, closer: &Delimiter, width: usize) {
     let (start, end) = match (opener.byte, width) {
         (b'~', _) => (Mark::StrikethroughStart, Mark::StrikethroughEnd),
@@ -233,7 +233,7 @@ fn mark_pair(tokens: &mut Vec<Token>, opener: &Delimiter, closer: &Delimiter, wi
     }
 }
 
-/// Makes an end of a span of so many bytes of a token.
+/// Marks a token of `width` bytes as the end of a span.
 fn set_end(tokens: &mut Vec<Token>, index: usize, mark: Mark, width: usize) {
     if let Some(token) = tokens.get_mut(index) {
         token.mark = mark;

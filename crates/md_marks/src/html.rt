@@ -1,9 +1,9 @@
-//! HTML in a text.
+//! Inline HTML.
 
 use crate::leaf::Leaf;
 use md_lines::{Place, read_tag};
 
-/// Which endings of HTML a leaf is known not to have from some place on.
+/// The ends of HTML that a leaf is known not to have after some place.
 #[derive(Clone, Copy, Debug, PartialEq, Eq)]
 pub struct Endings {
     lacks_comment: bool,
@@ -12,7 +12,7 @@ pub struct Endings {
     lacks_data: bool,
 }
 
-/// What HTML begins with, if it is no tag.
+/// The beginning of HTML other than a tag.
 #[derive(Clone, Copy, Debug, PartialEq, Eq)]
 enum Opening {
     Comment,
@@ -22,7 +22,7 @@ enum Opening {
 }
 
 impl Opening {
-    /// How it ends.
+    /// The text that ends it.
     fn ending(self) -> &'static [u8] {
         match self {
             Opening::Comment => b"-->",
@@ -32,7 +32,7 @@ impl Opening {
         }
     }
 
-    /// How long it is.
+    /// Its length.
     fn length(self) -> usize {
         match self {
             Opening::Comment => 4,
@@ -43,7 +43,7 @@ impl Opening {
 }
 
 impl Endings {
-    /// Nothing is known.
+    /// Nothing is known yet.
     pub fn new() -> Endings {
         Endings {
             lacks_comment: false,
@@ -53,14 +53,14 @@ impl Endings {
         }
     }
 
-    /// Where the HTML ends that begins at a place, where `<` stands. Places that are asked for go
-    /// forward.
+    /// Returns the end of the HTML that begins at a place, at a `<`. Calls must move forward in the
+    /// leaf.
     pub fn find(&mut self, leaf: &Leaf, place: Place) -> Option<Place> {
         let rest = leaf.rest(place);
         if !matches!(rest.get(1), Some(b'!' | b'?')) {
             return read_tag(leaf.bytes, leaf.lines, place);
         }
-        // A comment may end where it begins.
+        // A comment may end right where it begins.
         if rest.starts_with(b"<!-->") {
             return Some(moved(place, 5));
         }
@@ -97,7 +97,7 @@ impl Endings {
     }
 }
 
-/// So many bytes after a place.
+/// The place `count` bytes later.
 fn moved(place: Place, count: usize) -> Place {
     Place {
         line: place.line,
@@ -105,7 +105,7 @@ fn moved(place: Place, count: usize) -> Place {
     }
 }
 
-/// What a text begins with.
+/// The opening at the beginning of a text.
 fn opening_of(text: &[u8]) -> Option<Opening> {
     if text.starts_with(b"<!--") {
         Some(Opening::Comment)
@@ -120,7 +120,7 @@ fn opening_of(text: &[u8]) -> Option<Opening> {
     }
 }
 
-/// Where the first such ending ends, at a place or later.
+/// The end of the first such ending, at a place or later.
 fn find_ending(leaf: &Leaf, place: Place, ending: &[u8]) -> Option<Place> {
     let mut from = place.at;
     for line in place.line..leaf.lines.len() {

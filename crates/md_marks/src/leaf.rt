@@ -2,17 +2,17 @@
 
 use md_lines::{Line, Place, trim_end};
 
-/// A leaf of the document: its lines, of which the last one ends before the spaces at its end.
+/// A leaf of the document: its lines. The last line ends before the spaces at its end.
 #[derive(Clone, Copy)]
 pub struct Leaf<'a> {
     pub bytes: &'a [u8],
     pub lines: &'a [Line],
-    /// Where the text of the last line ends.
+    /// The end of the text of the last line.
     last: usize,
 }
 
 impl<'a> Leaf<'a> {
-    /// The leaf of such lines.
+    /// The leaf with these lines.
     pub fn new(bytes: &'a [u8], lines: &'a [Line]) -> Leaf<'a> {
         let last = match lines.last() {
             Some(line) => trim_end(bytes, line.start, line.end),
@@ -21,7 +21,7 @@ impl<'a> Leaf<'a> {
         Leaf { bytes, lines, last }
     }
 
-    /// Where it begins.
+    /// Its beginning.
     pub fn first(&self) -> Place {
         Place {
             line: 0,
@@ -29,7 +29,7 @@ impl<'a> Leaf<'a> {
         }
     }
 
-    /// Where a line begins.
+    /// The beginning of a line.
     #[inline(always)]
     pub fn start(&self, line: usize) -> usize {
         match self.lines.get(line) {
@@ -38,7 +38,7 @@ impl<'a> Leaf<'a> {
         }
     }
 
-    /// Where the text of a line ends.
+    /// The end of the text of a line.
     #[inline(always)]
     pub fn end(&self, line: usize) -> usize {
         match self.lines.get(line) {
@@ -47,7 +47,7 @@ impl<'a> Leaf<'a> {
         }
     }
 
-    /// Where the line after a line begins, with that line's ending before it.
+    /// The beginning of the next line, with the line ending before it.
     #[inline(always)]
     pub fn next(&self, line: usize) -> usize {
         match self.lines.get(line) {
@@ -56,19 +56,19 @@ impl<'a> Leaf<'a> {
         }
     }
 
-    /// Whether no line comes after a line.
+    /// Whether a line is the last.
     #[inline(always)]
     pub fn is_last(&self, line: usize) -> bool {
         line.saturating_add(1) >= self.lines.len()
     }
 
-    /// The document up to where the text of a line ends.
+    /// The document up to the end of a line's text.
     #[inline(always)]
     pub fn until_end(&self, line: usize) -> &'a [u8] {
         self.bytes.get(..self.end(line)).unwrap_or(b"")
     }
 
-    /// The text of a line from a place in it on.
+    /// The text of a line from a place in it.
     #[inline(always)]
     pub fn rest(&self, place: Place) -> &'a [u8] {
         self.bytes
@@ -84,7 +84,7 @@ impl<'a> Leaf<'a> {
     }
 }
 
-/// How often a byte stands at the beginning of a text, one after another.
+/// How often a byte is repeated at the beginning of a text.
 pub fn run_length(text: &[u8], byte: u8) -> usize {
     text.iter().take_while(|each| **each == byte).count()
 }

@@ -1,5 +1,5 @@
-//! The marks of a leaf's text: where the next one stands, which runs of delimiters are a pair, and
-//! where that ends what a mark begins.
+//! The marks of a leaf's text: the next mark, the pairs of delimiters, and the end of what a mark
+//! begins.
 #![tactic(auto)]
 
 mod autolinks;

@@ -1,15 +1,15 @@
-//! Where the next mark of a text stands.
+//! Finds the next mark of a text.
 
 ghost use Rattle.std.specs.Prelude.{◌≤◌, length};
 
 use md_lines::{Class, is};
 use std::simd::prelude::*;
 
-/// How many bytes are looked at together.
+/// The number of bytes that one step reads.
 const LANES: usize = 16;
 
-/// Where the next byte of a text may be a mark, which goes on at `from` and ends at `end`; `end` or
-/// later where none is.
+/// Returns the index of the next byte that may be a mark, in a text that continues at `from` and
+/// ends at `end`, or `end` or later if there is none.
 pub fn next_mark(bytes: &[u8], from: usize, end: usize) -> usize
     ensures { from ≤ result }
 {
@@ -30,16 +30,16 @@ pub fn next_mark(bytes: &[u8], from: usize, end: usize) -> usize
     at
 }
 
-/// The index of the first byte that may be a mark among the first ones of a text, else how many
-/// these are.
+/// The index of the first byte that may be a mark in the first block of a text, else the length of
+/// that block.
 #[inline(always)]
 fn first_mark(text: &[u8]) -> usize
     requires { 16 ≤ length text.now }
     ensures { result ≤ 16 }
 {
     let block = Simd::<u8, LANES>::from_slice(text);
-    // `[`, `\`, `]`, `_`, `~` become what comes from `{` on, as do `{`, `|`, `}` and DEL; `@` and
-    // the backtick become one.
+    // `[`, `\`, `]`, `_`, `~` become the bytes from `{` on, as do `{`, `|`, `}` and DEL; `@` and
+    // the backtick become the same.
     let folded = block | Simd::splat(0x20);
     let marks = (folded - Simd::splat(b'{')).simd_le(Simd::splat(4))
         | folded.simd_eq(Simd::splat(b'`'))

@@ -1,12 +1,12 @@
-//! The tokens of a leaf, in the order of their places.
+//! The tokens of a leaf, in order.
 
 use std::alloc::AllocError;
 
-/// What a token is.
+/// The meaning of a token.
 #[derive(Clone, Copy, Debug, PartialEq, Eq)]
 pub enum Mark {
     Text,
-    /// It is part of the token before it or after it.
+    /// It is part of the previous or the next token.
     Nothing,
     EmphasisStart,
     EmphasisEnd,
@@ -17,9 +17,9 @@ pub enum Mark {
     Code,
     Math,
     Html,
-    /// A URL between angle brackets, without these.
+    /// A URL in angle brackets, without these.
     Url,
-    /// An address between angle brackets, without these.
+    /// An address in angle brackets, without these.
     Address,
     /// A bare URL with a protocol.
     BareUrl,
@@ -42,11 +42,11 @@ pub enum Mark {
 #[derive(Clone, Copy, Debug, PartialEq, Eq)]
 pub struct Token {
     pub mark: Mark,
-    /// Where it begins, as a byte index.
+    /// Its start, as a byte index.
     pub start: usize,
-    /// Where it ends, as a byte index.
+    /// Its end, as a byte index.
     pub end: usize,
-    /// Of code, math and HTML the line in which it begins; of the end of a link or an image the
+    /// For code, math and HTML the line in which it begins; for the end of a link or an image the
     /// index of its target.
     pub index: usize,
 }
@@ -55,7 +55,7 @@ pub struct Token {
 ///
 /// # Errors
 ///
-/// Only where memory runs out.
+/// Returns an error only if memory runs out.
 #[inline(always)]
 pub fn push_token(
     tokens: &mut Vec<Token>,
@@ -73,7 +73,7 @@ pub fn push_token(
     Ok(())
 }
 
-/// Makes something else of a token.
+/// Changes the mark of a token.
 pub(crate) fn set_mark(tokens: &mut Vec<Token>, index: usize, mark: Mark) {
     if let Some(token) = tokens.get_mut(index) {
         token.mark = mark;

@@ -46,7 +46,7 @@ others_stay x z (y ∷ ys) h =
       | false ↦ λ e. ap (λ b. bytes_eq y z || b) (others_stay x z ys h)
     ] refl
 
--- and who is left out isn't there
+-- an identifier that is removed doesn't occur
 pub left_out : (x : List ℕ) (ys : List (List ℕ)) → is_in x (others_than x ys) ≡ false
 left_out x [] = refl
 left_out x (y ∷ ys) =
@@ -69,7 +69,7 @@ others-apart x (y ∷ ys) apart =
       )
     ] refl
 
--- the distinct ones are those that are there, and no two of them are the same
+-- the distinct identifiers are the same ones, without repetition
 pub is_in-distinct : (xs : List (List ℕ)) (z : List ℕ) → is_in z (distinct xs) ≡ is_in z xs
 is_in-distinct [] z = refl
 is_in-distinct (x ∷ xs) z =
@@ -89,7 +89,7 @@ distinct-apart (call ∷ calls) = (
 zero_plus : (n : ℕ) → 0 + n ≡ n
 zero_plus n = omega arith
 
--- who isn't there is called never
+-- an identifier that doesn't occur has no call
 pub count-missing : (calls : List (List ℕ)) (z : List ℕ) → is_in z calls ≡ false →
     count_of calls z ≡ 0
 count-missing [] z h = refl

@@ -1,5 +1,5 @@
--- What a document means (`Meaning`), which a reader must believe, with worked trees (`Trees`),
--- and a few words that contracts and lemmas on what the compiler reads have (`Given`,
+-- The meaning of a document (`Meaning`), which a reader must believe, with worked trees (`Trees`),
+-- and a few definitions for contracts and lemmas about what the compiler reads (`Given`,
 -- `Surroundings`, `Places`).
 pub mod Surroundings
 pub mod Given

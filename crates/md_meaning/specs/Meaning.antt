@@ -25,13 +25,13 @@ use Rattle.md_meaning.specs.Meaning.Before.{nothing_before}
 use Rattle.md_meaning.specs.Meaning.Nodes.{Outcome, outcome}
 use Rattle.md_meaning.specs.Meaning.Footnotes.{section}
 
--- the line ending that is used: the text of the document's first, else that of the options
+-- the line ending to print: the text of the document's first one, else that of the options
 abbrev pub ending_at : CompileOptions → List ℕ → Option Position → List ℕ
 ending_at options bytes place =
     option_map_or (text_in bytes) place (ending_text options.default_line_ending)
 
--- the meaning of a document over its bytes, given its calls and then its definitions as well; the
--- section of its footnotes stands at the end
+-- the meaning of a document over its bytes: computed without calls to find the calls, with these to
+-- find the definitions, and then with both; the section of its footnotes comes last
 abbrev pub meaning : CompileOptions → List (List ℕ × List ℕ) → List ℕ → Forest → List ℕ
 meaning options names bytes document =
     let ending = ending_at options bytes (first_ending document) in

@@ -1,5 +1,5 @@
--- Places that a node's children tell, and what is read there, for the contracts of
--- what looks it up.
+-- Positions that a node's children decide, and what is read there, for contracts of functions that
+-- look it up.
 use Rattle.std.specs.Prelude.{ℕ, if◌then◌else◌, List, [], Option, Some, None}
 use Rattle.md_base.specs.declared.event.Point.{Point}
 use Rattle.md_base.specs.declared.event.Position.{Position}
@@ -11,24 +11,24 @@ use Rattle.md_base.specs.Children.{first_on_spine}
 use Rattle.md_tree.specs.Rules.{columns}
 use Rattle.md_meaning.specs.Given.{label_of}
 
--- the place of a node
+-- the position of a node
 abbrev pub position : Point → Point → Forest → Position
 position start end children = record { start = start; end = end }
 
--- how long a mark is, the columns of tabs that are cut at its ends counted
+-- the length of a mark, with the columns of tabs that are cut at its ends
 abbrev pub length_of : List ℕ → Position → ℕ
 length_of bytes place =
     if fits bytes place.start place.end then columns place.start place.end else 0
 
--- the place of the text in a label
+-- the position of the text in a label
 abbrev pub text_in_label : Forest → Option Position
 text_in_label children = first_on_spine is_label_text position children
 
--- the place of the label in the prefix of a footnote definition
+-- the position of the label in the prefix of a footnote definition
 abbrev pub label_in_prefix : Forest → Option Position
 label_in_prefix children = first_on_spine is_footnote_label position children
 
--- the identifier at a place
+-- the identifier at a position
 abbrev pub identifier_at : List ℕ → Option Position → List ℕ
 identifier_at bytes place =
     elim place [ None ↦ [] | Some at ↦ normalized (label_of bytes at.start at.end) ]

@@ -1,4 +1,4 @@
--- The names on a spine, for the contracts and lemmas of what goes over nodes one after another.
+-- The names on a spine, for contracts and lemmas of functions that iterate over nodes.
 use Rattle.std.specs.Prelude.{if◌then◌else◌, List, [], ◌∷◌, ◌++◌, Option, Some, None, unwrap_or}
 use Rattle.md_base.specs.declared.event.Name.{Name}
 use Rattle.md_base.specs.Tree.{Forest}
@@ -10,7 +10,7 @@ abbrev pub last_of : List Name → Option Name
 last_of [] = None
 last_of (name ∷ names) = Some (unwrap_or (last_of names) name)
 
--- the names on the spine that a node's children begin after
+-- the names on the spine before a node's first child
 abbrev pub spine_inside : Name → List Name → List Name
 spine_inside name spine = if is_transparent name then spine else []
 

@@ -1,6 +1,5 @@
--- Worked trees by what they are about, each with the bytes that it lies over, the options
--- where some are set, and the text that is its meaning. What texts with footnotes have in
--- common has names.
+-- Worked trees by topic, each with its bytes, its options if any are set, and the text that is its
+-- meaning. Texts with footnotes share some definitions.
 pub mod Blocks
 pub mod Lists
 pub mod Spans
@@ -20,7 +19,7 @@ use Rattle.md_text.specs.Defaults.{default_options}
 use Rattle.md_text.specs.declared.options.CompileOptions.{CompileOptions}
 use Rattle.md_meaning.specs.Meaning.{meaning}
 
--- a point before the byte at an index; and one with some columns of a tab taken
+-- a point before the byte at an index; below, one after some columns of a tab
 abbrev pub at : ℕ → Point
 at index = record { line = 1; column = 1; index = index; vs = 0 }
 
@@ -40,17 +39,17 @@ abbrev pub section_head : List ℕ
 section_head = codes "<section data-footnotes=\"\" class=\"footnotes\">"
     ++ codes "<h2 id=\"footnote-label\" class=\"sr-only\">Footnotes</h2>"
 
--- the tag of the way back to a call
+-- the tag of the backreference to a call
 abbrev pub way_back_tag : String → List ℕ
 way_back_tag call =
     codes "<a href=\"#user-content-fnref-" ++ codes call ++ codes "\" data-footnote-backref=\"\""
     ++ codes " aria-label=\"Back to content\" class=\"data-footnote-backref\">"
 
--- the way back to the first call of a footnote, with its arrow (U+21A9)
+-- the backreference to the first call of a footnote, with its arrow (U+21A9)
 abbrev pub way_back : String → List ℕ
 way_back call = way_back_tag call ++ (226 ∷ 134 ∷ 169 ∷ []) ++ codes "</a>"
 
--- the way back to a later one, with the number of it among the calls of the footnote
+-- the backreference to a later call, with its number among the calls of the footnote
 abbrev pub numbered_way_back : (call number : String) → List ℕ
 numbered_way_back call number =
     way_back_tag call ++ (226 ∷ 134 ∷ 169 ∷ []) ++ codes "<sup>" ++ codes number

@@ -1,34 +1,34 @@
-//! What is known of a node by what stands around it.
+//! The context of a node: facts that its ancestors decide.
 
-/// The innermost block quote, list or footnote definition around a node.
+/// The innermost block quote, list or footnote definition that contains a node.
 #[derive(Clone, Copy)]
 pub enum Container {
-    /// There is none.
+    /// No container.
     Nothing,
-    /// A list whose paragraphs print no tags.
+    /// A list whose paragraphs are printed without tags.
     TightList,
     /// Any other container.
     Another,
 }
 
-/// What a node knows of the nodes around it.
+/// What a node inherits from its ancestors.
 #[derive(Clone, Copy)]
 pub struct Surroundings {
     /// The innermost container.
     pub container: Container,
-    /// There is no node around it.
+    /// The node has no parent.
     pub is_outermost: bool,
-    /// An image is around it.
+    /// An image contains it.
     pub in_image: bool,
-    /// A link is around it.
+    /// A link contains it.
     pub in_link: bool,
-    /// A table is around it.
+    /// A table contains it.
     pub in_table: bool,
-    /// A table's head is around it.
+    /// A table's head contains it.
     pub in_head: bool,
-    /// Code or math in a text is around it.
+    /// Code or math in a text contains it.
     pub in_code: bool,
-    /// A definition is around it.
+    /// A definition contains it.
     pub in_definition: bool,
     /// Special characters are escaped.
     pub is_escaping: bool,

@@ -1,4 +1,4 @@
-//! What a document of Markdown means: the text that its tree stands for.
+//! The meaning of a Markdown document: the text that its tree prints.
 #![tactic(auto)]
 
 mod context;

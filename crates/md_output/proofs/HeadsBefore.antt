@@ -1,4 +1,5 @@
--- What texts stay where a head is put before the innermost one, or takes the place kept for it.
+-- The texts that stay when a head is inserted before the innermost one, or replaces the reserved
+-- head.
 use Rattle.std.proofs.Common.{◌≡◌, ℕ, ◌≤◌, ◌<◌, inr, List, ◌∷◌, ◌++◌, length, take, drop, refl, ap}
 use Rattle.std.proofs.Common.{sym, subst, ◌∙◌, arith, length-append}
 use Rattle.std.proofs.lemmas.List.{take_all, take_at, drop_at, take-append-le, length-take-le}

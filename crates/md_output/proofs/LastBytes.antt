@@ -1,4 +1,4 @@
--- The last byte of some bytes with heads put in, and how long these are at least.
+-- The last byte of some bytes with heads inserted, and their minimum length.
 use Rattle.std.proofs.Common.{◌≡◌, ℕ, ◌+◌, ◌-◌, ◌≤◌, ◌<◌, ◌⊎◌, ◌==◌, ◌||◌, inl, inr, Bool, true}
 use Rattle.std.proofs.Common.{suc, List, [], ◌∷◌, ◌++◌, length, take, drop, slice_get, Option, refl}
 use Rattle.std.proofs.Common.{ap, sym, ◌∙◌, arith, append_assoc, length-append}

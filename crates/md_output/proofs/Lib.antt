@@ -1,5 +1,4 @@
--- What texts are with heads put in, and what stays of them where others are put,
--- captured and ended.
+-- Texts with heads inserted, and what stays of them when others are written, captured and ended.
 pub mod HeadsFit
 pub mod Merged
 pub mod LastBytes

@@ -1,4 +1,4 @@
--- What some bytes are with heads put in, where bytes or heads are added, and where there are none.
+-- Bytes with heads inserted: when bytes or heads are added, and when there are none.
 use Rattle.std.proofs.Common.{◌≡◌, ℕ, ◌+◌, ◌-◌, ◌≤◌, ◌<◌, ◌⊎◌, ◌==◌, if◌then◌else◌, inl, inr, Bool}
 use Rattle.std.proofs.Common.{true, false, not, zero, suc, List, [], ◌∷◌, ◌++◌, length, take, drop}
 use Rattle.std.proofs.Common.{set, refl, ap, sym, ◌∙◌, arith, append_assoc}
@@ -88,7 +88,7 @@ merged-append bytes more heads from (head ∷ waiting) fit =
     ∙ sym (append_assoc (drop from (take head.place bytes)) (text_of heads head
     ++ merged bytes heads head.place waiting) more)
 
--- one list of heads after another, of which the first are before a place
+-- two lists of heads in sequence, the first of which are before an offset
 pub merged-split : (bytes heads : List ℕ) (from start : ℕ) (xs ys : List Head) →
     start ≤ length bytes →
     Fit bytes heads start from xs → Fit bytes heads (length bytes) start ys →

@@ -1,4 +1,4 @@
--- What texts stay where others are put, captured and kept for later.
+-- The texts that stay when others are written, captured and kept for later.
 use Rattle.std.proofs.Common.{◌≡◌, ℕ, ◌-◌, ◌≤◌, inl, List, [], ◌∷◌, ◌++◌, length, take, drop, refl}
 use Rattle.std.proofs.Common.{ap, sym, subst, ◌∙◌, arith, append-nil, length-append}
 use Rattle.std.proofs.lemmas.List.{take_all, take_at, drop_all, take-append-le, drop-append-le}
@@ -58,7 +58,7 @@ longer xs ys heads waiting start outers same sound =
     (fit-more ys heads (length xs) (length ys) start.place (drop start.first waiting) long
     (fit-same xs ys heads (length xs) start.place (drop start.first waiting) all sound.text))
 
--- a text is put
+-- a text is written
 pub put : (bytes more heads : List ℕ) (waiting : List Head) (start : Start) (outers : List Start) →
     IsSound bytes heads waiting start outers → IsSound (bytes ++ more) heads waiting start outers
 put bytes more heads waiting start outers sound =

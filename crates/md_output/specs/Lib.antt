@@ -1,4 +1,4 @@
--- A text with captured texts in it, and how it stands in memory.
+-- A text with captured texts in it, and its layout in memory.
 pub mod Texts
 pub mod Waiting
 pub mod LinkHeads

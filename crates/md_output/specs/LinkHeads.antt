@@ -1,4 +1,4 @@
--- What stands before and after the label of a link or an image.
+-- The tags before and after the label of a link or an image.
 use Rattle.std.specs.Prelude.{ℕ, List, ◌++◌, [], Option, codes}
 use Rattle.std.specs.Option.{option_map_or}
 use Rattle.md_text.specs.declared.options.CompileOptions.{CompileOptions}

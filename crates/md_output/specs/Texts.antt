@@ -1,7 +1,7 @@
--- What is laid out since the innermost capture, and what was before each.
+-- The pieces since the innermost capture, and those before each.
 use Rattle.std.specs.Prelude.{ℕ, List, [], ◌∷◌}
 
--- the text since the innermost capture, and those before it, the innermost first
+-- the text since the innermost capture, and the outer texts, the innermost first
 pub record Texts : Type 0 where
   pub text : List ℕ
   pub below : List (List ℕ)

@@ -1,4 +1,4 @@
-//! The text of code in a text.
+//! The text of inline code.
 
 ghost use Rattle.std.specs.Prelude.{◌≡◌, ◌++◌, ◌≤◌, IfOk, OnOk, string_bytes, encode_utf8, length};
 ghost use Rattle.std.specs.Prelude.{◌-◌, option_copied, if◌then◌else◌};
@@ -10,12 +10,12 @@ ghost use Rattle.md_output.specs.Code as code;
 use crate::output::Output;
 use std::alloc::{AllocError, Global};
 
-/// The text of code: in a table each backslash directly before a pipe goes, and then one space goes
-/// at each end of a text that begins and ends with one and isn't all spaces.
+/// Normalizes the text of code. In a table each backslash directly before a pipe is removed. Then
+/// one space is removed at each end of a text that begins and ends with one and isn't all spaces.
 ///
 /// # Errors
 ///
-/// Only where memory runs out.
+/// Returns an error only if memory runs out.
 pub fn push_code(
     alloc: Global,
     out: &mut Output,
@@ -34,7 +34,7 @@ pub fn push_code(
     }
 }
 
-/// A text without each backslash that stands directly before a pipe.
+/// Removes each backslash directly before a pipe.
 fn unescape_pipes(alloc: Global, text: &str) -> Result<String, AllocError>
     ensures { IfOk result (λ out. string_bytes out ≡ code.unescaped_pipes text.now) }
 {
@@ -46,7 +46,7 @@ fn unescape_pipes(alloc: Global, text: &str) -> Result<String, AllocError>
     Ok(out)
 }
 
-/// Writes a character by what follows it.
+/// Writes a character, depending on what follows it.
 fn push_unescaped(out: &mut String, c: char, rest: &str) -> Result<(), AllocError>
     ensures { OnOk result
         (string_bytes out.new ++ code.unescaped_pipes rest.now ≡ string_bytes out.old
@@ -73,7 +73,7 @@ fn begins_with_pipe(bytes: &[u8]) -> bool
     bytes.first().is_some_and(|byte| *byte == b'|')
 }
 
-/// A text without one space at each end, where it is padded.
+/// A text without one space at each end, if it is padded.
 fn trim(text: &str) -> &str
     ensures { result.now ≡ code.without_padding text.now }
 {

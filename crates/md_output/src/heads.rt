@@ -1,4 +1,4 @@
-//! Heads that wait to be put into a text.
+//! Pending heads, to be inserted into a text later.
 
 ghost use Rattle.std.specs.Prelude.{◌≡◌, ◌≤◌, ◌∷◌, ◌++◌, OnOk, OnErr, string_bytes, length, take};
 ghost use Rattle.std.specs.Prelude.{drop, vec_len};
@@ -7,8 +7,8 @@ ghost use Rattle.md_output.specs.Waiting.{merged, Fit, is_open, waits, without_o
 
 use std::alloc::AllocError;
 
-/// A head that waits: where it goes, and where its text stands among the texts of heads. An empty
-/// one keeps the place of a label that is open.
+/// A pending head: the offset where it is inserted, and the range of its text among the texts of
+/// heads. An empty one reserves the offset of an open label.
 #[derive(Clone, Copy)]
 pub(crate) struct Head {
     pub(crate) place: usize,
@@ -16,8 +16,8 @@ pub(crate) struct Head {
     pub(crate) to: usize,
 }
 
-/// Whether one of some heads waits, or there are several: then the first may be put
-/// at once no more.
+/// Whether some head is nonempty, or there are several: then a head can no longer be inserted at
+/// once.
 #[inline(always)]
 pub(crate) fn waits(waiting: &[Head]) -> bool
     ensures { result ≡ waits waiting.now }
@@ -29,7 +29,7 @@ pub(crate) fn waits(waiting: &[Head]) -> bool
     }
 }
 
-/// Whether the place of an open label is kept before all others.
+/// Whether the first head reserves the offset of an open label.
 fn is_open(waiting: &[Head]) -> bool
     ensures { result ≡ is_open waiting.now }
 {
@@ -39,8 +39,7 @@ fn is_open(waiting: &[Head]) -> bool
     }
 }
 
-/// Lets a head wait before those from an index on, in the place that was kept for it
-/// if there is one.
+/// Inserts a pending head at an index, or replaces the reserved one there.
 pub(crate) fn wait_first(
     waiting: &mut Vec<Head>,
     first: usize,
@@ -59,7 +58,7 @@ pub(crate) fn wait_first(
     Ok(())
 }
 
-/// Forgets the heads from an index on, and their texts, which start at a place.
+/// Removes the heads from an index, and their texts, which start at an offset.
 #[inline(always)]
 pub(crate) fn forget_from(heads: &mut String, waiting: &mut Vec<Head>, first: usize, place: usize)
     requires { IsCharBoundary (string_bytes heads.old) place }
@@ -73,11 +72,11 @@ pub(crate) fn forget_from(heads: &mut String, waiting: &mut Vec<Head>, first: us
     }
 }
 
-/// Adds a text from a place on, with heads put in.
+/// Appends a text from an offset, with its heads inserted.
 ///
 /// # Errors
 ///
-/// Only where memory runs out.
+/// Returns an error only if memory runs out.
 pub(crate) fn push_merged(
     out: &mut String,
     text: &str,

@@ -1,4 +1,4 @@
-//! The text that a printer lays out, with captured texts in it.
+//! The text of a printer, with nested captured texts.
 #![tactic(auto)]
 
 mod code;

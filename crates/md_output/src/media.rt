@@ -1,4 +1,4 @@
-//! What stands before and after the label of a link or an image.
+//! Writes the tags before and after the label of a link or an image.
 
 ghost use Rattle.std.specs.Prelude.{◌≡◌, ◌++◌, OnOk, List, ℕ, option_copied, if◌then◌else◌};
 ghost use Rattle.std.specs.Prelude.{unwrap_or, Some, None};
@@ -13,11 +13,10 @@ use md_text::CompileOptions;
 use std::alloc::AllocError;
 use std::marker::Model;
 
-/// Where a link or an image leads, and its title as it is printed, in texts that are kept
-/// elsewhere.
+/// The target of a link or an image, and its title as it is printed, in borrowed texts.
 #[derive(Drop)]
 pub struct Lead<'a> {
-    /// The destination, not yet sanitized; empty where there is none.
+    /// The destination, not yet sanitized; empty if there is none.
     pub destination: &'a str,
     /// The title as it is printed, if there is one.
     pub title: Option<&'a str>,
@@ -33,8 +32,8 @@ impl<'a> Model for Lead<'a> {
 }
 
 impl<'a> Lead<'a> {
-    /// Where a resource says, if there is one, else where a definition does that was
-    /// found, else nowhere.
+    /// The target of the resource if there is one, else of the definition if one was found, else no
+    /// target.
     pub fn of(has_resource: bool, resource: &'a Target, found: Option<&'a Target>) -> Lead<'a>
         ensures { result ≡ unwrap_or (if has_resource then Some resource.now else None)
             (unwrap_or (option_copied found.entry) nowhere) }
@@ -52,7 +51,7 @@ impl<'a> Lead<'a> {
     }
 }
 
-/// Puts a link's destination as it is written.
+/// Writes a link's destination, sanitized.
 fn put_href(out: &mut Output, options: &CompileOptions, destination: &str) -> Result<(), AllocError>
     ensures { OnOk result
         (out.new ≡ record out.old { text = out.old.text ++ href options.now destination.now }) }
@@ -64,7 +63,7 @@ fn put_href(out: &mut Output, options: &CompileOptions, destination: &str) -> Re
     }
 }
 
-/// Puts an image's destination as it is written.
+/// Writes an image's destination, sanitized.
 fn put_src(out: &mut Output, options: &CompileOptions, destination: &str) -> Result<(), AllocError>
     ensures { OnOk result
         (out.new ≡ record out.old { text = out.old.text ++ src options.now destination.now }) }
@@ -76,7 +75,7 @@ fn put_src(out: &mut Output, options: &CompileOptions, destination: &str) -> Res
     }
 }
 
-/// Puts a title, if there is one.
+/// Writes a title, if there is one.
 fn put_title(out: &mut Output, title: Option<&str>) -> Result<(), AllocError>
     ensures { OnOk result (out.new
         ≡ record out.old { text = out.old.text ++ title_text (option_copied title.entry) }) }
@@ -91,11 +90,11 @@ fn put_title(out: &mut Output, title: Option<&str>) -> Result<(), AllocError>
     }
 }
 
-/// Puts what stands before a link's label.
+/// Writes the tag before a link's label.
 ///
 /// # Errors
 ///
-/// Only where memory runs out.
+/// Returns an error only if memory runs out.
 pub fn put_anchor_head(
     out: &mut Output,
     options: &CompileOptions,
@@ -111,7 +110,7 @@ pub fn put_anchor_head(
     out.put(">")
 }
 
-/// Puts what stands before an image's alternative text.
+/// Writes the tag up to an image's alternative text.
 fn put_picture_head(
     out: &mut Output,
     options: &CompileOptions,
@@ -125,11 +124,11 @@ fn put_picture_head(
     out.put("\" alt=\"")
 }
 
-/// Puts what stands after an image's alternative text.
+/// Writes the rest of the tag after an image's alternative text.
 ///
 /// # Errors
 ///
-/// Only where memory runs out.
+/// Returns an error only if memory runs out.
 pub fn put_picture_tail(out: &mut Output, title: Option<&str>) -> Result<(), AllocError>
     ensures { OnOk result (out.new
         ≡ record out.old { text = out.old.text ++ picture_tail (option_copied title.entry) }) }
@@ -139,12 +138,12 @@ pub fn put_picture_tail(out: &mut Output, title: Option<&str>) -> Result<(), All
     out.put(" />")
 }
 
-/// Puts what stands before a link's label before the innermost text, which is the label. Another
-/// text is used for it.
+/// Inserts the tag before a link's label, which is the innermost text. Uses another text as a
+/// buffer.
 ///
 /// # Errors
 ///
-/// Only where memory runs out.
+/// Returns an error only if memory runs out.
 pub fn put_anchor_before(
     out: &mut Output,
     scratch: &mut String,
@@ -165,12 +164,12 @@ pub fn put_anchor_before(
     out.put_before(scratch.as_str())
 }
 
-/// Puts what stands before an image's alternative text before the innermost text, which is that.
-/// Another text is used for it.
+/// Inserts the tag before an image's alternative text, which is the innermost text. Uses another
+/// text as a buffer.
 ///
 /// # Errors
 ///
-/// Only where memory runs out.
+/// Returns an error only if memory runs out.
 pub fn put_picture_before(
     out: &mut Output,
     scratch: &mut String,

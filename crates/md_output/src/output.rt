@@ -1,4 +1,4 @@
-//! One text in which captured texts begin one after another.
+//! One text that contains the captured texts, in order.
 
 ghost use Rattle.std.specs.Prelude.{◌≡◌, ◌<◌, ◌∷◌, ◌++◌, [], OnOk, IfOk, true, if◌then◌else◌};
 ghost use Rattle.std.specs.Prelude.{length, string_bytes};
@@ -12,16 +12,16 @@ use crate::heads::{Head, wait_first, waits};
 use std::alloc::{AllocError, Global};
 use std::marker::Model;
 
-/// Of how many bytes of a document room is made for at once: room that grows by doubling costs
-/// little after that.
+/// The maximum number of bytes of a document for which capacity is reserved at once: growth by
+/// doubling costs little after that.
 const MOST_ROOM: usize = 4096;
 
-/// A label up to this length is taken aside: to put its head in later, where all is copied,
+/// A label up to this length is moved aside. Inserting its head later, when all text is copied,
 /// would cost more.
 const SHORT_LABEL: usize = 512;
 
-/// Where a text starts, which of the heads that wait is the first in it, and where
-/// their texts start.
+/// The start of a text: its offset, the index of its first pending head, and the offset of its
+/// heads' texts.
 #[derive(Clone, Copy)]
 struct Start {
     place: usize,
@@ -29,18 +29,18 @@ struct Start {
     heads: usize,
 }
 
-/// Where the first text starts.
+/// The start of the first text.
 const NO_START: Start = Start {
     place: 0,
     first: 0,
     heads: 0,
 };
 
-/// One text, in which captured texts begin one after another.
+/// One text that contains the captured texts, in order.
 ///
-/// A short label is taken aside by [`Output::lift`], and put again behind its head. Before a long
-/// one, or one in which others wait, a head waits until the text is taken out, when all that wait
-/// are put in by one copy: so labels in one another cost no more than others.
+/// [`Output::lift`] moves a short label aside, and the caller appends it again after its head. A
+/// head before a long label, or before a label with pending heads, stays pending until the text is
+/// returned. One copy then inserts all pending heads, so nested labels cost no more than others.
 ///
 /// # Examples
 ///
@@ -56,11 +56,11 @@ const NO_START: Start = Start {
 #[derive(Drop)]
 pub struct Output {
     bytes: String,
-    /// The texts of heads, one after another, and the heads that wait, in the order
-    /// of their places.
+    /// The texts of the heads, one after another, and the pending heads, in the order of their
+    /// offsets.
     heads: String,
     waiting: Vec<Head>,
-    /// Where the innermost text starts, and where the ones before it do, the innermost last.
+    /// The start of the innermost text, and those of the outer texts, the innermost last.
     start: Start,
     outers: Vec<Start>,
 }
@@ -80,7 +80,7 @@ impl Model for Output {
 }
 
 impl Output {
-    /// No text.
+    /// An empty output.
     pub fn new(alloc: Global) -> Output
         ensures { result ≡ record { text = []; below = [] } }
     {
@@ -93,7 +93,7 @@ impl Output {
         }
     }
 
-    /// No text again; the room is kept.
+    /// Removes all text; keeps the capacity.
     pub fn clear(&mut self)
         ensures { self.new ≡ record { text = []; below = [] } }
     {
@@ -106,7 +106,7 @@ impl Output {
         );
     }
 
-    /// Makes room for the text of a document of so many bytes, where there is memory for it.
+    /// Reserves capacity for the text of a document of `bytes` bytes, if there is memory for it.
     pub fn reserve(&mut self, bytes: usize)
         ensures { self.new ≡ self.old }
     {
@@ -115,11 +115,11 @@ impl Output {
             .reserve(bytes.min(MOST_ROOM).saturating_mul(2).saturating_add(64));
     }
 
-    /// Puts a text.
+    /// Writes a text.
     ///
     /// # Errors
     ///
-    /// Only where memory runs out.
+    /// Returns an error only if memory runs out.
     #[inline(always)]
     pub fn put(&mut self, text: &str) -> Result<(), AllocError>
         ensures { OnOk result
@@ -129,11 +129,11 @@ impl Output {
         Ok(())
     }
 
-    /// Puts a line ending, unless a line starts here.
+    /// Writes a line ending, unless the text is at the start of a line.
     ///
     /// # Errors
     ///
-    /// Only where memory runs out.
+    /// Returns an error only if memory runs out.
     #[inline(always)]
     pub fn need(&mut self, ending: &str) -> Result<(), AllocError>
         ensures { OnOk result (self.new ≡ record {
@@ -148,7 +148,7 @@ impl Output {
         }
     }
 
-    /// Whether the innermost text is empty or ends in CR or LF: no head is at its end.
+    /// Whether the innermost text is empty or ends in CR or LF. No head is at its end.
     #[inline(always)]
     fn begins_line(&self) -> bool
         ensures { result ≡ begins_line self.now.text }
@@ -156,11 +156,11 @@ impl Output {
         begins_line(&self.bytes.as_str()[self.start.place..])
     }
 
-    /// Begins a text.
+    /// Begins to capture a text.
     ///
     /// # Errors
     ///
-    /// Only where memory runs out.
+    /// Returns an error only if memory runs out.
     #[inline(always)]
     pub fn capture(&mut self) -> Result<(), AllocError>
         ensures { OnOk result
@@ -175,12 +175,12 @@ impl Output {
         Ok(())
     }
 
-    /// Begins a text that a head may be put before. Before a text that [`Output::capture`] began it
-    /// may be put too, at more cost where heads wait in that.
+    /// Begins to capture a text before which a head may be inserted. A head may also be inserted
+    /// before a text of [`Output::capture`], at more cost if that has pending heads.
     ///
     /// # Errors
     ///
-    /// Only where memory runs out.
+    /// Returns an error only if memory runs out.
     #[inline(always)]
     pub fn capture_label(&mut self) -> Result<(), AllocError>
         ensures { OnOk result
@@ -190,7 +190,7 @@ impl Output {
         self.keep_place()
     }
 
-    /// Keeps a place among the heads that wait, for one that may be put here.
+    /// Reserves a pending head, for one that may be inserted here.
     #[inline(always)]
     fn keep_place(&mut self) -> Result<(), AllocError>
         ensures { OnOk result (self.new ≡ self.old) }
@@ -204,12 +204,12 @@ impl Output {
         Ok(())
     }
 
-    /// Takes the innermost text away and adds it to another, where it is short and no head waits in
-    /// it; answers whether it did.
+    /// Moves the innermost text to another, if it is short and has no pending head; returns whether
+    /// it did.
     ///
     /// # Errors
     ///
-    /// Only where memory runs out.
+    /// Returns an error only if memory runs out.
     pub fn lift(&mut self, out: &mut String) -> Result<bool, AllocError>
         ensures lifted { IfOk result (λ lifted. string_bytes out.new
             ≡ (if lifted then string_bytes out.old ++ self.old.text else string_bytes out.old)) }
@@ -223,12 +223,12 @@ impl Output {
         Ok(true)
     }
 
-    /// Puts a head before the innermost text: one that isn't empty it waits before until the
-    /// text is taken out.
+    /// Inserts a head before the innermost text. If that isn't empty, the head stays pending until
+    /// the text is returned.
     ///
     /// # Errors
     ///
-    /// Only where memory runs out.
+    /// Returns an error only if memory runs out.
     #[cold]
     pub fn put_before(&mut self, head: &str) -> Result<(), AllocError>
         ensures { OnOk result
@@ -249,7 +249,7 @@ impl Output {
     }
 }
 
-/// Takes away all that an output has.
+/// Removes all text of an output.
 fn empty(
     bytes: &mut String,
     heads: &mut String,

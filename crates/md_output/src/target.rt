@@ -1,4 +1,4 @@
-//! Where a link or an image leads, as it is kept.
+//! The stored target of a link or an image.
 
 ghost use Rattle.std.specs.Prelude.{◌≡◌, [], Some, IfOk, OnOk, option_copied};
 ghost use Rattle.md_output.specs.Texts.{first_or, others_of};
@@ -9,14 +9,14 @@ use crate::output::Output;
 use std::alloc::{AllocError, Global};
 use std::marker::Model;
 
-/// Where a link or an image leads, and its title. The room of both texts is used again.
+/// The target of a link or an image, and its title. The capacity of both texts is reused.
 #[derive(Drop)]
 pub struct Target {
-    /// The destination, not yet sanitized; empty where there is none.
+    /// The destination, not yet sanitized; empty if there is none.
     destination: String,
     /// The title as it is printed, if there is one.
     title: String,
-    /// There is a title.
+    /// Whether there is a title.
     has_title: bool,
 }
 
@@ -33,7 +33,7 @@ impl Model for Target {
 }
 
 impl Target {
-    /// Nowhere, with no title.
+    /// No destination and no title.
     pub fn new(alloc: Global) -> Target
         ensures { result ≡ nowhere }
     {
@@ -44,7 +44,7 @@ impl Target {
         }
     }
 
-    /// It leads nowhere again.
+    /// Resets the target.
     pub fn clear(&mut self)
         ensures { self.new ≡ nowhere }
     {
@@ -52,11 +52,11 @@ impl Target {
         self.has_title = false;
     }
 
-    /// Notes the innermost text as the destination, and ends that text.
+    /// Stores the innermost text as the destination, and ends that text.
     ///
     /// # Errors
     ///
-    /// Only where memory runs out.
+    /// Returns an error only if memory runs out.
     pub fn note_destination(&mut self, out: &mut Output) -> Result<(), AllocError>
         ensures noted { OnOk result (self.new ≡ record self.old { destination = out.old.text }) }
         ensures left { OnOk result (out.new
@@ -67,11 +67,11 @@ impl Target {
         out.move_into(destination)
     }
 
-    /// Notes the innermost text as the title, and ends that text.
+    /// Stores the innermost text as the title, and ends that text.
     ///
     /// # Errors
     ///
-    /// Only where memory runs out.
+    /// Returns an error only if memory runs out.
     pub fn note_title(&mut self, out: &mut Output) -> Result<(), AllocError>
         ensures noted { OnOk result (self.new ≡ record self.old { title = Some out.old.text }) }
         ensures left { OnOk result (out.new
@@ -82,7 +82,7 @@ impl Target {
         out.move_into(&mut self.title)
     }
 
-    /// Where it leads.
+    /// Borrows the target.
     pub fn lead(&self) -> Lead
         ensures { result ≡ self.now }
     {
@@ -103,11 +103,11 @@ impl Target {
         }
     }
 
-    /// Another one that leads to the same, with no more room than it needs.
+    /// Returns a copy of the target, with no more capacity than it needs.
     ///
     /// # Errors
     ///
-    /// Only where memory runs out.
+    /// Returns an error only if memory runs out.
     pub fn copied(&self, alloc: Global) -> Result<Target, AllocError>
         ensures { IfOk result (λ other. other ≡ self.now) }
     {

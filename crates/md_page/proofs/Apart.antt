@@ -9,7 +9,7 @@ use Rattle.md_safe.proofs.NumberedIds.{decimal-digits}
 use Rattle.md_page.specs.Added.{shown}
 use Rattle.md_page.specs.Ids.{HasNoDigitsPast, AreApart}
 
--- one text is the other with more behind it, which what follows the other begins with
+-- one text is the other followed by more, and what follows the other begins with that
 record Past (one other first second : List ℕ) : Type 0 where
   more : List ℕ
   longer : other ≡ one ++ more

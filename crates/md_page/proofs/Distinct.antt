@@ -124,7 +124,7 @@ begins-out prefix more (x ∷ xs) h =
         ∙ begins-itself prefix more)
     by false e other = refl
 
--- the ids of tokens that got theirs, after so many
+-- the ids of tokens with added ids, after so many headings
 abbrev ids_then : List ℕ → ℕ → List Token → List (List ℕ)
 ids_then prefix n x = ids_among (added gets_id (id_of prefix) n x)
 
@@ -142,7 +142,7 @@ then-passed prefix n t x h =
     ap (λ b. ids_among (cond b (with_attribute t (id_of prefix n)
     ∷ added gets_id (id_of prefix) (suc n) x) (t ∷ added gets_id (id_of prefix) n x))) h
 
--- how many headings come after so many
+-- how many headings follow after so many
 pub count-picked : (n : ℕ) (t : Token) (x : List Token) → gets_id t ≡ true →
     length (headings_after n (t ∷ x)) ≡ suc (length (headings_after (suc n) x))
 count-picked n t x h =
@@ -153,7 +153,7 @@ pub count-passed : (n : ℕ) (t : Token) (x : List Token) → gets_id t ≡ fals
 count-passed n t x h =
     ap (λ b. length (cond b (heading_of n t x ∷ headings_after (suc n) x) (headings_after n x))) h
 
--- what wasn't there and doesn't begin with the prefix isn't there
+-- an id that didn't occur and doesn't begin with the prefix doesn't occur
 old-out : (prefix w : List ℕ) (n : ℕ) (x : List Token) →
     not (starts_with nat_eq w (shown prefix)) ≡ true →
     is_in w (ids_among x) ≡ false → is_in w (ids_then prefix n x) ≡ false

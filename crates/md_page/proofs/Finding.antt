@@ -77,7 +77,7 @@ done picks add n text h =
     all [] = refl
     all (b ∷ x) = all x
 
--- ---- one turn of what writes the text
+-- ---- one iteration of the loop that writes the text
 
 pub from_start : (bytes : List ℕ) (n : ℕ) → slice_range bytes 0 n ≡ take n bytes
 from_start bytes n = ap (λ m. take m bytes) (whole n)
@@ -85,7 +85,7 @@ from_start bytes n = ap (λ m. take m bytes) (whole n)
     whole : (n : ℕ) → n - 0 ≡ n
     whole n = omega arith
 
--- what is written, and after it what becomes of the rest, stays the whole
+-- the written text, followed by the result for the rest, stays the whole
 pub turned : (picks : List ℕ → Bool) (add : ℕ → List ℕ) (n : ℕ) (rest : List ℕ) (end : ℕ)
     (out out' out'' front attribute rest' whole : List ℕ) → out' ≡ out ++ front →
     front ≡ take end rest →

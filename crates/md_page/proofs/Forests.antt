@@ -27,7 +27,7 @@ use Rattle.md_page.proofs.Adding.{MayAdd, changed, plain-more}
 use Rattle.md_page.proofs.Scanning.{scanned-pieces}
 use Rattle.md_page.proofs.Rules.{IsRule}
 
--- ---- what such a forest keeps to
+-- ---- the conditions that such a forest fulfils
 
 pub forest-plain : (f : Forest) → is_forest f ≡ true → is_plain_forest f ≡ true
 forest-plain Empty h = refl

@@ -72,7 +72,7 @@ pub after-passed : (ids : List (List ℕ)) (n : ℕ) (t : Token) (x : List Token
 after-passed ids n t x h =
     ap (λ b. cond b (shown (id_text ids n) ∷ ids_after ids (suc n) x) (ids_after ids n x)) h
 
--- what is neither there nor given isn't there then
+-- an id that neither occurs nor is given doesn't occur then
 out-then : (ids : List (List ℕ)) (w : List ℕ) (n : ℕ) (x : List Token) →
     is_in w (ids_among x) ≡ false → is_in w (ids_after ids n x) ≡ false →
     is_in w (ids_then ids n x) ≡ false

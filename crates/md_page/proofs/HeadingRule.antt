@@ -1,4 +1,4 @@
--- A heading that gets an `id`: its bytes tell what its token does.
+-- A heading that gets an `id`: its bytes decide the same as its token.
 use Rattle.std.specs.Str.{bytes_eq}
 use Rattle.std.specs.Prelude.{is_none, nat_le}
 use Rattle.std.proofs.Common.{◌≡◌, ℕ, ◌+◌, ◌≤◌, ◌==◌, suc, Bool, true, false, not, ◌&&◌, cond, List}

@@ -104,7 +104,7 @@ past-none (b ∷ x) h =
     let p = and_parts (differs 62 b) (list_all (differs 62) x) h in
     past _ (not-true (b == 62) p.0) (past-none x p.1)
 
--- whatever is inside a tag goes
+-- the inside of a tag is removed
 pub text-inside : (digit : ℕ) (x : List ℕ) →
     text_before digit true x ≡ text_before digit false (past_angle x)
 text-inside digit [] = refl

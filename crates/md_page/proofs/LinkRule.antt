@@ -1,4 +1,4 @@
--- A link that gets a `rel`: its bytes tell what its token does.
+-- A link that gets a `rel`: its bytes decide the same as its token.
 use Rattle.std.specs.Str.{bytes_eq}
 use Rattle.std.specs.Prelude.{nat_eq, is_none}
 use Rattle.std.proofs.Common.{◌≡◌, ℕ, ◌==◌, Bool, true, false, not, ◌&&◌, ◌||◌, cond, List, [], ◌∷◌}
@@ -125,7 +125,7 @@ away-seen value h =
     by_escaped (λ x. away (seen x) ≡ away x) refl (λ b rest p later. away-plain b rest p)
     (λ rest later. refl) (λ rest later. refl) (λ rest later. refl) (λ rest later. refl) value h
 
--- no attribute leads away where none has the name
+-- no attribute leaves the page if none has the name
 none-away : (x : List Attribute) → list_any (λ a. bytes_eq (codes "href") a.name) x ≡ false →
     list_any leads_away (seen_attributes x) ≡ false
 none-away [] h = refl

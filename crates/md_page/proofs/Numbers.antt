@@ -20,7 +20,7 @@ use Rattle.md_page.specs.Added.{shown}
 abbrev pub is_digit : ℕ → Bool
 is_digit b = is_between 48 57 b
 
--- a digit stands for itself
+-- a digit represents itself
 abbrev pub is_itself : ℕ → Bool
 is_itself b = not (b == 0) && (not (b == 38) && (not (b == 34) && (not (b == 60) && (not (b == 62)
     && (not (b == 13) && not (b == 10))))))

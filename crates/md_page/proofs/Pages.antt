@@ -12,7 +12,7 @@ use Rattle.md_text.proofs.HtmlSplit.{split}
 use Rattle.md_text.proofs.HtmlReading.{one_reading}
 use Rattle.md_page.specs.Page.{page_tree, is_title, IsPage}
 
--- what stands before the title, between it and the body, and after that
+-- the parts of a page before the title, between it and the body, and after that
 abbrev pub before_title : List ℕ
 before_title = codes "<!doctype html>\n<html><head><meta charset=\"utf-8\" /><title>"
 

@@ -114,7 +114,7 @@ pub before-found : (x : List ℕ) (at : ℕ) → IsFirstOf 62 x at → before_an
 before-found x at h =
     ap before_angle (around 62 x at h) ∙ before-run (take at x) (drop (at + 1) x) h.before
 
--- a value, if its name is the one that is looked for
+-- a value, if its name is the target
 pub value-found : (key rest name after value more : List ℕ) →
     parts_of rest ≡ name ∷ parts_of after →
     parts_of after ≡ value ∷ parts_of more → bytes_eq key name ≡ true →

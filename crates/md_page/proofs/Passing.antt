@@ -70,7 +70,7 @@ clear-all picks (b ∷ rest) h =
     and_from (not ((b == 60) && picks rest)) (clear picks (length rest) rest)
     (ap (λ t. not (t && picks rest)) (not-true (b == 60) p.0)) (clear-all picks rest p.1)
 
--- ---- what becomes of such a stretch
+-- ---- the result for such a stretch
 
 pub clear-scanned : (picks : List ℕ → Bool) (add : ℕ → List ℕ) (n k : ℕ) (text : List ℕ) →
     clear picks k text ≡ true →
@@ -206,7 +206,7 @@ from-near rule text at near (Some angle) later passed on = record {
 
 -- ---- where a tag may begin
 
--- what stands from a place on
+-- the text from an index
 from-there : (text : List ℕ) (at : ℕ) → at < length text →
     drop at text ≡ slice_index text at ∷ drop (suc at) text
 from-there text at within =

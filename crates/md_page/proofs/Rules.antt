@@ -1,4 +1,4 @@
--- A rule by which attributes are added: what comes of a text that is written in sound pieces.
+-- A rule that adds attributes: its result for a text that is written in sound pieces.
 use Rattle.std.proofs.Common.{◌≡◌, ℕ, Bool, true, List, sym, ap, ◌∙◌, subst, codes}
 use Rattle.std.specs.List.{list_all}
 use Rattle.md_text.specs.Html.{Attribute}
@@ -76,7 +76,7 @@ keeps picks test new rule text w =
           (seen_attribute (new n)) (rule.images n) before) w.safe_images;
     }
 
--- whatever the text is tokenized as, it is then tokenized as that with what the rule adds
+-- whatever tokens the text has, it then has those tokens with the additions of the rule
 pub becomes : (picks : List ℕ → Bool) (test : Token → Bool) (new : ℕ → Attribute) →
     IsRule picks test new →
     (text : List ℕ) → IsWritten text → (x : List Token) → IsTokenized text x →

@@ -164,7 +164,7 @@ pub name_bytes : (name : List ℕ) → is_tag_name name ≡ true → list_all is
 name_bytes name h =
     (and_parts (list_all is_name_byte name) _ (and_parts (begins_with_letter name) _ h).1).0
 
--- what stands between `<` and `>`, as it is written
+-- the text between `<` and `>`, as it is written
 pub between : (name : List ℕ) (x : List Attribute) (r : List ℕ) →
     name ++ (written_attributes x ++ r) ≡ (name ++ written_attributes x) ++ r
 between name x r = sym (append_assoc name (written_attributes x) r)

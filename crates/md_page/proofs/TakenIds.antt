@@ -59,7 +59,7 @@ at_id x =
     same : (n : ℕ) → length (x ++ codes " id=") ≡ n + 4 → length (x ++ codes " id=") - 4 ≡ n
     same n e = omega (arith, e)
 
--- a value after what stands before it
+-- a value after the text before it
 value_step : (before value rest : List ℕ) → Unquoted before → Unquoted value →
     scanned_ids (before ++ (34 ∷ (value ++ (34 ∷ rest))))
     ≡ cond (ends_at_id before) (with_line_feeds value ∷ []) [] ++ scanned_ids rest
@@ -72,7 +72,7 @@ value_step before value rest b v =
 outside_value : (rest : List ℕ) → (x : List ℕ) → is_escaped x ≡ true → Unquoted x
 outside_value rest x h = escaped-differs 34 x (λ r. refl) h
 
--- where those of what follows are found behind any such text, so are those of the attributes too
+-- if the ids in what follows are found after any such text, so are those of the attributes
 attributes_found : (x : List Attribute) (r : List ℕ) (later : List (List ℕ)) →
     are_plain x ≡ true →
     ((pre : List ℕ) → Unquoted pre → AreFound later (scanned_ids (pre ++ r))) →
@@ -223,9 +223,9 @@ found-tokens text w x h id k =
     ∙ pieces_found w.pieces w.sound [] refl id
     (sym (ap (λ y. is_among id (ids_among y)) ((attributed text w).only x h)) ∙ k)
 
--- ---- turns
+-- ---- iterations
 
--- what is left without a `"`, or with one
+-- the rest without a `"`, or with one
 pub nothing-left : (x : List ℕ) → list_all (differs 34) x ≡ true → scanned_ids x ≡ []
 nothing-left x h = ap ids_in_parts (parts-none x h)
 

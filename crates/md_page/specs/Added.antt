@@ -1,5 +1,5 @@
--- What the calls add, in the words of the HTML Standard's tokenizer: start tags with
--- one more attribute.
+-- The attributes that the calls add, as tokens of the HTML Standard: start tags with one more
+-- attribute.
 use Rattle.std.specs.Str.{bytes_eq}
 use Rattle.std.specs.Prelude.{ℕ, suc, ◌-◌, Bool, true, false, not, ◌&&◌, if◌then◌else◌, nat_eq}
 use Rattle.std.specs.Prelude.{slice_index, List, [], ◌∷◌, ◌++◌, codes}
@@ -12,14 +12,15 @@ use Rattle.md_safe.specs.Input.{with_line_feeds}
 use Rattle.md_safe.specs.Token.{Token, TokenAttribute, Doctype, Character, StartTag, EndTag}
 use Rattle.md_safe.specs.Token.{EndOfFile}
 
--- a start tag with one more attribute, its last
+-- a start tag with one more attribute at its end
 abbrev pub with_attribute : Token → TokenAttribute → Token
 with_attribute token a = elim token [
   | StartTag name attributes flag ↦ StartTag name (attributes ++ (a ∷ [])) flag
   | other ↦ other
 ]
 
--- tokens, each that passes the test with one more attribute, told by how many passed before it
+-- tokens, with one more attribute on each that passes the test; it depends on how many passed
+-- before
 abbrev pub added : (Token → Bool) → (ℕ → TokenAttribute) → ℕ → List Token → List Token
 added test attribute n [] = []
 added test attribute n (t ∷ ts) =
@@ -45,7 +46,7 @@ gets_rel token = elim token [
   | _ ↦ false
 ]
 
--- what a tokenizer sees of a text that was escaped: U+FFFD for each NUL, and a line feed for
+-- the value that a tokenizer emits for an escaped text: U+FFFD for each NUL, and a line feed for
 -- each line ending
 abbrev pub shown : List ℕ → List ℕ
 shown text = with_line_feeds (encoded false text)
@@ -54,7 +55,7 @@ shown text = with_line_feeds (encoded false text)
 abbrev pub rel_of : List ℕ → ℕ → TokenAttribute
 rel_of text n = record { name = codes "rel"; value = shown text }
 
--- tokens, each such link with this `rel`
+-- tokens, with this `rel` on each such link
 abbrev pub with_link_rel : List ℕ → List Token → List Token
 with_link_rel text tokens = added gets_rel (rel_of text) 0 tokens
 
@@ -72,11 +73,11 @@ gets_id token = elim token [
   | _ ↦ false
 ]
 
--- `id` with the prefix and a number, the first 1
+-- `id` with the prefix and a number, from 1
 abbrev pub id_of : List ℕ → ℕ → TokenAttribute
 id_of prefix n = record { name = codes "id"; value = shown prefix ++ decimal (suc n) }
 
--- tokens, each such heading with an `id` of this prefix and its number
+-- tokens, with an `id` of this prefix and its number on each such heading
 abbrev pub with_heading_ids : List ℕ → List Token → List Token
 with_heading_ids prefix tokens = added gets_id (id_of prefix) 0 tokens
 
@@ -96,7 +97,7 @@ characters_before name (StartTag other attributes flag ∷ more) = characters_be
 characters_before name (Doctype other ∷ more) = characters_before name more
 characters_before name (EndOfFile ∷ more) = characters_before name more
 
--- a heading by its start tag and what follows that; the level is the digit of the name
+-- a heading from its start tag and the tokens after it; the level is the digit of the name
 abbrev pub heading_of : ℕ → Token → List Token → Listed
 heading_of n token more = elim token [
   | StartTag name attributes flag ↦ record {

@@ -1,4 +1,4 @@
--- What a text keeps to whose tags got attributes.
+-- The promises about a text whose tags have added attributes.
 use Rattle.std.specs.Str.{bytes_eq}
 use Rattle.std.specs.Prelude.{◌≡◌, ℕ, Bool, not, ◌&&◌, ◌||◌, IsTrue, List, filter, codes}
 use Rattle.std.specs.List.{list_all}
@@ -14,7 +14,8 @@ abbrev pub is_addition : List ℕ → TokenAttribute → Bool
 is_addition name a = (bytes_eq name (codes "a") && bytes_eq (codes "rel") a.name)
     || (is_one_of heading_names name && bytes_eq (codes "id") a.name)
 
--- a tag of the grammar's tables once these are left out, or a character, or the end of file
+-- a tag that is in the grammar's tables without these attributes, or a character, or the end of
+-- file
 abbrev pub is_listed_beside : Token → Bool
 is_listed_beside token = elim token [
   | StartTag name attributes flag ↦
@@ -22,8 +23,9 @@ is_listed_beside token = elim token [
   | other ↦ is_listed other
 ]
 
--- the tokenizer emits exactly these tokens of the text; each tag among them is otherwise of the
--- grammar's tables, and each `href` and each `src` has no scheme of its own or a permitted one
+-- the tokenizer emits exactly these tokens for the text; each tag among them is in the grammar's
+-- tables except for these attributes, and each `href` and each `src` has no scheme of its own or a
+-- permitted one
 pub record IsAttributed (text : List ℕ) : Type 0 where
   pub emits : List Token
   pub tokenized : IsTokenized text emits

@@ -1,4 +1,4 @@
--- What the type keeps.
+-- The model of the type.
 use Rattle.std.specs.String.{string_bytes}
 use Rattle.md_page.specs.declared.html.AttributedHtml.TheInside.{Inside}
 use Rattle.md_page.specs.Pieces.{IsWritten}

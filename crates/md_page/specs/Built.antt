@@ -1,4 +1,5 @@
--- A text whose tags may have more attributes than those of a safe text, and what is built of it.
+-- A text whose tags may have more attributes than those of a safe text, and the tree that is built
+-- from it.
 use Rattle.std.specs.Prelude.{◌≡◌, ℕ, Bool, true, false, not, IsTrue, ◌&&◌, List, [], ◌∷◌, ◌++◌}
 use Rattle.std.specs.Prelude.{Some}
 use Rattle.md_base.specs.Identifier.{is_nonempty}
@@ -26,9 +27,9 @@ is_plain_forest (Void name attributes rest) =
 is_plain_forest (Element name attributes inner rest) =
     is_tag_name name && (are_plain attributes && (is_plain_forest inner && is_plain_forest rest))
 
--- a text is written as a forest in which everything stands where it may, and no link in a link; the
--- tokenizer emits the forest's tokens, and of these tree construction builds that forest, wherever
--- flow content may be set
+-- a text is written as a forest that fulfils the content model, with no link in a link; the
+-- tokenizer emits the forest's tokens, and from these tree construction builds that forest,
+-- wherever flow content may be inserted
 pub record IsBuiltAsWritten (text : List ℕ) : Type 0 where
   pub forest : Forest
   pub plain : IsTrue (is_plain_forest forest)
@@ -39,8 +40,8 @@ pub record IsBuiltAsWritten (text : List ℕ) : Type 0 where
       (mode : Mode) (node : Open) (others : List Open) (active : List Entry) (created : ℕ) →
       IsPlace mode node others active created → Builds mode node others active created forest
 
--- a body's text is written as a forest; of the page's text the tokenizer emits the tokens of which
--- the document with that forest is built
+-- a body's text is written as a forest; the tokenizer emits for the page's text the tokens from
+-- which the document with that forest is built
 pub record IsBuiltPageAround (title body text : List ℕ) : Type 0 where
   pub inside : Forest
   pub written_so : written inside ≡ body

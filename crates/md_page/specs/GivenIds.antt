@@ -1,4 +1,4 @@
--- Ids that are given for headings as a list of texts.
+-- Ids for headings, given as a list of texts.
 use Rattle.std.specs.Prelude.{ℕ, suc, Bool, true, if◌then◌else◌, List, [], ◌∷◌, codes, slice_get}
 use Rattle.std.specs.Str.{bytes_eq}
 use Rattle.std.specs.List.{list_any}
@@ -9,8 +9,8 @@ use Rattle.md_safe.specs.Input.{with_line_feeds}
 use Rattle.md_safe.specs.Token.{Token, TokenAttribute}
 use Rattle.md_page.specs.Added.{added, gets_id, shown}
 
--- the text for the heading after so many: the next one of the list, or past its end the heading's
--- number, the first 1
+-- the text for the heading with this number, from 0: the one of the list, or past its end the
+-- heading's number, from 1
 abbrev pub id_text : List (List ℕ) → ℕ → List ℕ
 id_text ids n = option_map_or (λ text. text) (slice_get ids n) (decimal (suc n))
 
@@ -18,11 +18,11 @@ id_text ids n = option_map_or (λ text. text) (slice_get ids n) (decimal (suc n)
 abbrev pub given_id : List (List ℕ) → ℕ → TokenAttribute
 given_id ids n = record { name = codes "id"; value = shown (id_text ids n) }
 
--- tokens, each heading without an `id` with the next of these
+-- tokens, with the next of these ids on each heading without an `id`
 abbrev pub with_given_ids : List (List ℕ) → List Token → List Token
 with_given_ids ids tokens = added gets_id (given_id ids) 0 tokens
 
--- the ids that headings get so, after so many of them
+-- the ids that headings get, after so many of them
 abbrev pub ids_after : List (List ℕ) → ℕ → List Token → List (List ℕ)
 ids_after ids n [] = []
 ids_after ids n (t ∷ more) =

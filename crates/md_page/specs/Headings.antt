@@ -1,4 +1,4 @@
--- A heading of the answer, as the listing has it.
+-- A heading of the result, as it is listed.
 use Rattle.std.specs.String.{string_bytes}
 use Rattle.md_page.specs.Added.{Listed}
 use Rattle.md_page.specs.declared.headings.Heading.{Heading}

@@ -12,11 +12,11 @@ abbrev pub ids_in : List TokenAttribute → List (List ℕ)
 ids_in [] = []
 ids_in (a ∷ more) = if bytes_eq (codes "id") a.name then a.value ∷ ids_in more else ids_in more
 
--- of a token
+-- those of a token
 abbrev pub ids_at : Token → List (List ℕ)
 ids_at token = elim token [ StartTag name attributes flag ↦ ids_in attributes | _ ↦ [] ]
 
--- of all tokens
+-- those of all tokens
 abbrev pub ids_among : List Token → List (List ℕ)
 ids_among [] = []
 ids_among (t ∷ more) = ids_at t ++ ids_among more
@@ -27,12 +27,12 @@ none_begins prefix ids = list_all (λ id. not (starts_with nat_eq id prefix)) id
 
 -- ---- ids of headings in two documents
 
--- the second text isn't the first one with digits behind it, nor the first one itself
+-- the second text isn't the first one, alone or followed by digits
 abbrev pub HasNoDigitsPast : List ℕ → List ℕ → Type 0
 HasNoDigitsPast one other =
     (digits : List ℕ) → list_all is_digit digits ≡ true → other ≡ one ++ digits → ⊥
 
--- neither of two prefixes, as they are read, is the other one with digits behind it, or the same
+-- neither of two prefixes, as they are read, is the other one, alone or followed by digits
 abbrev pub AreApart : List ℕ → List ℕ → Type 0
 AreApart one other =
     HasNoDigitsPast (shown one) (shown other) × HasNoDigitsPast (shown other) (shown one)

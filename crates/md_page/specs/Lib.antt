@@ -1,7 +1,7 @@
--- What a page is, which a reader must believe.
+-- The definition of a page, which a reader must believe.
 pub mod Page
--- Attributes that are added to the tags of a safe text, in the words of the HTML Standard's
--- tokenizer; and how the program finds the tags.
+-- Attributes added to the tags of a safe text, as tokens of the HTML Standard; and how the program
+-- finds the tags.
 pub mod Added
 pub mod Attributed
 pub mod AttributedHtml

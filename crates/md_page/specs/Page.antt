@@ -10,7 +10,7 @@ use Rattle.md_text.specs.Safe.{is_safe_link, is_safe_image}
 abbrev pub charset : Attribute
 charset = record { name = codes "charset"; value = codes "utf-8" }
 
--- `html` holds `head` and `body`; `head` holds the void `meta` and `title`
+-- `html` contains `head` and `body`; `head` contains the void `meta` and `title`
 abbrev pub page_tree : Forest → Forest → Forest
 page_tree title body =
     Element (codes "html") [] (Element (codes "head") [] (Void (codes "meta") (charset ∷ [])
@@ -30,8 +30,8 @@ pub record IsPage (text : List ℕ) (title body : Forest) : Type 0 where
   pub body_in_grammar : IsTrue (is_forest body)
   pub written_so : text ≡ codes "<!doctype html>\n" ++ written (page_tree title body) ++ codes "\n"
 
--- the text is a page in exactly one way: its title, references read back, is the one given with
--- U+FFFD for each NUL, and its body is a reading of the one given, in which each link and each
+-- the text is a page in exactly one way: its title, with references read back, is the given one
+-- with U+FFFD for each NUL, and its body is a reading of the given one, in which each link and each
 -- image has no protocol or a permitted one
 pub record IsPageOf (title body text : List ℕ) : Type 0 where
   pub head : Forest
@@ -44,7 +44,7 @@ pub record IsPageOf (title body text : List ℕ) : Type 0 where
   pub safe_links : IsTrue (all_attributes is_safe_link inside)
   pub safe_images : IsTrue (all_attributes is_safe_image inside)
 
--- the text that is given around a title and a body
+-- the text of a page with a title and a body
 abbrev pub page_text : List ℕ → List ℕ → List ℕ
 page_text title body =
     codes "<!doctype html>\n<html><head><meta charset=\"utf-8\" /><title>"

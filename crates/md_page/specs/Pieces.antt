@@ -1,5 +1,5 @@
--- How such a text is written, piece by piece: what its type keeps. Of public contracts the clause
--- `written` of the trait `Html` cites it, and what C is promised of a text with attributes.
+-- The pieces of such a text, which its type promises. The public contracts that cite it are the
+-- clause `written` of the trait `Html`, and the promises to C about a text with attributes.
 use Rattle.std.specs.Str.{bytes_eq}
 use Rattle.std.specs.Prelude.{◌≡◌, ℕ, ◌==◌, Bool, true, false, not, IsTrue, ◌&&◌, ◌||◌, List, []}
 use Rattle.std.specs.Prelude.{◌∷◌, ◌++◌, map, codes}
@@ -54,12 +54,12 @@ abbrev pub begins_with_letter : List ℕ → Bool
 begins_with_letter [] = false
 begins_with_letter (b ∷ rest) = is_between 97 122 b
 
--- a tag's name, and none at which tree construction gives the tokenizer another state
+-- a tag's name at which tree construction doesn't change the tokenizer's state
 abbrev pub is_tag_name : List ℕ → Bool
 is_tag_name name =
     begins_with_letter name && (list_all is_name_byte name && not (is_one_of switching name))
 
--- names and escaped values, no name twice
+-- names and escaped values, with no name twice
 abbrev pub are_plain : List Attribute → Bool
 are_plain [] = true
 are_plain (a ∷ rest) = is_name a.name && (is_escaped a.value
@@ -69,7 +69,7 @@ are_plain (a ∷ rest) = is_name a.name && (is_escaped a.value
 abbrev pub void_names : List (List ℕ)
 void_names = codes "br" ∷ codes "hr" ∷ codes "img" ∷ codes "input" ∷ []
 
--- a text comes first
+-- the first piece is a text
 abbrev pub begins_with_words : List Piece → Bool
 begins_with_words [] = false
 begins_with_words (Words text ∷ more) = true
@@ -87,7 +87,7 @@ are_sound (Single name attributes ∷ more) =
     is_one_of void_names name && (are_plain attributes && are_sound more)
 are_sound (Closing name ∷ more) = is_tag_name name && are_sound more
 
--- a text is written so, and its tokens are safe and otherwise listed
+-- a text is written so, and its tokens are safe and otherwise in the tables
 pub record IsWritten (text : List ℕ) : Type 0 where
   pub pieces : List Piece
   pub sound : IsTrue (are_sound pieces)

@@ -1,4 +1,4 @@
--- How the program finds the tags: words of its own, which no public contract cites.
+-- How the program finds the tags: definitions of its own, which no public contract cites.
 use Rattle.std.specs.Str.{bytes_eq}
 use Rattle.std.specs.Prelude.{◌≡◌, ℕ, zero, suc, ◌<◌, ◌≤◌, ◌-◌, ◌==◌, IsTrue, length, take}
 use Rattle.std.specs.Prelude.{slice_index, Bool, true, false, not, ◌&&◌, ◌||◌, if◌then◌else◌, List}
@@ -22,37 +22,37 @@ use Rattle.md_page.specs.declared.scan.Rule.TheVariants.{Link, Heading}
 abbrev pub differs : ℕ → ℕ → Bool
 differs n b = not (b == n)
 
--- the first of this byte stands here
+-- the first of this byte is here
 pub record IsFirstOf (byte : ℕ) (text : List ℕ) (at : ℕ) : Type 0 where
   pub within : at < length text
   pub is : slice_index text at ≡ byte
   pub before : IsTrue (list_all (differs byte) (take at text))
 
--- a text with something added before the `>` of each tag that is picked by what follows its `<`,
--- told by how many were picked before it; `inside` says that such a tag is open
+-- a text with an insertion before the `>` of each tag that is picked by the bytes after its `<`;
+-- the insertion depends on how many were picked before; `inside` says that such a tag is open
 abbrev pub scanned : (List ℕ → Bool) → (ℕ → List ℕ) → Bool → ℕ → List ℕ → List ℕ
 scanned picks add inside n [] = []
 scanned picks add inside n (b ∷ rest) =
     if inside && (b == 62) then add n ++ (b ∷ scanned picks add false (suc n) rest)
     else b ∷ scanned picks add (inside || ((b == 60) && picks rest)) n rest
 
--- what comes before the first `>`
+-- the bytes before the first `>`
 abbrev pub before_angle : List ℕ → Option (List ℕ)
 before_angle [] = None
 before_angle (b ∷ rest) =
     if b == 62 then Some [] else option_map (λ later. b ∷ later) (before_angle rest)
 
--- a byte before the first of some parts
+-- a byte prepended to the first of some parts
 abbrev pub onto_first : ℕ → List (List ℕ) → List (List ℕ)
 onto_first b [] = (b ∷ []) ∷ []
 onto_first b (part ∷ more) = (b ∷ part) ∷ more
 
--- the parts of a text around its `"`
+-- the parts of a text between its `"`
 abbrev pub parts_of : List ℕ → List (List ℕ)
 parts_of [] = [] ∷ []
 parts_of (b ∷ rest) = if b == 34 then [] ∷ parts_of rest else onto_first b (parts_of rest)
 
--- of attributes in such parts, the value after this, a space, a name and `=`
+-- the value after this key (a space, a name and `=`) in attributes that are split so
 abbrev pub value_in : List ℕ → List (List ℕ) → Option (List ℕ)
 value_in key [] = None
 value_in key (name ∷ []) = None
@@ -60,7 +60,7 @@ value_in key (name ∷ value ∷ []) = None
 value_in key (name ∷ value ∷ next ∷ more) =
     if bytes_eq key name then Some value else value_in key (next ∷ more)
 
--- the value after this in attributes as they are written
+-- the value after this key in attributes as they are written
 abbrev pub value_of : List ℕ → List ℕ → Option (List ℕ)
 value_of key attributes = value_in key (parts_of attributes)
 
@@ -74,7 +74,7 @@ want_rel attributes =
     option_map_or is_away (value_of (codes " href=") attributes) false
     && is_none (value_of (codes " rel=") attributes)
 
--- a link that gets a `rel`, by what follows its `<`
+-- a link that gets a `rel`, by the bytes after its `<`
 abbrev pub picks_link : List ℕ → Bool
 picks_link tag =
     begins_with (codes "a ") tag && option_map_or want_rel (before_angle (drop 1 tag)) false
@@ -85,57 +85,57 @@ begins_heading [] = false
 begins_heading (b ∷ []) = false
 begins_heading (b ∷ level ∷ rest) = (b == 104) && is_between 49 54 level
 
--- what is left of a heading's tag after its name: attributes without an `id`
+-- the rest of a heading's tag after its name: attributes without an `id`
 abbrev pub want_id : List ℕ → Bool
 want_id attributes = (not (is_nonempty attributes) || begins_with (codes " ") attributes)
     && is_none (value_of (codes " id=") attributes)
 
--- a heading that gets an `id`, by what follows its `<`
+-- a heading that gets an `id`, by the bytes after its `<`
 abbrev pub picks_heading : List ℕ → Bool
 picks_heading tag = begins_heading tag && option_map_or want_id (before_angle (drop 2 tag)) false
 
--- what picks the tags of a rule
+-- the test that picks the tags of a rule
 abbrev pub picks_of : Rule → List ℕ → Bool
 picks_of Link = picks_link
 picks_of Heading = picks_heading
 
--- no tag that is picked begins at the first so many bytes
+-- no picked tag begins in the first so many bytes
 abbrev pub clear : (List ℕ → Bool) → ℕ → List ℕ → Bool
 clear picks zero text = true
 clear picks (suc k) [] = true
 clear picks (suc k) (b ∷ rest) = not ((b == 60) && picks rest) && clear picks k rest
 
--- where none begins before one place, none begins before another
+-- if none begins before one index, none begins before another
 abbrev pub IsPassed : Rule → List ℕ → ℕ → ℕ → Type 0
 IsPassed rule text from to =
     clear (picks_of rule) from text ≡ true → clear (picks_of rule) to text ≡ true
 
--- the first tag that is picked begins here
+-- the first picked tag begins here
 pub record IsTagAt (picks : List ℕ → Bool) (text : List ℕ) (at : ℕ) : Type 0 where
   pub within : at < length text
   pub angle : slice_index text at ≡ 60
   pub picked : picks (drop (suc at) text) ≡ true
   pub before : clear picks at text ≡ true
 
--- a `<` stands here, and none of a rule begins from another place up to it
+-- a `<` is here, and no tag of a rule begins between another index and it
 pub record IsAngleFrom (rule : Rule) (text : List ℕ) (from at : ℕ) : Type 0 where
   pub later : from ≤ at
   pub within : at < length text
   pub angle : slice_index text at ≡ 60
   pub passed : IsPassed rule text from at
 
--- the `>` of a tag stands here
+-- the `>` of a tag is here
 abbrev pub IsEndAt : List ℕ → ℕ → Type 0
 IsEndAt text end = (0 < end) × (end < length text) × (slice_index text end ≡ 62)
 
--- what becomes of a text whose first tag that is picked ends here, if one does
+-- the result for a text whose first picked tag ends here, if there is one
 abbrev pub IsScannedTo : (List ℕ → Bool) → List ℕ → Option ℕ → Type 0
 IsScannedTo picks text found = (add : ℕ → List ℕ) (n : ℕ) → MatchOption found
     (scanned picks add false n text ≡ text)
     (λ end. scanned picks add false n text
     ≡ take end text ++ (add n ++ scanned picks add false (suc n) (drop end text)))
 
--- a text with an attribute more in each tag that is picked
+-- a text with one more attribute on each picked tag
 abbrev pub with_new : (List ℕ → Bool) → (ℕ → Attribute) → List ℕ → List ℕ
 with_new picks new text = scanned picks (λ n. written_attributes (new n ∷ [])) false 0 text
 
@@ -147,17 +147,17 @@ new_rel text n = record { name = codes "rel"; value = encoded true text }
 abbrev pub new_id : List ℕ → ℕ → Attribute
 new_id prefix n = record { name = codes "id"; value = encoded true prefix ++ decimal (suc n) }
 
--- `id` with the text for the heading after so many, escaped
+-- `id` with the text for the heading with this number, from 0, escaped
 abbrev pub new_given : List (List ℕ) → ℕ → Attribute
 new_given ids n = record { name = codes "id"; value = encoded true (id_text ids n) }
 
 -- ---- the ids of a text
 
--- ` id=` comes last
+-- the text ends in ` id=`
 abbrev pub ends_at_id : List ℕ → Bool
 ends_at_id before = ends_with nat_eq before (codes " id=")
 
--- of a text in such parts, the values after ` id=`, with a line feed for each line ending
+-- the values after ` id=` in a text that is split so, with a line feed for each line ending
 abbrev pub ids_in_parts : List (List ℕ) → List (List ℕ)
 ids_in_parts [] = []
 ids_in_parts (before ∷ []) = []
@@ -171,12 +171,12 @@ scanned_ids text = ids_in_parts (parts_of text)
 
 -- ---- the headings of a table of contents
 
--- what comes after the first `>`
+-- the bytes after the first `>`
 abbrev pub past_angle : List ℕ → List ℕ
 past_angle [] = []
 past_angle (b ∷ rest) = if b == 62 then rest else past_angle rest
 
--- what a byte is before what follows it, once newlines are normalized
+-- the replacement of a byte, depending on the next bytes, when newlines are normalized
 abbrev pub lined_byte : ℕ → List ℕ → List ℕ
 lined_byte b rest = if b == 13 then (if begins_with_line_feed rest then [] else 10 ∷ []) else b ∷ []
 
@@ -192,7 +192,7 @@ text_before digit inside (b ∷ rest) =
     else (if b == 60 then (if closes_heading digit rest then [] else text_before digit true rest)
     else lined_byte b rest ++ text_before digit false rest)
 
--- a heading by what follows its `<`
+-- a heading, by the bytes after its `<`
 abbrev pub scanned_heading : ℕ → List ℕ → Listed
 scanned_heading number tag = record {
   level = slice_index tag 1 - 48;

@@ -1,4 +1,4 @@
-//! A page around a text whose tags got attributes.
+//! A page with a text whose tags have added attributes.
 
 ghost use Rattle.std.specs.Prelude.{◌≡◌, ℕ, List, true, IfOk, string_bytes};
 ghost use Rattle.md_text.specs.Encode.{encoded};
@@ -13,17 +13,17 @@ use crate::html::Html;
 use md_text::encode;
 use std::alloc::{AllocError, Global};
 
-/// A whole page: `title`, escaped, in its head, and `body` as it is, a safe text or one to whose
-/// tags attributes were added.
+/// Returns a whole page: `title`, escaped, in its head, and `body` unchanged, a safe text or one
+/// whose tags have added attributes.
 ///
-/// Whatever tokens the HTML Standard's tokenizer emits of `body`, it emits of the page exactly the
-/// doctype, the head with the title's characters, U+FFFD for each NUL and a line feed for each line
-/// ending in them, and these tokens. Where tree construction builds the body as it is written, it
-/// builds the page's document with that body.
+/// Whatever tokens the HTML Standard's tokenizer emits for `body`, it emits for the page exactly
+/// the doctype, the head with the title's characters, with U+FFFD for each NUL and a line feed for
+/// each line ending in them, and these tokens. If tree construction builds the body as it is
+/// written, it builds the page's document with that body.
 ///
 /// # Errors
 ///
-/// Only where memory runs out.
+/// Returns an error only if memory runs out.
 ///
 /// # Examples
 ///

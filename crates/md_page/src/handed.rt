@@ -1,4 +1,4 @@
-//! Headings with ids that are given.
+//! Headings with given ids.
 
 ghost use Rattle.std.specs.Prelude.{◌≡◌, ◌++◌, ℕ, List, IsTrue, IfOk, OnOk, map, string_bytes};
 ghost use Rattle.std.specs.Prelude.{◌∷◌, [], ◌<◌, ◌^◌, slice_get, option_copied};
@@ -20,11 +20,12 @@ use crate::scan::{Rule, next_end};
 use md_text::push_encoded;
 use std::alloc::{AllocError, Global};
 
-/// The headings of a safe text that have no `id`: each with its level, its number and its text.
+/// Returns the headings of a safe text that have no `id`: each with its level, its number and its
+/// text.
 ///
 /// # Errors
 ///
-/// Only where memory runs out.
+/// Returns an error only if memory runs out.
 pub fn list_headings<H: Html>(alloc: Global, html: &H) -> Result<Vec<Heading>, AllocError>
     ensures headings { IfOk result (λ found. (x : List Token) → IsTokenized (H.text html.now) x
         → map listed found.items ≡ headings_of x) }
@@ -33,17 +34,17 @@ pub fn list_headings<H: Html>(alloc: Global, html: &H) -> Result<Vec<Heading>, A
     Ok(found)
 }
 
-/// A safe text with an `id` in each heading that has none: the texts that are given, one after the
-/// other, escaped. A heading after the last text gets its number, from 1.
+/// Adds an `id` to each heading of a safe text that has none: the given texts in order, escaped. A
+/// heading after the last given text gets its number, from 1.
 ///
-/// Nothing else changes: whatever the HTML Standard's tokenizer emits of the text given, it emits
-/// of the text returned the same tokens with these attributes added. Where no two of the `id`s of
-/// the text given and of those that its headings get are equal, no two of the text returned are.
-/// Where tree construction builds the text given as it is written, it builds the text returned so.
+/// Nothing else changes: whatever the HTML Standard's tokenizer emits for the input, it emits for
+/// the output the same tokens with these attributes added. If the `id`s of the input and those that
+/// its headings get all differ, those of the output do. If tree construction builds the input as it
+/// is written, it builds the output so.
 ///
 /// # Errors
 ///
-/// Only where memory runs out.
+/// Returns an error only if memory runs out.
 pub fn with_given_ids<H: Html>(
     alloc: Global,
     html: &H,
@@ -62,7 +63,7 @@ pub fn with_given_ids<H: Html>(
     Ok(AttributedHtml::new(text))
 }
 
-/// A text with an `id` in each heading that has none, which are these.
+/// Adds these ids to the headings of a text that have none.
 fn with_given(alloc: Global, text: &str, ids: &[String]) -> Result<String, AllocError>
     ensures { IfOk result (λ out. string_bytes out
         ≡ with_new picks_heading (new_given (map string_bytes ids.now)) text.now) }
@@ -80,7 +81,7 @@ fn with_given(alloc: Global, text: &str, ids: &[String]) -> Result<String, Alloc
     Ok(out)
 }
 
-/// Adds the `id` of the heading after so many.
+/// Appends the `id` of the heading with this number, from 0.
 fn push_given_id(
     alloc: Global,
     out: &mut String,
@@ -99,7 +100,7 @@ fn push_given_id(
     out.push_str("\"")
 }
 
-/// The text of a number from 0.
+/// The id for a heading's number, from 0.
 fn id_at(ids: &[String], number: usize) -> Option<&str>
     ensures { option_copied result ≡ slice_get (map string_bytes ids.now) number }
 {

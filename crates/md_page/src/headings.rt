@@ -17,7 +17,7 @@ pub struct Heading {
     pub level: u8,
     /// Its number, from 1: its `id` is the prefix and this number.
     pub number: usize,
-    /// Its text without the tags in it, escaped: it may be set into HTML as it is.
+    /// Its text without the tags in it, escaped: it may be inserted into HTML unchanged.
     pub text: String,
 }
 
@@ -36,7 +36,7 @@ pub(crate) fn headings(alloc: Global, text: &str) -> Result<Vec<Heading>, AllocE
     Ok(found)
 }
 
-/// A heading by what follows its `<`.
+/// The heading that follows a `<`.
 fn heading_at(alloc: Global, tag: &str, number: usize) -> Result<Heading, AllocError>
     ensures { IfOk result (λ heading. listed heading ≡ scanned_heading number tag.now) }
 {
@@ -49,8 +49,8 @@ fn heading_at(alloc: Global, tag: &str, number: usize) -> Result<Heading, AllocE
     })
 }
 
-/// The texts before the end tag of a heading with this digit, each with a line feed for
-/// each line ending.
+/// The texts before the end tag of a heading with this digit, each with a line feed for each line
+/// ending.
 fn heading_text(alloc: Global, text: &str, digit: u8) -> Result<String, AllocError>
     ensures { IfOk result (λ out. string_bytes out ≡ text_before digit false text.now) }
 {
@@ -67,7 +67,7 @@ fn heading_text(alloc: Global, text: &str, digit: u8) -> Result<String, AllocErr
     Ok(out)
 }
 
-/// Adds a text with a line feed for each line ending.
+/// Appends a text with a line feed for each line ending.
 pub(crate) fn push_lined(out: &mut String, text: &str) -> Result<(), AllocError>
     ensures { OnOk result
         (string_bytes out.new ≡ string_bytes out.old ++ with_line_feeds text.now) }
@@ -81,7 +81,7 @@ pub(crate) fn push_lined(out: &mut String, text: &str) -> Result<(), AllocError>
     out.push_str(rest)
 }
 
-/// Adds a line feed, unless one follows.
+/// Appends a line feed, unless one follows.
 fn push_line_feed(out: &mut String, rest: &str) -> Result<(), AllocError>
     ensures { OnOk result (string_bytes out.new
         ≡ string_bytes out.old ++ (if begins_with_line_feed rest.now then [] else 10 ∷ [])) }
@@ -92,14 +92,14 @@ fn push_line_feed(out: &mut String, rest: &str) -> Result<(), AllocError>
     }
 }
 
-/// Whether the end tag of a heading with this digit begins after a `<`.
+/// Whether these bytes after a `<` begin the end tag of a heading with this digit.
 fn closes_heading(digit: u8, tag: &[u8]) -> bool
     ensures { result ≡ closes_heading digit tag.now }
 {
     matches!(tag, [b'/', b'h', level, b'>', ..] if *level == digit)
 }
 
-/// What comes after the first `>`.
+/// The text after the first `>`.
 fn past_angle(text: &str) -> &str
     ensures value { result.now ≡ past_angle text.now }
     ensures shorter { length result.now ≤ length text.now }

@@ -1,4 +1,4 @@
-//! Texts whose tags may get attributes, and those that got them.
+//! Texts whose tags may get attributes, and texts with added attributes.
 
 ghost use Rattle.std.specs.Prelude.{◌≡◌, ℕ, List};
 ghost use Rattle.md_page.specs.Attributed.{IsAttributed};
@@ -7,7 +7,7 @@ ghost use Rattle.md_page.specs.Pieces.{IsWritten};
 use md_html::SafeHtml;
 use std::marker::Model;
 
-/// A safe text, or one to whose tags attributes were added.
+/// A safe text, or one whose tags have added attributes.
 pub trait Html {
     ghost text: { Self → List ℕ };
 
@@ -25,10 +25,10 @@ impl Html for SafeHtml {
     }
 }
 
-/// A safe text to whose tags attributes were added.
+/// A safe text whose tags have added attributes.
 ///
-/// The HTML Standard's tokenizer gets through it. Each tag among the tokens is one that a safe text
-/// may have, but for the `rel` of a link and the `id` of a heading; each `href` and `src` has no
+/// The HTML Standard's tokenizer reads all of it. Each tag among the tokens is one that a safe text
+/// may have, except for the `rel` of a link and the `id` of a heading; each `href` and `src` has no
 /// scheme of its own or a permitted one.
 #[derive(Drop)]
 pub struct AttributedHtml {
@@ -52,7 +52,7 @@ impl AttributedHtml {
     ghost use Rattle.md_page.specs.Attributed.{IsAttributed};
     ghost use Rattle.md_page.specs.Pieces.{IsWritten};
 
-    /// A text that is written so.
+    /// Wraps a text that is written so.
     pub(crate) fn new(text: String) -> AttributedHtml
         requires { IsWritten (string_bytes text) }
         ensures { result ≡ string_bytes text }

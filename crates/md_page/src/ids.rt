@@ -25,25 +25,24 @@ use std::alloc::{AllocError, Global};
 pub struct WithHeadingIds {
     /// The text.
     pub html: AttributedHtml,
-    /// The headings that got an `id`, in their order.
+    /// The headings that got an `id`, in order.
     pub headings: Vec<Heading>,
 }
 
-/// A safe text with an `id` in each heading that has none, and a list of these headings.
+/// Adds an `id` to each heading of a safe text that has none, and lists these headings.
 ///
 /// Each start tag from `h1` to `h6` without an `id` gets one as its last attribute: `prefix`,
 /// escaped, and the heading's number, from 1. Nothing else changes: whatever the HTML Standard's
-/// tokenizer emits of the text given, it emits of the text returned the same tokens with these
-/// attributes added. The headings are listed with their level, their number and their text: the
-/// characters up to their end tag, escaped.
+/// tokenizer emits for the input, it emits for the output the same tokens with these attributes
+/// added. The headings are listed with their level, their number and their text: the characters up
+/// to their end tag, escaped.
 ///
-/// Where no two `id`s of the text given are equal, and none begins with `prefix`, no two of the
-/// text returned are. Where tree construction builds the text given as it is written, it builds the
-/// text returned so.
+/// If the `id`s of the input all differ, and none begins with `prefix`, those of the output all
+/// differ. If tree construction builds the input as it is written, it builds the output so.
 ///
 /// # Errors
 ///
-/// Only where memory runs out.
+/// Returns an error only if memory runs out.
 ///
 /// # Examples
 ///
@@ -75,7 +74,7 @@ pub fn with_heading_ids<H: Html>(
     Ok(WithHeadingIds { html, headings })
 }
 
-/// A text with an `id` in each heading that has none, which are these.
+/// Adds ids to these headings of a text, which are all that have none.
 fn with_ids_of(
     alloc: Global,
     text: &str,
@@ -92,7 +91,7 @@ fn with_ids_of(
     with_ids(alloc, text, prefix)
 }
 
-/// A text with an `id` in each heading that has none.
+/// Adds an `id` to each heading of a text that has none.
 pub(crate) fn with_ids(alloc: Global, text: &str, prefix: &str) -> Result<String, AllocError>
     ensures { IfOk result
         (λ out. string_bytes out ≡ with_new picks_heading (new_id prefix.now) text.now) }
@@ -121,7 +120,7 @@ fn id_start(alloc: Global, prefix: &str) -> Result<String, AllocError>
     Ok(start)
 }
 
-/// Adds an `id` that begins so and ends with this number.
+/// Appends an `id` that begins so and ends with this number.
 fn push_heading_id(
     alloc: Global,
     out: &mut String,

@@ -1,4 +1,4 @@
-//! What is made of a safe text: attributes that are added to its tags, and a whole page around it.
+//! Additions to a safe text: attributes on its tags, and a whole page that contains it.
 #![tactic(auto)]
 
 mod around;
@@ -30,22 +30,22 @@ pub use rel::with_link_rel;
 use std::alloc::{AllocError, Global};
 pub use taken::{list_ids, written_id};
 
-/// A whole page: `title`, escaped, in its head, and `body` as it is.
+/// Returns a whole page: `title`, escaped, in its head, and `body` unchanged.
 ///
-/// The page can be read in exactly one way. Its title, the references read back, is `title` with
-/// U+FFFD for each NUL; its body is the one reading of `body`, so each `href` and `src` in the page
-/// has no protocol or a permitted one. The HTML Standard's tokenizer emits exactly that of it: the
-/// doctype, the head with the title's characters, each line ending in them a line feed, and the
-/// tokens of the body.
+/// The page can be read in exactly one way. Its title, with the references read back, is `title`
+/// with U+FFFD for each NUL; its body is the one reading of `body`, so each `href` and `src` in the
+/// page has no protocol or a permitted one. The HTML Standard's tokenizer emits exactly that for
+/// it: the doctype, the head with the title's characters, each line ending in them a line feed, and
+/// the tokens of the body.
 ///
-/// Where `body` is built as it is read, as the clause `tree` of `compile_safe` says of a document
-/// without a link in a link, the Standard's tree construction builds of these tokens exactly the
+/// If `body` is built as it is read, as the clause `tree` of `compile_safe` promises for a document
+/// without a link in a link, the Standard's tree construction builds from these tokens exactly the
 /// document of that title and that body. The line feed at the page's end goes into the body, after
 /// all else in it, as the Standard says.
 ///
 /// # Errors
 ///
-/// Only where memory runs out.
+/// Returns an error only if memory runs out.
 ///
 /// # Examples
 ///

@@ -15,17 +15,17 @@ use crate::scan::{Rule, next_end};
 use md_text::push_encoded;
 use std::alloc::{AllocError, Global};
 
-/// A safe text with a `rel` in each link that leads away.
+/// Adds a `rel` to each link of a safe text that leaves the page.
 ///
 /// Each start tag `a` whose `href` isn't empty and doesn't begin with `#`, and which has no `rel`,
 /// gets `rel` with this text, escaped, as its last attribute. Nothing else changes: whatever the
-/// HTML Standard's tokenizer emits of the text given, it emits of the text returned the same tokens
-/// with these attributes added. Where tree construction builds the text given as it is written, it
-/// builds the text returned so.
+/// HTML Standard's tokenizer emits for the input, it emits for the output the same tokens with
+/// these attributes added. If tree construction builds the input as it is written, it builds the
+/// output so.
 ///
 /// # Errors
 ///
-/// Only where memory runs out.
+/// Returns an error only if memory runs out.
 ///
 /// # Examples
 ///
@@ -50,7 +50,7 @@ pub fn with_link_rel<H: Html>(
     Ok(AttributedHtml::new(text))
 }
 
-/// A text with a `rel` in each link that leads away and has none.
+/// Adds a `rel` to each link that leaves the page and has none.
 pub(crate) fn with_rel(alloc: Global, text: &str, rel: &str) -> Result<String, AllocError>
     ensures { IfOk result
         (λ out. string_bytes out ≡ with_new picks_link (new_rel rel.now) text.now) }
@@ -61,7 +61,7 @@ pub(crate) fn with_rel(alloc: Global, text: &str, rel: &str) -> Result<String, A
     with_rels(alloc, text, rel)
 }
 
-/// The same, where there is mostly such a link.
+/// The same, if there usually is such a link.
 fn with_rels(alloc: Global, text: &str, rel: &str) -> Result<String, AllocError>
     ensures { IfOk result
         (λ out. string_bytes out ≡ with_new picks_link (new_rel rel.now) text.now) }

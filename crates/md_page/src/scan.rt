@@ -1,4 +1,4 @@
-//! The tags that get an attribute, found by their bytes.
+//! Finds the tags that get an attribute, by their bytes.
 
 ghost use Rattle.std.specs.Prelude.{◌≡◌, ◌==◌, ◌&&◌, ℕ, suc, true, false, ◌+◌, ◌<◌, ◌≤◌, ◌++◌, ◌∷◌};
 ghost use Rattle.std.specs.Prelude.{[], List, IsTrue, IfSome, MatchOption, length, take, drop};
@@ -12,19 +12,19 @@ ghost use Rattle.md_page.specs.Scan.{IsPassed, IsTagAt, IsAngleFrom, IsEndAt, Is
 
 use memchr::memchr;
 
-/// How many bytes are looked at one by one: a byte that is looked for is mostly near.
+/// How many bytes are searched one by one: the target is usually near.
 const NEAR: usize = 16;
 
-/// Which tags get an attribute.
+/// The tags that get an attribute.
 #[derive(Clone, Copy)]
 pub(crate) enum Rule {
-    /// Links that lead away and have no `rel`.
+    /// Links that leave the page, without a `rel`.
     Link,
     /// Headings without an `id`.
     Heading,
 }
 
-/// The index at which the first tag that the rule picks ends: that of its `>`.
+/// The index of the `>` of the first tag that the rule picks.
 pub(crate) fn next_end(rule: Rule, text: &[u8]) -> Option<usize>
     ensures place { IfSome result (IsEndAt text.now) }
     ensures scan { IsScannedTo (picks_of rule) text.now result }
@@ -40,14 +40,14 @@ fn next_of(rule: Rule, text: &[u8]) -> Option<usize>
     ensures { MatchOption result (clear (picks_of rule) (length text.now) text.now ≡ true)
         (IsTagAt (picks_of rule) text.now) }
 {
-    // What goes by the rule is computed when this is built.
+    // The compiler computes at build time what depends on the rule.
     match rule {
         Rule::Link => next_tag(Rule::Link, text),
         Rule::Heading => next_tag(Rule::Heading, text),
     }
 }
 
-/// The same, where the rule is known when this is built.
+/// The same, for a rule that is known at build time.
 #[inline(always)]
 pub(crate) fn next_tag(rule: Rule, text: &[u8]) -> Option<usize>
     ensures { MatchOption result (clear (picks_of rule) (length text.now) text.now ≡ true)
@@ -63,7 +63,7 @@ pub(crate) fn next_tag(rule: Rule, text: &[u8]) -> Option<usize>
     None
 }
 
-/// The index of a `<` from an index on, before which no tag begins that the rule picks.
+/// The index of a `<`, searched from an index; before it no tag begins that the rule picks.
 #[inline(always)]
 fn next_angle(rule: Rule, text: &[u8], at: usize) -> Option<usize>
     requires { at ≤ length text.now }
@@ -81,7 +81,7 @@ fn next_angle(rule: Rule, text: &[u8], at: usize) -> Option<usize>
     }
 }
 
-/// The index of the first `<` from an index on.
+/// The index of the first `<`, searched from an index.
 #[inline(never)]
 fn first_angle(text: &[u8], at: usize) -> Option<usize>
     requires { at ≤ length text.now }
@@ -92,8 +92,9 @@ fn first_angle(text: &[u8], at: usize) -> Option<usize>
     Some(at + run)
 }
 
-/// The index near another one where a `<` stands, or up to which no tag begins that the rule picks.
-/// Every second byte is looked at: a `<`, the letter after that of such a tag, or neither.
+/// An index near another one where there is a `<`, or before which no tag begins that the rule
+/// picks. Every second byte is tested: it is a `<`, the letter after that of such a tag, or
+/// neither.
 #[inline(always)]
 fn pass_near(rule: Rule, text: &[u8], at: usize) -> usize
     requires { at + 18 ≤ length text.now }
@@ -114,7 +115,7 @@ fn pass_near(rule: Rule, text: &[u8], at: usize) -> usize
     at + passed
 }
 
-/// Whether a tag may begin at an index that the rule picks.
+/// Whether a tag that the rule picks may begin at an index.
 #[inline(always)]
 fn may_begin(rule: Rule, text: &[u8], at: usize) -> bool
     requires { at + 2 < length text.now }
@@ -136,7 +137,7 @@ fn is_named(rule: Rule, text: &[u8], at: usize) -> bool
     }
 }
 
-/// Whether it is the digit of a heading's level.
+/// Whether a byte is the digit of a heading's level.
 #[inline(always)]
 fn is_level(byte: u8) -> bool
     ensures { result ≡ is_between 49 54 byte }
@@ -144,7 +145,7 @@ fn is_level(byte: u8) -> bool
     matches!(byte, b'1'..=b'6')
 }
 
-/// Whether the rule picks a tag, by what follows its `<`.
+/// Whether the rule picks a tag, by the bytes after its `<`.
 #[inline(always)]
 fn picks(rule: Rule, tag: &[u8]) -> bool
     ensures { result ≡ picks_of rule tag.now }
@@ -155,7 +156,7 @@ fn picks(rule: Rule, tag: &[u8]) -> bool
     }
 }
 
-/// A link that leads away and has no `rel`.
+/// Whether a tag is a link that leaves the page, without a `rel`.
 #[inline(always)]
 fn picks_link(tag: &[u8]) -> bool
     ensures { result ≡ picks_link tag.now }
@@ -163,8 +164,8 @@ fn picks_link(tag: &[u8]) -> bool
     tag.starts_with(b"a ") && !stays(tag) && before_angle(&tag[1..]).is_some_and(want_rel)
 }
 
-/// Whether a link begins with an address that is empty or within the page: most of those that
-/// are not picked do.
+/// Whether a link begins with an address that is empty or within the page, as most links that
+/// aren't picked do.
 #[inline(always)]
 fn stays(tag: &[u8]) -> bool
     ensures { IsTrue result → picks_link tag.now ≡ false }
@@ -172,19 +173,19 @@ fn stays(tag: &[u8]) -> bool
     stays_within(tag) || tag.starts_with(b"a href=\"\"")
 }
 
-/// Whether it begins with one within the page.
+/// Whether a link begins with an address within the page.
 #[inline(always)]
 fn stays_within(tag: &[u8]) -> bool
     ensures { result ≡ begins_with (codes "a href=\"#") tag.now }
 {
-    // Byte by byte, which takes half of what `starts_with` does.
+    // Comparing byte by byte takes half the time of `starts_with`.
     matches!(
         tag,
         [b'a', b' ', b'h', b'r', b'e', b'f', b'=', b'"', b'#', ..]
     )
 }
 
-/// A heading without an `id`.
+/// Whether a tag is a heading without an `id`.
 #[inline(always)]
 fn picks_heading(tag: &[u8]) -> bool
     ensures { result ≡ picks_heading tag.now }
@@ -195,7 +196,7 @@ fn picks_heading(tag: &[u8]) -> bool
     }
 }
 
-/// Whether a link with these attributes leads away and has no `rel`.
+/// Whether a link with these attributes leaves the page and has no `rel`.
 fn want_rel(attributes: &[u8]) -> bool
     ensures { result ≡ want_rel attributes.now }
 {
@@ -217,7 +218,7 @@ fn is_away(value: &[u8]) -> bool
     !value.is_empty() && !value.starts_with(b"#")
 }
 
-/// The value after this (a space, a name and `=`) in attributes as they are written.
+/// The value after this key (a space, a name and `=`) in attributes as they are written.
 fn value_of<'a>(key: &[u8], attributes: &'a [u8]) -> Option<&'a [u8]>
     ensures { option_copied result ≡ value_of key.now attributes.now }
 {
@@ -232,7 +233,7 @@ fn value_of<'a>(key: &[u8], attributes: &'a [u8]) -> Option<&'a [u8]>
     None
 }
 
-/// What comes before the first `"`, and what after it.
+/// The bytes before and after the first `"`.
 fn split_at_quote(bytes: &[u8]) -> Option<(&[u8], &[u8])>
     ensures { MatchOption result (parts_of bytes.now ≡ bytes.now ∷ [])
         (λ found. (parts_of bytes.now ≡ found.0.now ∷ parts_of found.1.now)
@@ -242,7 +243,7 @@ fn split_at_quote(bytes: &[u8]) -> Option<(&[u8], &[u8])>
     Some((&bytes[..at], &bytes[at + 1..]))
 }
 
-/// What comes before the first `>`.
+/// The bytes before the first `>`.
 fn before_angle(bytes: &[u8]) -> Option<&[u8]>
     ensures { option_copied result ≡ before_angle bytes.now }
 {
@@ -250,7 +251,7 @@ fn before_angle(bytes: &[u8]) -> Option<&[u8]>
     Some(&bytes[..at])
 }
 
-/// What comes before the first of this ASCII byte, and what after it.
+/// The text before and after the first of this ASCII byte.
 pub(crate) fn split_at_byte(byte: u8, text: &str) -> Option<(&str, &str)>
     requires { byte < 128 }
     ensures parts { MatchOption result (IsTrue (list_all (differs byte) text.now))
@@ -277,7 +278,7 @@ fn find_byte(byte: u8, bytes: &[u8]) -> Option<usize>
     memchr(byte, bytes)
 }
 
-/// The same among the first bytes.
+/// The same, only among the first bytes.
 #[inline(always)]
 fn find_near(byte: u8, bytes: &[u8]) -> Option<usize>
     requires { 16 ≤ length bytes.now }

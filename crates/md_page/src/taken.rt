@@ -17,11 +17,12 @@ use crate::scan::split_at_byte;
 use md_text::encode;
 use std::alloc::{AllocError, Global};
 
-/// The ids of a safe text, each as it is written there with a line feed for each line ending.
+/// Returns the ids of a safe text, each as it is written there, with a line feed for each line
+/// ending.
 ///
 /// # Errors
 ///
-/// Only where memory runs out.
+/// Returns an error only if memory runs out.
 pub fn list_ids<H: Html>(alloc: Global, html: &H) -> Result<Vec<String>, AllocError>
     ensures ids { IfOk result (λ found. (x : List Token) → IsTokenized (H.text html.now) x
         → (id : List ℕ) → IsTrue (is_among id (ids_among x))
@@ -31,12 +32,12 @@ pub fn list_ids<H: Html>(alloc: Global, html: &H) -> Result<Vec<String>, AllocEr
     Ok(found)
 }
 
-/// An id as it is written, with a line feed for each line ending: two ids are seen alike exactly
-/// where they are written alike.
+/// Returns an id as it is written, with a line feed for each line ending: two ids are equal for a
+/// reader exactly if they are written alike.
 ///
 /// # Errors
 ///
-/// Only where memory runs out.
+/// Returns an error only if memory runs out.
 pub fn written_id(alloc: Global, id: &str) -> Result<String, AllocError>
     ensures { IfOk result (λ written. string_bytes written ≡ written_id id.now) }
 {
@@ -44,7 +45,7 @@ pub fn written_id(alloc: Global, id: &str) -> Result<String, AllocError>
     lined(alloc, escaped.as_str())
 }
 
-/// The values that stand in quotes after ` id=`.
+/// The quoted values after ` id=`.
 fn ids_of(alloc: Global, text: &str) -> Result<Vec<String>, AllocError>
     ensures { IfOk result (λ found. map string_bytes found.items ≡ scanned_ids text.now) }
 {
@@ -60,7 +61,7 @@ fn ids_of(alloc: Global, text: &str) -> Result<Vec<String>, AllocError>
     Ok(found)
 }
 
-/// Adds a value if it is that of an `id`, by what stands before it.
+/// Adds a value if it is that of an `id`, by the text before it.
 fn push_id(
     alloc: Global,
     found: &mut Vec<String>,
@@ -76,7 +77,7 @@ fn push_id(
     Ok(())
 }
 
-/// Whether ` id=` comes last.
+/// Whether the text ends in ` id=`.
 fn ends_at_id(before: &[u8]) -> bool
     ensures { result ≡ ends_at_id before.now }
 {

@@ -35,7 +35,7 @@ module _ (old new : List Fact) (still : (word : ℕ) → IsWord old word → IsW
       ∙ ap (λ facts. facts ++ fact_of_word new word ∷ []) (facts-same words are)
       ∙ ap (λ f. facts_of_words old words ++ f ∷ []) says
 
-  -- a word that is put at an index
+  -- writing a word at an index
   pub AreWords-put : (words : List ℕ) (index word : ℕ) → AreWords old words → IsWord new word →
       AreWords new (set words index word)
   AreWords-put words index word are is =
@@ -69,7 +69,7 @@ AreWords-two records words new (Ok entry) are low is none =
 AreWords-two records words new (Err error) are low is same =
     subst (λ ws. AreWords records ws) (sym same) are
 
--- an answer of which one more thing is known
+-- a result with one more known fact
 pub on_ok : {A E : Type 0} (P Q : Type 0) → (P → Q) → (result : Result A E) → OnOk result P →
     OnOk result Q
 on_ok P Q f (Ok a) p = f p

@@ -26,7 +26,7 @@ plain-fact : (name : Name) (exit table : ℕ) (around : Sought) → is_table nam
 plain-fact GfmTable exit table around plain = lie (sym plain)
 plain-fact _ exit table around plain = refl
 
--- what is found after such a node
+-- the facts after such a node
 abbrev pub after_leaf : Name → PassState → PassState
 after_leaf name pass = record {
   facts = (pass.facts ++ fact_of name (length pass.facts + 1)

@@ -1,5 +1,5 @@
--- Looseness told from before a blank line ending, as the pass comes to it, is that told from the
--- blank line ending.
+-- Looseness that looks ahead to a blank line ending, as the pass computes it, equals looseness that
+-- looks back from the blank line ending.
 use Rattle.std.proofs.Common.{◌≡◌, Bool, true, false, not, ◌&&◌, ◌||◌, refl, sym, ap, ◌∙◌}
 use Rattle.std.specs.Prelude.{if◌then◌else◌}
 use Rattle.md_base.proofs.Lies.{lie}

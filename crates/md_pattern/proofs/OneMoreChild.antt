@@ -1,4 +1,4 @@
--- What is told of some children with one more after them: of each test, one step.
+-- The facts about some children with one more after them: one step for each test.
 use Rattle.std.proofs.Common.{◌≡◌, Bool, true, false, not, ◌&&◌, ◌||◌, cond, refl}
 use Rattle.md_base.specs.declared.event.Name.{Name}
 use Rattle.md_base.specs.declared.event.Name.TheVariants as name_variants

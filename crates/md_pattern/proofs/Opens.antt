@@ -1,4 +1,4 @@
--- The open nodes, of which the vector has the innermost last: what they are where that one changes.
+-- The open nodes; the vector has the innermost last: the list after that one changes.
 use Rattle.std.proofs.Common.{◌≡◌, ℕ, false, ◌+◌, ◌-◌, ◌<◌, List, [], ◌∷◌, ◌++◌, length, get_or}
 use Rattle.std.proofs.Common.{Result, Ok, Err, refl, sym, ap, subst, ◌∙◌, arith}
 use Rattle.std.specs.Prelude.{set, reverse, OnOk}
@@ -15,7 +15,7 @@ use Rattle.md_pattern.specs.Facts.{followed, fact_of, partner_alone, definitions
 use Rattle.md_pattern.specs.Facts.{passed_exit}
 use Rattle.md_pattern.proofs.Leaves.{passed-leaf_by}
 
--- an answer of a call of which three things are known
+-- a result of a call with three known facts
 pub on_answer : {A E : Type 0} (P Q R S : Type 0) → (P → Q → R → S) →
     (result : Result A E) → OnOk result P →
     OnOk result Q → OnOk result R → OnOk result S
@@ -72,7 +72,7 @@ grounded-others : (r : List OpenNode) → others_outer (grounded r) ≡ others_o
 grounded-others [] = refl
 grounded-others (x ∷ r) = refl
 
--- a fact that is put among others, and one that is pushed after them
+-- a fact written among others, and one pushed after them
 pub put_then_pushed :
     (facts : List Fact) (index : ℕ) (fact whole last alone : Fact) (put pushed : List Fact) →
     fact ≡ whole → put ≡ set facts index fact → last ≡ alone → pushed ≡ put ++ last ∷ [] →
@@ -81,7 +81,7 @@ put_then_pushed facts index fact whole last alone put pushed fact_is put_is last
     pushed_is ∙ ap (λ fs. fs ++ last ∷ []) (put_is ∙ ap (λ f. set facts index f) fact_is)
     ∙ ap (λ f. set facts index whole ++ f ∷ []) last_is
 
--- the exit of a node, by what each step gave: the node, what is left, and what it is then
+-- the exit of a node, by the results of each step: the node, the rest, and its new value
 pub passed_exit-by :
     (name : Name) (pass : PassState) (own here after : OpenNode) (facts : List Fact)
     (columns : Collected)

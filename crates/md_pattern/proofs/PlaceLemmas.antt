@@ -1,4 +1,4 @@
--- The table of places: what its letters tell, row by row and symbol by symbol.
+-- The table of places: what its letters encode, row by row and symbol by symbol.
 use Rattle.std.proofs.Common.{◌≡◌, ℕ, zero, suc, ◌+◌, ◌<◌, ◌≤◌, Bool, true, false, ◌&&◌}
 use Rattle.std.proofs.Common.{Option, Some, None, List, [], ◌∷◌, map, length, get_or, take}
 use Rattle.std.proofs.Common.{cond, eqb, leb, ltb, ◌||◌, refl, sym, ap, ◌∙◌, subst, arith}
@@ -33,7 +33,7 @@ unfolding all_roles
 role-numbered role.Flow = refl
 role-numbered _ = refl
 
--- ---- what rows tell
+-- ---- the places that rows encode
 
 length-told : (n : ℕ) (rows : List (List ℕ)) → length (told_from n rows) ≡ length rows
 unfolding told_from
@@ -155,7 +155,7 @@ ends-count letters are =
     sym (length-map letters (λ letter. eqb letter 101)) ∙ ap length are
     ∙ length-map places (λ place. is_complete (state_at place None)) ∙ counted
 
--- whether a spine may end doesn't go by its last symbol
+-- the last symbol of a spine doesn't decide whether the spine may end
 whole-complete : (place : At) (before : Option Symbol) →
     is_complete (state_at place None) ≡ is_complete (state_at place before)
 whole-complete place before = refl

@@ -1,4 +1,4 @@
--- What the pass tells of children is what is defined of them.
+-- The facts that the pass finds about children are those of the definitions.
 use Rattle.std.proofs.Common.{◌≡◌, Bool, true, false, not, ◌&&◌, ◌||◌, cond, Option, Some, None}
 use Rattle.std.proofs.Common.{refl, sym, ap, ◌∙◌}
 use Rattle.std.specs.Prelude.{unwrap_or}
@@ -211,7 +211,7 @@ loose_items_over (Node name start end children rest) told =
     ∙ or-assoc told.has_loose_item (is ListItem name && is_loose_item children)
     (has_loose_item rest)
 
--- a list's children, its items not looked at, and looked at
+-- a list's children, ignoring its items, and with them
 pub without_items-told : (children : Forest) → Told.without_items (told_over children nothing_told)
     ≡ written.is_loose_without_items children
 without_items-told children =

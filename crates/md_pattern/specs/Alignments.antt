@@ -10,7 +10,7 @@ use Rattle.md_base.specs.Is.{is}
 use Rattle.md_base.specs.NameTests.{leads_to_values}
 use Rattle.md_base.specs.Children.{last_name}
 
--- the first child is a marker, and the last one is
+-- the first child is a marker, and below, the last child is
 abbrev pub begins_with_marker : Forest → Bool
 begins_with_marker nodes =
     elim nodes [ Empty ↦ false | Node name _ _ _ _ ↦ is GfmTableDelimiterMarker name ]
@@ -24,8 +24,8 @@ alignment_of children =
     if begins_with_marker children then (if ends_with_marker children then Center else Left)
     else (if ends_with_marker children then Right else None)
 
--- the alignments of a table with these children: one for each delimiter cell value that is reached
--- through heads, delimiter rows and transparent nodes
+-- the alignments of a table with these children: one for each delimiter cell value inside heads,
+-- delimiter rows and transparent nodes
 abbrev pub alignments : Forest → List AlignKind
 alignments Empty = []
 alignments (Node name start end children rest) =

@@ -1,5 +1,5 @@
--- The alignments of tables, found from the first column to the last. Only contracts of private
--- functions speak of it.
+-- Finds the alignments of tables, from the first column to the last. Only contracts of private
+-- functions cite it.
 use Rattle.std.specs.Prelude.{Bool, true, false, ℕ, if◌then◌else◌, List, [], ◌∷◌, ◌++◌, length}
 use Rattle.std.specs.Prelude.{take, drop}
 use Rattle.md_base.specs.declared.event.AlignKind.{AlignKind}
@@ -15,7 +15,7 @@ use Rattle.md_base.specs.NameTests.{is_table}
 use Rattle.md_pattern.specs.Alignments.{alignments}
 use Rattle.md_pattern.specs.Told.{alignment}
 
--- what a node is to the alignments of a table
+-- the role of a node in the alignments of a table
 abbrev pub part_of : Name → Part
 part_of GfmTable = part.Table
 part_of GfmTableHead = part.Leads
@@ -26,7 +26,7 @@ part_of SpaceOrTab = part.Leads
 part_of (Other number) = part.Leads
 part_of _ = part.Apart
 
--- a value in a node is one of the table around it
+-- a value in a node belongs to the table that contains the node
 abbrev pub collects_where : Part → Bool → Bool
 collects_where part.Table around = true
 collects_where part.Leads around = around
@@ -35,18 +35,18 @@ collects_where _ around = false
 abbrev pub collects_in : Name → Bool → Bool
 collects_in name around = collects_where (part_of name) around
 
--- the alignments of the tables that have ended, the columns of those that are open, and where those
--- of each start, the innermost first
+-- the alignments of the tables that have ended, the columns of the open tables, and where the
+-- columns of each start, the innermost first
 pub record Collected : Type 0 where
   pub tables : List (List AlignKind)
   pub pending : List AlignKind
   pub starts : List ℕ
 
--- before any event
+-- the state before any event
 abbrev pub nothing_collected : Collected
 nothing_collected = record { tables = []; pending = []; starts = [] }
 
--- the entry of a node
+-- the state after the entry of a node
 abbrev pub entered_where : Part → Collected → Collected
 entered_where part.Table columns =
     record columns { starts = length columns.pending ∷ columns.starts }
@@ -64,7 +64,7 @@ abbrev pub other_starts : List ℕ → List ℕ
 other_starts [] = []
 other_starts (start ∷ others) = others
 
--- the exit of a table, and of a value
+-- the state after the exit of a table, and of a value
 abbrev pub table_ended : Collected → Collected
 table_ended columns = record {
   tables = columns.tables ++ drop (first_start columns.starts) columns.pending ∷ [];
@@ -77,7 +77,7 @@ value_ended column collects columns = record columns {
   pending = if collects then columns.pending ++ column ∷ [] else columns.pending;
 }
 
--- the exit of a node
+-- the state after the exit of a node
 abbrev pub exited_where : Part → Told → Bool → Collected → Collected
 exited_where part.Table own collects columns = table_ended columns
 exited_where part.Value own collects columns = value_ended (alignment own) collects columns
@@ -93,7 +93,7 @@ tables_of (Node name start end children rest) =
     tables_of children
     ++ ((if is_table name then alignments children ∷ [] else []) ++ tables_of rest)
 
--- what is collected after some nodes
+-- the state after some nodes
 abbrev pub columns_after : Forest → Bool → Collected → Collected
 columns_after forest collects columns = record {
   tables = columns.tables ++ tables_of forest;

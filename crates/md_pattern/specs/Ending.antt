@@ -1,4 +1,4 @@
--- Where the first line ending stands among events.
+-- Where the first line ending is among events.
 use Rattle.std.specs.Prelude.{ℕ, suc, Bool, true, false, ◌&&◌, if◌then◌else◌, List, [], ◌∷◌, Option}
 use Rattle.std.specs.Prelude.{Some, None, option_map}
 use Rattle.md_base.specs.declared.event.Event.{Event}
@@ -20,7 +20,7 @@ first_index [] = None
 first_index (event ∷ events) =
     if exits_line_ending event then Some 0 else option_map (λ index. suc index) (first_index events)
 
--- the same after some events, of which it was this, and one more at an index
+-- the same after one more event, at an index
 abbrev pub ending_after : Option ℕ → ℕ → Event → Option ℕ
 ending_after None index event = if exits_line_ending event then Some index else None
 ending_after (Some found) index event = Some found

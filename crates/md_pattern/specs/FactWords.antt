@@ -1,5 +1,5 @@
--- The words by which what is found at each event is kept. Contracts of private functions speak of
--- them, and the model of `FactList`, which says by them which list of facts it is.
+-- The words that store the facts at the events. Contracts of private functions cite them, and so
+-- does the model of `FactList`, which maps it to a list of facts.
 use Rattle.std.specs.Prelude.{ℕ, ◌+◌, ◌-◌, ◌^◌, ◌<◌, if◌then◌else◌, nat_le, List, length, get_or}
 use Rattle.std.specs.Prelude.{map}
 use Rattle.std.specs.List.{All}
@@ -13,12 +13,12 @@ IsWord records word = word < 2 ^ 63 + length records
 abbrev pub AreWords : List Fact → List ℕ → Type 0
 AreWords records words = All (IsWord records) words
 
--- what a word says: the partner and nothing else, or what its record has
+-- the fact that a word encodes: only the partner, or its record
 abbrev pub fact_of_word : List Fact → ℕ → Fact
 fact_of_word records word =
     if nat_le (2 ^ 63) word then get_or records (word - 2 ^ 63) (partner_alone 0)
     else partner_alone word
 
--- what each of some words says
+-- the facts that some words encode
 abbrev pub facts_of_words : List Fact → List ℕ → List Fact
 facts_of_words records words = map (fact_of_word records) words

@@ -1,5 +1,5 @@
--- The pass over the events from the first to the last, which finds what is read or inferred of each
--- node. Only contracts of private functions speak of it.
+-- The pass over the events, in order, which finds or infers the facts about each node. Only
+-- contracts of private functions cite it.
 use Rattle.std.specs.Prelude.{ℕ, suc, Bool, true, false, if◌then◌else◌, List, [], ◌∷◌, ◌++◌, length}
 use Rattle.std.specs.Prelude.{reverse, set}
 use Rattle.md_base.specs.declared.event.AlignKind.{AlignKind}
@@ -34,11 +34,11 @@ document_node = record {
   told = nothing_told;
 }
 
--- a spine on which a search begins, or goes on where the node is transparent
+-- the search on a spine: a new one, or that of the parent if the node is transparent
 abbrev pub sought_inside : Name → Sought → Sought
 sought_inside name around = if is_transparent name then around else search_of name
 
--- the search after a node, given that in it
+-- the search after a node, given the search inside it
 abbrev pub sought_after : Name → ℕ → Sought → Sought → Sought
 sought_after name entry own around =
     if is_transparent name then own else seen around name entry own.read_at
@@ -47,7 +47,7 @@ sought_after name entry own around =
 abbrev pub contributing_after : Name → ℕ → ℕ → ℕ
 contributing_after name entry before = if contributes name then entry else before
 
--- a node that has been entered at an index, in one that is open
+-- a node entered at an index, inside an open node
 abbrev pub opened : ℕ → Name → OpenNode → OpenNode
 opened entry name around = record {
   entry = entry;
@@ -67,14 +67,14 @@ followed name own around = record {
   told = told_with name own.told around.told;
 }
 
--- where what is read of a node is found: which table it is, the last contributing child,
--- or what was sought
+-- where to find what is read of a node: the number of the table, the last contributing child, or
+-- the result of the search
 abbrev pub read_at_of : Name → ℕ → ℕ → Sought → ℕ
 read_at_of name table contributing sought =
     if is_table name then table else (if is_item name then contributing
     else (if is_transparent name then 0 else sought.read_at))
 
--- a node that, where it has no children, tells no more than what the last child is
+-- a node that, without children, only becomes the last child of its parent
 abbrev pub is_simple : Name → Bool
 is_simple name = elim name [
   | Data ↦ true
@@ -84,7 +84,7 @@ is_simple name = elim name [
   | _ ↦ false
 ]
 
--- a node as most are: it contributes, and is nothing that the node around it looks at
+-- a node of a common name: it contributes, and its parent doesn't examine it further
 abbrev pub is_common : Name → Bool
 is_common name = elim name [
   | LineEnding ↦ false
@@ -102,7 +102,7 @@ is_common name = elim name [
   | _ ↦ true
 ]
 
--- what is found of a node that exits at an index
+-- the fact of a node that exits at an index
 abbrev pub fact_of : Name → ℕ → ℕ → ℕ → Sought → Told → Fact
 fact_of name exit table contributing sought told = record {
   partner = exit;
@@ -110,7 +110,7 @@ fact_of name exit table contributing sought told = record {
   looseness = looseness told;
 }
 
--- what is known of an exit, and of an entry before its exit
+-- the fact at an exit, and at an entry before its exit
 abbrev pub partner_alone : ℕ → Fact
 partner_alone partner = record {
   partner = partner;
@@ -118,8 +118,8 @@ partner_alone partner = record {
   looseness = record { without_items = false; with_items = false; of_item = false };
 }
 
--- what is found at the events so far, the entries of the definitions that have ended, the innermost
--- open node, and those around it, the next one first
+-- the facts at the events so far, the entries of the definitions that have ended, the innermost
+-- open node, and the nodes that contain it, the next one first
 pub record PassState : Type 0 where
   pub facts : List Fact
   pub columns : Collected
@@ -127,7 +127,7 @@ pub record PassState : Type 0 where
   pub here : OpenNode
   pub outer : List OpenNode
 
--- before any event
+-- the state before any event
 abbrev pub pass_beginning : PassState
 pass_beginning = record {
   facts = [];
@@ -146,16 +146,16 @@ abbrev pub others_outer : List OpenNode → List OpenNode
 others_outer [] = []
 others_outer (open_node ∷ others) = others
 
--- the open nodes with the document around them, the innermost first, by a list that has it last
+-- the open nodes inside the document, the innermost first, from a list that has it last
 abbrev pub opens : List OpenNode → OpenNode → List OpenNode
 opens open_nodes document = reverse open_nodes ++ document ∷ []
 
--- where nothing is left, the document
+-- the document, if nothing is left
 abbrev pub grounded : List OpenNode → List OpenNode
 grounded [] = document_node ∷ []
 grounded (open_node ∷ others) = open_node ∷ others
 
--- the entry of a node
+-- the state after the entry of a node
 abbrev pub passed_entry : Name → PassState → PassState
 passed_entry name pass = record {
   facts = pass.facts ++ partner_alone 0 ∷ [];
@@ -165,18 +165,18 @@ passed_entry name pass = record {
   outer = pass.here ∷ pass.outer;
 }
 
--- what is found of the innermost open node, which exits
+-- the fact of the innermost open node, which exits
 abbrev pub fact_here : Name → PassState → Fact
 fact_here name pass =
     fact_of name (length pass.facts) (length pass.columns.tables) pass.here.contributing
     pass.here.sought pass.here.told
 
--- the entries of definitions, with that of one more node
+-- the entries of definitions, with the entry of one more node
 abbrev pub definitions_with : Name → ℕ → List ℕ → List ℕ
 definitions_with name entry definitions =
     definitions ++ (if is_link_definition name then entry ∷ [] else [])
 
--- the exit of a node
+-- the state after the exit of a node
 abbrev pub passed_exit : Name → PassState → PassState
 passed_exit name pass = record {
   facts =
@@ -188,24 +188,24 @@ passed_exit name pass = record {
   outer = others_outer pass.outer;
 }
 
--- an event
+-- the state after an event
 abbrev pub passed : Kind → Name → PassState → PassState
 passed Enter name pass = passed_entry name pass
 passed Exit name pass = passed_exit name pass
 
--- events, one after another
+-- the state after events, in order
 abbrev pub passed_over : List Event → PassState → PassState
 passed_over [] pass = pass
 passed_over (event ∷ events) pass = passed_over events (passed event.kind event.name pass)
 
--- the last contributing of some nodes, after others
+-- the last contributing child after some more nodes
 abbrev pub contributing_over : ℕ → Forest → ℕ → ℕ
 contributing_over index Empty before = before
 contributing_over index (Node name start end children rest) before =
     contributing_over (suc (index_after (suc index) children)) rest
     (contributing_after name index before)
 
--- a search over some nodes
+-- a search after some more nodes
 abbrev pub sought_over : ℕ → Forest → Sought → Sought
 sought_over index Empty sought = sought
 sought_over index (Node name start end children rest) sought =
@@ -231,15 +231,15 @@ tables_after tables Empty = tables
 tables_after tables (Node name start end children rest) =
     tables_after (tables_with name (tables_after tables children)) rest
 
--- what is found of a node that is entered at an index, where so many tables have ended
+-- the fact of a node that is entered at an index, after so many tables have ended
 abbrev pub fact_at : ℕ → ℕ → Name → Forest → Fact
 fact_at index tables name children =
     fact_of name (index_after (suc index) children) (tables_after tables children)
     (contributing_over (suc index) children 0)
     (sought_over (suc index) children (search_of name)) (told_over children nothing_told)
 
--- for each event of the nodes, in order, what is found at it: the first event has this index, and
--- so many tables have ended before
+-- the fact at each event of the nodes, in order: the first event has this index, and so many tables
+-- have ended before
 abbrev pub facts_of : ℕ → ℕ → Forest → List Fact
 facts_of index tables Empty = []
 facts_of index tables (Node name start end children rest) =
@@ -248,7 +248,7 @@ facts_of index tables (Node name start end children rest) =
     ++ partner_alone index ∷ facts_of (suc (index_after (suc index) children))
     (tables_with name (tables_after tables children)) rest
 
--- what is found at each event, the alignments of the tables, and the entries of the definitions
+-- the fact at each event, the alignments of the tables, and the entries of the definitions
 abbrev pub facts_at : List Event → List Fact
 facts_at events = PassState.facts (passed_over events pass_beginning)
 

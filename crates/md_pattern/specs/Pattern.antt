@@ -1,4 +1,4 @@
--- Patterns of spines: which symbols may stand on the spine of a node, in which order.
+-- Patterns of spines: the symbols that may occur on the spine of a node, and their order.
 use Rattle.std.specs.Prelude.{◌≡◌, ℕ, ◌≤◌, Bool, List, [], ◌∷◌, ◌++◌, length, IsTrue}
 use Rattle.std.specs.List.{list_any, list_all}
 use denote.Enum.Bare.{sameb}
@@ -36,8 +36,7 @@ members (OrLine one) = one ∷ LineEnding ∷ BlankLineEnding ∷ []
 abbrev pub takes : Class → Symbol → Bool
 takes class seen = list_any (λ member. sameb the_type member seen) (members class)
 
--- the pattern of each role, one item after another: one symbol of a class, at most
--- one, or any number
+-- the pattern of each role, item by item: one symbol of a class, at most one, or any number
 abbrev pub pattern_of : Role → List Item
 pattern_of role.Flow = Many Flow ∷ []
 pattern_of role.FootnoteDefinition = Once (Only FootnotePrefix) ∷ Many Flow ∷ []
@@ -94,12 +93,12 @@ class_of (Once class) = class
 class_of (Maybe class) = class
 class_of (Many class) = class
 
--- so many symbols an item may have
+-- how many symbols an item may match
 abbrev pub IsCount : Item → ℕ → Type 0
 IsCount item count =
     elim item [ Once class ↦ count ≡ 1 | Maybe class ↦ count ≤ 1 | Many class ↦ Unit {0} ]
 
--- the symbols are those of the pattern's items, one item after another
+-- the symbols match the items of the pattern, in order
 abbrev pub Fits : List Item → List Symbol → Type 0
 Fits [] symbols = symbols ≡ []
 Fits (item ∷ items) symbols = (own others : List Symbol) × (symbols ≡ own ++ others)

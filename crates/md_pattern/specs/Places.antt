@@ -1,4 +1,4 @@
--- How far spines have been read, by the numbers of a table's rows.
+-- The progress in reading spines, as row numbers of a table.
 use Rattle.std.specs.Prelude.{◌≡◌, ℕ, ◌+◌, ◌-◌, Bool, true, ◌==◌, ◌&&◌, ◌||◌, nat_le, if◌then◌else◌}
 use Rattle.std.specs.Prelude.{Option, Some, None, option_map, List, [], ◌∷◌, map, drop}
 use Rattle.std.specs.List.{list_all}
@@ -15,7 +15,7 @@ use Rattle.md_pattern.specs.Pattern.{pattern_of}
 use Rattle.md_pattern.specs.Steps.{moved, is_complete}
 use Rattle.md_pattern.specs.declared.places.Place.{Place}
 
--- how far the spine of a node of a role has been read, but for its last symbol
+-- the progress in reading the spine of a node with a role, without its last symbol
 pub record At : Type 0 where
   pub role : Role
   pub position : ℕ
@@ -26,7 +26,7 @@ abbrev pub state_at : At → Option Symbol → State
 state_at place before =
     record { role = place.role; before = before; position = place.position; stage = place.stage }
 
--- where a spine is after a symbol
+-- the place on a spine after a symbol
 abbrev pub moved_from : At → Symbol → Option At
 moved_from place seen =
     option_map (λ next. record { role = place.role; position = next.0; stage = next.1 })
@@ -35,9 +35,9 @@ moved_from place seen =
 abbrev pub at : Role → ℕ → Stage → At
 at role position stage = record { role = role; position = position; stage = stage }
 
--- What follows is the table: public contracts speak of it only by `state_of`.
+-- The rest is the table: public contracts use it only through `state_of`.
 
--- the places to which spines come, in the order of their rows
+-- the places that spines reach, in the order of their rows
 unfoldable pub places : List At
 places =
     at role.Flow 0 Whole ∷ at role.Flow 0 Marker ∷ at role.Flow 0 Numeric ∷
@@ -83,7 +83,7 @@ places =
     at role.TableDelimiterValue 0 Whole ∷ at role.TaskCheck 0 Whole ∷ at role.TaskCheck 1 Whole ∷
     at role.Frontmatter 0 Whole ∷ at role.Empty 0 Whole ∷ at role.Childless 0 Whole ∷ []
 
--- the symbols, in the order in which they are declared
+-- the symbols, in declaration order
 unfoldable pub symbols : List Symbol
 symbols =
     symbol.Text ∷ symbol.LineEnding ∷ symbol.BlankLineEnding ∷ symbol.ReferenceMarker ∷
@@ -100,7 +100,7 @@ symbols =
     symbol.TableDelimiterRow ∷ symbol.TableDelimiterValue ∷ symbol.TableDelimiterMarker ∷
     symbol.TaskChecked ∷ []
 
--- the roles, in the order in which they are declared
+-- the roles, in declaration order
 unfoldable pub all_roles : List Role
 all_roles =
     role.Flow ∷ role.FootnoteDefinition ∷ role.FootnotePrefix ∷ role.OrderedList ∷
@@ -117,24 +117,24 @@ all_roles =
 abbrev pub place_at : ℕ → At
 place_at number = get_or places number (at role.Childless 0 Whole)
 
--- how far the code's place says that a spine has been read, with the last symbol
+-- the progress that the code's place encodes, with the last symbol
 abbrev pub state_of : Place → Option Symbol → State
 state_of place before = state_at (place_at place.number) before
 
--- a letter in a row: no place, or one counted from this one
+-- a letter in a row: no place, or a place relative to this row
 abbrev pub told : ℕ → ℕ → Option At
 told number letter = if letter == 46 then None else Some (place_at (number + letter - 109))
 
--- what rows tell from this number on
+-- the places that the rows from this number encode
 unfoldable pub told_from : ℕ → List (List ℕ) → List (List (Option At))
 told_from number [] = []
 told_from number (row ∷ rows) = map (λ letter. told number letter) row ∷ told_from (number + 1) rows
 
--- what they have to tell
+-- the places that a row must encode
 abbrev pub moves : At → List (Option At)
 moves place = map (λ seen. moved_from place seen) symbols
 
--- a letter leads to a row
+-- a letter encodes a row
 abbrev pub leads : ℕ → ℕ → Bool
 leads number letter =
     letter == 46 || (nat_le letter 122 && nat_le 109 (number + letter))
@@ -144,12 +144,12 @@ lead_from number [] = true
 lead_from number (row ∷ rows) =
     list_all (λ letter. leads number letter) row && lead_from (number + 1) rows
 
--- each row tells what follows each symbol
+-- each row encodes the places after each symbol
 pub record AreRows (rows : List (List ℕ)) : Type 0 where
   pub tell : told_from 0 rows ≡ map (λ place. moves place) places
   pub lead : lead_from 0 rows ≡ true
 
--- each place has a letter that tells whether a spine may end there
+-- each place has a letter that says whether a spine may end there
 abbrev pub AreEnds : List ℕ → Type 0
 AreEnds letters =
     map (λ letter. letter == 101) letters ≡ map (λ place. is_complete (state_at place None)) places

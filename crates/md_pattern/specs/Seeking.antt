@@ -1,5 +1,4 @@
--- What a name reads of the nodes on its spine: where the one node stands that it seeks. Only
--- contracts of private functions speak of it.
+-- Finds the node on a spine that a name reads. Only contracts of private functions cite it.
 use Rattle.std.specs.Prelude.{Bool, ℕ, if◌then◌else◌}
 use Rattle.md_base.specs.declared.event.Name.{Name}
 use Rattle.md_base.specs.declared.event.Name.TheVariants as named
@@ -14,7 +13,7 @@ use Rattle.md_base.specs.NameTests.{is_heading_mark, is_item, is_item_prefix, is
 use Rattle.md_base.specs.NameTests.{is_label, is_label_text, is_definition_label}
 use Rattle.md_base.specs.NameTests.{is_footnote_prefix, is_footnote_label}
 
--- what the spine of a name is searched for
+-- the target of the search on the spine of a name
 abbrev pub wanted_by : Name → Wanted
 wanted_by named.HeadingAtx = want.Mark
 wanted_by named.ListOrdered = want.Item
@@ -29,11 +28,11 @@ wanted_by named.GfmFootnoteDefinition = want.FootnotePrefix
 wanted_by named.GfmFootnoteDefinitionPrefix = want.FootnoteLabel
 wanted_by _ = want.Nothing
 
--- a spine of a name, of which nothing has been searched
+-- a new search on the spine of a name
 abbrev pub search_of : Name → Sought
 search_of name = record { wanted = wanted_by name; found = so_far.Nothing; read_at = 0 }
 
--- what a node is on the spine of a link or an image
+-- how a node matches on the spine of a link or an image
 abbrev pub sight_in_media : Name → Sight
 sight_in_media named.Label = looks.Holder
 sight_in_media named.ReferenceString = looks.Reference
@@ -45,7 +44,7 @@ itself_if is = if is then looks.Itself else looks.Other
 abbrev pub holder_if : Bool → Sight
 holder_if is = if is then looks.Holder else looks.Other
 
--- what a node is on a spine
+-- how a node matches on a spine
 abbrev pub sight : Wanted → Name → Sight
 sight want.Nothing name = looks.Other
 sight want.Mark name = itself_if (is_heading_mark name)
@@ -59,7 +58,7 @@ sight want.DefinitionLabel name = itself_if (is_definition_label name)
 sight want.FootnotePrefix name = holder_if (is_footnote_prefix name)
 sight want.FootnoteLabel name = itself_if (is_footnote_label name)
 
--- a search that finds this, unless it has found something
+-- a search that records this result, unless there is one
 abbrev pub first_where : Found → Sought → ℕ → Sought
 first_where so_far.Nothing sought index = record sought { found = so_far.First; read_at = index }
 first_where _ sought index = sought
@@ -67,7 +66,7 @@ first_where _ sought index = sought
 abbrev pub first : Sought → ℕ → Sought
 first sought index = first_where sought.found sought index
 
--- a search that finds a reference, unless it has found one
+-- a search that records a reference, unless there is one
 abbrev pub refer_where : Found → Sought → ℕ → Sought
 refer_where so_far.Reference sought index = sought
 refer_where _ sought index = record sought { found = so_far.Reference; read_at = index }
@@ -75,7 +74,7 @@ refer_where _ sought index = record sought { found = so_far.Reference; read_at =
 abbrev pub refer : Sought → ℕ → Sought
 refer sought index = refer_where sought.found sought index
 
--- a search after a node that is entered here, and in which this was found
+-- a search after a node that is entered here, and in which the search found `inner`
 abbrev pub seen_as : Sight → Sought → ℕ → ℕ → Sought
 seen_as looks.Other sought entry inner = sought
 seen_as looks.Itself sought entry inner = first sought entry

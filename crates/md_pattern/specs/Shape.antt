@@ -23,7 +23,7 @@ prefix_in role.FirstOrderedItem = role.FirstOrderedPrefix
 prefix_in role.OrderedItem = role.OrderedPrefix
 prefix_in _ = role.Prefix
 
--- a fence, which may say more where nothing is before it
+-- a fence, which may have more parts if nothing precedes it
 abbrev pub code_fence_after : Option Symbol → Role
 code_fence_after before = elim before [ None ↦ role.FirstCodeFence | Some _ ↦ role.CodeFence ]
 
@@ -34,7 +34,7 @@ math_fence_after before = elim before [ None ↦ role.FirstMathFence | Some _ �
 abbrev pub label_in : Role → Role
 label_in around = elim around [ role.FootnoteCall ↦ role.CallLabel | _ ↦ role.Label ]
 
--- the role that a name with this usual one has in a node of a role, after a symbol on its spine
+-- the role of a node with this usual role, in a parent with a role, after a symbol on its spine
 abbrev pub role_for : Role → Option Symbol → Role → Role
 role_for around before role.Item = item_in around before
 role_for around before role.Prefix = prefix_in around
@@ -43,12 +43,12 @@ role_for around before role.MathFence = math_fence_after before
 role_for around before role.Label = label_in around
 role_for around before usual = usual
 
--- the last symbol, where there is one, else the one before
+-- the last symbol if there is one, else the previous one
 abbrev pub last_symbol : Option Symbol → List Symbol → Option Symbol
 last_symbol before [] = before
 last_symbol before (next ∷ symbols) = last_symbol (Some next) symbols
 
--- the role of the spine on which a node's children stand
+-- the role of the spine that a node's children belong to
 abbrev pub inner_role : Standing → Role → Option Symbol → Role
 inner_role Through around before = around
 inner_role (Solid symbol usual reading) around before = role_for around before usual
@@ -58,12 +58,12 @@ inner_role _ around before = role.Childless
 abbrev pub inner_before : Standing → Option Symbol → Option Symbol
 inner_before standing before = elim standing [ Through ↦ before | _ ↦ None ]
 
--- what is said of nodes: of one by the role around it, the symbol before it on that spine, its
--- name, start, end and children
+-- a claim about a node: by the role of its parent, the symbol before it on that spine, its name,
+-- start, end and children
 abbrev pub Claim : Type 1
 Claim = Role → Option Symbol → Name → Point → Point → Forest → Type 0
 
--- a claim holds of each node, at any depth, of nodes that stand in a node of a role after a
+-- a claim holds for each node, at any depth, among nodes inside a parent with a role, after a
 -- symbol on its spine
 abbrev pub EachNode : Claim → Forest → Role → Option Symbol → Type 0
 EachNode holds Empty around before = Unit {0}
@@ -72,7 +72,7 @@ EachNode holds (Node name start end children rest) around before =
     (inner_role (standing_of name) around before) (inner_before (standing_of name) before)
     × EachNode holds rest around (last_symbol before (shown (standing_of name) (spine children)))
 
--- a node that may have children of its own
+-- the children that a node of this class may have
 abbrev pub IsStanding : Standing → Role → Option Symbol → Forest → Type 0
 IsStanding Through around before children = Unit {0}
 IsStanding Space around before children = children ≡ Empty
@@ -80,13 +80,13 @@ IsStanding (Solid symbol usual reading) around before children =
     Matches (role_for around before usual) (spine children)
 IsStanding Mdx around before children = ⊥
 
--- a node has its shape: it stands in no childless node, its own spine matches its pattern, and it
--- is no name of MDX
+-- a node has its shape: its parent isn't childless, its own spine matches its pattern, and its name
+-- isn't one of MDX
 abbrev pub IsShapedNode : Claim
 IsShapedNode around before name start end children =
     (around ≢ role.Childless) × IsStanding (standing_of name) around before children
 
--- nodes have the shape of the grammar, in a node of a role after a symbol on its spine
+-- nodes have the shape of the grammar, inside a parent with a role, after a symbol on its spine
 abbrev pub AreShaped : Forest → Role → Option Symbol → Type 0
 AreShaped forest around before = EachNode IsShapedNode forest around before
 

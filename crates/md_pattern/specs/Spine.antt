@@ -1,4 +1,5 @@
--- Spines: what patterns see of a node's children, and the groups of neighbours on a spine.
+-- Spines: the symbols that patterns match among a node's children, and the groups of neighbours on
+-- a spine.
 use Rattle.std.specs.Prelude.{◌≡◌, ◌⊎◌, ℕ, List, [], ◌∷◌, ◌++◌, replicate}
 use Rattle.md_pattern.specs.declared.kinds.Symbol.{Symbol}
 use Rattle.md_pattern.specs.declared.kinds.Symbol.TheVariants as symbol_variants
@@ -11,19 +12,20 @@ use Rattle.md_base.specs.Tree.{Forest, Empty, Node}
 use Rattle.md_pattern.specs.Standing.{standing_of}
 use Rattle.md_pattern.specs.Pattern.{Fits, pattern_of}
 
--- what a node shows on the spine around it: itself, or where it is transparent its own spine
+-- the symbols of a node on the spine of its parent: its own symbol, or, if it is transparent, those
+-- of its own spine
 abbrev pub shown : Standing → List Symbol → List Symbol
 shown Through inner = inner
 shown (Solid symbol usual reading) inner = symbol ∷ []
 shown _ inner = []
 
--- the symbols of the nodes that are reached through transparent ones alone
+-- the symbols of the nodes that have only transparent ancestors here
 abbrev pub spine : Forest → List Symbol
 spine Empty = []
 spine (Node name start end children rest) = shown (standing_of name) (spine children) ++ spine rest
 
--- what follows the first symbol of a group on a spine: a reference's marks and value, a setext
--- heading's underline
+-- the symbols after the first one of a group: a reference's marks and value, a setext heading's
+-- underline
 abbrev pub IsTail : Symbol → List Symbol → Type 0
 IsTail ReferenceMarker tail =
     (tail ≡ ReferenceValue ∷ []) ⊎ ((tail ≡ ReferenceNumeric ∷ ReferenceValue ∷ [])
@@ -32,14 +34,14 @@ IsTail SetextText tail =
     (endings : ℕ) × (tail ≡ replicate endings LineEnding ++ SetextUnderline ∷ [])
 IsTail _ tail = tail ≡ []
 
--- the spine is these first symbols, each with what follows it in its group
+-- the spine consists of these first symbols, each followed by the rest of its group
 abbrev pub IsGrouped : List Symbol → List Symbol → Type 0
 IsGrouped [] spine = spine ≡ []
 IsGrouped (first ∷ firsts) spine =
     (tail others : List Symbol) × (spine ≡ first ∷ tail ++ others) × IsTail first tail
     × IsGrouped firsts others
 
--- a spine matches the pattern of a role, each of its groups seen by its first symbol
+-- a spine matches the pattern of a role; each of its groups counts as its first symbol
 abbrev pub Matches : Role → List Symbol → Type 0
 Matches role spine = (firsts : List Symbol) × IsGrouped firsts spine × Fits (pattern_of role) firsts
 

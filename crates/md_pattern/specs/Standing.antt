@@ -1,4 +1,4 @@
--- Which name is what in the grammar: the one table of names.
+-- The class of each name in the grammar: the one table of names.
 use Rattle.md_base.specs.declared.event.Name.{Name}
 use Rattle.md_base.specs.declared.event.Name.TheVariants as name_variants
 use name_variants.{AutolinkEmail, AutolinkProtocol, GfmAutolinkLiteralEmail}
@@ -28,8 +28,7 @@ use Rattle.md_pattern.specs.declared.kinds.Reading.TheVariants as reading
 use Rattle.md_pattern.specs.declared.kinds.Standing.{Standing}
 use Rattle.md_pattern.specs.declared.kinds.Standing.TheVariants.{Through, Space, Solid, Mdx}
 
--- how a node of this name stands: what patterns see of it, the usual role of its spine,
--- what is read of it
+-- the class of a name: its symbol in patterns, the usual role of its spine, and what is read of it
 abbrev pub standing_of : Name → Standing
 standing_of AutolinkEmail = Solid symbol.Span role.Empty reading.Text
 standing_of AutolinkProtocol = Solid symbol.Span role.Empty reading.Text

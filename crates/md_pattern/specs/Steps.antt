@@ -33,18 +33,17 @@ next_stage Setext LineEnding = Some Setext
 next_stage Setext SetextUnderline = Some Whole
 next_stage _ _ = None
 
--- an item may be left out
+-- an item may be omitted
 abbrev pub is_optional : Item → Bool
 is_optional (Once class) = false
 is_optional _ = true
 
--- the item from which on the next symbol is taken, where the first of these items that takes the
--- symbol is this one
+-- the first item that may take the next symbol, if this item takes the symbol
 abbrev pub next_position : Item → ℕ → ℕ
 next_position (Many class) position = position
 next_position _ position = position + 1
 
--- the same, of the first item that takes the symbol, where each before it may be left out
+-- the same for the first item that takes the symbol, if each item before it may be omitted
 abbrev pub seek : ℕ → List Item → Symbol → Option ℕ
 seek position [] symbol = None
 seek position (item ∷ items) symbol =
@@ -57,7 +56,7 @@ moved Whole position items symbol =
     option_map (λ next. (next, begun_by symbol)) (seek position items symbol)
 moved stage position items symbol = option_map (λ next. (position, next)) (next_stage stage symbol)
 
--- the items that are left
+-- the remaining items
 abbrev pub items_of : State → List Item
 items_of state = drop state.position (pattern_of state.role)
 
@@ -77,7 +76,7 @@ is_whole _ = false
 abbrev pub is_complete : State → Bool
 is_complete state = is_whole state.stage && list_all is_optional (items_of state)
 
--- a spine of which nothing has been read
+-- the state at the beginning of a spine
 abbrev pub start_of : Role → State
 start_of role = record { role = role; before = None; position = 0; stage = Whole }
 

@@ -1,5 +1,5 @@
--- What the children of a node tell of its looseness and its alignment, from the first to the last.
--- Only contracts of private functions speak of it.
+-- Finds the looseness and the alignment of a node, from its first child to the last. Only contracts
+-- of private functions cite it.
 use Rattle.std.specs.Prelude.{Bool, true, false, ◌||◌, if◌then◌else◌}
 use Rattle.md_base.specs.declared.event.AlignKind.{AlignKind}
 use Rattle.md_base.specs.declared.event.AlignKind.TheVariants as align
@@ -13,13 +13,13 @@ use Rattle.md_pattern.specs.declared.told.Told.{Told}
 use Rattle.md_pattern.specs.declared.told.Looseness.{Looseness}
 use Rattle.md_base.specs.Tree.{Forest, Empty, Node}
 
--- what a space or tab is after the last child
+-- the last child after a space or tab that follows it
 abbrev pub spaced : Last → Last
 spaced final.Prefix = final.PrefixSpace
 spaced final.Bare = final.BareSpace
 spaced _ = final.Plain
 
--- nothing stands after a marker in the last child
+-- nothing follows a marker in the last child
 abbrev pub is_bare_last : Last → Bool
 is_bare_last final.Prefix = true
 is_bare_last final.PrefixSpace = true
@@ -27,7 +27,7 @@ is_bare_last final.Bare = true
 is_bare_last final.BareSpace = true
 is_bare_last _ = false
 
--- what an item is, and what a block quote is, by its own last child
+-- what an item is as the last child, and what a block quote is, by its own last child
 abbrev pub item_as : Last → Last
 item_as own = if is_bare_last own then final.BareItem else final.Plain
 
@@ -35,12 +35,12 @@ abbrev pub quote_as : Last → Last
 quote_as final.QuotePrefix = final.Bare
 quote_as _ = final.Plain
 
--- a blank line ending parts the last child from the next one
+-- a blank line ending separates the last child from the next one
 abbrev pub parts : Last → Bool
 parts final.BareItem = false
 parts _ = true
 
--- a blank line ending after the last child loosens the item around it
+-- a blank line ending after the last child makes its item loose
 abbrev pub loosens : Last → Bool
 loosens final.Prefix = false
 loosens final.PrefixSpace = false
@@ -56,7 +56,7 @@ abbrev pub is_marker_last : Last → Bool
 is_marker_last final.Marker = true
 is_marker_last _ = false
 
--- what children tell with one more, of which its own children tell something
+-- the facts about children with one more child, which has its own facts
 abbrev pub told_with : Name → Told → Told → Told
 told_with BlankLineEnding own before = record before {
   last = final.Plain;
@@ -75,7 +75,7 @@ told_with BlockQuotePrefix own before = record before { last = final.QuotePrefix
 told_with BlockQuote own before = record before { last = quote_as own.last }
 told_with _ own before = record before { last = final.Plain }
 
--- no child
+-- the facts if there is no child
 abbrev pub nothing_told : Told
 nothing_told = record {
   last = final.Nothing;
@@ -85,13 +85,13 @@ nothing_told = record {
   of_item = false;
 }
 
--- what some nodes tell, after others
+-- the facts after some more nodes
 abbrev pub told_over : Forest → Told → Told
 told_over Empty told = told
 told_over (Node name start end children rest) told =
     told_over rest (told_with name (told_over children nothing_told) told)
 
--- whether a node whose children tell this is loose
+-- the looseness of a node whose children have these facts
 abbrev pub looseness : Told → Looseness
 looseness own = record {
   without_items = own.without_items;
@@ -99,7 +99,7 @@ looseness own = record {
   of_item = own.of_item;
 }
 
--- the alignment of a column whose value's children tell this
+-- the alignment of a column whose value has children with these facts
 abbrev pub alignment : Told → AlignKind
 alignment own =
     if own.begins_with_marker

@@ -1,4 +1,4 @@
-//! The alignments of tables, found from the first column to the last.
+//! Finds the alignments of tables, from the first column to the last.
 
 ghost use Rattle.std.specs.Prelude.{◌≡◌, OnOk, IfOk, length, map, drop};
 ghost use Rattle.md_pattern.specs.Columns as spec;
@@ -8,14 +8,14 @@ use md_base::{AlignKind, Name};
 use std::alloc::{AllocError, Global};
 use std::marker::Model;
 
-/// What a node is to the alignments of a table.
+/// The role of a node in the alignments of a table.
 #[derive(Clone, Copy)]
 enum Part {
     Apart,
     Table,
-    /// A node by which a table reaches its values.
+    /// A node through which a table contains its values.
     Leads,
-    /// A value, which has an alignment.
+    /// A value, whose alignment is that of a column.
     Value,
 }
 
@@ -35,8 +35,8 @@ fn part_of(name: Name) -> Part
     }
 }
 
-/// Whether the delimiter cell values in a node of this name are columns of the table around it;
-/// `around`: whether they are in the node around it.
+/// Whether the delimiter cell values in a node of this name are columns of the table that contains
+/// it; `around` says whether they are in the parent.
 #[inline(always)]
 pub fn collects_in(name: Name, around: bool) -> bool
     ensures { result ≡ spec.collects_in name around }
@@ -48,13 +48,13 @@ pub fn collects_in(name: Name, around: bool) -> bool
     }
 }
 
-/// The alignments of the tables that have ended, and of those that are open.
+/// The alignments of the tables that have ended, and of the open tables.
 #[derive(Drop)]
 pub struct Columns {
     tables: Vec<Vec<AlignKind>>,
     /// The columns of the open tables, those of the innermost last.
     pending: Vec<AlignKind>,
-    /// Where those of each open table start.
+    /// Where the columns of each open table start.
     starts: Vec<usize>,
 }
 
@@ -72,7 +72,7 @@ impl Model for Columns {
 }
 
 impl Columns {
-    /// Before any event.
+    /// The state before any event.
     pub fn new(alloc: Global) -> Columns
         ensures { result ≡ spec.nothing_collected }
     {
@@ -90,11 +90,11 @@ impl Columns {
         self.tables.len()
     }
 
-    /// The entry of a node.
+    /// Handles the entry of a node.
     ///
     /// # Errors
     ///
-    /// `AllocError`, only where memory runs out.
+    /// `AllocError`, only if memory runs out.
     pub fn enter(&mut self, name: Name) -> Result<(), AllocError>
         ensures { OnOk result (self.new ≡ spec.columns_entered name self.old) }
     {
@@ -107,11 +107,12 @@ impl Columns {
         }
     }
 
-    /// The exit of a node whose children tell this, in one where values are collected or not.
+    /// Handles the exit of a node whose children have these facts; `collects` says whether its
+    /// parent collects values.
     ///
     /// # Errors
     ///
-    /// `AllocError`, only where memory runs out.
+    /// `AllocError`, only if memory runs out.
     #[inline(always)]
     pub fn exit(
         &mut self,
@@ -129,7 +130,7 @@ impl Columns {
         }
     }
 
-    /// The exit of a table.
+    /// Handles the exit of a table.
     fn end_table(&mut self, alloc: Global) -> Result<(), AllocError>
         ensures { OnOk result (self.new ≡ spec.table_ended self.old) }
     {
@@ -140,7 +141,7 @@ impl Columns {
         Ok(())
     }
 
-    /// The exit of a value.
+    /// Handles the exit of a value.
     fn collect(&mut self, column: AlignKind, collects: bool) -> Result<(), AllocError>
         ensures { OnOk result (self.new ≡ spec.value_ended column collects self.old) }
     {
@@ -150,7 +151,7 @@ impl Columns {
         Ok(())
     }
 
-    /// The alignments of the tables.
+    /// Returns the alignments of the tables.
     pub fn into_tables(self) -> Vec<Vec<AlignKind>>
         ensures { map (λ t. t.items) result.items ≡ self.tables }
     {
@@ -163,7 +164,7 @@ impl Columns {
     }
 }
 
-/// The columns from an index on.
+/// The columns from an index.
 fn columns_from(
     alloc: Global,
     columns: &[AlignKind],

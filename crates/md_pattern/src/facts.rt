@@ -1,5 +1,4 @@
-//! The pass over the events from the first to the last, which finds what is read or
-//! inferred of each node.
+//! The pass over the events, in order, which finds or infers the facts about each node.
 
 ghost use Rattle.std.specs.Prelude.{◌≡◌, false, OnOk, map};
 ghost use Rattle.std.specs.Prelude.{◌&&◌, IfOk};
@@ -22,68 +21,68 @@ use md_base::{AlignKind, Event, Kind, Name};
 use std::alloc::{AllocError, Global};
 use std::marker::Model;
 
-/// What is found at an event: of a node all of it at its entry, once it has ended. Before that, and
-/// at its exit, it is the partner alone, of an open node 0.
+/// The fact at an event: at the entry of a node that has ended, all that is known about the node.
+/// At the exit, and at the entry before the node has ended, only the partner, which is 0 for an
+/// open node.
 #[derive(Clone, Copy)]
 pub struct Fact {
     /// The index of the other event of the node.
     pub partner: usize,
-    /// The index of the entry of what is read of the node: of an item its last contributing
-    /// child, of another node what its name reads; 0 where there is none. Of a table which of
-    /// the tables it is.
+    /// The index of the entry of the node that is read: for an item its last contributing child,
+    /// for another node what its name reads; 0 if there is none. For a table, its number among the
+    /// tables.
     pub read_at: usize,
-    /// Whether the node is loose, by its children, as a list or as an item.
+    /// Whether its children make the node loose, as a list or as an item.
     pub looseness: Looseness,
 }
 
-/// A node that is open.
+/// An open node.
 #[derive(Clone, Copy)]
 pub struct OpenNode {
     /// The index of the event that enters it.
     pub entry: usize,
-    /// The entry of its last contributing child, 0 where there is none.
+    /// The entry of its last contributing child, 0 if there is none.
     pub contributing: usize,
-    /// How the spine on which its children stand has been searched so far.
+    /// The state of the search on the spine that its children belong to.
     pub sought: Sought,
-    /// What its children so far tell of its looseness and its alignment.
+    /// The looseness and the alignment by its children so far.
     pub told: Told,
-    /// A value in it is one of the table around it.
+    /// Whether a value in it belongs to the table that contains it.
     pub collects: bool,
 }
 
-/// What is found at each event, the alignments of the tables and the entries of the
-/// definitions, both in the order of their exits, the exit of the first line ending, and how
-/// many events were visited for it.
+/// The fact at each event, the alignments of the tables and the entries of the definitions, both in
+/// the order of their exits, the exit of the first line ending, and the number of events visited.
 #[derive(Drop)]
 pub struct Facts {
-    /// What is found at each event, in the order of the events.
+    /// The fact at each event, in the order of the events.
     pub facts: FactList,
     /// The alignments of each table's columns, in the order of the tables' exits.
     pub tables: Vec<Vec<AlignKind>>,
     /// The indices of the events that enter the definitions, in the order of their exits.
     pub definitions: Vec<usize>,
-    /// The index of the event that exits the first line ending, blank or not; None where there is
+    /// The index of the event that exits the first line ending, blank or not; None if there is
     /// none.
     pub first_ending: Option<usize>,
-    /// How many events were visited to find this.
+    /// The number of events visited to find all this.
     pub visits: usize,
 }
 
-/// What is found at the events so far.
+/// The facts at the events so far.
 #[derive(Drop)]
 pub struct Pass {
     facts: FactList,
     ended: Ended,
-    /// The document itself, around all open nodes.
+    /// The document itself, which contains all open nodes.
     document: OpenNode,
     /// The open nodes, the innermost last.
     open_nodes: Vec<OpenNode>,
 }
 
-/// What the nodes leave that have ended.
+/// The results of the nodes that have ended.
 #[derive(Drop)]
 pub struct Ended {
-    /// The alignments of the tables that have ended, and of those that are open.
+    /// The alignments of the tables that have ended, and of the open tables.
     pub columns: Columns,
     /// The entries of the definitions.
     pub definitions: Vec<usize>,
@@ -104,11 +103,11 @@ impl Model for Pass {
 }
 
 impl Pass {
-    /// Before any of so many events.
+    /// The state before the first of `events` events.
     ///
     /// # Errors
     ///
-    /// `AllocError`, only where memory runs out.
+    /// `AllocError`, only if memory runs out.
     pub fn new(alloc: Global, events: usize) -> Result<Pass, AllocError>
         ensures { IfOk result (λ pass. pass ≡ spec.pass_beginning) }
     {
@@ -123,11 +122,11 @@ impl Pass {
         })
     }
 
-    /// Finds what the next event tells.
+    /// Handles the next event.
     ///
     /// # Errors
     ///
-    /// `AllocError`, only where memory runs out.
+    /// `AllocError`, only if memory runs out.
     #[inline(always)]
     pub fn find(&mut self, alloc: Global, event: &Event) -> Result<(), AllocError>
         ensures { OnOk result (self.new ≡ spec.passed event.now.kind event.now.name self.old) }
@@ -138,12 +137,11 @@ impl Pass {
         }
     }
 
-    /// Finds what a node without children tells, which exits right after its entry;
-    /// a table has some.
+    /// Handles a node without children, which exits right after its entry; a table has children.
     ///
     /// # Errors
     ///
-    /// `AllocError`, only where memory runs out.
+    /// `AllocError`, only if memory runs out.
     #[inline(always)]
     pub fn leaf(&mut self, alloc: Global, name: Name) -> Result<(), AllocError>
         requires { is_table name ≡ false }
@@ -156,7 +154,7 @@ impl Pass {
         }
     }
 
-    /// The entry of a node.
+    /// Handles the entry of a node.
     #[inline(always)]
     fn enter(&mut self, name: Name) -> Result<(), AllocError>
         ensures { OnOk result (self.new ≡ spec.passed_entry name self.old) }
@@ -168,20 +166,20 @@ impl Pass {
         push_node(&mut self.open_nodes, inside)
     }
 
-    /// The exit of a node.
+    /// Handles the exit of a node.
     #[inline(always)]
     fn exit(&mut self, alloc: Global, name: Name) -> Result<(), AllocError>
         ensures { OnOk result (self.new ≡ spec.passed_exit name self.old) }
     {
-        // Many nodes have such a name: where it is written, what goes by the name is computed
-        // when this is built.
+        // Many nodes have one of these names. A name that is written here lets the compiler compute
+        // at build time what depends on the name.
         match name {
             Name::Other(number) => self.exit_named(alloc, Name::Other(number)),
             _ => self.exit_named(alloc, name),
         }
     }
 
-    /// The same, where the name may be written at the call.
+    /// The same, for a name that may be a constant at the call.
     #[inline(always)]
     fn exit_named(&mut self, alloc: Global, name: Name) -> Result<(), AllocError>
         ensures { OnOk result (self.new ≡ spec.passed_exit name self.old) }
@@ -196,7 +194,7 @@ impl Pass {
         }
     }
 
-    /// What is found at each event.
+    /// Returns the fact at each event.
     pub fn into_facts(self, first_ending: Option<usize>, visits: usize) -> Facts
         ensures facts { result.facts ≡ self.facts }
         ensures tables { map (λ t. t.items) result.tables.items ≡ self.columns.tables }
@@ -235,7 +233,7 @@ fn innermost<'a>(open_nodes: &'a [OpenNode], document: &'a OpenNode) -> &'a Open
     }
 }
 
-/// Takes out the innermost open node; where none is left, the document begins anew.
+/// Pops the innermost open node; if none is left, resets the document.
 #[inline(always)]
 fn leave_innermost(open_nodes: &mut Vec<OpenNode>, document: &mut OpenNode) -> OpenNode
     ensures own { result ≡ spec.next_outer (spec.opens open_nodes.old.items document.old) }

@@ -1,13 +1,13 @@
-//! What names and spines are to the grammar.
+//! The classes of names and of spines in the grammar.
 
-/// What patterns see of a node. Names that all patterns treat alike share one symbol.
+/// The symbol of a node in patterns. Names that all patterns treat alike share one symbol.
 #[derive(Clone, Copy, PartialEq, Eq)]
 pub enum Symbol {
-    /// Characters as they stand.
+    /// Literal characters.
     Text,
     LineEnding,
     BlankLineEnding,
-    /// The marker that a character reference begins with.
+    /// The first marker of a character reference.
     ReferenceMarker,
     /// The marker of a numeric character reference.
     ReferenceNumeric,
@@ -15,9 +15,9 @@ pub enum Symbol {
     ReferenceHexadecimal,
     /// The value of a character reference.
     ReferenceValue,
-    /// What may stand in a paragraph and is no text.
+    /// A node other than text that may occur in a paragraph.
     Span,
-    /// What may stand beside a paragraph and is no span.
+    /// A node other than a span that may occur beside a paragraph.
     Block,
     SetextText,
     SetextUnderline,
@@ -38,7 +38,7 @@ pub enum Symbol {
     CodeFence,
     CodeInfo,
     CodeMeta,
-    /// A line of mathematics in a block.
+    /// A line of math in a block.
     MathFlowChunk,
     MathFence,
     MathMeta,
@@ -68,11 +68,11 @@ pub enum Symbol {
     TableDelimiterValue,
     /// A marker in such a value.
     TableDelimiterMarker,
-    /// What says that a task is checked.
+    /// Marks a task as checked.
     TaskChecked,
 }
 
-/// Which pattern the spine of a node has.
+/// Which pattern the spine of a node must match.
 #[derive(Clone, Copy)]
 pub enum Role {
     /// The document, and a block quote.
@@ -94,7 +94,7 @@ pub enum Role {
     OrderedPrefix,
     /// The prefix of an item of an unordered list, and the usual role of a prefix.
     Prefix,
-    /// What holds text and spans, as a paragraph does.
+    /// A node that contains text and spans, as a paragraph does.
     Phrasing,
     /// An ATX heading.
     Heading,
@@ -104,11 +104,11 @@ pub enum Role {
     FirstCodeFence,
     /// A fence that isn't the first.
     CodeFence,
-    /// Mathematics in a block.
+    /// Math in a block.
     Math,
-    /// The first fence of mathematics, which may have a meta.
+    /// The first fence of math, which may have a meta.
     FirstMathFence,
-    /// A fence of mathematics that isn't the first.
+    /// A fence of math that isn't the first.
     MathFence,
     CodeText,
     MathText,
@@ -124,7 +124,7 @@ pub enum Role {
     /// The resource of a link or an image.
     Resource,
     Definition,
-    /// What holds text and no spans, as a title does.
+    /// A node that contains text and no spans, as a title does.
     String,
     Table,
     TableHead,
@@ -135,16 +135,16 @@ pub enum Role {
     TableDelimiterValue,
     TaskCheck,
     Frontmatter,
-    /// Nothing but transparent nodes.
+    /// Only transparent nodes.
     Empty,
-    /// No children, transparent ones included.
+    /// No children, not even transparent ones.
     Childless,
 }
 
-/// What is read of a node that ends.
+/// What is read of a node when it ends.
 #[derive(Clone, Copy)]
 pub enum Reading {
-    /// Nothing: its place is free.
+    /// Nothing; its place has no condition.
     Free,
     /// Its text.
     Text,
@@ -156,39 +156,39 @@ pub enum Reading {
     Value,
     /// Its length, the rank of a heading.
     Mark,
-    /// Its first byte, which is an underline's.
+    /// Its first byte, that of an underline.
     Underline,
-    /// The text between its indices, which identifies what it stands in.
+    /// The text between its indices, which is the identifier of a node that contains it.
     Identifier,
-    /// What it holds identifies what it stands in.
+    /// A node inside it has the identifier of the node that contains it.
     Holder,
-    /// Where a link or an image leads to.
+    /// The target of a link or an image.
     Resource,
     /// A link or an image.
     Media,
-    /// A footnote call, which mentions its label.
+    /// A footnote call, which refers to its label.
     Call,
-    /// A definition, which mentions its label.
+    /// A definition, which refers to its label.
     Definition,
-    /// A footnote definition, which mentions its label.
+    /// A footnote definition, which refers to its label.
     FootnoteDefinition,
 }
 
-/// How a node stands among those around it.
+/// The class of a name in the grammar.
 #[derive(Clone, Copy)]
 pub enum Standing {
-    /// A transparent name: what it holds stands on the spine around it.
+    /// A transparent name: its children belong to the spine of its parent.
     Through,
-    /// A space or tab: it stands on no spine and has no children.
+    /// A space or tab: it belongs to no spine and has no children.
     Space,
-    /// A name that stands on the spine around it, the usual role of its own spine, and what is
+    /// A name that belongs to the spine of its parent, the usual role of its own spine, and what is
     /// read of it.
     Solid(Symbol, Role, Reading),
-    /// A name of MDX, which is nowhere allowed.
+    /// A name of MDX, which may not occur anywhere.
     Mdx,
 }
 
-/// Which symbols may stand at a place of a pattern; a group is seen by its first symbol.
+/// The symbols that may occur at a position of a pattern; a group counts as its first symbol.
 #[derive(Clone, Copy)]
 pub enum Class {
     /// Characters, character references and line endings.
@@ -208,7 +208,7 @@ pub enum Class {
 /// One item of a pattern.
 #[derive(Clone, Copy)]
 pub enum Item {
-    /// One symbol of the class.
+    /// Exactly one symbol of the class.
     Once(Class),
     /// At most one.
     Maybe(Class),

@@ -1,6 +1,6 @@
-//! The patterns of the event grammar: how a name stands in it, which symbols may stand on a node's
-//! spine, and a spine read symbol by symbol. And what is inferred of a node by those in it: its
-//! partner, its looseness, its columns, and what its name reads.
+//! The patterns of the event grammar: the class of each name, the symbols that may occur on a
+//! node's spine, and reading a spine symbol by symbol. Also the facts that the children of a node
+//! decide: its partner, its looseness, its columns, and what its name reads.
 #![tactic(auto)]
 
 mod columns;

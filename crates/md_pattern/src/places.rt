@@ -1,5 +1,4 @@
-//! How far spines have been read, as the numbers of a table's rows, which tell what
-//! follows each symbol.
+//! The progress in reading a spine, as row numbers of a table that has the row after each symbol.
 
 mod table;
 
@@ -16,17 +15,17 @@ use crate::kinds::{Role, Symbol};
 use crate::shape::{goes_by_place, role_for};
 use table::{ends, roles, rows, starts};
 
-/// How far the spine of a node has been read, but for its last symbol: as a `State` says it, by one
-/// number. What may follow doesn't go by the last symbol, so clauses name the state with none.
+/// The progress in reading the spine of a node, without its last symbol: a `State` as one number.
+/// The last symbol doesn't decide what may follow, so clauses use the state without it.
 #[derive(Clone, Copy)]
 pub struct Place {
-    /// The number of a row of the table. Past its rows it stands for the spine of a node that
-    /// has no children.
+    /// The number of a row of the table. A number past the rows means the spine of a node without
+    /// children.
     pub number: u8,
 }
 
 impl Place {
-    /// Where the spine of a node of a role begins.
+    /// The place at the beginning of the spine of a node with a role.
     #[inline(always)]
     pub fn start(role: Role) -> Place
         ensures { state_of result None ≡ start_of role }
@@ -36,7 +35,7 @@ impl Place {
         }
     }
 
-    /// How far the spine has been read after a symbol.
+    /// The place after a symbol, if it may follow.
     #[inline(always)]
     pub fn after(self, symbol: Symbol) -> Option<Place>
         ensures { option_map (λ next. state_of next (Some symbol)) result
@@ -81,8 +80,7 @@ impl Place {
         self.number < 113
     }
 
-    /// The role of the spine of a node with this usual role that stands here, after
-    /// this last symbol.
+    /// The role of the spine of a node with this usual role at this place, after this last symbol.
     #[inline(always)]
     pub fn role_inside(self, before: Option<Symbol>, usual: Role) -> Role
         ensures { result ≡ role_for (state_of self None).role before usual }
@@ -94,21 +92,21 @@ impl Place {
         }
     }
 
-    /// Whether the spine of a node with this usual role that stands here, after this last symbol,
-    /// may end where it begins.
+    /// Whether the spine of a node with this usual role at this place, after this last symbol, may
+    /// be empty.
     #[inline(always)]
     pub fn can_hold_empty(self, before: Option<Symbol>, usual: Role) -> bool
         ensures { result
             ≡ is_complete (start_of (role_for (state_of self None).role before usual)) }
     {
         match usual {
-            // Those of most nodes without children.
+            // The roles of most nodes without children.
             Role::Childless | Role::Empty => true,
             _ => self.begins_complete(before, usual),
         }
     }
 
-    /// The same of any node.
+    /// The same for any node.
     #[inline(never)]
     fn begins_complete(self, before: Option<Symbol>, usual: Role) -> bool
         ensures { result
@@ -118,7 +116,7 @@ impl Place {
     }
 }
 
-/// The letter in a row for a symbol, if there is such a row.
+/// The letter in a row for a symbol, if the row exists.
 #[inline(always)]
 fn letter_at(row: u8, symbol: Symbol) -> Option<u8>
     ensures told { IfSome result (λ letter. told row letter ≡ moved_from (place_at row) symbol) }
@@ -129,7 +127,7 @@ fn letter_at(row: u8, symbol: Symbol) -> Option<u8>
     Some(rows().get(usize::from(row))?[column(symbol)])
 }
 
-/// The number of a symbol, in the order in which they are declared.
+/// The number of a symbol, in declaration order.
 #[inline(always)]
 fn column(symbol: Symbol) -> usize
     ensures symbol { get_or symbols result Text ≡ symbol }
@@ -138,7 +136,7 @@ fn column(symbol: Symbol) -> usize
     symbol as usize
 }
 
-/// The number of a role, in the order in which they are declared.
+/// The number of a role, in declaration order.
 #[inline(always)]
 fn number_of_role(role: Role) -> usize
     ensures role { get_or all_roles result Childless ≡ role }

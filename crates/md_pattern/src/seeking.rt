@@ -1,4 +1,4 @@
-//! What a name reads of the nodes on its spine: where the one node stands that it seeks.
+//! Finds the node on a spine that a name reads.
 
 ghost use Rattle.std.specs.Prelude.{◌≡◌, ℕ, true};
 ghost use Rattle.md_base.specs.declared.event.Name.{Name};
@@ -6,74 +6,74 @@ ghost use Rattle.md_pattern.specs.Seeking as spec;
 
 use md_base::Name;
 
-/// What is sought on a spine.
+/// The target of a search on a spine.
 #[derive(Clone, Copy)]
 pub enum Wanted {
     Nothing,
     /// The first mark of a heading.
     Mark,
-    /// The first item of an ordered list, and in it the number.
+    /// The first item of an ordered list, and its number.
     Item,
-    /// The first prefix of an item, and in it the number.
+    /// The first prefix of an item, and its number.
     Prefix,
     /// The first value in the prefix of an item.
     Value,
-    /// What a link or an image refers by.
+    /// The label, reference or resource of a link or an image.
     Media,
-    /// The first label of a call, and in it the text.
+    /// The first label of a call, and its text.
     Label,
     /// The first text in a label.
     LabelText,
     /// The label of a definition.
     DefinitionLabel,
-    /// The first prefix of a footnote definition, and in it the label.
+    /// The first prefix of a footnote definition, and its label.
     FootnotePrefix,
     /// The label in such a prefix.
     FootnoteLabel,
 }
 
-/// What has been found on a spine.
+/// The result of a search so far.
 #[derive(Clone, Copy)]
 pub enum Found {
     Nothing,
-    /// The first node that is sought.
+    /// The first node of the kind sought.
     First,
-    /// A reference, which counts before a label.
+    /// A reference, which takes precedence over a label.
     Reference,
 }
 
-/// How a spine has been searched so far.
+/// The state of a search on a spine.
 #[derive(Clone, Copy)]
 pub struct Sought {
-    /// The index of the event that enters what is read, 0 where there is none.
+    /// The index of the event that enters the node to read, 0 if there is none.
     pub read_at: usize,
-    /// What is sought on the spine.
+    /// The target of the search.
     pub wanted: Wanted,
-    /// What has been found on it so far.
+    /// The result so far.
     pub found: Found,
 }
 
-/// Nothing is sought on a spine.
+/// No search.
 pub const NOTHING_SOUGHT: Sought = Sought {
     read_at: 0,
     wanted: Wanted::Nothing,
     found: Found::Nothing,
 };
 
-/// What a node is on a spine on which something is sought.
+/// How a node matches the target of a search.
 #[derive(Clone, Copy)]
 pub enum Sight {
-    /// Nothing that the search looks at.
+    /// It doesn't match.
     Other,
-    /// It is what is sought.
+    /// It is the target.
     Itself,
-    /// It holds what is sought.
+    /// It contains the target.
     Holder,
     /// The reference of a link or an image.
     Reference,
 }
 
-/// What the spine of a name is searched for.
+/// The target of the search on the spine of a name.
 fn wanted_by(name: Name) -> Wanted
     ensures { result ≡ spec.wanted_by name }
 {
@@ -93,7 +93,7 @@ fn wanted_by(name: Name) -> Wanted
     }
 }
 
-/// A spine of a name, of which nothing has been searched.
+/// A new search on the spine of a name.
 #[inline(never)]
 pub fn search_of(name: Name) -> Sought
     ensures { result ≡ spec.search_of name }
@@ -105,7 +105,7 @@ pub fn search_of(name: Name) -> Sought
     }
 }
 
-/// What a node of this name is on the spine of a link or an image.
+/// How a node of this name matches on the spine of a link or an image.
 fn sight_in_media(name: Name) -> Sight
     ensures { result ≡ spec.sight_in_media name }
 {
@@ -116,21 +116,21 @@ fn sight_in_media(name: Name) -> Sight
     }
 }
 
-/// What a node is that is what is sought, if it is.
+/// The match of a node that is the target, if `is`.
 fn itself_if(is: bool) -> Sight
     ensures { result ≡ spec.itself_if is }
 {
     if is { Sight::Itself } else { Sight::Other }
 }
 
-/// What a node is that holds what is sought, if it does.
+/// The match of a node that contains the target, if `is`.
 fn holder_if(is: bool) -> Sight
     ensures { result ≡ spec.holder_if is }
 {
     if is { Sight::Holder } else { Sight::Other }
 }
 
-/// What a node of this name is on a spine.
+/// How a node of this name matches on a spine.
 fn sight_of(wanted: Wanted, name: Name) -> Sight
     ensures { result ≡ spec.sight wanted name }
 {
@@ -149,7 +149,7 @@ fn sight_of(wanted: Wanted, name: Name) -> Sight
     }
 }
 
-/// Finds this, unless something was found.
+/// Records this result, unless there is one.
 fn first(sought: &mut Sought, index: usize)
     ensures { sought.new ≡ spec.first sought.old index }
 {
@@ -159,7 +159,7 @@ fn first(sought: &mut Sought, index: usize)
     }
 }
 
-/// Finds a reference, unless one was found.
+/// Records a reference, unless there is one.
 fn refer(sought: &mut Sought, index: usize)
     ensures { sought.new ≡ spec.refer sought.old index }
 {
@@ -169,7 +169,7 @@ fn refer(sought: &mut Sought, index: usize)
     }
 }
 
-/// Whether nothing is sought.
+/// Whether there is no search.
 #[inline(always)]
 pub fn is_idle(sought: Sought) -> bool
     ensures { result ≡ true → (name : Name) (entry inner : ℕ)
@@ -178,7 +178,7 @@ pub fn is_idle(sought: Sought) -> bool
     matches!(sought.wanted, Wanted::Nothing)
 }
 
-/// Goes on with a search after a node that is entered here, and in which this was found.
+/// Continues a search after a node that is entered here, and in which the search found `inner`.
 #[inline(never)]
 pub fn see(sought: &mut Sought, name: Name, entry: usize, inner: usize)
     ensures { sought.new ≡ spec.seen sought.old name entry inner }

@@ -1,4 +1,4 @@
-//! The role of a node, by the role of the node around it and the symbol before it.
+//! The role of a node, from the role of its parent and the symbol before it.
 
 ghost use Rattle.std.specs.Prelude.{◌≡◌, false, Option};
 ghost use Rattle.md_pattern.specs.declared.kinds.Role.{Role};
@@ -8,7 +8,7 @@ ghost use Rattle.md_pattern.specs.Shape.{math_fence_after, label_in};
 
 use crate::kinds::{Role, Symbol};
 
-/// An item, in an ordered list the first one or a later one.
+/// The role of an item; in an ordered list that of the first or of a later item.
 fn item_in(around: Role, before: Option<Symbol>) -> Role
     ensures { result ≡ item_in around before }
 {
@@ -19,7 +19,7 @@ fn item_in(around: Role, before: Option<Symbol>) -> Role
     }
 }
 
-/// The prefix of an item.
+/// The role of an item's prefix.
 fn prefix_in(around: Role) -> Role
     ensures { result ≡ prefix_in around }
 {
@@ -30,7 +30,7 @@ fn prefix_in(around: Role) -> Role
     }
 }
 
-/// The label of a footnote call, or of a link or an image.
+/// The role of the label of a footnote call, or of a link or an image.
 fn label_in(around: Role) -> Role
     ensures { result ≡ label_in around }
 {
@@ -40,7 +40,7 @@ fn label_in(around: Role) -> Role
     }
 }
 
-/// A fence of code.
+/// The role of a fence of code.
 fn code_fence_after(before: Option<Symbol>) -> Role
     ensures { result ≡ code_fence_after before }
 {
@@ -50,7 +50,7 @@ fn code_fence_after(before: Option<Symbol>) -> Role
     }
 }
 
-/// A fence of mathematics.
+/// The role of a fence of math.
 fn math_fence_after(before: Option<Symbol>) -> Role
     ensures { result ≡ math_fence_after before }
 {
@@ -60,7 +60,7 @@ fn math_fence_after(before: Option<Symbol>) -> Role
     }
 }
 
-/// The role that a name with this usual one has in a node of a role, after a symbol on its spine.
+/// The role of a node with this usual role, in a parent with a role, after a symbol on its spine.
 #[inline(always)]
 pub fn role_for(around: Role, before: Option<Symbol>, usual: Role) -> Role
     ensures { result ≡ role_for around before usual }
@@ -72,7 +72,7 @@ pub fn role_for(around: Role, before: Option<Symbol>, usual: Role) -> Role
     }
 }
 
-/// Whether a name with this usual role has another one in some places.
+/// Whether a name with this usual role has another role at some places.
 #[inline(always)]
 pub(crate) fn goes_by_place(usual: Role) -> bool
     ensures { result ≡ false → (around : Role) (before : Option Symbol)

@@ -1,4 +1,4 @@
-//! How each name stands among the nodes around it.
+//! The class of each name in the grammar.
 
 ghost use Rattle.std.specs.Prelude.{◌≡◌};
 ghost use Rattle.md_pattern.specs.Standing.{standing_of};
@@ -6,12 +6,12 @@ ghost use Rattle.md_pattern.specs.Standing.{standing_of};
 use crate::kinds::{Reading, Role, Standing};
 use md_base::Name;
 
-/// How a node of this name stands among those around it.
+/// The class of this name.
 #[inline(always)]
 pub fn standing_of(name: Name) -> Standing
     ensures { result ≡ standing_of name }
 {
-    // A reading that has the name of a symbol is written with `Reading::`.
+    // A reading that has the same name as a symbol needs the prefix `Reading::`.
     use crate::kinds::Reading::{
         Call, Definition, FootnoteDefinition, Free, Holder, Identifier, Mark, Media, Number,
         Underline, Value,

@@ -1,31 +1,31 @@
-//! How much of a spine has been read.
+//! The progress in reading a spine.
 
 use crate::kinds::{Role, Symbol};
 
-/// Which symbols of a group have been read.
+/// The progress in reading a group.
 #[derive(Clone, Copy)]
 pub enum Stage {
     /// No group is open.
     Whole,
-    /// The marker of a reference.
+    /// The marker of a reference was read.
     Marker,
-    /// Its numeric marker.
+    /// Its numeric marker was read.
     Numeric,
-    /// Its hexadecimal marker.
+    /// Its hexadecimal marker was read.
     Hexadecimal,
-    /// The text of a setext heading, and line endings.
+    /// The text of a setext heading was read, and maybe line endings.
     Setext,
 }
 
-/// How much of a spine has been read.
+/// The progress in reading a spine.
 #[derive(Clone, Copy)]
 pub struct State {
-    /// The item of the pattern from which on the next symbol may be taken.
+    /// The first item of the pattern that may take the next symbol.
     pub position: u8,
     /// The role of the node whose spine it is.
     pub role: Role,
     /// The last symbol.
     pub before: Option<Symbol>,
-    /// How far the group has been read that is open, if one is.
+    /// The progress in the open group, if there is one.
     pub stage: Stage,
 }

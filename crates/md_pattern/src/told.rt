@@ -1,22 +1,22 @@
-//! What the children of a node tell of its looseness and its alignment, from the first to the last.
+//! Finds the looseness and the alignment of a node, from its first child to the last.
 
 ghost use Rattle.std.specs.Prelude.{◌≡◌};
 ghost use Rattle.md_pattern.specs.Told as spec;
 
 use md_base::{AlignKind, Name};
 
-/// Whether a node is loose, by its children.
+/// Whether the children of a node make it loose.
 #[derive(Clone, Copy)]
 pub struct Looseness {
-    /// It is as a list whose items are not looked at.
+    /// Loose as a list, ignoring its items.
     pub without_items: bool,
-    /// It is as a list.
+    /// Loose as a list.
     pub with_items: bool,
-    /// It is as an item.
+    /// Loose as an item.
     pub of_item: bool,
 }
 
-/// What the last child is, and the one before it where that matters.
+/// The last child, and the one before it where that matters.
 #[derive(Clone, Copy)]
 pub enum Last {
     /// There is no child.
@@ -31,7 +31,7 @@ pub enum Last {
     Bare,
     /// A space or tab after such a block quote.
     BareSpace,
-    /// An item in which nothing stands after a marker.
+    /// An item in which nothing follows a marker.
     BareItem,
     /// The prefix of a block quote.
     QuotePrefix,
@@ -39,22 +39,22 @@ pub enum Last {
     Marker,
 }
 
-/// What the children so far tell.
+/// The facts about the children so far.
 #[derive(Clone, Copy)]
 pub struct Told {
-    /// What the last child is.
+    /// The last child.
     pub last: Last,
-    /// The first child is a marker of a delimiter row.
+    /// Whether the first child is a marker of a delimiter row.
     pub begins_with_marker: bool,
-    /// They are loose as the children of a list whose items are not looked at.
+    /// Whether they are loose as the children of a list, ignoring its items.
     pub without_items: bool,
-    /// One of them is a loose item.
+    /// Whether one of them is a loose item.
     pub has_loose_item: bool,
-    /// They are loose as the children of an item.
+    /// Whether they are loose as the children of an item.
     pub of_item: bool,
 }
 
-/// What is told where there is no child.
+/// The facts if there is no child.
 pub const NOTHING_TOLD: Told = Told {
     last: Last::Nothing,
     begins_with_marker: false,
@@ -63,14 +63,14 @@ pub const NOTHING_TOLD: Told = Told {
     of_item: false,
 };
 
-/// A node of which nothing is told.
+/// A node without facts.
 pub const NOT_LOOSE: Looseness = Looseness {
     without_items: false,
     with_items: false,
     of_item: false,
 };
 
-/// What a space or tab that follows a last child counts as, when it is the last child itself.
+/// The last child after a space or tab that follows it.
 pub fn spaced(last: Last) -> Last
     ensures { result ≡ spec.spaced last }
 {
@@ -81,7 +81,7 @@ pub fn spaced(last: Last) -> Last
     }
 }
 
-/// Nothing stands after a marker in the last child.
+/// Whether nothing follows a marker in the last child.
 fn is_bare(last: Last) -> bool
     ensures { result ≡ spec.is_bare_last last }
 {
@@ -91,7 +91,7 @@ fn is_bare(last: Last) -> bool
     )
 }
 
-/// What an item is, by its own last child.
+/// What an item is as the last child, by its own last child.
 fn item_as(own: Last) -> Last
     ensures { result ≡ spec.item_as own }
 {
@@ -102,7 +102,7 @@ fn item_as(own: Last) -> Last
     }
 }
 
-/// What a block quote is, by its own last child.
+/// What a block quote is as the last child, by its own last child.
 fn quote_as(own: Last) -> Last
     ensures { result ≡ spec.quote_as own }
 {
@@ -112,14 +112,14 @@ fn quote_as(own: Last) -> Last
     }
 }
 
-/// Whether a blank line ending parts the last child from the next one.
+/// Whether a blank line ending separates the last child from the next one.
 fn parts(last: Last) -> bool
     ensures { result ≡ spec.parts last }
 {
     !matches!(last, Last::BareItem)
 }
 
-/// Whether a blank line ending after the last child loosens the item around it.
+/// Whether a blank line ending after the last child makes its item loose.
 fn loosens(last: Last) -> bool
     ensures { result ≡ spec.loosens last }
 {
@@ -133,7 +133,7 @@ fn is_nothing(last: Last) -> bool
     matches!(last, Last::Nothing)
 }
 
-/// Adds a child, of which its own children tell something, to what children tell.
+/// Adds a child with its own facts to the facts about its parent's children.
 #[inline(always)]
 pub fn tell(told: &mut Told, name: Name, own: Told)
     ensures { told.new ≡ spec.told_with name own told.old }
@@ -160,7 +160,7 @@ pub fn tell(told: &mut Told, name: Name, own: Told)
     }
 }
 
-/// Whether a node whose children tell this is loose.
+/// The looseness of a node whose children have these facts.
 pub fn told_looseness(own: Told) -> Looseness
     ensures { result ≡ spec.looseness own }
 {
@@ -171,7 +171,7 @@ pub fn told_looseness(own: Told) -> Looseness
     }
 }
 
-/// The alignment of a column whose value's children tell this.
+/// The alignment of a column whose value has children with these facts.
 pub fn alignment(own: Told) -> AlignKind
     ensures { result ≡ spec.alignment own }
 {

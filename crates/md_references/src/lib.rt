@@ -1,4 +1,4 @@
-//! Character references: where one stands, what it stands for, and the names that a document uses.
+//! Character references: finds and decodes them, and collects the names that a document uses.
 #![tactic(auto)]
 
 mod names;

@@ -6,10 +6,10 @@ use std::alloc::{AllocError, Global};
 use std::cmp::Ordering;
 use std::str;
 
-/// The most bytes that a name has.
+/// The maximum length of a name in bytes.
 const MOST_OF_NAME: usize = 31;
 
-/// How long the character reference is with which a text begins, whose first byte is `&`.
+/// The length of the character reference at the beginning of a text, whose first byte is `&`.
 pub fn reference_length(text: &[u8]) -> Option<usize> {
     match text {
         [_, b'#', b'x' | b'X', digits @ ..] => {
@@ -33,7 +33,8 @@ pub fn reference_length(text: &[u8]) -> Option<usize> {
     }
 }
 
-/// The reference by a number of so many digits, where these are from one to `most` and `;` follows.
+/// The length of a numeric reference with `count` digits, if these are from one to `most` and `;`
+/// follows.
 fn numbered(digits: &[u8], count: usize, most: usize, marks: usize) -> Option<usize> {
     if count == 0 || count > most || !matches!(digits.get(count), Some(b';')) {
         return None;
@@ -41,7 +42,7 @@ fn numbered(digits: &[u8], count: usize, most: usize, marks: usize) -> Option<us
     Some(marks.saturating_add(count).saturating_add(1))
 }
 
-/// The reference by a name.
+/// The length of a named reference.
 fn named(text: &[u8]) -> Option<usize> {
     let length = text
         .iter()
@@ -70,18 +71,18 @@ fn find(name: &[u8]) -> Option<usize> {
     None
 }
 
-/// A name by its number, and what it stands for.
+/// A name by its number, and its text.
 fn split(number: usize) -> Option<(&'static [u8], &'static [u8])> {
     let entry = entry(number)?;
     let length = entry.iter().position(|byte| *byte == b';')?;
     Some((entry.get(..length)?, entry.get(length..)?.get(1..)?))
 }
 
-/// What a character reference stands for, from its `&` to its `;`; nothing where it is none.
+/// Returns the text of a character reference, from its `&` to its `;`, or nothing if it isn't one.
 ///
 /// # Errors
 ///
-/// Only where memory runs out.
+/// Returns an error only if memory runs out.
 pub fn text_of_reference(alloc: Global, reference: &[u8]) -> Result<String, AllocError> {
     let inner = match reference {
         [b'&', inner @ .., b';'] => str::from_utf8(inner).unwrap_or(""),
@@ -110,14 +111,14 @@ pub fn text_of_reference(alloc: Global, reference: &[u8]) -> Result<String, Allo
 /// The names that a document uses, each once.
 #[derive(Drop)]
 pub struct UsedNames {
-    /// Each name with what it stands for.
+    /// Each name with its text.
     names: Vec<(&'static str, &'static str)>,
     /// Their numbers.
     numbers: Vec<usize>,
 }
 
 impl UsedNames {
-    /// None.
+    /// An empty list.
     pub fn new(alloc: Global) -> UsedNames {
         UsedNames {
             names: Vec::new(alloc),
@@ -125,16 +126,16 @@ impl UsedNames {
         }
     }
 
-    /// The names, each with what it stands for.
+    /// The names, each with its text.
     pub fn as_slice(&self) -> &[(&'static str, &'static str)] {
         self.names.as_slice()
     }
 
-    /// Adds a name, if it is one and isn't there.
+    /// Adds a name, if it is valid and isn't in the list.
     ///
     /// # Errors
     ///
-    /// Only where memory runs out.
+    /// Returns an error only if memory runs out.
     pub fn add(&mut self, name: &[u8]) -> Result<(), AllocError> {
         let Some(number) = find(name) else {
             return Ok(());

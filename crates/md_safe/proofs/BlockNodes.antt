@@ -1,4 +1,4 @@
--- The nodes of blocks print texts with readings, whatever is claimed of texts besides.
+-- The nodes of blocks print texts with readings, whatever else is claimed about texts.
 use Rattle.std.proofs.Common.{◌≡◌, Bool, true, false, not, ◌&&◌, ◌||◌, List, [], ◌++◌, refl, sym}
 use Rattle.std.proofs.Common.{cond, ap, ◌∙◌, subst, inl, inr, drop, append_assoc, codes}
 use Rattle.std.specs.Prelude.{slice_get, count_by}
@@ -64,7 +64,7 @@ is_tabular name = elim name [
   | _ ↦ false
 ]
 
--- what is looked through, stands in other nodes alone, or prints more or less than its children
+-- a name that is transparent, occurs only in other nodes, or prints more or less than its children
 abbrev is_marked : Name → Bool
 is_marked name =
     is_transparent name || ((is_part name || is_source name) || (is_text name || (is_shown name

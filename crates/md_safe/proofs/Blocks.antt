@@ -131,7 +131,7 @@ characters-node nested d t BlankLineEnding stands inner k =
     (blank-white d t.is_last k.white)
 characters-node nested d t _ stands inner k = lie stands
 
--- a node that isn't looked through prints what stands where it is
+-- a node that isn't transparent prints what its place allows
 pub solid-node : (nested : Bool) (d : Document) (t : At) (content : Content) (name : Name) →
     is_transparent name ≡ false →
     (is_part name || is_source name) ≡ false →

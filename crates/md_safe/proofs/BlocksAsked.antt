@@ -1,4 +1,4 @@
--- Blocks stand only in blocks, and what is asked of blocks alone is asked of no more after nodes.
+-- Blocks occur only in blocks, and a condition on blocks alone covers no more after nodes.
 use Rattle.std.proofs.Common.{◌≡◌, true, false, refl}
 use Rattle.std.proofs.lemmas.Bool.{cond_both}
 use Rattle.md_base.proofs.Lies.{lie}
@@ -34,7 +34,7 @@ past-blocks Done name h = h
 past-blocks Nothing name h = h
 past-blocks Sources name h = h
 
--- what is asked of blocks alone is asked after nodes of no more
+-- a condition on blocks alone covers no more after nodes
 pub asked-after-node : (A : Type 0) (content : Content) (name : Name) (children : Forest) →
     (is_blocks content ≡ true → A) → is_blocks (content_after_node content name children) ≡ true → A
 asked-after-node A content name children asked =

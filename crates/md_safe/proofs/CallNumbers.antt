@@ -1,4 +1,4 @@
--- The numbers of calls and their occurrences tell them, and so do their ids.
+-- The numbers of calls and their occurrences determine them, and so do their ids.
 use Rattle.std.proofs.Common.{◌≡◌, ℕ, ◌+◌, ◌≤◌, ◌<◌, ◌^◌, suc, Bool, true, false, not, ◌||◌, cond}
 use Rattle.std.proofs.Common.{List, [], ◌∷◌, ◌++◌, length, refl, sym, ap, ◌∙◌, arith, append_assoc}
 use Rattle.std.proofs.Common.{append-nil, bytes_eq}
@@ -19,7 +19,7 @@ place-first (y ∷ ys) x = by (bytes_eq y x)
     by true = omega arith
     by false = omega arith
 
--- places tell identifiers
+-- positions determine identifiers
 pub same-place : (xs : List (List ℕ)) (x y : List ℕ) → is_in x xs ≡ true →
     place_among xs x ≡ place_among xs y → x ≡ y
 same-place [] x y h e = lie h

@@ -30,7 +30,7 @@ pub label-escaped : (options : CompileOptions) →
 label-escaped options =
     option-escaped (option_map string_bytes options.gfm_footnote_label) (codes "Footnotes") refl
 
--- what ids are asked to begin with, and what they begin with
+-- the required prefix of ids, and their prefix
 abbrev pub prefix_given : CompileOptions → Option (List ℕ)
 prefix_given options = option_map string_bytes options.gfm_footnote_clobber_prefix
 

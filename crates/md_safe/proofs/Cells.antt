@@ -1,4 +1,4 @@
--- Cells have readings, as they are printed, also those that a row lacks.
+-- Printed cells have readings, also those that a row lacks.
 use Rattle.std.specs.List.{flat_map}
 use Rattle.std.specs.Option.{option_map_or}
 use Rattle.std.proofs.Common.{ℕ, Bool, true, false, cond, List, [], ◌∷◌, refl, codes}

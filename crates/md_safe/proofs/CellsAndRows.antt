@@ -1,4 +1,4 @@
--- The cells and rows of tables print what stands in a row and in a table.
+-- The cells and rows of tables print the content of a row and of a table.
 use Rattle.std.proofs.Common.{ℕ, Bool, true, false, cond, List, [], ◌∷◌, ◌++◌, refl, subst}
 use Rattle.std.proofs.Common.{append_assoc, codes}
 use Rattle.std.specs.Prelude.{Option, Some, None}

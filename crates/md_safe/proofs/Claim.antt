@@ -7,7 +7,7 @@ use Rattle.md_text.specs.Html.{Attribute, HasReadingWith, is_tag, elements, writ
 use Rattle.md_text.proofs.HtmlJoin.{join, element}
 use Rattle.md_text.proofs.HtmlPut.{paragraph_takes}
 
--- a claim about texts, with a test on the attributes of what stands beside a text or around it
+-- a claim about texts, with a test on the attributes in the tags beside a text or around it
 pub record Claim : Type 1 where
   pub holds : List ℕ → Type 0
   pub test : Attribute → Bool

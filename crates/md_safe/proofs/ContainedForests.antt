@@ -1,5 +1,5 @@
--- What the nodes of a document mean stands where they are: one induction over blocks, beside that
--- of `md_safe`, which is enough for what stands in strings, in code and in images.
+-- The content model allows the meaning of a document's nodes: one induction over blocks, in
+-- addition to that of `md_safe`, which covers strings, code and images.
 use Rattle.std.proofs.Common.{◌≡◌, Bool, true, false, ◌&&◌, ◌||◌, cond, [], ◌∷◌, ◌++◌, refl, sym}
 use Rattle.std.proofs.Common.{ap, ◌∙◌, subst, append-nil}
 use Rattle.std.proofs.lemmas.Bool.{cond_both}
@@ -50,7 +50,7 @@ pub record Means (nested : Bool) (d : Document) (content : Content) (means : Out
   pub heading : IsHeading nested means.found.heading
   pub texts : AreFlow nested means.footnotes
 
--- a node that is looked through
+-- a transparent node
 through :
     (nested : Bool) (d : Document) (content : Content) (name : Name) (t : At) (inner : Outcome) →
     is_transparent name ≡ true →
@@ -85,7 +85,7 @@ pub record Fits (nested : Bool) (d : Document) (around : Surroundings) (before :
   pub linked : IsLinked nested content around
   pub unnested : nested ≡ false → has_nested_link around.in_link forest ≡ false
 
--- a node that isn't looked through
+-- a node that isn't transparent
 solid-means :
     (nested : Bool) (d : Document) (content : Content) (name : Name) (t : At) (inner : Outcome) →
     is_transparent name ≡ false → (is_part name || is_source name) ≡ false →

@@ -151,7 +151,7 @@ no-footnote d w n p name none h =
       text = layout d.given.ending (inner_of d p name).pieces;
     } ∷ []))) (sym none) (subst (TextsCount w n) (sym (append-nil (inner_of d p name).footnotes)) h)
 
--- a node that is looked through
+-- a transparent node
 pub through-spent : (d : Document) (w : List ℕ) (p : Place) (name : Name) (waits : Bool) (m : ℕ) →
     is_transparent name ≡ true → Below d w p name waits m →
     Costs d w p.before m (waits_after waits p.children) (here_of d p name)

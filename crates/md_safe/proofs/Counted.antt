@@ -33,7 +33,7 @@ counting w n = record {
   takes = counts-takes w n;
 }
 
--- the test on attributes of such a claim
+-- the test on attributes in such a claim
 pub without-test : (w : List ℕ) (options : CompileOptions) → options.allow_dangerous_html ≡ false →
     IsTest (is_without w) options
 without-test w options html = record {

@@ -41,7 +41,7 @@ pub record Fits (d : Document) (around : Surroundings) (before : Before) (waits 
   pub ready : Ready (read_in d) around before Blocks
   pub underlined : IsUnderlined waits forest
 
--- a node that isn't looked through
+-- a node that isn't transparent
 solid-spent : (d : Document) (w : List ℕ) (p : Place) (name : Name) (waits : Bool) (m : ℕ) →
     Stands d p name →
     IsAwaited waits name p.children → Waiting w waits m p.before.heading →

@@ -194,7 +194,7 @@ section-counted d w keeps footnotes n texts =
     (λ _. adds-nothing d.given.ending (Counts w (occurs w label_id + k))
     (counts-more w 0 (occurs w label_id + k) [] (omega arith) (counts-none w)))
 
--- an id stands in a document no more often than its heading, its footnotes and its calls have it
+-- an id occurs in a document at most as often as its heading, its footnotes and its calls have it
 pub document-counts : (d : Document) (w : List ℕ) (document : Forest) →
     KeepsGrammar d.given.options →
     IsBuilt d.given.bytes Blocks document → IsUnderlined false document →

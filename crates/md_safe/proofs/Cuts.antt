@@ -20,7 +20,7 @@ any-later p (a ∷ x) y h = by (p a) (list_any p (x ++ y)) (any-later p x y h)
     by true c e = refl
     by false c e = e
 
--- what is left would be emitted, and isn't
+-- the rest would be emitted, and isn't
 lost : (p : Token → Bool) (input mid : List ℕ) (t u all : List Token) → IsRun Data mid u →
     IsRun Data input all →
     list_any p u ≡ true → list_any p all ≡ false → Leads Data input t mid → ⊥

@@ -48,7 +48,7 @@ bracket-heading p rank h =
     (agree_below_at (λ rank. is_tag elements (heading_name rank) []) (λ rank. not (rank == 0)) 7
     rank refl below ∙ not_from_false (rank == 0) (ne_eqb rank 0 some))
 
--- a heading around what stands in it
+-- a heading around its content
 pub adds-heading : (p : Claim) (ending : List ℕ) → Escaped ending → (rank : ℕ) →
     (1 ≤ rank) × (rank ≤ 6) →
     (inner : List Piece) → Adds ending p.holds inner → Adds ending p.holds (heading rank inner)

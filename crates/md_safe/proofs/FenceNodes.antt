@@ -44,7 +44,7 @@ begun s false holds within later both e inner rest a b =
     × later y) (said (codes ">")) rest (λ x y f g. (y, ap (λ x. x ++ y) f, g))
     (adds-text s.given.ending (λ x. x ≡ codes ">") (codes ">") refl) b))
 
--- what a fence prints, and what stands in it
+-- the text of a fence, and its content
 fence-pieces : (given : Given) (t : At) (name : Name) (inner : List Piece) →
     cond (fence_name name) (prints given t name inner)
     (inner ++ when (is_first_fence t) (said (codes ">")))
@@ -73,7 +73,7 @@ in-chunks : (name : Name) → cond (fence_name name) (content_of name Chunks) No
 in-chunks LineEnding = refl
 in-chunks _ = refl
 
--- what children print, where what may stand in the node is told
+-- the pieces of the children, if the content of the node is known
 pub inside-is : (s : Setting) (t : At) (content told : Content) (name : Name) (inner : List Piece) →
     content_of name content ≡ told → Inside s t content name inner →
     Prints s (Holds s.p (inside s.given.options (is_loose t.children) name t.around).is_escaping

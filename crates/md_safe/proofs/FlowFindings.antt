@@ -50,7 +50,7 @@ block-flow : (content : Content) → may_place (with_links content) Block ≡ tr
 block-flow Flow h = refl
 block-flow _ h = lie h
 
--- what is found at a node that isn't looked through
+-- what a node that isn't transparent adds to the spine
 pub heading-found :
     (nested : Bool) (d : Document) (content : Content) (name : Name) (t : At) (inner : Outcome) →
     is_transparent name ≡ false → may_place (with_links content) (sort_of name) ≡ true →

@@ -75,7 +75,7 @@ has-fence bytes CodeFenced start end children is fit = fit
 has-fence bytes MathFlow start end children is fit = fit
 has-fence bytes _ start end children is fit = lie is
 
--- math, and else code; what is printed of it, and what stands in it
+-- math, or else code; its printed text, and its content
 abbrev pub is_math : Name → Bool
 is_math name = elim (content_of name Blocks) [ FirstMathFence ↦ true | _ ↦ false ]
 

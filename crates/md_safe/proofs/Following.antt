@@ -70,7 +70,7 @@ pub second : (a b : Bool) → a ≡ false → (a || b) ≡ true → b ≡ true
 second true b e h = lie (sym e)
 second false b e h = h
 
--- the part of the children of a node that is looked through
+-- the children of a transparent node
 through : (bytes : List ℕ) (content : Content) (name : Name) (children : Forest) →
     is_transparent name ≡ true →
     IsBuilt bytes (content_inside content name) children → IsBuilt bytes content children

@@ -1,4 +1,4 @@
--- A forest, node after node: to the data state, before whatever follows.
+-- A forest, node by node: to the data state, before whatever follows.
 use Rattle.std.proofs.Common.{◌≡◌, ℕ, true, false, not, ◌&&◌, List, [], ◌∷◌, ◌++◌, map, refl, sym}
 use Rattle.std.proofs.Common.{ap, ◌∙◌, subst, append-nil, append_assoc}
 use Rattle.std.specs.List.{list_all}

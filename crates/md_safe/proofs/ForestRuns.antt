@@ -1,4 +1,4 @@
--- A forest, node after node: what is written is its tokens, whatever follows.
+-- A forest, node by node: the written text gives its tokens, whatever follows.
 use Rattle.std.proofs.Common.{◌≡◌, ℕ, Bool, true, false, not, ◌&&◌, List, [], ◌∷◌, ◌++◌, map, refl}
 use Rattle.std.proofs.Common.{sym, ap, ◌∙◌, subst, append-nil, append_assoc}
 use Rattle.std.specs.List.{list_all}

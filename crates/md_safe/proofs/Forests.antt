@@ -63,7 +63,7 @@ children-suit options html loose around content name stands h = by (is_transpare
     by false e = suits-inside options html loose around content name
         (second (is_transparent name) (may_stand content name) e stands) h
 
--- what stands before a node's first child
+-- the state before a node's first child
 children-follow : (content : Content) (name : Name) (before : Before) (children : Forest) →
     (is_transparent name || may_stand content name) ≡ true → Follows content before.spine →
     Follows (content_inside content name) (before_children name children before).spine

@@ -1,4 +1,4 @@
--- Headings and lists print flow content, and items print what stands in a list.
+-- Headings and lists print flow content, and items print the content of a list.
 use Rattle.std.proofs.Common.{◌≡◌, ◌≢◌, ℕ, ◌==◌, ◌≤◌, ◌<◌, Bool, true, false, not, cond, List, []}
 use Rattle.std.proofs.Common.{◌∷◌, ◌++◌, refl, ap, ◌∙◌, subst, arith, append_assoc, append-nil}
 use Rattle.std.proofs.Common.{codes, ne_eqb}

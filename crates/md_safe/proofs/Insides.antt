@@ -1,5 +1,5 @@
--- What a name that may stand in some content tells of what may stand in it: computed once for each
--- content, for all names.
+-- The facts about the content of a node that follow from the node being allowed in some content:
+-- computed once for each content, for all names.
 use Rattle.std.proofs.Common.{◌≡◌, Bool, true, false, not, ◌&&◌, ◌||◌, cond, refl}
 use Rattle.std.proofs.lemmas.Bool.{and_parts, not-true}
 use Rattle.md_base.proofs.Lies.{lie}
@@ -20,11 +20,11 @@ is_blocks content = elim content [ Blocks ↦ true | _ ↦ false ]
 abbrev pub is_chunks : Content → Bool
 is_chunks content = elim content [ Chunks ↦ true | _ ↦ false ]
 
--- what stands only in images
+-- names that occur only in images
 abbrev pub asks_image : Content → Bool
 asks_image content = elim content [ Spans ↦ true | _ ↦ false ]
 
--- what stands only where special characters are escaped
+-- names that occur only where special characters are escaped
 abbrev pub asks_escaping : Content → Bool
 asks_escaping content = elim content [
   | Blocks ↦ true

@@ -22,7 +22,7 @@ no_stop out t b y e = cc
 no_stuck : (t : List Token) (b : State) (y : List ℕ) → Stuck ≡ Goes t b y → ⊥
 no_stuck t b y e = cc
 
--- what is left and what was emitted after a first step
+-- the rest and the emitted tokens after a first step
 went : (out : List Token) (s : Step) (t : List Token) (mid : List ℕ) →
     emitted_before out s ≡ Goes t Data mid →
     (later : List Token) × (s ≡ Goes later Data mid) × (out ++ later ≡ t)

@@ -13,13 +13,13 @@ laid-append ending text (Needed ∷ xs) ys =
     laid-append ending (cond (begins_line text) text (text ++ ending)) xs ys
 laid-append ending text (Forced ∷ xs) ys = laid-append ending (text ++ ending) xs ys
 
--- a text has one more, of which something holds
+-- a text followed by another one that fulfils a claim
 pub record Grows (holds : List ℕ → Type 0) (before after : List ℕ) : Type 0 where
   pub added : List ℕ
   pub grown : after ≡ before ++ added
   pub it_holds : holds added
 
--- pieces add a text of which something holds to each text
+-- pieces add to each text another one that fulfils a claim
 abbrev pub Adds : List ℕ → (List ℕ → Type 0) → List Piece → Type 0
 Adds ending holds pieces = (text : List ℕ) → Grows holds text (laid_after ending text pieces)
 

@@ -34,11 +34,11 @@ without_links content = elim content [ Phrasing ↦ Linked | other ↦ other ]
 abbrev pub with_links : Content → Content
 with_links content = elim content [ Linked ↦ Phrasing | other ↦ other ]
 
--- what stands in a link
+-- the content of a link
 abbrev pub in_link : Bool → Content
 in_link nested = cond nested Phrasing Linked
 
--- what stands in a node that isn't looked through
+-- the content of a node that isn't transparent
 abbrev pub place_in : Bool → Content → Name → Content
 place_in nested content name = elim name [
   | Link ↦ cond (is_linked content) Linked (in_link nested)
@@ -94,7 +94,7 @@ abbrev pub IsLinked : Bool → Content → Surroundings → Type 0
 IsLinked nested content around =
     is_linked content ≡ true → (nested ≡ false) × (around.in_link ≡ true)
 
--- in a link is what stands in one
+-- a link contains the content of a link
 inside-link : (options : CompileOptions) (loose : Bool) (name : Name) (around : Surroundings) →
     (inside options loose name around).in_link ≡ (named Link name || around.in_link)
 inside-link options loose Link around = refl

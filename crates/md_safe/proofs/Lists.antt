@@ -49,7 +49,7 @@ keeps-earliest name attributes (Formatting identity other those ∷ xs) =
     by true later = inl (keeps-all xs)
     by false later = inr (without_earliest name attributes xs, refl, later)
 
--- what is left of the list when an element is pushed
+-- the rest of the list when an element is pushed
 abbrev pub room : List ℕ → List TokenAttribute → List Entry → List Entry
 room name attributes xs =
     cond (nat_lt 2 (count_same name attributes xs)) (without_earliest name attributes xs) xs

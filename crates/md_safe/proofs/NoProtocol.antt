@@ -52,7 +52,7 @@ map_some b (Some p) q e = (p, refl, sym (some_part (b ∷ p) q e))
     some_part : (x y : List ℕ) → Some x ≡ Some y → x ≡ y
     some_part x y e = cc
 
--- where there is none, what follows a byte that goes on has none
+-- if there is none, the rest after a byte that doesn't end a protocol has none
 none-drop : (b : ℕ) (rest : List ℕ) → goes_on b ≡ true → protocol_of (b ∷ rest) ≡ None →
     protocol_of rest ≡ None
 none-drop b rest g h = map_none b (protocol_of rest) (sym (protocol_of-goes_on b rest g) ∙ h)

@@ -146,13 +146,13 @@ done-node : (s : Setting) (t : At) (name : Name) → may_stand Done name ≡ tru
 done-node s t GfmTaskListItemValueChecked is inner rest b = checked s t.around.in_image rest b
 done-node s t _ is inner rest b = lie is
 
--- what stands among blocks is no part of another node
+-- a node among blocks is no part of another node
 pub not_part : (part : Bool) → cond part false true ≡ true → part ≡ false
 not_part true h = lie h
 not_part false h = refl
 
--- what is known of a node besides what its children print: where it stands, the text of a heading
--- before it, and where a resource in it leads
+-- the facts about a node besides the pieces of its children: its place, the text of a heading
+-- before it, and the target of a resource in it
 pub record Knows (s : Setting) (t : At) (content : Content) (name : Name) : Type 0 where
   pub fit : IsFitAt s t name
   pub suits : Suits t.around.is_escaping t.around.in_image content

@@ -121,7 +121,7 @@ prefix-back options x = by (prefix_given options)
 
 -- ---- ids by number
 
--- what stands after the prefix in the id of a footnote, and in that of a call
+-- what follows the prefix in the id of a footnote, and in that of a call
 abbrev pub note_tail : ℕ → List ℕ
 note_tail number = codes "fn-" ++ decimal number
 
@@ -156,7 +156,7 @@ call-back options on identifier number occurrence =
     (no_and-append (decimal number) (45 ∷ decimal occurrence) (digits-no_and (decimal number)
     (decimal-digits number)) (digits-no_and (decimal occurrence) (decimal-digits occurrence))))
 
--- numbers are told by their ids
+-- equal ids have equal numbers
 pub same-note : (options : CompileOptions) (n m : ℕ) → n < 2 ^ 64 → m < 2 ^ 64 →
     back_prefix options ++ note_tail n ≡ back_prefix options ++ note_tail m → n ≡ m
 same-note options n m hn hm e =

@@ -79,7 +79,7 @@ text-says mode (byte ∷ bytes) node others active created h =
     by true h = lie h
     by false h = refl
 
--- the body and what is around it, after a title of these characters
+-- the body and its ancestors, after a title of these characters
 abbrev pub root_at : List ℕ → Open
 root_at title =
     open_at 0 (codes "html")

@@ -13,7 +13,7 @@ use Rattle.md_safe.specs.Contents.{Content, Flow, Phrasing, held_in, voids_in, i
 use Rattle.md_safe.proofs.Stands.{Stands, stands-join, stands-nothing, stands-text, turns-tag}
 use Rattle.md_safe.proofs.Stands.{is_held}
 
--- a forest with an element among its roots, after the children of which a text is inserted
+-- a forest with an element among its roots; a text is inserted after the element's children
 record Cut (nested : Bool) (x : List ℕ) (f : Forest) (y : List ℕ) : Type 0 where
   front : List ℕ
   name : List ℕ

@@ -1,5 +1,4 @@
--- Each document of the grammar is placed: what stands in a node is of the content that
--- its children are.
+-- Each document of the grammar is placed: the content of a node's children allows them.
 use Rattle.std.proofs.Common.{◌≡◌, inl, inr, true, ◌||◌, false, Bool, Option, Some, None, List}
 use Rattle.std.proofs.Common.{◌++◌, refl, sym, ap, ◌∙◌, subst, if◌then◌else◌}
 use Rattle.std.specs.List.{list_all}

@@ -27,7 +27,7 @@ use Rattle.md_safe.proofs.Counted.{Waiting, TextsCount}
 use Rattle.md_safe.proofs.Costs.{Document, read_in, Place, inner_around, inner_before, inner_of}
 use Rattle.md_safe.proofs.Costs.{counted_in, Costs, at_of, here_of, Below, cost-least, no-footnote}
 
--- what is known of a node that isn't looked through
+-- the facts about a node that isn't transparent
 pub record Stands (d : Document) (p : Place) (name : Name) : Type 0 where
   pub solid : is_transparent name ≡ false
   pub whole : (is_part name || is_source name) ≡ false

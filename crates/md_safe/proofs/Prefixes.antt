@@ -1,5 +1,5 @@
--- The prefix of an id by number is told by the id: what stands after it begins with `fn`, and
--- has no other `fn`.
+-- An id by number determines its prefix: what follows the prefix begins with `fn`, and has no other
+-- `fn`.
 use Rattle.std.proofs.Common.{◌≡◌, ℕ, suc, ◌≤◌, ◌==◌, Bool, true, false, ◌&&◌, ◌||◌, cond, eqb}
 use Rattle.std.proofs.Common.{List, [], ◌∷◌, ◌++◌, refl, sym, ap, ◌∙◌, arith, codes}
 use Rattle.std.proofs.Common.{bytes_eq}

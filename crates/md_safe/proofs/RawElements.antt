@@ -19,13 +19,13 @@ code_tag = codes "<pre><code"
 abbrev pub math_tag : List ℕ
 math_tag = codes "<pre><code class=\"language-math math-display\""
 
--- what is said of code in its tag: nothing, or of fenced code a class for its language
+-- the attributes of the tag of code: none, or for fenced code a class for its language
 abbrev pub IsInfo : List ℕ → List ℕ → Type 0
 IsInfo tag x =
     (x ≡ []) ⊎ ((v : List ℕ) × (x ≡ codes " class=\"language-" ++ (v ++ codes "\"")) × Escaped v
     × (tag ≡ code_tag))
 
--- a text that ends an opening tag of code and goes on with an escaped text
+-- a text that ends an opening tag of code, followed by an escaped text
 pub record IsRaw (p : Claim) (tag x : List ℕ) : Type 0 where
   pub attributes : List ℕ
   pub info : IsInfo tag attributes

@@ -45,7 +45,7 @@ attributes-permitted name schemes f (a ∷ x) g h =
     (has_permitted_scheme schemes (seen a.value)) (f a.value q.0) k.0)
     (attributes-permitted name schemes f x s.1 k.1)
 
--- such a test passes all tags of the tables
+-- such a test accepts all tags of the tables
 passes : (name : List ℕ) (schemes : List (List ℕ)) → Permits schemes →
     PassesTags (attributes_pass (is_permitted name schemes)) (is_safe name schemes)
 passes name schemes f = record {

@@ -1,5 +1,5 @@
--- A value without a protocol has no scheme, and one with a permitted protocol has that scheme:
--- whatever is left out or changed on the way to the scheme belongs to none.
+-- A value without a protocol has no scheme, and one with a permitted protocol has that scheme: no
+-- byte that is removed or changed on the way belongs to a scheme.
 use Rattle.std.specs.Str.{bytes_eq}
 use Rattle.std.proofs.Common.{◌≡◌, ℕ, ◌==◌, Bool, true, false, not, ◌&&◌, ◌||◌, cond, List, [], ◌∷◌}
 use Rattle.std.proofs.Common.{◌++◌, refl, sym, ap, ap₂, ◌∙◌, subst, inl, inr, Option, Some, None}

@@ -28,7 +28,7 @@ use Rattle.md_safe.proofs.BlockNodes.{holds-none}
 use Rattle.md_safe.proofs.Findings.{AreRead}
 use Rattle.md_safe.proofs.FootnoteBodies.{body-prints}
 
--- an element before what stands in a bracket
+-- an element before the content of brackets
 pub turn-after : (p q : Claim) (o c h : List ℕ) → Bracket q o c →
     ((x : List ℕ) → p.holds x → q.holds (h ++ x)) →
     Turns p q (o ++ h) c

@@ -26,8 +26,8 @@ use Rattle.md_safe.proofs.ContainedLaid.{Lays, lays-turned, spaced-text}
 abbrev pub Prints : (nested : Bool) → Document → Content → List Piece → Type 0
 Prints nested d content pieces = Lays nested d.given.ending content pieces
 
--- what is known of a node that isn't looked through: what its children print, as content and as
--- the grammar says
+-- the facts about a node that isn't transparent: what its children print, as content and as the
+-- grammar says
 pub record Known (nested : Bool) (d : Document) (t : At) (name : Name)
     (inner : List Piece) : Type 0 where
   pub white : IsWhite d.given.ending

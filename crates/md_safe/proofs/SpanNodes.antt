@@ -48,7 +48,7 @@ is_single name = elim name [
 abbrev pub is_shown : Name → Bool
 is_shown name = is_pair name || (is_code name || is_single name)
 
--- tags outside images around what stands in a node
+-- tags outside images around the content of a node
 prints-pair : (s : Setting) (t : At) (holds : List ℕ → Type 0) →
     IsWide s.p t.around.in_image holds →
     (o c : List ℕ) → Bracket s.p o c → (inner : List Piece) → Prints s holds inner
@@ -82,7 +82,7 @@ prints-unless s true holds w ys b = adds-nothing s.given.ending holds (w.own [] 
 prints-unless s false holds w ys b =
     adds-weaker s.given.ending s.p.holds holds ys (w.outside refl) (b refl)
 
--- the text of what stands in a node
+-- the text of a node's content
 pub text-holds : (s : Setting) (holds : List ℕ → Type 0) (inner : List Piece) →
     Prints s holds inner →
     holds (layout s.given.ending inner)

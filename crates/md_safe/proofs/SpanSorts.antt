@@ -62,7 +62,7 @@ pair-prints given t name is inner =
     sym (cond-true (is_pair name) (prints given t name inner) _ is)
     ∙ pair-pieces given t name inner
 
--- what stands in a pair of tags stands around it too
+-- a content that is allowed in a pair of tags is allowed around it too
 pub pair-inside : (s : Setting) (t : At) (content : Content) (name : Name) → is_pair name ≡ true →
     (inner : List Piece) → Inside s t content name inner → Prints s (Here s t content) inner
 pair-inside s t content Emphasis is inner a = a

@@ -1,5 +1,5 @@
--- A node where it stands: what is known of the document and what the node means. The lemmas on
--- nodes speak of this record.
+-- A node in its context: the facts about the document, and the node's meaning. The lemmas on nodes
+-- use this record.
 use Rattle.std.proofs.Common.{◌≡◌, ℕ, Bool, true, false, cond, List, [], ◌∷◌, ◌++◌, sym, subst}
 use Rattle.std.proofs.Common.{codes}
 use Rattle.std.specs.Prelude.{Option, Some, None, find, bytes_eq, unwrap_or}
@@ -45,13 +45,13 @@ pub record Setting : Type 1 where
 abbrev pub PassesIds : (Attribute → Bool) → Type 0
 PassesIds test = (value : List ℕ) → test (attribute (codes "id") value) ≡ true
 
--- what is asked of a claim beyond a test on tags: the claims of two texts are one's, and
--- each `id` passes
+-- the conditions on a claim other than a test on tags: the claims about two texts hold for the
+-- joined one, and each `id` passes
 pub record IsWhole (p : Claim) : Type 0 where
   pub both : (x y : List ℕ) → p.holds x → p.holds y → p.holds (x ++ y)
   pub ids : PassesIds p.test
 
--- what is asked of a node
+-- the conditions on a node
 abbrev pub IsFitAt : Setting → At → Name → Type 0
 IsFitAt s t name = IsFit s.given.bytes name t.place.start t.place.end t.children
 
@@ -59,7 +59,7 @@ IsFitAt s t name = IsFit s.given.bytes name t.place.start t.place.end t.children
 abbrev pub Here : Setting → At → Content → List ℕ → Type 0
 Here s t content x = Holds s.p t.around.is_escaping t.around.in_image content x
 
--- pieces add a text of which something holds
+-- pieces add a text that fulfils a claim
 abbrev pub Prints : Setting → (List ℕ → Type 0) → List Piece → Type 0
 Prints s holds pieces = Adds s.given.ending holds pieces
 
@@ -70,7 +70,7 @@ Inside s t content name inner =
     (inside s.given.options (is_loose t.children) name t.around).in_image (content_of name content))
     inner
 
--- holds of a text that is escaped where that is asked for
+-- holds for a text that is escaped if that is required
 abbrev pub IsNarrow : Bool → (List ℕ → Type 0) → Type 0
 IsNarrow escaping holds = (x : List ℕ) → (escaping ≡ true → Escaped x) → holds x
 
@@ -99,7 +99,7 @@ pub narrow-wide : (p : Claim) (escaping in_image : Bool) (holds : List ℕ → T
     IsWide p in_image holds → IsNarrow escaping holds
 narrow-wide p escaping in_image holds e w x h = w.own x (h e)
 
--- an encoded text is escaped where that is asked for
+-- an encoded text is escaped if that is required
 pub encoded-escaped : (escaping : Bool) (x : List ℕ) → escaping ≡ true →
     Escaped (encoded escaping x)
 encoded-escaped escaping x e = subst (λ b. Escaped (encoded b x)) (sym e) (is_escaped-encoded x)

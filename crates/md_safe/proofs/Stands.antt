@@ -1,4 +1,4 @@
--- Texts that stand as some content: nothing, a text, tags around what stands in them, and two
+-- Texts that a content allows: the empty text, a plain text, tags around their content, and two
 -- such texts joined.
 use Rattle.std.specs.List.{list_all}
 use Rattle.std.specs.Option.{option_map_or}
@@ -224,7 +224,7 @@ line_ends-space (b ∷ x) h =
 pub line_ends-white : (x : List ℕ) → is_line_ends x ≡ true → IsWhite x
 line_ends-white x h = (line_ends-escaped x h, line_ends-space x h)
 
--- ---- what is turned into what by two texts around it
+-- ---- the texts before and after a text, and the content that they change to another
 abbrev pub Turns : (nested : Bool) → Content → Content → List ℕ → List ℕ → Type 0
 Turns nested held content o c =
     (x : List ℕ) → Stands nested held x → Stands nested content (o ++ (x ++ c))

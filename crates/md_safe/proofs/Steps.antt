@@ -1,5 +1,4 @@
--- One step after another: a run from a state on, by one from the state that its
--- first step leads to.
+-- Step by step: a run from a state, by a run from the state after its first step.
 use Rattle.std.proofs.Common.{◌≡◌, ℕ, ◌==◌, Bool, true, false, cond, List, [], ◌∷◌, ◌++◌, map, refl}
 use Rattle.std.proofs.Common.{sym, ap, ◌∙◌, subst, Some, option_map, suc, append-nil, append_assoc}
 use Rattle.std.proofs.lemmas.Bool.{eqb-false}

@@ -18,7 +18,7 @@ use Rattle.md_safe.proofs.Texts.{Escaped, line_ends-escaped}
 use Rattle.md_safe.proofs.Laid.{adds-text, adds-nothing, adds-weaker}
 use Rattle.md_safe.proofs.Spot.{Setting, IsFitAt, Here, Prints, Inside, IsNarrow, encoded-escaped}
 
--- marks print what stands in them
+-- marks print their content
 abbrev is_mark : Name → Bool
 is_mark name = elim name [
   | CharacterReferenceMarker ↦ true
@@ -36,7 +36,7 @@ abbrev is_data : Name → Bool
 is_data name =
     is_text name && elim name [ LineEnding ↦ false | CharacterReferenceValue ↦ false | _ ↦ true ]
 
--- a text, encoded where that is asked for
+-- a text, encoded if that is required
 data-node : (s : Setting) (t : At) (holds : List ℕ → Type 0) →
     IsNarrow t.around.is_escaping holds → (x : List ℕ) → Prints s holds (escaped t x)
 data-node s t holds n x =

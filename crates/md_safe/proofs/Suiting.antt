@@ -43,7 +43,7 @@ suits-after-node escaping in_image content name children h =
     (λ _. stays-after (Suits escaping in_image) (suits-past escaping in_image) content children h)
     (λ _. suits-past escaping in_image content name h)
 
--- what a content asks of its surroundings
+-- the conditions of a content on its surroundings
 suits : (escaping in_image : Bool) (content : Content) →
     (asks_escaping content ≡ true → escaping ≡ true) →
     (asks_image content ≡ true → in_image ≡ true) →
@@ -69,7 +69,7 @@ is-in_image : (escaping in_image : Bool) (content : Content) → asks_image cont
 is-in_image escaping in_image Spans asks h = h.1
 is-in_image escaping in_image _ asks h = lie asks
 
--- where HTML isn't let through, what is escaped stays so, but in what says where something leads
+-- if HTML is escaped, escaped text stays so, except in the targets of links
 keeps-escaping : (options : CompileOptions) (loose : Bool) (around : Surroundings) (name : Name) →
     (is_source name || (inside (record options { allow_dangerous_html = false }) loose name
     (record around { is_escaping = true })).is_escaping) ≡ true

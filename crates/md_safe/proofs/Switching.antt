@@ -1,4 +1,4 @@
--- A start tag leads to the mode "text" where it is `title`, and nowhere else.
+-- A start tag switches to the mode "text" if it is `title`, and otherwise not.
 use Rattle.std.proofs.Common.{◌≡◌, ℕ, Bool, true, false, ◌||◌, cond, List, [], ◌∷◌, refl, sym, ap}
 use Rattle.std.proofs.Common.{subst, codes}
 use Rattle.std.specs.Prelude.{Option, Some, None, is_some, option_and_then, bytes_eq}

@@ -68,7 +68,7 @@ no_void Rows name is h = h
 no_void Cells name is h = h
 no_void _ name is h = lie is
 
--- an element of this name on the stack, whatever its children are
+-- an element with this name on the stack, whatever its children are
 abbrev pub Putting : Content → Mode → List ℕ → Type 0
 Putting content mode parent =
     (name : List ℕ) (held : Content) (inner : Forest) → has_whole_texts inner ≡ true →

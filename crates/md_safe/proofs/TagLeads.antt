@@ -50,7 +50,7 @@ good_parts b h =
 lower-good : (b : ℕ) → is_between 65 90 b ≡ false → lower b ≡ b
 lower-good b e = past _ e refl
 
--- such a byte is appended to a name as it is
+-- such a byte is appended to a name unchanged
 in_name-good : (b : ℕ) → IsGoodByte b → in_name b ≡ b ∷ []
 in_name-good b g = ap in_value (lower-good b g.no_upper) ∙ past _ g.no_nul refl
 

@@ -33,11 +33,11 @@ pub record IsTest (p : Attribute → Bool) (options : CompileOptions) : Type 0 w
   pub image : (destination : List ℕ) → p (attribute (codes "src") (src options destination)) ≡ true
   pub html : options.allow_dangerous_html ≡ false
 
--- two texts around one of which something is claimed, so that something is claimed of all
+-- two texts around a text with a claim, so that a claim holds for the whole
 abbrev pub Turns : Claim → Claim → List ℕ → List ℕ → Type 0
 Turns p q o c = (x : List ℕ) → p.holds x → q.holds (o ++ (x ++ c))
 
--- two texts that keep a claim around one of which it is made
+-- two texts that preserve a claim about the text between them
 abbrev pub Bracket : Claim → List ℕ → List ℕ → Type 0
 Bracket p o c = Turns p p o c
 

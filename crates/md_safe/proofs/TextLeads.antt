@@ -1,5 +1,5 @@
--- One step after another: a way to the data state from a state on, by one from the state that its
--- first step leads to.
+-- Step by step: the way to the data state from a state, by the way from the state after its first
+-- step.
 use Rattle.std.proofs.Common.{◌≡◌, ℕ, ◌==◌, false, cond, List, [], ◌∷◌, ◌++◌, map, refl, sym, ap}
 use Rattle.std.proofs.Common.{◌∙◌, subst, suc, append-nil, append_assoc, true}
 use Rattle.std.proofs.lemmas.Bool.{eqb-false}
@@ -13,7 +13,7 @@ use Rattle.md_safe.proofs.EscapedCases.{IsPlain, by_escaped}
 use Rattle.md_safe.proofs.Steps.{past, tag_with, attribute, AtValue}
 use Rattle.md_safe.specs.Leads.{Leads, emitted_before, and_then, steps}
 
--- with what is left first
+-- with the rest of the input first
 abbrev pub To : List ℕ → State → List ℕ → List Token → Type 0
 To left state input tokens = Leads state input tokens left
 

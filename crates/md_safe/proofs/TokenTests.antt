@@ -73,7 +73,7 @@ all-tokens p q o (Element name attributes children rest) h k =
     (and_from (p (EndTag name)) (list_all p (tokens rest)) (o.ends name attributes u.0)
     (all-tokens p q o rest r.1 s.1)))
 
--- and so of whatever a text is tokenized as
+-- and the same for any tokens of a text
 pub all-tokenized : (p : Token → Bool) (q : Attribute → Bool) → PassesTags p q → (text : List ℕ)
     (x : List Token) → HasOneReadingWith q text → IsTokenized text x → list_all p x ≡ true
 all-tokenized p q o text x one h =

@@ -15,7 +15,7 @@ use Rattle.md_safe.proofs.ForestRuns.{reading-runs}
 use Rattle.md_safe.proofs.TokenTests.{forest-listed}
 use Rattle.md_safe.proofs.SafeTokens.{safe-links, safe-images}
 
--- whatever a text is tokenized as is this
+-- the tokens of a text are these
 only-these : (text : List ℕ) (x other : List Token) → IsTokenized text x →
     IsTokenized text other → other ≡ x
 only-these text x other h k = one_run Data (with_line_feeds text) other x k h
@@ -32,7 +32,7 @@ read-tokenized q text one =
       listed = forest-listed one.forest one.reading.in_grammar;
     }
 
--- where each token passes a test, whatever these are
+-- if each token passes a test, whatever the tokens are
 tokens-with :
     (p : Token → Bool) (q : Attribute → Bool) (text : List ℕ) (one : HasOneReadingWith q text) →
     ((x : List Token) → IsTokenized text x → list_all p x ≡ true) → HasTokensWith p text

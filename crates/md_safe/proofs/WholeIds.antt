@@ -46,7 +46,7 @@ calls_in bytes (Node name start end children rest) =
     (calls_in bytes children
     ++ when (named GfmFootnoteCall name) (identifier_of bytes children ∷ [])) ++ calls_in bytes rest
 
--- which calls there are doesn't go by what else is given
+-- the calls don't depend on the rest of the context
 calls-same : (given : Given) (forest : Forest) (around : Surroundings) (before : Before) →
     (outcome given around before forest).calls ≡ calls_in given.bytes forest
 calls-same given Empty around before = refl
@@ -71,7 +71,7 @@ calls-same given (Node name start end children rest) around before =
     ∙ ap (λ calls. (calls_in given.bytes children ++ own) ++ calls)
     (calls-same given rest around next)
 
--- a document has no more calls than half its events
+-- a document has at most half as many calls as events
 calls-fewer : (bytes : List ℕ) (forest : Forest) →
     length (calls_in bytes forest) + length (calls_in bytes forest) ≤ length (flatten forest)
 calls-fewer bytes Empty = omega arith
@@ -167,7 +167,7 @@ known-id bytes names options document built underlined keeps f reading w some =
     document-known options keeps.by_number w given.calls
     (omega (arith, some, ap (λ g. occurs w (ids g)) same, counts.few))
 
--- what stands after two prefixes of one id tells that they are one
+-- what follows two prefixes of one id proves that they are equal
 one-prefix : (options other : CompileOptions) (w : List ℕ) → IsNote options w ⊎ IsCall options w →
     IsNote other w ⊎ IsCall other w → prefix_of options ≡ prefix_of other
 one-prefix options other w (inl n) (inl m) =

@@ -1,7 +1,7 @@
--- The insertion modes of a document before its body and after it (HTML Standard, 13.2.6.4). At a
--- tag or a character that a mode has no rule for it makes an element or closes one, and the next
--- mode takes it. What isn't written out are rules of tags that "in body", which takes these in the
--- end, hasn't either.
+-- The insertion modes of a document before its body and after it (HTML Standard, 13.2.6.4). For a
+-- tag or a character without a rule in a mode, the mode creates or closes an element, and the next
+-- mode handles the token. A rule that isn't written out here is for a tag that "in body", which
+-- gets the token in the end, hasn't written out either.
 use Rattle.std.specs.Prelude.{ℕ, if◌then◌else◌, List, [], ◌∷◌, Option, Some, bytes_eq, codes}
 use Rattle.md_text.specs.Bytes.{is_one_of}
 use Rattle.md_safe.specs.Token.{TokenAttribute}
@@ -11,19 +11,19 @@ use Rattle.md_safe.specs.Node.{AfterAfterBody, Parser}
 use Rattle.md_safe.specs.Stack.{popped, insert, say}
 use Rattle.md_safe.specs.InBody.{insert_void, start_in_body, end_in_body, character_in_body}
 
--- an element is inserted, and this is the mode then
+-- inserts an element, and switches to this mode
 abbrev pub enter : Mode → List ℕ → List TokenAttribute → Parser → Parser
 enter mode name attributes parser = insert name attributes (record parser { mode = mode })
 
--- the current node is popped, and this is the mode then
+-- pops the current node, and switches to this mode
 abbrev pub leave : Mode → Parser → Parser
 leave mode parser = record parser { stack = popped parser.stack; mode = mode }
 
--- a character is inserted at the current node
+-- inserts a character at the current node
 abbrev pub saying : ℕ → Parser → Parser
 saying byte parser = record parser { stack = say byte parser.stack }
 
--- what these modes do for a tag or a character that they have no rule for
+-- the action of these modes for a tag or a character without a rule
 abbrev pub with_root : Parser → Parser
 with_root parser = enter BeforeHead (codes "html") [] parser
 

@@ -1,4 +1,4 @@
--- What is to be built of a reading, and where.
+-- The tree to build for a reading, and its place.
 use Rattle.std.specs.Prelude.{◌≡◌, ℕ, Bool, true, false, not, IsTrue, ◌&&◌, ◌<◌, List, []}
 use Rattle.std.specs.Prelude.{◌∷◌, ◌++◌, Some, codes}
 use Rattle.std.specs.List.{list_any}
@@ -80,9 +80,9 @@ abbrev pub open_at : ℕ → List ℕ → Nodes → Open
 open_at identity name nodes =
     record { identity = identity; name = name; attributes = []; children = nodes }
 
--- where flow content may be set: in a body or a cell, with no formatting element active since the
--- last marker; the current node isn't a heading and is in no paragraph that a block would close;
--- the elements that are open lead back to this mode, and none is of those with rules of their own
+-- flow content may be inserted here: in a body or a cell, with no formatting element active since
+-- the last marker; the current node isn't a heading and is in no paragraph that a block would
+-- close; the open elements reset the insertion mode to this mode, and none has rules of its own
 pub record IsPlace (mode : Mode) (node : Open) (others : List Open) (active : List Entry)
     (created : ℕ) : Type 0 where
   pub body : is_body mode ≡ true
@@ -93,16 +93,17 @@ pub record IsPlace (mode : Mode) (node : Open) (others : List Open) (active : Li
   pub leads_back : mode_for (node ∷ others) ≡ mode
   pub none_apart : list_any (is_among apart) (node ∷ others) ≡ false
 
--- the tokens of a reading put its nodes after those of the current node, and leave all else as it
--- was: the mode, the other open elements and the list; but elements were created
+-- the tokens of a reading append its nodes to those of the current node, and leave all else
+-- unchanged: the mode, the other open elements and the list; only the count of created elements
+-- grows
 abbrev pub Builds : Mode → Open → List Open → List Entry → ℕ → Forest → Type 0
 Builds mode node others active created forest =
     (more : ℕ) × (run (at mode (node ∷ others) active created) (tokens forest)
     ≡ Some (at mode (record node { children = put node.children forest } ∷ others) active more))
 
--- a text has exactly one reading, in which everything stands where it may and no link in a link;
--- the tokenizer emits its tokens, and of these tree construction builds the reading's own tree,
--- wherever flow content may be set
+-- a text has exactly one reading, which fulfils the content model, with no link in a link; the
+-- tokenizer emits its tokens, and from these tree construction builds the reading's own tree,
+-- wherever flow content may be inserted
 pub record IsBuiltAsRead (text : List ℕ) : Type 0 where
   pub forest : Forest
   pub reading : IsReading text forest

@@ -1,5 +1,5 @@
--- Tree construction's dispatcher (HTML Standard, 13.2.6): what is done at each token, and
--- at some in a row.
+-- Tree construction's dispatcher (HTML Standard, 13.2.6): the action for each token, and for tokens
+-- in sequence.
 use Rattle.std.specs.Prelude.{ℕ, false, ◌&&◌, ◌==◌, if◌then◌else◌, List, [], ◌∷◌, ◌++◌, Option}
 use Rattle.std.specs.Prelude.{Some, None, option_and_then}
 use Rattle.md_safe.specs.Token.{Token, Character, StartTag, EndTag, TokenAttribute}
@@ -86,7 +86,7 @@ step parser (EndTag name) = after_table_text (record parser { skips_line_feed = 
     (λ parser. end parser.mode name parser)
 step parser _ = None
 
--- tokens one after another
+-- tokens in sequence
 abbrev pub run : Parser → List Token → Option Parser
 run parser [] = Some parser
 run parser (token ∷ tokens) = option_and_then (λ next. run next tokens) (step parser token)

@@ -1,4 +1,4 @@
--- What may stand in what in the HTML that is written: a content model. It knows no events.
+-- The content model of the HTML that is written. It doesn't refer to events.
 use Rattle.std.specs.Prelude.{◌≡◌, ℕ, Bool, true, false, ◌&&◌, ◌||◌, ◌==◌, IsTrue, if◌then◌else◌}
 use Rattle.std.specs.Prelude.{List, [], ◌∷◌, ◌++◌, Option, map, find, option_map, bytes_eq, codes}
 use Rattle.std.specs.Option.{option_map_or}
@@ -6,9 +6,8 @@ use Rattle.std.specs.List.{list_all}
 use Rattle.md_text.specs.Bytes.{is_one_of}
 use Rattle.md_text.specs.Html.{Forest, Empty, Text, Void, Element, IsReading}
 
--- what stands somewhere: blocks, spans and texts; spans and texts; these without links; the
--- items of a list; the parts of a table, its rows and its cells; code that is preformatted;
--- characters alone
+-- the kinds of content: blocks, spans and texts; spans and texts; these without links; the items of
+-- a list; the parts of a table, its rows and its cells; preformatted code; only characters
 pub data Content : Type 0 where
   Flow : Content
   Phrasing : Content
@@ -20,12 +19,12 @@ pub data Content : Type 0 where
   Preformatted : Content
   Characters : Content
 
--- the elements of spans but for links, each with what it holds, where they hold this
+-- the elements of spans except links, each with its content, if spans contain this
 abbrev pub spans_of : Content → List (List ℕ × Content)
 spans_of held = (codes "code", Characters)
     ∷ map (λ name. (name, held)) (codes "em" ∷ codes "strong" ∷ codes "del" ∷ codes "sup" ∷ [])
 
--- those of all spans: links may hold links where that is `nested`
+-- those of all spans: links may contain links if `nested`
 abbrev pub span_elements : Bool → List (List ℕ × Content)
 span_elements nested = (codes "a", if nested then Phrasing else Linked) ∷ spans_of Phrasing
 
@@ -36,7 +35,7 @@ block_elements =
     ∷ (codes "blockquote", Flow) ∷ (codes "section", Flow) ∷ map (λ name. (name, Phrasing))
     (codes "p" ∷ codes "h1" ∷ codes "h2" ∷ codes "h3" ∷ codes "h4" ∷ codes "h5" ∷ codes "h6" ∷ [])
 
--- the elements that may stand somewhere
+-- the elements that a content allows
 abbrev pub elements_in : Bool → Content → List (List ℕ × Content)
 elements_in nested Flow = span_elements nested ++ block_elements
 elements_in nested Phrasing = span_elements nested
@@ -48,13 +47,13 @@ elements_in nested Cells = (codes "th", Phrasing) ∷ (codes "td", Phrasing) ∷
 elements_in nested Preformatted = (codes "code", Characters) ∷ []
 elements_in nested Characters = []
 
--- what an element holds there, where it may stand
+-- the content of an element there, if it is allowed
 abbrev pub held_in : Bool → Content → List ℕ → Option Content
 held_in nested content name =
     option_map (λ element. element.1)
     (find (λ element. bytes_eq element.0 name) (elements_in nested content))
 
--- the void tags that may stand somewhere
+-- the void tags that a content allows
 abbrev pub voids_in : Content → List (List ℕ)
 voids_in Flow = codes "hr" ∷ codes "br" ∷ codes "img" ∷ codes "input" ∷ []
 voids_in Phrasing = codes "br" ∷ codes "img" ∷ codes "input" ∷ []
@@ -65,7 +64,7 @@ voids_in _ = []
 abbrev pub is_space : ℕ → Bool
 is_space byte = (byte == 9) || (byte == 10) || (byte == 12) || (byte == 13) || (byte == 32)
 
--- a text may stand there: in lists and tables only white space, directly in `pre` none
+-- a content allows a text: in lists and tables only white space, directly in `pre` none
 abbrev pub may_say : Content → List ℕ → Bool
 may_say Flow text = true
 may_say Phrasing text = true
@@ -74,7 +73,8 @@ may_say Characters text = true
 may_say Preformatted text = false
 may_say _ text = list_all is_space text
 
--- everything in a forest stands where it may, and the forest itself as this content
+-- the content model allows each node of a forest at its place, with the forest itself as this
+-- content
 abbrev pub is_contained : Bool → Content → Forest → Bool
 is_contained nested content Empty = true
 is_contained nested content (Text bytes rest) =
@@ -85,17 +85,17 @@ is_contained nested content (Element name attributes inner rest) =
     option_map_or (λ held. is_contained nested held inner) (held_in nested content name) false
     && is_contained nested content rest
 
--- a text has exactly one reading, and everything in that stands where it may, as flow content
+-- a text has exactly one reading, and the content model allows each node of it, as flow content
 pub record IsContainedAs (nested : Bool) (text : List ℕ) : Type 0 where
   pub forest : Forest
   pub reading : IsReading text forest
   pub contained : IsTrue (is_contained nested Flow forest)
   pub only : (other : Forest) → IsReading text other → other ≡ forest
 
--- so, where links may stand in links
+-- the same, if links may contain links
 abbrev pub IsContained : List ℕ → Type 0
 IsContained text = IsContainedAs true text
 
--- so, without a link in a link
+-- the same, without a link in a link
 abbrev pub IsUnnested : List ℕ → Type 0
 IsUnnested text = IsContainedAs false text

@@ -1,4 +1,4 @@
--- Which elements are what to tree construction (HTML Standard, 13.2.4.2 and 13.2.6). Those of
+-- The classes of elements in tree construction (HTML Standard, 13.2.4.2 and 13.2.6). Elements of
 -- MathML and SVG are not among them: an open element has no namespace here.
 use Rattle.std.specs.Prelude.{List, [], ◌∷◌, ◌++◌, ℕ, codes}
 
@@ -21,7 +21,7 @@ special = codes "address" ∷ codes "applet" ∷ codes "area" ∷ codes "article
     ∷ codes "tfoot" ∷ codes "th" ∷ codes "thead" ∷ codes "title" ∷ codes "tr" ∷ codes "track"
     ∷ codes "ul" ∷ codes "wbr" ∷ codes "xmp" ∷ []
 
--- where scopes end: that of any element, of a list item, of a button, of a table
+-- the ends of scopes: the default scope, and those of a list item, of a button, of a table
 abbrev pub any_scope : List (List ℕ)
 any_scope =
     codes "applet" ∷ codes "caption" ∷ codes "html" ∷ codes "table" ∷ codes "td" ∷ codes "th"
@@ -45,15 +45,15 @@ implied = codes "dd" ∷ codes "dt" ∷ codes "li" ∷ codes "optgroup" ∷ code
 abbrev pub headings : List (List ℕ)
 headings = codes "h1" ∷ codes "h2" ∷ codes "h3" ∷ codes "h4" ∷ codes "h5" ∷ codes "h6" ∷ []
 
--- elements whose start and end tags are treated alike in a body, of the grammar
+-- elements of the grammar whose start and end tags are treated alike in a body
 abbrev pub blocks : List (List ℕ)
 blocks = codes "blockquote" ∷ codes "ol" ∷ codes "section" ∷ codes "ul" ∷ []
 
--- formatting elements but `a`, of the grammar
+-- formatting elements of the grammar except `a`
 abbrev pub formatting : List (List ℕ)
 formatting = codes "code" ∷ codes "em" ∷ codes "strong" ∷ []
 
--- the grammar's other elements without rules of their own in a body
+-- the other elements of the grammar, which have no rules of their own in a body
 abbrev pub ordinary : List (List ℕ)
 ordinary = codes "del" ∷ codes "sup" ∷ []
 
@@ -67,6 +67,6 @@ cells = codes "td" ∷ codes "th" ∷ []
 abbrev pub parts : List (List ℕ)
 parts = codes "tr" ∷ (cells ++ sections)
 
--- elements in which rules hold that aren't written out: foreign content, and what a `select` holds
+-- elements with rules that aren't written out: foreign content, and the content of a `select`
 abbrev pub apart : List (List ℕ)
 apart = codes "svg" ∷ codes "math" ∷ codes "select" ∷ codes "optgroup" ∷ codes "option" ∷ []

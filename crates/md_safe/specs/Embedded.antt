@@ -1,4 +1,4 @@
--- What a text between two others is to the HTML Standard's tokenizer.
+-- A text between two others, for the HTML Standard's tokenizer.
 use Rattle.std.specs.Prelude.{◌≡◌, ℕ, Bool, false, ◌==◌, ◌&&◌, if◌then◌else◌, List, [], ◌∷◌, ◌++◌}
 use Rattle.md_base.specs.Identifier.{is_nonempty}
 use Rattle.md_safe.specs.Input.{begins_with_line_feed, with_line_feeds}
@@ -7,8 +7,8 @@ use Rattle.md_safe.specs.TokenizerStates.{Data}
 use Rattle.md_safe.specs.Tokenizer.{IsTokenized}
 use Rattle.md_safe.specs.Leads.{Leads}
 
--- from the data state on, whatever characters follow those of the text: the tokenizer emits these
--- tokens, and is in the data state then, with exactly what follows left of its input
+-- from the data state, whatever characters follow the text: the tokenizer emits these tokens, and
+-- is in the data state then, and exactly what follows remains of its input
 abbrev pub EndsInDataState : List ℕ → List Token → Type 0
 EndsInDataState text tokens =
     (after : List ℕ) → Leads Data (with_line_feeds text ++ after) tokens after
@@ -22,7 +22,7 @@ ends_with_return (b ∷ rest) = if is_nonempty rest then ends_with_return rest e
 abbrev pub splits_newline : List ℕ → List ℕ → Bool
 splits_newline text after = ends_with_return text && begins_with_line_feed after
 
--- all that is emitted are the tokens of a text and then exactly those of what follows it alone
+-- the emitted tokens are those of a text and then exactly those of what follows it alone
 pub record HasTokensAfter (earlier : List Token) (after : List ℕ) (all : List Token) : Type 0 where
   pub later : List Token
   pub alone : IsTokenized after later

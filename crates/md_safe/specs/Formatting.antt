@@ -1,5 +1,5 @@
 -- The list of active formatting elements (HTML Standard, 13.2.4.3), and the adoption agency
--- (13.2.6.4.7) where it pops elements alone.
+-- (13.2.6.4.7) in the cases in which it only pops elements.
 use Rattle.std.specs.Prelude.{ℕ, suc, Bool, false, not, ◌&&◌, ◌||◌, ◌==◌, nat_lt, if◌then◌else◌}
 use Rattle.std.specs.Prelude.{List, [], ◌∷◌, length, Option, Some, None, take, bytes_eq}
 use Rattle.std.specs.List.{list_any, list_all}
@@ -20,8 +20,8 @@ is_active identity (Marker ∷ entries) = is_active identity entries
 is_active identity (Formatting other name attributes ∷ entries) =
     identity == other || is_active identity entries
 
--- reconstructing the active formatting elements is nothing where the last entry is a marker or is
--- open; what it does beyond that isn't written out
+-- reconstructing the active formatting elements does nothing if the last entry is a marker or is
+-- open; the other cases aren't written out
 abbrev pub needs_reconstruction : Parser → Bool
 needs_reconstruction parser =
     elim parser.active [
@@ -54,13 +54,13 @@ without_earliest name attributes (Formatting identity other those ∷ entries) =
     if bytes_eq other name && are_same those attributes && count_same name attributes entries == 0
     then entries else Formatting identity other those ∷ without_earliest name attributes entries
 
--- an element is pushed onto the list: of a kind there are three at most after the last marker
+-- pushes an element onto the list: at most three of one kind come after the last marker
 abbrev pub push : ℕ → List ℕ → List TokenAttribute → List Entry → List Entry
 push identity name attributes entries = Formatting identity name attributes
     ∷ (if nat_lt 2 (count_same name attributes entries)
     then without_earliest name attributes entries else entries)
 
--- the list is cleared up to the last marker
+-- clears the list up to the last marker
 abbrev pub cleared : List Entry → List Entry
 cleared [] = []
 cleared (Marker ∷ entries) = entries
@@ -82,15 +82,15 @@ without identity (Formatting other name attributes ∷ entries) =
     else Formatting other name attributes ∷ without identity entries
 
 -- an end tag that has no rule of its own (13.2.6.4.7, "any other end tag"): the current node is
--- popped where it has this name; the tag is ignored where it is special; how it looks further
--- isn't written out
+-- popped if it has this name; the tag is ignored if that node is special; the further search isn't
+-- written out
 abbrev pub end_other : List ℕ → Parser → Option Parser
 end_other name parser =
     if current (is_named name) parser.stack
     then Some (record parser { stack = popped parser.stack })
     else (if current (is_among special) parser.stack then Some parser else None)
 
--- the adoption agency, where no special element is above the formatting element
+-- the adoption agency, if no special element is above the formatting element
 abbrev pub adopt : List ℕ → ℕ → Parser → Option Parser
 adopt name identity parser =
     if not (is_open identity parser.stack)

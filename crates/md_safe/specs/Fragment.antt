@@ -1,5 +1,5 @@
--- Which nodes the HTML Standard's fragment parsing makes of a list of tokens (13.4): what
--- `innerHTML` sets into an element, its context.
+-- The HTML Standard's fragment parsing (13.4): the nodes that `innerHTML` inserts into an element,
+-- its context.
 use Rattle.std.specs.Prelude.{ℕ, Bool, not, ◌++◌, List, [], ◌∷◌, if◌then◌else◌, Option, Some, None}
 use Rattle.std.specs.Prelude.{option_map, codes}
 use Rattle.md_text.specs.Bytes.{is_one_of}
@@ -15,20 +15,20 @@ of_other_states = codes "title" ∷ codes "textarea" ∷ codes "style" ∷ codes
     ∷ codes "noembed" ∷ codes "noframes" ∷ codes "script" ∷ codes "noscript"
     ∷ codes "plaintext" ∷ []
 
--- those that reset the insertion mode to another one than "in body" (13.2.4.1); a cell that is the
--- context doesn't
+-- the contexts that reset the insertion mode to another one than "in body" (13.2.4.1); a cell that
+-- is the context doesn't
 abbrev pub of_other_modes : List (List ℕ)
 of_other_modes = codes "tr" ∷ codes "tbody" ∷ codes "thead" ∷ codes "tfoot" ∷ codes "caption"
     ∷ codes "colgroup" ∷ codes "table" ∷ codes "template" ∷ codes "frameset"
     ∷ codes "html" ∷ []
 
 -- an HTML element in which a fragment is read in the data state and "in body": `div`, `li`,
--- `section`, `article`, `td`, `blockquote`, `details`, `p`, and all others but those above, foreign
--- content and what a `select` holds
+-- `section`, `article`, `td`, `blockquote`, `details`, `p`, and all others except those above,
+-- foreign content and the content of a `select`
 abbrev pub is_flow_context : List ℕ → Bool
 is_flow_context name = not (is_one_of (of_other_states ++ of_other_modes ++ apart) name)
 
--- what an element holds
+-- the children of an element
 abbrev pub children_of : Nodes → Nodes
 children_of nodes =
     elim nodes [

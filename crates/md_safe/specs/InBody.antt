@@ -12,23 +12,22 @@ use Rattle.md_safe.specs.Stack.{pop_until, insert, say}
 use Rattle.md_safe.specs.Formatting.{needs_reconstruction, push, last_active, end_other}
 use Rattle.md_safe.specs.Formatting.{end_formatting}
 
--- elements whose end tags are implied are popped, but for this name
+-- pops elements whose end tags are implied, except this name
 abbrev pub imply_except : List ℕ → List Open → List Open
 imply_except name stack =
     pop_while (λ node. is_among implied node && not (is_named name node)) stack
 
--- a `p` element is closed, where one is in button scope
+-- closes a `p` element, if there is one in button scope
 abbrev pub close_p : List Open → List Open
 close_p stack = if has_in_scope button_scope (is_named (codes "p")) stack
     then pop_until (is_named (codes "p")) (imply_except (codes "p") stack) else stack
 
--- after what is done before a block
+-- inserts a block, after closing a `p` element
 abbrev pub insert_block : List ℕ → List TokenAttribute → Parser → Parser
 insert_block name attributes parser =
     insert name attributes (record parser { stack = close_p parser.stack })
 
--- a start tag of a list item looks for an item that is open, up to a special element that
--- is none of three
+-- a start tag of a list item looks for an open item, up to a special element that is none of three
 abbrev pub has_item : List Open → Bool
 has_item [] = false
 has_item (node ∷ rest) = is_named (codes "li") node || (not (is_among special node)
@@ -38,17 +37,17 @@ abbrev pub close_item : List Open → List Open
 close_item stack = if has_item stack
     then pop_until (is_named (codes "li")) (imply_except (codes "li") stack) else stack
 
--- a change after the active formatting elements are reconstructed, where that is nothing
+-- a change after the active formatting elements are reconstructed, if that does nothing
 abbrev pub reconstructed : Parser → (Parser → Parser) → Option Parser
 reconstructed parser change = if needs_reconstruction parser then None else Some (change parser)
 
--- a formatting element is inserted and pushed onto the list
+-- inserts a formatting element and pushes it onto the list
 abbrev pub insert_formatting : List ℕ → List TokenAttribute → Parser → Parser
 insert_formatting name attributes parser =
     record (insert name attributes
     parser) { active = push parser.created name attributes parser.active }
 
--- a void element is inserted and popped at once
+-- inserts a void element and pops it at once
 abbrev pub insert_void : List ℕ → List TokenAttribute → Parser → Parser
 insert_void name attributes parser =
     let inserted = insert name attributes parser in
@@ -79,9 +78,8 @@ start_in_body name attributes parser =
     else (if is_one_of parts name then Some parser else (if is_one_of ordinary name
     then reconstructed parser (insert name attributes) else None))))))))))
 
--- the end tags of the body and of the root pop nothing: the mode is "after body", and at that
--- of the root, which is reprocessed there, "after after body"; what a cell does with them
--- isn't written out
+-- the end tags of the body and of the root pop nothing: the mode is "after body", and at that of
+-- the root, which is reprocessed there, "after after body"; inside a cell they aren't written out
 abbrev pub end_body : List ℕ → Parser → Option Parser
 end_body name parser = elim parser.mode [
   | InBody ↦ Some

@@ -1,5 +1,5 @@
 -- The insertion modes of tables (HTML Standard, 13.2.6.4.9 and .10 to .15), for the grammar's tags.
--- Foster parenting, elements that a table lacks, and tags that end several of its parts at once
+-- Foster parenting, missing elements of a table, and tags that end several of its parts at once
 -- aren't written out.
 use Rattle.std.specs.Prelude.{ℕ, Bool, not, if◌then◌else◌, List, [], ◌∷◌, Option, Some, None}
 use Rattle.std.specs.Prelude.{bytes_eq, codes}
@@ -15,8 +15,8 @@ use Rattle.md_safe.specs.Stack.{pop_until, insert, say}
 use Rattle.md_safe.specs.Formatting.{cleared}
 use Rattle.md_safe.specs.InBody.{imply_except, start_in_body, end_in_body}
 
--- elements are popped up to one of these, the root, or a template (13.2.6.4.9: clearing
--- back to a context)
+-- pops elements up to one of these, the root, or a template (13.2.6.4.9: clearing back to a
+-- context)
 abbrev pub back_to : List (List ℕ) → List Open → List Open
 back_to names stack =
     pop_while (λ node. not (is_among (codes "template" ∷ codes "html" ∷ names) node)) stack
@@ -89,7 +89,7 @@ end_in_cell name parser = if is_one_of cells name then
     (if has_in_scope table_scope (is_named name) parser.stack then None else Some parser)
     else end_in_body name parser)
 
--- the current node is one in which a table's characters are pending
+-- the current node collects the pending characters of a table
 abbrev pub is_tabular : Open → Bool
 is_tabular node =
     is_among (codes "table" ∷ codes "tbody" ∷ codes "template" ∷ codes "tfoot" ∷ codes "thead"
@@ -99,12 +99,12 @@ abbrev pub character_in_table : ℕ → Parser → Option Parser
 character_in_table byte parser = if current is_tabular parser.stack
     then Some (record parser { mode = InTableText parser.mode; pending = byte ∷ [] }) else None
 
--- characters are inserted one after another
+-- inserts characters in sequence
 abbrev pub say_all : List ℕ → List Open → List Open
 say_all [] stack = stack
 say_all (byte ∷ bytes) stack = say_all bytes (say byte stack)
 
--- the pending characters are inserted where they are white space, and the mode is what it was
+-- inserts the pending characters if they are white space, and restores the mode
 abbrev pub end_table_text : Mode → Parser → Option Parser
 end_table_text original parser = if list_all is_space parser.pending then Some
     (record parser { stack = say_all parser.pending parser.stack; mode = original; pending = [] })

@@ -1,4 +1,4 @@
--- What the tokenizer is given of a text (HTML Standard, https://html.spec.whatwg.org/, 13.2.3.5).
+-- The tokenizer's input for a text (HTML Standard, https://html.spec.whatwg.org/, 13.2.3.5).
 use Rattle.std.specs.Prelude.{ℕ, ◌==◌, Bool, false, if◌then◌else◌, List, [], ◌∷◌}
 
 -- a text begins with a line feed

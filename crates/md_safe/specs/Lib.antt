@@ -1,10 +1,10 @@
 -- Which options are safe, and what two documents on one page share, which a reader must believe;
--- when a link stands in a link; and what stands where in a document, of which only proofs speak.
+-- when a link contains a link; and the content of nodes in a document, which only proofs use.
 pub mod Options
 pub mod Apart
 pub mod Links
 pub mod Placed
--- What the HTML Standard's tokenizer makes of a text, what it is to make of a forest of the HTML
+-- The tokens that the HTML Standard's tokenizer emits for a text, those of a forest of the HTML
 -- grammar and of a page, and the scheme that the URL Standard finds in a URL.
 pub mod Input
 pub mod Token
@@ -17,12 +17,12 @@ pub mod SafeTokens
 pub mod Tokenized
 pub mod PageTokens
 pub mod Running
--- What some steps of the tokenizer make of a text, whatever comes after it.
+-- The results of some steps of the tokenizer on a text, whatever follows it.
 pub mod Leads
 pub mod Embedded
--- The content model of what is written.
+-- The content model of the HTML that is written.
 pub mod Contents
--- The HTML Standard's tree construction, as far as the HTML grammar needs it.
+-- The HTML Standard's tree construction, as far as the HTML grammar requires it.
 pub mod Node
 pub mod Elements
 pub mod Stack

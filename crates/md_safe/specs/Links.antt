@@ -6,8 +6,7 @@ use Rattle.md_base.specs.declared.event.Name.TheVariants.{GfmFootnoteCall, Image
 use Rattle.md_base.specs.Is.{is}
 use Rattle.md_base.specs.Tree.{Forest, Empty, Node}
 
--- a name that prints a link wherever it stands outside images; a literal autolink in
--- a link is a text
+-- a name that prints a link except in images; a literal autolink in a link is a text
 abbrev pub prints_link : Name → Bool
 prints_link name = elim name [
   | Link ↦ true
@@ -17,7 +16,7 @@ prints_link name = elim name [
   | _ ↦ false
 ]
 
--- some nodes, in a link or not, have a link in a link, of which neither stands in an image
+-- some nodes, in a link or not, contain a link in a link, neither of which is in an image
 abbrev pub has_nested_link : Bool → Forest → Bool
 has_nested_link in_link Empty = false
 has_nested_link in_link (Node name start end children rest) =

@@ -1,8 +1,8 @@
--- Nodes, and what tree construction knows (HTML Standard, 13.2.4). A character is a byte here.
+-- Nodes, and the state of tree construction (HTML Standard, 13.2.4). A character is a byte here.
 use Rattle.std.specs.Prelude.{ℕ, Bool, true, false, if◌then◌else◌, List, [], ◌∷◌, ◌++◌}
 use Rattle.md_safe.specs.Token.{TokenAttribute}
 
--- the children of a node one after another: texts and elements, each with what comes after it
+-- the children of a node in sequence: texts and elements, each with the nodes after it
 pub data Nodes : Type 0 where
   Empty : Nodes
   Text : List ℕ → Nodes → Nodes
@@ -11,7 +11,7 @@ pub data Nodes : Type 0 where
 abbrev pub is_none : Nodes → Bool
 is_none nodes = elim nodes [ Empty ↦ true | _ ↦ false ]
 
--- the same with an element after them
+-- the same with an element appended
 abbrev pub with_element : Nodes → List ℕ → List TokenAttribute → Nodes → Nodes
 with_element Empty name attributes inner = Element name attributes inner Empty
 with_element (Text bytes rest) name attributes inner =
@@ -19,8 +19,7 @@ with_element (Text bytes rest) name attributes inner =
 with_element (Element other those within rest) name attributes inner =
     Element other those within (with_element rest name attributes inner)
 
--- the same with a character after them: it is appended to a text that is the last of them
--- (13.2.6.1)
+-- the same with a character appended: it extends a text that is the last of them (13.2.6.1)
 abbrev pub with_character : Nodes → ℕ → Nodes
 with_character Empty byte = Text (byte ∷ []) Empty
 with_character (Text bytes rest) byte =
@@ -29,8 +28,8 @@ with_character (Text bytes rest) byte =
 with_character (Element name attributes inner rest) byte =
     Element name attributes inner (with_character rest byte)
 
--- an element on the stack of open elements: which it is, and its children so far. While it is open
--- nothing is inserted into its parent, so that it is put there as it is popped
+-- an element on the stack of open elements: its identity, and its children so far. While it is open
+-- nothing is inserted into its parent, so it is appended to its parent when it is popped
 pub record Open : Type 0 where
   pub identity : ℕ
   pub name : List ℕ
@@ -42,7 +41,7 @@ pub data Entry : Type 0 where
   Marker : Entry
   Formatting : (identity : ℕ) (name : List ℕ) (attributes : List TokenAttribute) → Entry
 
--- an insertion mode (13.2.4.1), the two of texts with what they go back to
+-- an insertion mode (13.2.4.1); the two modes of texts have the mode to return to
 pub data Mode : Type 0 where
   Initial : Mode
   BeforeHtml : Mode

@@ -1,5 +1,5 @@
--- Which document tree construction builds of a list of tokens from its beginning, and
--- which of a page.
+-- The document that tree construction builds from a list of tokens from its beginning, and that of
+-- a page.
 use Rattle.std.specs.Prelude.{◌≡◌, ℕ, Bool, not, ◌==◌, List, [], ◌∷◌, length, if◌then◌else◌, Option}
 use Rattle.std.specs.Prelude.{Some, None, option_map, option_and_then, bytes_eq, codes}
 use Rattle.std.specs.List.{list_all}
@@ -21,8 +21,7 @@ pub record Document : Type 0 where
   pub doctype : Option (List ℕ)
   pub root : Nodes
 
--- the end of file: an element that is missing is made; in a body, a table and after a
--- body, parsing stops
+-- the end of file: a missing element is created; in a body, a table and after a body, parsing stops
 abbrev pub stop : Mode → Parser → Option Parser
 stop Initial parser = Some (with_body (without_head (with_head (with_root parser))))
 stop BeforeHtml parser = Some (with_body (without_head (with_head (with_root parser))))
@@ -64,12 +63,12 @@ constructed doctype parser (token ∷ tokens) =
 abbrev pub document_of : List Token → Option Document
 document_of tokens = constructed None (at Initial [] [] 0) tokens
 
--- the tokenizer makes U+FFFD of each NUL in a title
+-- the tokenizer emits U+FFFD for each NUL in a title
 abbrev pub has_no_nul : List ℕ → Bool
 has_no_nul bytes = list_all (λ byte. not (byte == 0)) bytes
 
 -- a page's document: its head has the title's characters, its body the nodes of a reading and the
--- line feed that the page ends with, in one text with what is before it
+-- line feed that ends the page, in one text with the text before it
 abbrev pub page_document : List ℕ → Forest → Document
 page_document title body = record {
   doctype = Some (codes "html");
@@ -81,7 +80,7 @@ page_document title body = record {
       Empty;
 }
 
--- a body's text has exactly one reading, and of the page's text the tokenizer emits the tokens of
+-- a body's text has exactly one reading; the tokenizer emits for the page's text the tokens from
 -- which the document with that reading is built
 pub record IsBuiltPage (title body text : List ℕ) : Type 0 where
   pub inside : Forest

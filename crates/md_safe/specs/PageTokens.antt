@@ -1,5 +1,4 @@
--- What the tokenizer is to make of a page: a doctype, a head with a title, and a body of
--- the HTML grammar.
+-- The tokens of a page: a doctype, a head with a title, and a body of the HTML grammar.
 use Rattle.std.specs.Prelude.{◌≡◌, ℕ, true, false, IsTrue, List, [], ◌∷◌, ◌++◌, map, codes}
 use Rattle.std.specs.List.{list_all}
 use Rattle.md_text.specs.Html.{Forest, IsReading}
@@ -9,7 +8,7 @@ use Rattle.md_safe.specs.Tokenizer.{IsTokenized}
 use Rattle.md_safe.specs.Tokens.{tokens}
 use Rattle.md_safe.specs.SafeTokens.{has_safe_links, has_safe_images}
 
--- the text of a page around an escaped title and a body's text
+-- the text of a page with an escaped title and a body's text
 abbrev pub page_text : List ℕ → List ℕ → List ℕ
 page_text title body =
     codes "<!doctype html>\n<html><head><meta charset=\"utf-8\" /><title>"
@@ -31,9 +30,9 @@ page_tokens title body =
     ++ (EndTag (codes "title") ∷ EndTag (codes "head") ∷ plain_tag (codes "body") ∷ (tokens body
     ++ (EndTag (codes "body") ∷ EndTag (codes "html") ∷ Character 10 ∷ EndOfFile ∷ []))))
 
--- the tokenizer emits exactly the tokens of a page of the text, with a title of these characters
--- and a reading of that body, and each `href` and each `src` among them has no scheme of its own
--- or a permitted one
+-- the tokenizer emits for the text exactly the tokens of a page, with a title of these characters
+-- and a reading of that body, and each `href` and each `src` among them has no scheme of its own or
+-- a permitted one
 pub record IsTokenizedPage (title body text : List ℕ) : Type 0 where
   pub inside : Forest
   pub reading : IsReading body inside

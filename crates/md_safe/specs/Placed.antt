@@ -1,5 +1,5 @@
--- Which content the children of a node are, and which names stand in it. Only proofs speak of it:
--- each document of the grammar is so.
+-- The content of each node's children, and the names that it allows. Only proofs use it: each
+-- document of the grammar fulfils it.
 use Rattle.std.specs.Prelude.{◌≡◌, Bool, true, false, ◌||◌, if◌then◌else◌}
 use Rattle.md_base.specs.declared.event.Name.{Name}
 use Rattle.md_base.specs.declared.event.Name.TheVariants as name_variants
@@ -14,7 +14,7 @@ use Rattle.md_base.specs.NameTests.{is_transparent}
 use Rattle.md_safe.specs.Contents.{Content, Flow, Phrasing, Linked, Items, Parts, Rows, Cells}
 use Rattle.md_safe.specs.Contents.{Preformatted, Characters}
 
--- what a name is to the node around it: a block, an item, a table's part, a row, a cell, a line
+-- the sort of a name for its parent: a block, an item, a table's part, a row, a cell, a line
 -- ending, a line of code, the row of delimiters, or anything else
 pub data Sort : Type 0 where
   Block : Sort
@@ -61,7 +61,7 @@ sort_of name = elim name [
 abbrev pub is_inner : Sort → Bool
 is_inner sort = elim sort [ Item ↦ true | Part ↦ true | Row ↦ true | Cell ↦ true | _ ↦ false ]
 
--- what may stand in a node whose children are this content
+-- a content allows a sort of child
 abbrev pub may_stand : Content → Sort → Bool
 may_stand Flow sort = if is_inner sort then false else true
 may_stand Phrasing sort = if is_inner sort then false else elim sort [ Block ↦ false | _ ↦ true ]
@@ -73,7 +73,7 @@ may_stand Cells sort = elim sort [ Cell ↦ true | _ ↦ false ]
 may_stand Preformatted sort = false
 may_stand Characters sort = elim sort [ Chunk ↦ true | Ending ↦ true | _ ↦ false ]
 
--- what the children of a node are
+-- the content of a node's children
 abbrev pub place_of : Name → Content
 place_of name = elim name [
   | BlockQuote ↦ Flow
@@ -92,7 +92,7 @@ place_of name = elim name [
 abbrev pub place_inside : Content → Name → Content
 place_inside content name = if is_transparent name then content else place_of name
 
--- some nodes stand where they may
+-- a content allows each of some nodes
 abbrev pub IsPlaced : Content → Forest → Type 0
 IsPlaced content Empty = Unit {0}
 IsPlaced content (Node name start end children rest) =

@@ -1,5 +1,5 @@
--- Names of tags and attributes by which a text would run something, or change how the page
--- around it is read.
+-- Names of tags and attributes by which a text would run something, or change how the surrounding
+-- page is read.
 use Rattle.std.specs.Prelude.{ℕ, Bool, true, not, ◌&&◌, ◌||◌, nat_eq, List, [], ◌∷◌, codes}
 use Rattle.std.specs.List.{list_all, starts_with}
 use Rattle.md_text.specs.Bytes.{is_one_of}
@@ -13,8 +13,8 @@ running_elements =
     ∷ codes "applet" ∷ codes "audio" ∷ codes "video" ∷ codes "source" ∷ codes "track" ∷ codes "form"
     ∷ codes "button" ∷ codes "base" ∷ codes "meta" ∷ codes "link" ∷ codes "svg" ∷ codes "math" ∷ []
 
--- an event handler, whose name begins with `on`; a style; or one of these addresses beside
--- `href` and `src`
+-- an event handler, whose name begins with `on`; a style; or an attribute with an address, other
+-- than `href` and `src`
 abbrev pub is_running_attribute : List ℕ → Bool
 is_running_attribute name =
     starts_with nat_eq name (codes "on") || is_one_of (codes "style" ∷ codes "srcdoc"

@@ -1,5 +1,5 @@
--- Which tokens are safe: each `href`, and each `src`, has by the URL Standard no scheme of its own
--- or a permitted one.
+-- Safe tokens: each `href`, and each `src`, has by the URL Standard no scheme of its own or a
+-- permitted one.
 use Rattle.std.specs.Str.{bytes_eq}
 use Rattle.std.specs.Prelude.{ℕ, Bool, true, if◌then◌else◌, List, codes}
 use Rattle.std.specs.List.{list_all}

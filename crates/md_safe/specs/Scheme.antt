@@ -15,7 +15,7 @@ abbrev pub without_leading : List ℕ → List ℕ
 without_leading [] = []
 without_leading (b ∷ rest) = if is_control_or_space b then without_leading rest else b ∷ rest
 
--- 4.4, "remove any trailing C0 control or space": a byte goes where nothing else follows it
+-- 4.4, "remove any trailing C0 control or space": such a byte is removed if nothing else follows it
 abbrev pub without_trailing : List ℕ → List ℕ
 without_trailing [] = []
 without_trailing (b ∷ rest) =
@@ -31,7 +31,7 @@ without_newlines [] = []
 without_newlines (b ∷ rest) =
     if is_tab_or_newline b then without_newlines rest else b ∷ without_newlines rest
 
--- 4.4, what the parser's states are given, after its first steps
+-- 4.4, the input of the parser's states, after its first steps
 abbrev pub trimmed : List ℕ → List ℕ
 trimmed url = without_newlines (without_trailing (without_leading url))
 
@@ -52,7 +52,7 @@ abbrev pub in_scheme_start : List ℕ → Option (List ℕ)
 in_scheme_start [] = None
 in_scheme_start (b ∷ rest) = if is_letter b then in_scheme (lower b ∷ []) rest else None
 
--- a URL's own scheme, in lower case; one without is relative, and takes that of the page around it
+-- a URL's own scheme, in lower case; a URL without one is relative, and uses that of its page
 abbrev pub scheme_of : List ℕ → Option (List ℕ)
 scheme_of url = in_scheme_start (trimmed url)
 

@@ -1,5 +1,5 @@
--- The stack of open elements (HTML Standard, 13.2.4.2), and what is inserted at its current
--- node (13.2.6.1).
+-- The stack of open elements (HTML Standard, 13.2.4.2), and insertion at its current node
+-- (13.2.6.1).
 use Rattle.std.specs.Prelude.{ℕ, zero, suc, Bool, false, not, ◌&&◌, ◌||◌, ◌==◌, if◌then◌else◌, List}
 use Rattle.std.specs.Prelude.{[], ◌∷◌, bytes_eq}
 use Rattle.md_text.specs.Bytes.{is_one_of}
@@ -15,7 +15,7 @@ is_among names node = is_one_of names node.name
 abbrev pub has_identity : ℕ → Open → Bool
 has_identity identity node = node.identity == identity
 
--- the stack has an element that passes the test in the scope that these end (13.2.4.2)
+-- the stack has an element that passes the test in the scope with these ends (13.2.4.2)
 abbrev pub has_in_scope : List (List ℕ) → (Open → Bool) → List Open → Bool
 has_in_scope ends test [] = false
 has_in_scope ends test (node ∷ rest) =
@@ -25,7 +25,7 @@ has_in_scope ends test (node ∷ rest) =
 abbrev pub current : (Open → Bool) → List Open → Bool
 current test stack = elim stack [ node ∷ rest ↦ test node | [] ↦ false ]
 
--- the current node is popped: it is put into its parent
+-- pops the current node, and appends it to its parent
 abbrev pub popped : List Open → List Open
 popped [] = []
 popped (node ∷ []) = node ∷ []
@@ -34,13 +34,13 @@ popped (node ∷ parent ∷ rest) = record parent {
 }
     ∷ rest
 
--- so many are popped
+-- pops so many nodes
 abbrev pub popped_by : ℕ → List Open → List Open
 popped_by zero stack = stack
 popped_by (suc count) stack = popped_by count (popped stack)
 
--- how many nodes from the current one on pass a test in a row, and how many there are up to
--- the first that does
+-- how many nodes, from the current one, pass a test in sequence, and how many there are up to the
+-- first that does
 abbrev pub count_while : (Open → Bool) → List Open → ℕ
 count_while test [] = 0
 count_while test (node ∷ rest) = if test node then suc (count_while test rest) else 0
@@ -49,14 +49,14 @@ abbrev pub count_until : (Open → Bool) → List Open → ℕ
 count_until test [] = 0
 count_until test (node ∷ rest) = if test node then 1 else suc (count_until test rest)
 
--- elements are popped while they pass a test, or until one that does has been popped
+-- pops elements while they pass a test, or until one that does has been popped
 abbrev pub pop_while : (Open → Bool) → List Open → List Open
 pop_while test stack = popped_by (count_while test stack) stack
 
 abbrev pub pop_until : (Open → Bool) → List Open → List Open
 pop_until test stack = popped_by (count_until test stack) stack
 
--- an element is inserted and becomes the current node
+-- inserts an element, which becomes the current node
 abbrev pub insert : List ℕ → List TokenAttribute → Parser → Parser
 insert name attributes parser = record parser {
   stack =
@@ -65,7 +65,7 @@ insert name attributes parser = record parser {
   created = suc parser.created;
 }
 
--- a character is inserted at the current node
+-- inserts a character at the current node
 abbrev pub say : ℕ → List Open → List Open
 say byte [] = []
 say byte (node ∷ rest) = record node { children = with_character node.children byte } ∷ rest

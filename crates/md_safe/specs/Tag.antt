@@ -1,11 +1,11 @@
--- The tag that the tokenizer is reading, before it is emitted (HTML Standard, 13.2.5).
+-- The tag that the tokenizer is reading, before it emits it (HTML Standard, 13.2.5).
 use Rattle.std.specs.Str.{bytes_eq}
 use Rattle.std.specs.Prelude.{ℕ, Bool, if◌then◌else◌, List, [], ◌∷◌, ◌++◌}
 use Rattle.std.specs.List.{list_any}
 use Rattle.md_safe.specs.Token.{TokenAttribute, Token, StartTag, EndTag}
 
--- a start tag or an end tag, with its name and its attributes so far; the one that was begun last
--- stands first, and it is the current one
+-- a start tag or an end tag, with its name and its attributes so far; the latest attribute comes
+-- first, and is the current one
 pub record Tag : Type 0 where
   pub is_end : Bool
   pub name : List ℕ
@@ -51,8 +51,8 @@ with_value tag bytes = record {
   ];
 }
 
--- 13.2.5.33, duplicate attributes: in the order in which they were begun, without each that has an
--- earlier one's name
+-- 13.2.5.33, duplicate attributes: in the order in which they were begun, without those whose name
+-- an earlier one has
 abbrev pub kept : List TokenAttribute → List TokenAttribute
 kept [] = []
 kept (a ∷ earlier) =

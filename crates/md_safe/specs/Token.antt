@@ -1,5 +1,5 @@
--- What the tokenizer emits (HTML Standard, 13.2.5). A character token is of one byte here: a
--- character of several bytes is as many tokens.
+-- The tokens that the tokenizer emits (HTML Standard, 13.2.5). A character token is one byte here:
+-- a character of several bytes is as many tokens.
 use Rattle.std.specs.Prelude.{ℕ, Bool, List}
 
 -- an attribute of a start tag: its name and its value

@@ -1,4 +1,4 @@
--- What the calls promise of a text in the Standard's words.
+-- The promises of the calls about a text, in the Standard's terms.
 use Rattle.std.specs.Prelude.{◌≡◌, ℕ, Bool, IsTrue, List, [], ◌∷◌, ◌++◌}
 use Rattle.std.specs.List.{list_all}
 use Rattle.md_text.specs.Html.{Forest, IsReading}
@@ -7,16 +7,16 @@ use Rattle.md_safe.specs.Tokenizer.{IsTokenized}
 use Rattle.md_safe.specs.Tokens.{tokens, is_listed}
 use Rattle.md_safe.specs.SafeTokens.{has_safe_links, has_safe_images}
 
--- the tokenizer emits exactly these tokens of the text, and each of them passes the test
+-- the tokenizer emits exactly these tokens for the text, and each of them passes the test
 pub record HasTokensWith (p : Token → Bool) (text : List ℕ) : Type 0 where
   pub emits : List Token
   pub tokenized : IsTokenized text emits
   pub only : (other : List Token) → IsTokenized text other → other ≡ emits
   pub passes : IsTrue (list_all p emits)
 
--- of a text that has a reading the tokenizer emits exactly the tokens of that reading and the
--- end of file, and each tag among them is of the grammar's tables, with no attributes but those
--- that it may have
+-- for a text that has a reading the tokenizer emits exactly the tokens of that reading and the end
+-- of file, and each tag among them is in the grammar's tables, with only attributes that the tables
+-- list for it
 pub record IsTokenizedAsRead (text : List ℕ) : Type 0 where
   pub forest : Forest
   pub reading : IsReading text forest

@@ -1,7 +1,7 @@
 -- The HTML Standard's tokenizer (https://html.spec.whatwg.org/, 13.2.5), as far as it is written
--- out here: each transition is the Standard's, or it is `Stuck`, and of a text that gets stuck
--- nothing is claimed. It goes by the bytes of UTF-8: from 128 on each is "anything else" in all
--- these states. Parse errors change no token, and are left out.
+-- out here: each transition is the Standard's, or it is `Stuck`, and about a text that gets stuck
+-- nothing is claimed. It reads bytes of UTF-8: from 128 on each is "anything else" in all these
+-- states. Parse errors change no token, and are left out.
 use Rattle.std.specs.Str.{bytes_eq}
 use Rattle.std.specs.Prelude.{◌≡◌, ℕ, zero, suc, ◌==◌, Bool, true, false, ◌&&◌, ◌||◌, if◌then◌else◌}
 use Rattle.std.specs.Prelude.{List, [], ◌∷◌, ◌++◌, map, take, drop, length, Option, Some, None}
@@ -140,8 +140,8 @@ in_self_closing_start_tag tag b rest =
     if b == 62 then emitted tag true rest
     else Goes [] (BeforeAttributeName tag) (b ∷ rest)
 
--- 13.2.5.42 Markup declaration open state, at all that is left; not written out are comments
--- and CDATA sections
+-- 13.2.5.42 Markup declaration open state, at the remaining input; not written out are comments and
+-- CDATA sections
 abbrev pub in_markup_declaration_open : List ℕ → Step
 in_markup_declaration_open input =
     if bytes_eq (lowered (take 7 input)) (codes "doctype")
@@ -166,8 +166,8 @@ in_doctype_name name b rest =
     else (if b == 62 then Goes (Doctype name ∷ []) Data rest
     else Goes [] (DoctypeName (name ++ in_name b)) rest)
 
--- "flush code points consumed as a character reference", and switch to the return state: they come
--- to the current attribute's value, or are emitted as characters
+-- "flush code points consumed as a character reference", and switch to the return state: they are
+-- appended to the current attribute's value, or emitted as characters
 abbrev pub flushed : State → List ℕ → List ℕ → Step
 flushed (AttributeValueDoubleQuoted tag) bytes rest =
     Goes [] (AttributeValueDoubleQuoted (with_value tag bytes)) rest
@@ -181,12 +181,12 @@ in_character_reference state b rest =
     else flushed state (38 ∷ []) (b ∷ rest))
 
 -- 13.5, the names of the table that are written out, each with its character. In that table a `;`
--- stands only at a name's end, so none of these is the beginning of another name: one that the
--- input begins with is the longest such
+-- occurs only at the end of a name, so none of these is the beginning of another name: if the input
+-- begins with one, it is the longest such name
 abbrev pub references : List (List ℕ × ℕ)
 references = (codes "amp;", 38) ∷ (codes "lt;", 60) ∷ (codes "gt;", 62) ∷ (codes "quot;", 34) ∷ []
 
--- 13.2.5.73 Named character reference state, at all that is left; not written out are the other
+-- 13.2.5.73 Named character reference state, at the remaining input; not written out are the other
 -- names, and no name
 abbrev pub in_named_reference : List (List ℕ × ℕ) → State → List ℕ → Step
 in_named_reference [] state input = Stuck
@@ -253,24 +253,23 @@ step state (b ∷ rest) = at_byte state b rest
 
 -- ---- runs
 
--- what a step emits, and then what comes of the state that it leads to
+-- the tokens of a step, followed by those from the state after it
 abbrev pub after_step : (State → List ℕ → Option (List Token)) → Step → Option (List Token)
 after_step go (Goes tokens state rest) = option_map (λ later. tokens ++ later) (go state rest)
 after_step go (Stops tokens) = Some tokens
 after_step go Stuck = None
 
--- the tokens that are emitted where the tokenizer stops after at most so many steps, and none
--- where it doesn't
+-- the tokens that are emitted if the tokenizer stops after at most so many steps, else none
 abbrev pub run : ℕ → State → List ℕ → Option (List Token)
 run zero state input = None
 run (suc n) state input = after_step (run n) (step state input)
 
--- from a state on, an input with normalized newlines is emitted as these tokens, and no step
--- of it gets stuck
+-- from a state, an input with normalized newlines is emitted as these tokens, and no step gets
+-- stuck
 pub record IsRun (state : State) (input : List ℕ) (tokens : List Token) : Type 0 where
   pub steps : ℕ
   pub emits : run steps state input ≡ Some tokens
 
--- from the data state on, a text is emitted as these tokens, of which the end of file is the last
+-- from the data state, a text is emitted as these tokens, the last of which is the end of file
 abbrev pub IsTokenized : List ℕ → List Token → Type 0
 IsTokenized text tokens = IsRun Data (with_line_feeds text) tokens

@@ -1,4 +1,4 @@
--- What the tokenizer is to make of a forest of the HTML grammar.
+-- The tokens of a forest of the HTML grammar.
 use Rattle.std.specs.Str.{bytes_eq}
 use Rattle.std.specs.Prelude.{ℕ, Bool, true, false, ◌&&◌, if◌then◌else◌, List, [], ◌∷◌, ◌++◌, map}
 use Rattle.std.specs.List.{list_all, list_any}
@@ -9,17 +9,17 @@ use Rattle.md_safe.specs.Input.{with_line_feeds}
 use Rattle.md_safe.specs.Token.{Token, Doctype, Character, StartTag, EndTag, EndOfFile}
 use Rattle.md_safe.specs.Token.{TokenAttribute}
 
--- what is read of a text or a value as it is written: newlines normalized, and references read back
+-- a text or a value as it is read: newlines normalized, and references read back
 abbrev pub seen : List ℕ → List ℕ
 seen bytes = read_back (with_line_feeds bytes)
 
--- attributes, their values so
+-- attributes, with their values read so
 abbrev pub seen_attributes : List Attribute → List TokenAttribute
 seen_attributes [] = []
 seen_attributes (a ∷ rest) = record { name = a.name; value = seen a.value } ∷ seen_attributes rest
 
--- a text is its characters, a void tag a start tag whose self-closing flag is set, and an element a
--- start tag, what it holds and an end tag
+-- a text gives its characters, a void tag a start tag whose self-closing flag is set, and an
+-- element a start tag, its content and an end tag
 abbrev pub tokens : Forest → List Token
 tokens Empty = []
 tokens (Text bytes rest) = map Character (seen bytes) ++ tokens rest
@@ -27,7 +27,7 @@ tokens (Void name attributes rest) = StartTag name (seen_attributes attributes) 
 tokens (Element name attributes inner rest) =
     StartTag name (seen_attributes attributes) false ∷ (tokens inner ++ (EndTag name ∷ tokens rest))
 
--- a tag of a table, with no attributes but those that it may have
+-- a tag of a table, with only attributes that the table lists for it
 abbrev pub is_tag_of : List (List ℕ × List (List ℕ)) → List ℕ → List TokenAttribute → Bool
 is_tag_of rules name attributes =
     list_any (λ rule. bytes_eq rule.0 name && list_all (λ a. is_one_of rule.1 a.name) attributes)

@@ -1,4 +1,4 @@
-//! What holds of every text, as the contracts of functions that do nothing.
+//! Facts about every text, as contracts of functions that do nothing.
 
 pub mod cases;
 
@@ -14,7 +14,7 @@ ghost use Rattle.md_safe.specs.Leads.{Leads};
 ghost use Rattle.md_safe.specs.Embedded.{EndsInDataState, HasTokensAfter, splits_newline};
 
 /// A text with a reading takes the tokenizer from the data state to the data state, with the tokens
-/// of the reading, whatever follows it: so does each text that is tokenized as a `SafeHtml` is.
+/// of the reading, whatever follows it. So does each text that is tokenized as a `SafeHtml` is.
 pub fn reading_ends_in_data_state()
     ensures reading { (text : List ℕ) (forest : Forest) → IsReading text forest
         → EndsInDataState text (tokens forest) }
@@ -28,8 +28,9 @@ pub fn its_tokens_are_its_own()
         → IsTokenized text (emits ++ (EndOfFile ∷ [])) }
 {}
 
-/// After such a text the tokenizer has exactly the input that it has of what follows alone, unless
-/// CR LF is split between the two: then the one line feed is the text's, and the rest is left.
+/// After such a text the tokenizer has exactly the input that it has for what follows alone, unless
+/// CR LF is split between the two: then the one line feed belongs to the text, and the rest
+/// remains.
 pub fn what_follows_stands_alone()
     ensures alone { (text after : List ℕ) (emits : List Token) → EndsInDataState text emits
         → splits_newline text after ≡ false
@@ -39,8 +40,8 @@ pub fn what_follows_stands_alone()
         → Leads Data (with_line_feeds (text ++ (10 ∷ after))) emits (with_line_feeds after) }
 {}
 
-/// So both in a row are tokenized as the text's tokens and then those of what follows alone, where
-/// that is tokenized, and as nothing else.
+/// So the two in sequence are tokenized as the text's tokens and then those of what follows alone,
+/// if that is tokenized, and as nothing else.
 pub fn what_follows_is_tokenized_alone()
     ensures tokenized { (text after : List ℕ) (emits later : List Token)
         → EndsInDataState text emits
@@ -51,15 +52,15 @@ pub fn what_follows_is_tokenized_alone()
         → HasTokensAfter emits after all }
 {}
 
-/// Two such texts in a row are one.
+/// Two such texts joined are such a text.
 pub fn such_texts_join()
     ensures { (before text : List ℕ) (earlier emits : List Token) → EndsInDataState before earlier
         → EndsInDataState text emits → splits_newline before text ≡ false
         → EndsInDataState (before ++ text) (earlier ++ emits) }
 {}
 
-/// A text with a reading between two others, as in a template: the one before it is cut in the data
-/// state, and the one after it is any text.
+/// A text with a reading between two others, as in a template: the text before it ends in the data
+/// state, and the text after it is any text.
 pub fn reading_stands_between()
     ensures any { (before text after : List ℕ) (earlier : List Token) (forest : Forest)
         → EndsInDataState before earlier → IsReading text forest

@@ -1,4 +1,4 @@
-//! What holds of the meaning of every document, as the contracts of functions that do nothing.
+//! Facts about the meaning of every document, as contracts of functions that do nothing.
 
 ghost use Rattle.std.specs.Prelude.{◌≡◌, ℕ, ◌<◌, ◌^◌, List, length, false};
 ghost use Rattle.md_text.specs.Html.{any_attribute, HasOneReadingWith};
@@ -16,9 +16,10 @@ ghost use Rattle.md_safe.specs.Apart.{prefix_of, ShareNoId};
 ghost use Rattle.md_safe.specs.Links.{has_nested_link};
 ghost use Rattle.md_safe.specs.Contents.{IsContained, IsUnnested};
 
-/// A document that is built of what may stand where it is means a text of the HTML grammar with
-/// exactly one reading, where the options write nothing as it is given; and in that reading each
-/// link, and each image, has no protocol or a permitted one, where the options keep to those.
+/// If each node of a document has a content that its place allows, the document's meaning is a text
+/// of the HTML grammar with exactly one reading, provided that the options write nothing unescaped.
+/// In that reading each link, and each image, has no protocol or a permitted one, if the options
+/// keep to those.
 pub fn safe_options_make_safe_output()
     ensures one_reading { (bytes : List ℕ) (names : List (List ℕ × List ℕ))
         (options : CompileOptions)
@@ -34,8 +35,8 @@ pub fn safe_options_make_safe_output()
         → HasOneReadingWith is_safe_image (meaning options names bytes document) }
 {}
 
-/// Where ids go by number and the options write nothing as it is given, no two ids in the text are
-/// equal, whatever the prefix, if the document has no more events than 64 bits count.
+/// If ids are by number and the options write nothing unescaped, no two ids in the text are equal,
+/// whatever the prefix, provided that the document has no more events than 64 bits count.
 pub fn ids_by_number_are_distinct()
     ensures { (bytes : List ℕ) (names : List (List ℕ × List ℕ))
         (options : CompileOptions) (document : Forest)
@@ -44,9 +45,9 @@ pub fn ids_by_number_are_distinct()
         → HasDistinctIds (meaning options names bytes document) }
 {}
 
-/// Where ids go by number and the options write nothing as it is given, two texts whose prefixes
-/// differ share no id but `footnote-label`, that of the heading of footnotes. The prefixes may
-/// begin with one another; they differ as they are read, so that NUL and U+FFFD are one.
+/// If ids are by number and the options write nothing unescaped, two texts with different prefixes
+/// share no id but `footnote-label`, that of the heading of footnotes. One prefix may begin with
+/// the other. They are compared as they are read, so NUL and U+FFFD are equal.
 pub fn ids_of_two_documents_are_apart()
     ensures { (bytes other_bytes : List ℕ) (names other_names : List (List ℕ × List ℕ))
         (options other_options : CompileOptions) (document other : Forest)
@@ -57,8 +58,8 @@ pub fn ids_of_two_documents_are_apart()
         (meaning other_options other_names other_bytes other) }
 {}
 
-/// Where the options write nothing as it is given, a document of the grammar means a text with
-/// exactly one reading, and in it everything stands where the content model lets it stand.
+/// If the options write nothing unescaped, the meaning of a document of the grammar is a text with
+/// exactly one reading, in which the content model allows each node at its place.
 pub fn meaning_is_contained()
     ensures { (bytes : List ℕ) (names : List (List ℕ × List ℕ))
         (options : CompileOptions) (document : Forest)
@@ -66,7 +67,7 @@ pub fn meaning_is_contained()
         → IsContained (meaning options names bytes document) }
 {}
 
-/// So, and no link stands in a link, where none does in the document.
+/// The same, and no link is inside a link, if none is in the document.
 pub fn links_nest_as_in_the_document()
     ensures { (bytes : List ℕ) (names : List (List ℕ × List ℕ))
         (options : CompileOptions) (document : Forest)

@@ -1,4 +1,4 @@
-//! What holds of every text, as the contracts of functions that do nothing.
+//! Facts about every text, as contracts of functions that do nothing.
 
 pub mod cases;
 
@@ -19,59 +19,60 @@ ghost use Rattle.md_safe.specs.Running.{runs_nothing};
 ghost use Rattle.md_safe.specs.Scheme.{has_permitted_scheme};
 ghost use Rattle.md_safe.specs.SafeTokens.{has_safe_links, has_safe_images};
 
-/// A state and an input lead to one list of tokens at most.
+/// From a state and an input the tokenizer emits at most one list of tokens.
 pub fn tokens_are_one()
     ensures { (state : State) (input : List ℕ) (x y : List Token)
         → IsRun state input x → IsRun state input y → x ≡ y }
 {}
 
-/// The tokenizer takes what is written for a forest as exactly that forest's tokens, up to the end
-/// of the file.
+/// The tokenizer emits for a written forest exactly that forest's tokens, up to the end of the
+/// file.
 pub fn forest_is_tokenized()
     ensures { (forest : Forest) → IsTrue (is_forest forest)
         → IsTokenized (written forest) (tokens forest ++ (EndOfFile ∷ [])) }
 {}
 
-/// And it is in the data state then: what follows is tokenized as if it stood alone. It is not to
-/// begin with a line feed, which a carriage return at the forest's end would take.
+/// It is in the data state then: what follows is tokenized as if it were alone, unless it begins
+/// with a line feed that a carriage return at the forest's end would take.
 pub fn forest_is_tokenized_in_its_place()
     ensures { (forest : Forest) (after : List ℕ) (later : List Token) → IsTrue (is_forest forest)
         → begins_with_line_feed after ≡ false → IsTokenized after later
         → IsTokenized (written forest ++ after) (tokens forest ++ later) }
 {}
 
-/// A text with one reading is tokenized as that, and each tag among the tokens is of the grammar's
-/// tables.
+/// A text with one reading is tokenized as that reading, and each tag among the tokens is in the
+/// grammar's tables.
 pub fn reading_is_tokenized()
     ensures { (p : Attribute → Bool) (text : List ℕ) → HasOneReadingWith p text
         → IsTokenizedAsRead text }
 {}
 
-/// Each tag among the tokens of a text with a reading is of the grammar's tables, with no
-/// attributes but those that it may have.
+/// Each tag among the tokens of a text with a reading is in the grammar's tables, with only
+/// attributes that the tables list for it.
 pub fn tags_are_listed()
     ensures { (p : Attribute → Bool) (text : List ℕ) (tokens : List Token)
         → HasOneReadingWith p text → IsTokenized text tokens → IsTrue (list_all is_listed tokens) }
 {}
 
-/// No start tag among the tokens of a text with a reading is of an element that is listed as one
-/// that runs something or acts on the page around, and none has an attribute that is listed so.
+/// No start tag among the tokens of a text with a reading belongs to an element that is listed as
+/// one that runs something or acts on the surrounding page, and none has an attribute that is
+/// listed so.
 pub fn nothing_runs()
     ensures { (p : Attribute → Bool) (text : List ℕ) (tokens : List Token)
         → HasOneReadingWith p text → IsTokenized text tokens
         → IsTrue (list_all runs_nothing tokens) }
 {}
 
-/// No start tag among the tokens of a text with a reading is one at which tree construction changes
-/// the tokenizer's state, or which begins foreign content.
+/// No start tag among the tokens of a text with a reading makes tree construction change the
+/// tokenizer's state, or begins foreign content.
 pub fn state_is_left_alone()
     ensures { (p : Attribute → Bool) (text : List ℕ) (tokens : List Token)
         → HasOneReadingWith p text → IsTokenized text tokens
         → IsTrue (list_all leaves_state tokens) }
 {}
 
-/// An escaped value that the grammar's test passes has, as a browser sees it, no scheme of its own
-/// or a permitted one.
+/// An escaped value that passes the grammar's test has, in a browser, no scheme of its own or a
+/// permitted one.
 pub fn safe_values_have_permitted_schemes()
     ensures links { (value : List ℕ) → IsTrue (is_escaped value)
         → IsTrue (is_safe_value link_protocols value)
@@ -81,7 +82,7 @@ pub fn safe_values_have_permitted_schemes()
         → IsTrue (has_permitted_scheme image_protocols (seen value)) }
 {}
 
-/// Where a text is safe, so are its tokens.
+/// If a text is safe, its tokens are.
 pub fn safe_text_has_safe_tokens()
     ensures links { (text : List ℕ) → HasOneReadingWith is_safe_link text
         → HasTokensWith has_safe_links text }
@@ -89,7 +90,7 @@ pub fn safe_text_has_safe_tokens()
         → HasTokensWith has_safe_images text }
 {}
 
-/// A page is tokenized as its doctype, its head, its title and its body, and is safe where its body
+/// A page is tokenized as its doctype, its head, its title and its body, and is safe if its body
 /// is.
 pub fn page_is_tokenized()
     ensures tokens { (title : List ℕ) (body : Forest) → IsTrue (is_escaped title)

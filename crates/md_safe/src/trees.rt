@@ -1,5 +1,5 @@
-//! What holds of each reading that is contained without a link in a link: contracts of functions
-//! that do nothing.
+//! Facts about each contained reading without a link in a link, as contracts of functions that do
+//! nothing.
 
 ghost use Rattle.std.specs.Prelude.{◌≡◌, ℕ, Bool, false, IsTrue, List, [], ◌∷◌, ◌++◌, Some, None};
 ghost use Rattle.std.specs.Prelude.{codes};
@@ -18,8 +18,8 @@ ghost use Rattle.md_safe.specs.Built.{IsBuiltAsRead};
 ghost use Rattle.md_safe.specs.Page.{has_no_nul, document_of, page_document};
 ghost use Rattle.md_safe.specs.Fragment.{is_flow_context, fragment_of};
 
-/// Wherever flow content may be set, the tokens of a reading build its own tree there, and leave
-/// the other open elements and the list of active formatting elements as they were.
+/// Wherever flow content may be inserted, the tokens of a reading build its own tree there, and
+/// leave the other open elements and the list of active formatting elements unchanged.
 pub fn reading_is_built()
     ensures { (forest : Forest) → IsTrue (is_forest forest)
         → IsTrue (is_contained false Flow forest)
@@ -27,7 +27,7 @@ pub fn reading_is_built()
         → IsPlace mode node others active created → Builds mode node others active created forest }
 {}
 
-/// So of a forest whose tags may have any attributes.
+/// The same for a forest whose tags may have any attributes.
 pub fn forest_is_built()
     ensures { (forest : Forest) → IsTrue (has_whole_texts forest)
         → IsTrue (is_contained false Flow forest)
@@ -35,16 +35,16 @@ pub fn forest_is_built()
         → IsPlace mode node others active created → Builds mode node others active created forest }
 {}
 
-/// So a text of which this is known is built as it is read.
+/// So a text that is known to have such a reading is built as it is read.
 pub fn text_is_built()
     ensures { (text : List ℕ) → IsUnnested text → IsBuiltAsRead text }
 {}
 
-/// Of a page's tokens, from the beginning, exactly its document is built: the doctype; the root
-/// with its head and its body; in the head the title's characters; in the body the nodes of a
-/// reading that is contained without a link in a link, or of a text that is known to be built as it
-/// is read. The line feed at the page's end goes into the body, after all else in it, and into the
-/// text that stands last there, if one does.
+/// The tokens of a page, from the beginning, build exactly its document: the doctype; the root with
+/// its head and its body; in the head the title's characters; in the body the nodes of a contained
+/// reading without a link in a link, or of a text that is known to be built as it is read. The line
+/// feed at the page's end goes into the body, after all else in it, and into the text that is last
+/// there, if there is one.
 pub fn page_is_built()
     ensures reading { (title : List ℕ) (body : Forest) → IsTrue (has_no_nul title)
         → IsTrue (is_forest body)
@@ -54,8 +54,8 @@ pub fn page_is_built()
         → document_of (page_tokens title built.forest) ≡ Some (page_document title built.forest) }
 {}
 
-/// What `innerHTML` sets into an element: of a text that is known to be built as it is read exactly
-/// the nodes of its reading, whatever the element is, but for those in which other rules hold.
+/// `innerHTML` inserts into an element, for a text that is known to be built as it is read, exactly
+/// the nodes of its reading, whatever the element is, except those in which other rules hold.
 pub fn fragment_is_built()
     ensures { (context text : List ℕ) → IsTrue (is_flow_context context)
         → (built : IsBuiltAsRead text)
@@ -63,7 +63,7 @@ pub fn fragment_is_built()
         ≡ Some (put Empty built.forest) }
 {}
 
-/// A start tag leads to the mode "text" exactly where the tokenizer's definition switches its
+/// A start tag switches to the mode "text" exactly where the tokenizer's definition switches its
 /// state: at `title`. So the two definitions agree.
 pub fn state_is_switched_where_text_begins()
     ensures { (parser next : Parser) (name : List ℕ)
@@ -72,8 +72,8 @@ pub fn state_is_switched_where_text_begins()
         → is_text next.mode ≡ begins_title (StartTag name attributes flag) }
 {}
 
-/// Flow content may be set in a `div`, a list's item and a `section` of a body, in a table's cell,
-/// whatever is around the table, and in the root of a fragment, as which a browser reads what is
+/// Flow content may be inserted in a `div`, a list's item and a `section` of a body, in a table's
+/// cell, wherever the table is, and in the root of a fragment, as which a browser reads what is
 /// assigned to `innerHTML`.
 pub fn places()
     ensures div { (nodes : Nodes) → IsPlace InBody (open_at 2 (codes "div") nodes)
@@ -93,9 +93,10 @@ pub fn places()
         nodes ∷ open_at 1 (codes "p") nodes ∷ open_at 0 (codes "body") nodes ∷ []) (Marker ∷ []) 6 }
 {}
 
-/// What leaves its place, and what doesn't: a list's start tag closes the paragraph around it, also
-/// from within another element; an item's start tag closes no item around its list; a cell's end
-/// tag is ignored where no cell is open; a link's start tag in a link isn't written out.
+/// Elements that leave their place, and those that don't: a list's start tag closes the paragraph
+/// that contains it, also from within another element; an item's start tag closes no item that
+/// contains its list; a cell's end tag is ignored if no cell is open; a link's start tag in a link
+/// isn't written out.
 pub fn what_leaves_its_place()
     ensures paragraph { run (at InBody
         (open_at 1 (codes "p") Empty ∷ open_at 0 (codes "body") Empty ∷ []) [] 2)
@@ -119,10 +120,10 @@ pub fn what_leaves_its_place()
         (StartTag (codes "a") [] false ∷ StartTag (codes "a") [] false ∷ []) ≡ None }
 {}
 
-/// Single documents: of nothing, of a character and of a head, a root with its head and its body
-/// is built; white space before the head is ignored, in it and after it it stays where it is; what
-/// comes after the body's end tag and after the root's goes into the body; a character that a
-/// title has is no tag.
+/// Single documents: for an empty input, a character and a head, a root with its head and its body
+/// is built; white space before the head is ignored, and inside and after it stays in place; what
+/// comes after the body's end tag and after the root's goes into the body; a character in a title
+/// is no tag.
 pub fn what_documents_hold()
     ensures nothing { document_of (EndOfFile ∷ []) ≡ Some (record {
       doctype = None;

@@ -1,4 +1,4 @@
--- Decimal digits read one after another.
+-- Decimal digits read in sequence.
 use Rattle.std.proofs.Common.{◌≡◌, ℕ, zero, suc, ◌+◌, ◌-◌, ◌*◌, ◌<◌, ◌≤◌, Bool, true, false, cond}
 use Rattle.std.proofs.Common.{◌&&◌, leb, List, [], ◌∷◌, ◌++◌, length, get_or, take, Option, Some}
 use Rattle.std.proofs.Common.{None, refl, sym, ap, ◌∙◌, arith}
@@ -19,7 +19,7 @@ IsDigits digits = all_ascii_digits digits ≡ true
 model : IsNumeralModel IsDigits (digits_value 10)
 model = numerals_by_value IsDigits tells_all_ascii_digits
 
--- digits so far, of which there are few, write a small number
+-- a small number of digits encodes a small number
 pub value_small : (digits : List ℕ) (i most : ℕ) → all_ascii_digits (take i digits) ≡ true →
     i ≤ length digits →
     length digits ≤ most → most ≤ 9 → digits_value 10 (take i digits) < 1000000000

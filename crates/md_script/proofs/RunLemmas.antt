@@ -1,4 +1,4 @@
--- The answers of the compiler as those of `run`.
+-- The compiler's results as those of `run`.
 use Rattle.std.proofs.Common.{◌≡◌, ℕ, List, Result, Ok, Err, IfErr, sym, subst}
 use Rattle.std.specs.Prelude.{IsErrAnd}
 use Rattle.md_base.specs.declared.event.Event.{Event}

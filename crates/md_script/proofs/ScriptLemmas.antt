@@ -1,6 +1,6 @@
--- A script read line by line: each line that can be read is one step of progress, and the others
--- end the reading. `read_script` has its invariant and its answers from here, since what it says is
--- of all lines together.
+-- A script read line by line: each valid line is one step of progress, and the other lines end the
+-- reading. `read_script` has its invariant and its clauses from here, since it promises something
+-- about all lines together.
 use Rattle.std.proofs.Common.{◌≡◌, ℕ, ◌+◌, ◌*◌, ◌<◌, ◌≤◌, Bool, true, false, ◌&&◌, ◌||◌, cond, List}
 use Rattle.std.proofs.Common.{[], ◌∷◌, ◌++◌, length, Option, Some, None, refl, sym, ap, ◌∙◌, arith}
 use Rattle.std.proofs.Common.{subst, is_some, bytes_eq}

@@ -46,7 +46,7 @@ reads_as_text bytes Fault (Err e) h =
       | inr bad ↦ sym bad
     ]
 
--- ---- lines that begin with `!`, of which alone an option can come
+-- ---- lines that begin with `!`; only these can set an option
 
 abbrev pub is_marked : List ℕ → Bool
 is_marked line = is_some (option_name line)

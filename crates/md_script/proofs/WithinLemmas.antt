@@ -1,4 +1,4 @@
--- The answers of the compiler within limits as those of `run_within`.
+-- The compiler's results within limits as those of `run_within`.
 use Rattle.std.proofs.Common.{◌≡◌, ℕ, List, Result, Ok, Err, IfErr, sym, subst}
 use Rattle.std.specs.Prelude.{IsErrAnd}
 use Rattle.md_base.specs.declared.event.Event.{Event}

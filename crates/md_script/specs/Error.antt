@@ -1,4 +1,4 @@
--- Why a script gives no text, and what is said of it.
+-- Why a script has no text, and the message.
 use Rattle.std.specs.Prelude.{ℕ, List, ◌++◌, codes}
 use Rattle.std.specs.Fmt.{decimal}
 use Rattle.md_tree.specs.declared.rule.CompileError.{CompileError}
@@ -13,13 +13,13 @@ message_of Memory = codes "out of memory"
 message_of (Line number) = codes "line " ++ decimal number ++ codes ": unreadable"
 message_of (Event index rule) = codes "event " ++ decimal index ++ codes ": " ++ name_of rule
 
--- the status of a program that ends with it
+-- the exit status of a program for this error
 abbrev pub status_of : RunError → ℕ
 status_of Memory = 3
 status_of (Line number) = 2
 status_of (Event index rule) = 1
 
--- the refusal of a compiler as one of a script
+-- a script's error for a compiler's refusal
 abbrev pub run_error_of : CompileError → RunError
 run_error_of refusal.Memory = Memory
 run_error_of (refusal.Event index rule) = Event index rule

@@ -1,12 +1,12 @@
--- What scripts mean, which a reader must believe.
+-- The meaning of scripts, which a reader must believe.
 pub mod Error
 pub mod Run
 pub mod SafeRun
 pub mod Script
 pub mod Serve
 pub mod Within
--- What the lines of a script say, which a reader must believe; of `PlainLine` and `CommonName` only
--- contracts that no promise cites speak.
+-- The meaning of a script's lines, which a reader must believe; only contracts that no promise
+-- cites use `PlainLine` and `CommonName`.
 pub mod Line
 pub mod Number
 pub mod PlainLine

@@ -1,4 +1,4 @@
--- The lines of an input, and the event that a line of a script says.
+-- The lines of an input, and the event of a line.
 use Rattle.std.specs.Prelude.{ℕ, Bool, ◌==◌, nat_le, if◌then◌else◌, List, [], ◌∷◌, take, drop}
 use Rattle.std.specs.Prelude.{Option, Some, None, option_and_then, bytes_eq, codes}
 use Rattle.std.specs.List.{list_any, before_first, after_first, slice_split}
@@ -43,7 +43,7 @@ is_dot byte = byte == 46
 abbrev pub is_space : ℕ → Bool
 is_space byte = byte == 32
 
--- the columns after a dot, none where there is no dot
+-- the columns after a dot, 0 if there is no dot
 abbrev pub columns_of : List ℕ → Option ℕ
 columns_of place = if list_any is_dot place then number_of 3 (after_first is_dot place) else Some 0
 
@@ -57,7 +57,7 @@ point_of place = do
 abbrev pub kind_of : ℕ → Option Kind
 kind_of sign = if sign == 43 then Some Enter else if sign == 45 then Some Exit else None
 
--- the event of a line: `+` or `-`, a name, one space and a place
+-- the event of a line: `+` or `-`, a name, one space and a point
 abbrev pub event_of : List ℕ → Option Event
 event_of [] = None
 event_of (sign ∷ rest) = do

@@ -3,7 +3,7 @@ use Rattle.std.specs.Prelude.{ℕ, ◌&&◌, nat_le, if◌then◌else◌, List, 
 use Rattle.std.specs.Str.{all_ascii_digits}
 use Rattle.std.specs.Str.Parse.{digits_value}
 
--- the number that digits write, where there are one or more and at most so many
+-- the value of decimal digits, if there are at least one and at most a given number of them
 abbrev pub number_of : ℕ → List ℕ → Option ℕ
 number_of most digits =
     if nat_le 1 (length digits) && nat_le (length digits) most && all_ascii_digits digits

@@ -1,4 +1,4 @@
--- What `run` answers: what the compiler answers of what a script stands for.
+-- The result of `run`: that of the compiler for the content of a script.
 use Rattle.std.specs.Prelude.{◌≡◌, ℕ, false, List, [], ◌∷◌, codes}
 use Rattle.md_base.specs.declared.event.Event.{Event}
 use Rattle.md_tree.specs.declared.rule.Rule.{Rule}
@@ -29,15 +29,15 @@ reference_names =
     ∷ (codes "colon", codes ":") ∷ (codes "sol", codes "/") ∷ (codes "num", codes "#")
     ∷ (codes "quest", codes "?") ∷ []
 
--- events over bytes, as a check is handed them
+-- events over bytes, as the input of a check
 abbrev pub document_of : List Event → List ℕ → Handed
 document_of events bytes = record { events = events; bytes = bytes; names = reference_names }
 
--- the events are of the grammar over the bytes, and the text is the meaning of their document;
--- where the options are safe, it has one reading, with links and images of permitted protocols
--- alone, in which everything stands where it may, and the HTML Standard's tokenizer emits that,
--- with links and images of permitted schemes alone; where no link stands in a link, tree
--- construction builds it; where ids go by number no two ids are equal
+-- the events match the grammar over the bytes, and the text is the meaning of their document; if
+-- the options are safe, it has one reading, whose links and images all have permitted protocols,
+-- and which fulfils the content model, and the HTML Standard's tokenizer emits that reading, with
+-- only permitted schemes in links and images; if no link contains a link, tree construction builds
+-- it; if ids are by number, no two ids are equal
 pub record IsCompiled (events : List Event) (bytes : List ℕ) (options : CompileOptions)
     (text : List ℕ) : Type 0 where
   pub grammatical : IsChecked (document_of events bytes)
@@ -55,14 +55,14 @@ pub record IsCompiled (events : List Event) (bytes : List ℕ) (options : Compil
   pub safe_image_tokens : KeepsImages options → HasTokensWith has_safe_images text
   pub distinct_ids : KeepsIds options → HasDistinctIds text
 
--- why events give no text
+-- why events have no text
 abbrev pub ExplainsEvents : List Event → List ℕ → RunError → Type 0
 ExplainsEvents events bytes error.Memory = Unit {0}
 ExplainsEvents events bytes (error.Line number) = ⊥
 ExplainsEvents events bytes (error.Event index rule) =
     IsRefusal (document_of events bytes) (refusal.Event index rule)
 
--- the text is that of what the input stands for
+-- the text is that of the input's content
 pub record IsTextOf (input text : List ℕ) : Type 0 where
   pub events : List Event
   pub bytes : List ℕ
@@ -70,7 +70,7 @@ pub record IsTextOf (input text : List ℕ) : Type 0 where
   pub stands : StandsFor input events bytes options
   pub compiled : IsCompiled events bytes options text
 
--- an event of what the input stands for is refused
+-- an event of the input's content is refused
 pub record IsRefusedAt (input : List ℕ) (index : ℕ) (rule : Rule) : Type 0 where
   pub events : List Event
   pub bytes : List ℕ
@@ -78,7 +78,7 @@ pub record IsRefusedAt (input : List ℕ) (index : ℕ) (rule : Rule) : Type 0 w
   pub stands : StandsFor input events bytes options
   pub refused : IsRefusal (document_of events bytes) (refusal.Event index rule)
 
--- why a script gives no text: a line only where the input isn't readable, an event only where it is
+-- why a script has no text: a line only if the input is invalid, an event only if it is valid
 abbrev pub ExplainsRun : List ℕ → RunError → Type 0
 ExplainsRun input error.Memory = Unit {0}
 ExplainsRun input (error.Line number) = (¬ IsReadable input) × IsFirstUnreadable input number

@@ -1,4 +1,4 @@
--- What `run_safe` answers: a safe text, or why there is none.
+-- The result of `run_safe`: a safe text, or the reason why there is none.
 use Rattle.std.specs.Prelude.{◌≡◌, ℕ, true, false, List, codes}
 use Rattle.md_base.specs.declared.event.Event.{Event}
 use Rattle.md_base.specs.Tree.{Forest, flatten}
@@ -23,15 +23,15 @@ use Rattle.md_script.specs.Error.{run_error_of, message_of}
 use Rattle.md_script.specs.Run.{reference_names, document_of, ExplainsEvents, ExplainsRun}
 use Rattle.md_script.specs.Script.{StandsFor}
 
--- what is said of why there is no safe text
+-- the message for an error
 abbrev pub safe_message_of : SafeRunError → List ℕ
 safe_message_of Options = codes "unsafe options"
 safe_message_of (Run error) = message_of error
 
--- the options are safe, the events are of the grammar over the bytes, and the text is the meaning
--- of their document; the HTML Standard's tokenizer emits its reading, with links and images of
--- permitted schemes alone; in it everything stands where it may; where no link stands in a link,
--- tree construction builds it; where ids go by number no two ids are equal
+-- the options are safe, the events match the grammar over the bytes, and the text is the meaning of
+-- their document; the HTML Standard's tokenizer emits its reading, with only permitted schemes in
+-- links and images; the reading fulfils the content model; if no link contains a link, tree
+-- construction builds it; if ids are by number, no two ids are equal
 pub record IsSafelyCompiled (events : List Event) (bytes : List ℕ) (options : CompileOptions)
     (text : List ℕ) : Type 0 where
   pub safe : KeepsImages options
@@ -45,13 +45,13 @@ pub record IsSafelyCompiled (events : List Event) (bytes : List ℕ) (options : 
       IsBuiltAsRead text
   pub distinct_ids : options.gfm_footnote_number_ids ≡ true → HasDistinctIds text
 
--- why events give no safe text: their options aren't safe, or they are and the events give no text
+-- why events have no safe text: their options aren't safe, or they are and the events have no text
 abbrev pub ExplainsSafeEvents : List Event → List ℕ → CompileOptions → SafeRunError → Type 0
 ExplainsSafeEvents events bytes options Options = KeepsImages options → ⊥
 ExplainsSafeEvents events bytes options (Run error) =
     KeepsImages options × ExplainsEvents events bytes error
 
--- the text is that of what the input stands for, whose options are safe
+-- the text is that of the input's content, whose options are safe
 pub record IsSafeTextOf (input text : List ℕ) : Type 0 where
   pub events : List Event
   pub bytes : List ℕ
@@ -59,7 +59,7 @@ pub record IsSafeTextOf (input text : List ℕ) : Type 0 where
   pub stands : StandsFor input events bytes options
   pub compiled : IsSafelyCompiled events bytes options text
 
--- the options of what the input stands for aren't safe
+-- the options of the input's content aren't safe
 pub record IsUnsafe (input : List ℕ) : Type 0 where
   pub events : List Event
   pub bytes : List ℕ
@@ -67,7 +67,7 @@ pub record IsUnsafe (input : List ℕ) : Type 0 where
   pub stands : StandsFor input events bytes options
   pub unsafe : KeepsImages options → ⊥
 
--- an event of what the input stands for is refused, and its options are safe
+-- an event of the input's content is refused, and its options are safe
 pub record IsSafelyRefusedAt (input : List ℕ) (index : ℕ) (rule : Rule) : Type 0 where
   pub events : List Event
   pub bytes : List ℕ
@@ -76,14 +76,14 @@ pub record IsSafelyRefusedAt (input : List ℕ) (index : ℕ) (rule : Rule) : Ty
   pub safe : KeepsImages options
   pub refused : IsRefusal (document_of events bytes) (refusal.Event index rule)
 
--- why a script gives no safe text
+-- why a script has no safe text
 abbrev pub ExplainsSafeRun : List ℕ → SafeRunError → Type 0
 ExplainsSafeRun input Options = IsUnsafe input
 ExplainsSafeRun input (Run error.Memory) = Unit {0}
 ExplainsSafeRun input (Run (error.Line number)) = ExplainsRun input (error.Line number)
 ExplainsSafeRun input (Run (error.Event index rule)) = IsSafelyRefusedAt input index rule
 
--- the error of a compiler as one of a script
+-- a script's error for a compiler's error
 abbrev pub safe_run_error_of : SafeError → SafeRunError
 safe_run_error_of safe.Options = Options
 safe_run_error_of (safe.Compile cause) = Run (run_error_of cause)

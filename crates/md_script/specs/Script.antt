@@ -1,4 +1,4 @@
--- What a whole script stands for, and which of its lines can't be read.
+-- The content of a whole script, and its invalid lines.
 use Rattle.std.specs.Prelude.{◌≡◌, ℕ, ◌+◌, Bool, ◌&&◌, ◌||◌, IsTrue, IsFalse, List, [], ◌∷◌, ◌++◌}
 use Rattle.std.specs.Prelude.{length, filter_map, is_some, bytes_eq, codes}
 use Rattle.std.specs.List.{join_with_byte}
@@ -13,18 +13,18 @@ use Rattle.md_text.specs.declared.options.CompileOptions.{CompileOptions}
 abbrev pub end_line : List ℕ
 end_line = codes "--"
 
--- a line is readable after these: an event, or an option that none of them sets
+-- a line is valid after these: an event, or an option that none of them sets
 abbrev pub is_readable_after : List (List ℕ) → List ℕ → Bool
 is_readable_after earlier line =
     is_some (event_of line) || is_setting line && is_new earlier (option_name line)
 
--- each line is readable after the earlier ones and those before it
+-- each line is valid after the earlier ones and those before it
 abbrev pub ReadsAfter : List (List ℕ) → List (List ℕ) → Type 0
 ReadsAfter earlier [] = Unit {0}
 ReadsAfter earlier (line ∷ lines) = IsTrue (is_readable_after earlier line)
     × ReadsAfter (earlier ++ line ∷ []) lines
 
--- an input is readable lines, the line `--`, and the lines of a document
+-- an input is valid lines, the line `--`, and the lines of a document
 pub record IsScript (input : List ℕ) (body document : List (List ℕ)) : Type 0 where
   pub whole : lines_of input ≡ body ++ end_line ∷ document
   pub reads : ReadsAfter [] body
@@ -33,7 +33,7 @@ abbrev pub IsReadable : List ℕ → Type 0
 IsReadable input =
     (body : List (List ℕ)) × (document : List (List ℕ)) × IsScript input body document
 
--- it stands for these events over these bytes, under these options
+-- its content is these events over these bytes, under these options
 pub record StandsFor (input : List ℕ) (events : List event.Event) (bytes : List ℕ)
     (options : CompileOptions) : Type 0 where
   pub body : List (List ℕ)
@@ -43,13 +43,13 @@ pub record StandsFor (input : List ℕ) (events : List event.Event) (bytes : Lis
   pub sets : HasOptions body options
   pub rest : bytes ≡ join_with_byte 10 document
 
--- there is no line here, or one that is neither `--` nor readable
+-- there is no line here, or one that is neither `--` nor valid
 abbrev pub StopsAfter : List (List ℕ) → List (List ℕ) → Type 0
 StopsAfter earlier [] = Unit {0}
 StopsAfter earlier (line ∷ lines) =
     IsFalse (bytes_eq line end_line) × IsFalse (is_readable_after earlier line)
 
--- the first line that can't be read has this number: the lines before it are readable
+-- the first invalid line has this number: the lines before it are valid
 pub record IsFirstUnreadable (input : List ℕ) (number : ℕ) : Type 0 where
   pub earlier : List (List ℕ)
   pub others : List (List ℕ)
@@ -58,8 +58,8 @@ pub record IsFirstUnreadable (input : List ℕ) (number : ℕ) : Type 0 where
   pub stops : StopsAfter earlier others
   pub counted : number ≡ length earlier + 1
 
--- why a script isn't read: a line is named only where the input isn't readable, and it is the first
--- that can't be read
+-- why a script can't be read: a line is reported only if the input is invalid, and it is the first
+-- invalid one
 abbrev pub Explains : List ℕ → RunError → Type 0
 Explains input Memory = Unit {0}
 Explains input (Line number) = (¬ IsReadable input) × IsFirstUnreadable input number

@@ -1,5 +1,6 @@
--- What `serve` does: it reads a script to its end, runs it, and writes its text. What a reader has
--- left and what a writer holds is known or not; where it isn't, nothing is claimed of it.
+-- The behaviour of `serve`: it reads a script to its end, runs it, and writes its text. The
+-- remaining input of a reader and the output of a writer are known or unknown; if unknown, nothing
+-- is claimed about them.
 use Rattle.std.specs.Prelude.{◌≡◌, ℕ, List, ◌++◌, codes, Option}
 use Rattle.std.specs.Io.KnownBytes.{Keeps, Appends, Consumes, IsAtEnd}
 use Rattle.md_script.specs.declared.error.RunError.{RunError}
@@ -15,34 +16,34 @@ serve_message (Run error) = message_of error
 serve_message Input = codes "input or output failed"
 serve_message Output = codes "input or output failed"
 
--- the status of a program that ends with it
+-- the exit status of a program for this error
 abbrev pub serve_status : ServeError → ℕ
 serve_status (Run error) = status_of error
 serve_status Input = 4
 serve_status Output = 4
 
--- a reader gave these bytes, and met its end
+-- a reader returned these bytes, and reached its end
 abbrev pub IsReadWhole : Option (List ℕ) → Option (List ℕ) → List ℕ → Type 0
 IsReadWhole left leaves input = Consumes left leaves input × IsAtEnd leaves
 
--- what was read, to its end, has a text
+-- the whole input has a text
 pub record IsRun (left leaves : Option (List ℕ)) (text : List ℕ) : Type 0 where
   pub input : List ℕ
   pub whole : IsReadWhole left leaves input
   pub compiled : IsTextOf input text
 
--- what was read, to its end, has a text, and this was written and nothing else
+-- the whole input has a text, and exactly this was written
 pub record IsServed (left leaves held holds : Option (List ℕ)) : Type 0 where
   pub text : List ℕ
   pub run : IsRun left leaves text
   pub written : Appends held holds text
 
--- what was read, to its end, gives no text for this cause
+-- the whole input has no text, for this reason
 abbrev pub IsTold : Option (List ℕ) → Option (List ℕ) → RunError → Type 0
 IsTold left leaves cause =
     (input : List ℕ) × IsReadWhole left leaves input × ExplainsRun input cause
 
--- why a script was not served; nothing is claimed where it is out of memory or a read fails
+-- why a script wasn't served; nothing is claimed if memory ran out or a read failed
 abbrev pub ExplainsServe : Option (List ℕ) → Option (List ℕ) → ServeError → Type 0
 ExplainsServe left leaves (Run Memory) = Unit {0}
 ExplainsServe left leaves (Run (Line number)) = IsTold left leaves (Line number)
@@ -50,14 +51,14 @@ ExplainsServe left leaves (Run (Event index rule)) = IsTold left leaves (Event i
 ExplainsServe left leaves Input = Unit {0}
 ExplainsServe left leaves Output = (text : List ℕ) × IsRun left leaves text
 
--- the front of a text was written, and nothing else
+-- a prefix of a text was written, and nothing else
 pub record IsCutOff (held holds : Option (List ℕ)) (text : List ℕ) : Type 0 where
   pub front : List ℕ
   pub others : List ℕ
   pub whole : text ≡ front ++ others
   pub written : Appends held holds front
 
--- nothing was written, but where writing failed: there the front of the text of what was read
+-- nothing was written, unless writing failed: then a prefix of the text of the input
 abbrev pub IsUnwritten : Option (List ℕ) → Option (List ℕ) → Option (List ℕ) → Option (List ℕ) →
     ServeError → Type 0
 IsUnwritten left leaves held holds (Run cause) = Keeps held holds

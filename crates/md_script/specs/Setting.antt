@@ -15,14 +15,14 @@ use Rattle.md_text.specs.declared.options.CompileOptions.{CompileOptions}
 abbrev pub texts_of : List (Bor (List ℕ)) → List (List ℕ)
 texts_of = map (λ text. text.now)
 
--- the options that are off or on
+-- the names of options that are flags
 abbrev pub flag_names : List (List ℕ)
 flag_names =
     codes "allow_any_img_src" ∷ codes "allow_dangerous_html" ∷ codes "allow_dangerous_protocol"
     ∷ codes "gfm_task_list_item_checkable"
     ∷ codes "gfm_tagfilter" ∷ codes "gfm_footnote_number_ids" ∷ []
 
--- the options that are texts
+-- the names of options that are texts
 abbrev pub text_names : List (List ℕ)
 text_names =
     codes "gfm_footnote_back_label" ∷ codes "gfm_footnote_clobber_prefix"
@@ -32,7 +32,7 @@ text_names =
 abbrev pub ending_name : List ℕ
 ending_name = codes "default_line_ending"
 
--- the line ending that a text names
+-- the line ending with this name
 abbrev pub ending_named : List ℕ → Option LineEnding
 ending_named text =
     if bytes_eq text (codes "lf") then Some LineFeed
@@ -46,12 +46,12 @@ is_among names text = list_any (λ name. bytes_eq name text) names
 abbrev pub is_equals : ℕ → Bool
 is_equals byte = byte == 61
 
--- a name and a value that may stand around the first `=`
+-- a name and a value that may be before and after the first `=`
 abbrev pub is_assignment : List ℕ → List ℕ → Bool
 is_assignment name value = if bytes_eq name ending_name then is_some (ending_named value)
     else is_among text_names name && is_utf8 value
 
--- `!`, and then the name of an option that is turned on, or an assignment
+-- `!`, and then the name of a flag, or an assignment
 abbrev pub is_setting : List ℕ → Bool
 is_setting [] = false
 is_setting (sign ∷ rest) =
@@ -67,15 +67,15 @@ abbrev pub is_name : List ℕ → Option (List ℕ) → Bool
 is_name name None = false
 is_name name (Some other) = bytes_eq other name
 
--- an option of this name is set by one of these lines
+-- one of these lines sets the option with this name
 abbrev pub is_given : List (List ℕ) → List ℕ → Bool
 is_given lines name = list_any (λ line. is_name name (option_name line)) lines
 
--- what stands after the first `=`, which is UTF-8 in a readable line
+-- the text after the first `=`, which is UTF-8 in a valid line
 abbrev pub value_of : List ℕ → Option (List ℕ)
 value_of line = text_when true (after_first is_equals line)
 
--- the value that the first such line gives
+-- the value of the first such line
 abbrev pub text_given : List (List ℕ) → List ℕ → Option (List ℕ)
 text_given lines name =
     option_and_then value_of (find (λ line. is_name name (option_name line)) lines)
@@ -85,7 +85,7 @@ abbrev pub is_new : List (List ℕ) → Option (List ℕ) → Bool
 is_new lines None = false
 is_new lines (Some name) = not (is_given lines name)
 
--- the options that these lines set, and all others off or unset
+-- the options that these lines set; all others are off or unset
 pub record HasOptions (lines : List (List ℕ)) (options : CompileOptions) : Type 0 where
   pub any_img_src : options.allow_any_img_src ≡ is_given lines (codes "allow_any_img_src")
   pub dangerous_html : options.allow_dangerous_html ≡ is_given lines (codes "allow_dangerous_html")

@@ -1,4 +1,4 @@
--- What `run_within` answers: a text within limits, or why there is none.
+-- The result of `run_within`: a text within limits, or the reason why there is none.
 use Rattle.std.specs.Prelude.{ℕ, ◌≤◌, ◌<◌, List, length, codes}
 use Rattle.md_base.specs.declared.event.Event.{Event}
 use Rattle.md_tree.specs.declared.rule.Rule.{Rule}
@@ -27,22 +27,22 @@ within_message TooMuch = codes "too much work"
 within_message TooDeep = codes "nested too deep"
 within_message (Run cause) = message_of cause
 
--- the status of a program that ends with it
+-- the exit status of a program for this error
 abbrev pub within_status : RunWithinError → ℕ
 within_status TooLong = 5
 within_status TooMuch = 6
 within_status TooDeep = 7
 within_status (Run cause) = status_of cause
 
--- the error of a compiler as one of a script
+-- a script's error for a compiler's error
 abbrev pub run_within_error_of : WithinError → RunWithinError
 run_within_error_of within.TooLong = TooLong
 run_within_error_of within.TooMuch = TooMuch
 run_within_error_of within.TooDeep = TooDeep
 run_within_error_of (within.Compile cause) = Run (run_error_of cause)
 
--- the text is that of the events and has no more bytes than it may; nor is there more work, nor is
--- more used again, nor do the events nest deeper
+-- the text is that of the events and doesn't exceed its limit; neither do the work, the reuse and
+-- the nesting
 pub record IsCompiledWithin (events : List Event) (bytes : List ℕ) (options : CompileOptions)
     (limits : Limits) (text : List ℕ) : Type 0 where
   pub compiled : IsCompiled events bytes options text
@@ -51,7 +51,7 @@ pub record IsCompiledWithin (events : List Event) (bytes : List ℕ) (options : 
   pub shallow : depth events ≤ limits.depth
   pub reused : IsReuseWithin options (document_of events bytes) limits.work
 
--- the events are of the grammar, and the meaning of their document has more bytes than it may
+-- the events match the grammar, and the meaning of their document exceeds the limit on the text
 pub record IsTooLong (events : List Event) (bytes : List ℕ) (options : CompileOptions)
     (limits : Limits) : Type 0 where
   pub grammatical : IsChecked (document_of events bytes)
@@ -60,14 +60,14 @@ pub record IsTooLong (events : List Event) (bytes : List ℕ) (options : Compile
   pub shallow : depth events ≤ limits.depth
   pub reused : IsReuseWithin options (document_of events bytes) limits.work
 
--- the events nest no deeper than they may, and there is more work, or they are a document's that
--- uses more again
+-- the nesting is within its limit, and the work exceeds its limit, or the events are a document's
+-- whose reuse exceeds it
 abbrev pub IsMuch : List Event → List ℕ → CompileOptions → Limits → Type 0
 IsMuch events bytes options limits =
     (depth events ≤ limits.depth) × IsOver options (document_of events bytes) limits.work
 
--- why events give no text within limits: too deep before all else, too much where there is more
--- work than may be, or more is used again
+-- why events have no text within limits: too deep before all else, too much if the work or the
+-- reuse exceeds the limit
 abbrev pub ExplainsEventsWithin : List Event → List ℕ → CompileOptions → Limits →
     RunWithinError → Type 0
 ExplainsEventsWithin events bytes options limits TooLong = IsTooLong events bytes options limits
@@ -76,7 +76,7 @@ ExplainsEventsWithin events bytes options limits TooDeep = limits.depth < depth 
 ExplainsEventsWithin events bytes options limits (Run cause) =
     (depth events ≤ limits.depth) × (work events ≤ limits.work) × ExplainsEvents events bytes cause
 
--- the text is that of what the input stands for, within limits
+-- the text is that of the input's content, within limits
 pub record IsTextWithin (input : List ℕ) (limits : Limits) (text : List ℕ) : Type 0 where
   pub events : List Event
   pub bytes : List ℕ
@@ -84,7 +84,7 @@ pub record IsTextWithin (input : List ℕ) (limits : Limits) (text : List ℕ) :
   pub stands : StandsFor input events bytes options
   pub compiled : IsCompiledWithin events bytes options limits text
 
--- the text of what the input stands for is too long
+-- the text of the input's content is too long
 pub record IsTooLongFor (input : List ℕ) (limits : Limits) : Type 0 where
   pub events : List Event
   pub bytes : List ℕ
@@ -92,8 +92,8 @@ pub record IsTooLongFor (input : List ℕ) (limits : Limits) : Type 0 where
   pub stands : StandsFor input events bytes options
   pub too_long : IsTooLong events bytes options limits
 
--- the events of what the input stands for don't nest too deep, and give too much work, or are a
--- document's that uses too much again
+-- the events of the input's content don't nest too deep, and give too much work, or are a
+-- document's with too much reuse
 pub record IsTooMuchFor (input : List ℕ) (limits : Limits) : Type 0 where
   pub events : List Event
   pub bytes : List ℕ
@@ -101,7 +101,7 @@ pub record IsTooMuchFor (input : List ℕ) (limits : Limits) : Type 0 where
   pub stands : StandsFor input events bytes options
   pub too_much : IsMuch events bytes options limits
 
--- the events of what the input stands for nest too deep
+-- the events of the input's content nest too deep
 pub record IsTooDeepFor (input : List ℕ) (limits : Limits) : Type 0 where
   pub events : List Event
   pub bytes : List ℕ
@@ -109,8 +109,8 @@ pub record IsTooDeepFor (input : List ℕ) (limits : Limits) : Type 0 where
   pub stands : StandsFor input events bytes options
   pub deeper : limits.depth < depth events
 
--- an event of what the input stands for is refused, and they nest no deeper than they may, nor is
--- there more work
+-- an event of the input's content is refused, and neither their nesting nor their work exceeds its
+-- limit
 pub record IsRefusedWithin (input : List ℕ) (limits : Limits) (index : ℕ) (rule : Rule)
     : Type 0 where
   pub events : List Event
@@ -121,7 +121,7 @@ pub record IsRefusedWithin (input : List ℕ) (limits : Limits) (index : ℕ) (r
   pub shallow : depth events ≤ limits.depth
   pub refused : IsRefusal (document_of events bytes) (refusal.Event index rule)
 
--- why a script gives no text within limits
+-- why a script has no text within limits
 abbrev pub ExplainsRunWithin : List ℕ → Limits → RunWithinError → Type 0
 ExplainsRunWithin input limits TooLong = IsTooLongFor input limits
 ExplainsRunWithin input limits TooMuch = IsTooMuchFor input limits

@@ -1,4 +1,4 @@
-//! Names at the front of a text, most of them recognized by one load of sixteen bytes.
+//! Reads names at the front of a text; one load of sixteen bytes is enough for most.
 
 ghost use Rattle.std.specs.Prelude.{◌≡◌, ℕ, ◌<◌, ◌≤◌, nat_le, if◌then◌else◌, length, slice_index};
 ghost use Rattle.std.specs.Prelude.{IfSome};
@@ -11,14 +11,14 @@ use crate::name_rows::{LAST, MIDDLE, ROWS, Row, SLOTS};
 use md_base::Name;
 use std::simd::prelude::*;
 
-/// How many bytes are loaded at once; names as most are have fewer.
+/// The number of bytes loaded at once; most names are shorter.
 const LANES: usize = 16;
 
-/// How many bytes are looked at for the end of a name; no name has as many.
+/// The number of bytes searched for the end of a name; every name is shorter.
 const LONGEST: usize = 48;
 
-/// The name that bytes begin with, and what follows the space after it. Nothing also where it is
-/// one that a slower way reads.
+/// The name at the beginning of the bytes, and the bytes after the space that ends it. Also `None`
+/// for a name that only the slower reader accepts.
 #[inline(always)]
 pub(crate) fn read_common_name(bytes: &[u8]) -> Option<(Name, &[u8])>
     ensures { IfSome result (λ read. BeginsWithName bytes.now read.0 read.1.now) }
@@ -40,8 +40,7 @@ pub(crate) fn read_common_name(bytes: &[u8]) -> Option<(Name, &[u8])>
     }
 }
 
-/// How many bytes stand before the first space, which is more than fifteen where there is none
-/// among the first sixteen.
+/// How many bytes precede the first space; more than fifteen if the first sixteen bytes have none.
 #[inline(always)]
 fn first_space(bytes: &[u8]) -> usize
     requires { LANES ≤ length bytes.now }
@@ -51,7 +50,7 @@ fn first_space(bytes: &[u8]) -> usize
     spaces.to_bitmask().trailing_zeros() as usize
 }
 
-/// The name of the row in this place, if the bytes begin with it and a space.
+/// The name of the row at this index, if the bytes begin with it and a space.
 #[inline(always)]
 fn read_listed_name(bytes: &[u8], size: usize, place: usize) -> Option<(Name, &[u8])>
     requires room { LANES ≤ length bytes.now }
@@ -67,7 +66,7 @@ fn read_listed_name(bytes: &[u8], size: usize, place: usize) -> Option<(Name, &[
     }
 }
 
-/// How many bytes are the same from the first one on.
+/// How many bytes are equal, from the first one.
 #[inline(always)]
 fn same_bytes(bytes: &[u8], text: &[u8; 16]) -> usize
     requires { LANES ≤ length bytes.now }
@@ -96,7 +95,7 @@ fn name_of_number(number: usize) -> Option<Name>
     Some(Name::Other(u16::try_from(number).ok()?))
 }
 
-/// A name of sixteen bytes and more.
+/// A name of sixteen bytes or more.
 #[inline(never)]
 fn read_long_name(bytes: &[u8]) -> Option<(Name, &[u8])>
     requires { LANES ≤ length bytes.now }
@@ -107,8 +106,8 @@ fn read_long_name(bytes: &[u8]) -> Option<(Name, &[u8])>
     Some((name, &bytes[size + 1..]))
 }
 
-/// Where a space stands after the first sixteen bytes, and before the last of the next blocks that
-/// a name may reach.
+/// The index of a space after the first sixteen bytes, in the blocks that the longest name may
+/// reach.
 fn space_after_block(bytes: &[u8]) -> Option<usize>
     requires { LANES ≤ length bytes.now }
     ensures { IfSome result (λ size. IsSpaceAt bytes.now size) }
@@ -124,8 +123,8 @@ fn space_after_block(bytes: &[u8]) -> Option<usize>
     None
 }
 
-/// The place of the row for a name with these bytes as its first, its middle and its last one: no
-/// two of these names have the same. It is a guess, as other texts may have them too.
+/// The index of the row for a name with these first, middle and last bytes. No two of these names
+/// have the same three, but other texts may, so the row is only a guess.
 #[inline(always)]
 fn place_of_row(first: u8, middle: u8, last: u8) -> usize {
     let sum = usize::from(first) + MIDDLE * usize::from(middle) + LAST * usize::from(last);

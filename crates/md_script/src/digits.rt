@@ -1,11 +1,11 @@
-//! Decimal digits up to a byte that ends them.
+//! Decimal digits before an end byte.
 
 ghost use Rattle.std.specs.Prelude.{◌≡◌, ◌-◌, ◌<◌, ◌≤◌, true, length, IfSome};
 ghost use Rattle.std.specs.Char.{is_ascii_digit};
 ghost use Rattle.md_script.specs.PlainLine.{BeginsWithNumber};
 
-/// The number that the digits before a byte write, of which there are one or more and at most so
-/// many, and what follows that byte.
+/// The value of the digits before an end byte, at least one and at most `most` digits, and the
+/// bytes after that byte.
 #[inline(always)]
 pub(crate) fn digits_before(bytes: &[u8], end: u8, most: usize) -> Option<(usize, &[u8])>
     requires few { most ≤ 9 }
@@ -26,7 +26,7 @@ pub(crate) fn digits_before(bytes: &[u8], end: u8, most: usize) -> Option<(usize
     None
 }
 
-/// What a digit stands for; more than 9 for another byte.
+/// The value of a digit; more than 9 for another byte.
 #[inline(always)]
 fn digit_of(byte: u8) -> usize
     ensures { result ≤ 9 → (is_ascii_digit byte ≡ true) × (result ≡ byte - 48) }

@@ -1,4 +1,4 @@
-//! Why a script gives no text, or no safe one.
+//! Why a script has no text, or no safe one.
 
 use md_html::SafeError;
 use md_tree::{CompileError, Rule};
@@ -6,15 +6,14 @@ use std::alloc::AllocError;
 use std::fmt;
 use thiserror::Error;
 
-/// Why a script gives no text.
+/// Why a script has no text.
 #[derive(Debug, PartialEq, Eq, Drop, Error)]
 pub enum RunError {
-    /// There is no more memory.
+    /// Memory ran out.
     Memory,
-    /// The line with this number, from 1, can't be read.
+    /// The line with this number, from 1, is invalid.
     Line(usize),
-    /// An event breaks a rule; the index is the number of events where something is open at the
-    /// end.
+    /// An event breaks a rule. The index is the number of events if something is open at the end.
     Event { index: usize, rule: Rule },
 }
 
@@ -22,7 +21,7 @@ impl RunError {
     ghost use Rattle.std.specs.Prelude.{◌≡◌};
     ghost use Rattle.md_script.specs.Error.{status_of};
 
-    /// The status with which a program ends: 1 for an event, 2 for a line, 3 for memory.
+    /// Returns the exit status of a program: 1 for an event, 2 for a line, 3 for memory.
     ///
     /// # Examples
     ///
@@ -82,12 +81,12 @@ impl From<CompileError> for RunError {
     }
 }
 
-/// Why a script gives no safe text.
+/// Why a script has no safe text.
 #[derive(Debug, PartialEq, Eq, Drop, Error)]
 pub enum SafeRunError {
     /// Its options aren't safe.
     Options,
-    /// It gives no text.
+    /// It has no text.
     Run(RunError),
 }
 

@@ -1,5 +1,5 @@
-//! Reads and compiles event scripts: their lines, events, short forms and settings, and what a
-//! program does with them.
+//! Reads and compiles event scripts: their lines, events, short forms and settings, and the
+//! programs that run them.
 #![tactic(auto)]
 
 mod common_name;

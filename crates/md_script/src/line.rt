@@ -1,4 +1,4 @@
-//! Lines of a script that write events.
+//! Lines of a script that encode events.
 
 ghost use Rattle.std.specs.Prelude.{◌≡◌};
 ghost use Rattle.md_script.specs.Line.{kind_of, point_of, event_of};
@@ -8,7 +8,7 @@ use crate::number::read_number;
 use crate::split::split_at_first;
 use md_base::{Event, Kind, Point};
 
-/// The event that a line writes: `+` or `-`, a name, one space and a place.
+/// The event of a line: `+` or `-`, a name, one space and a point.
 pub fn read_event(line: &[u8]) -> Option<Event>
     ensures { result ≡ event_of line.now }
 {
@@ -30,7 +30,7 @@ pub(crate) fn read_kind(sign: u8) -> Option<Kind>
     }
 }
 
-/// An index, and after a dot the columns of a tab that are taken.
+/// An index, and after a dot the columns of a tab before the point.
 fn read_point(place: &[u8]) -> Option<Point>
     ensures { result ≡ point_of place.now }
 {

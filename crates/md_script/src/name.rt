@@ -19,7 +19,7 @@ pub(crate) fn read_name(text: &[u8]) -> Option<Name>
     }
 }
 
-/// The name under a text in the table that stands at its length.
+/// The name with this text in the table for its length.
 fn listed_at_length(tables: &[&[(&str, Name)]], text: &[u8]) -> Option<Name>
     ensures { let table = slice_get tables.now (length text.now) in
         result ≡ option_and_then (λ names. spec.listed (spec.entries_of names.now) text.now) table }
@@ -28,7 +28,7 @@ fn listed_at_length(tables: &[&[(&str, Name)]], text: &[u8]) -> Option<Name>
     listed(names, text)
 }
 
-/// `Other` with the number that these digits write.
+/// `Other` with the number of these digits.
 fn numbered_name(digits: &[u8]) -> Option<Name>
     ensures { result ≡ other_name (codes "Other" ++ digits.now) }
 {

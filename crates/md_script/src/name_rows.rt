@@ -1,18 +1,18 @@
-//! Rows of the names of under sixteen bytes, and which row may be a text's.
+//! Rows of the names shorter than sixteen bytes, and a guess which row a text has.
 // Written by bench/names.py from clients/numbers/numbers.txt. Don't edit it.
 
 use md_base::Name;
 
-/// A name of under sixteen bytes: its text with spaces after it, and the name.
+/// A name shorter than sixteen bytes: its text, padded with spaces, and the name.
 pub(crate) type Row = ([u8; 16], Name);
 
-/// How often a text's middle byte counts in its sum; its first one counts once.
+/// The factor of a text's middle byte in its sum; that of its first byte is one.
 pub(crate) const MIDDLE: usize = 33;
 
-/// How often its last byte counts.
+/// The factor of its last byte.
 pub(crate) const LAST: usize = 8;
 
-/// At each sum the place of its row, counted from `(`; `~` where there is none.
+/// For each sum the index of its row, counted from `(`; `~` if there is none.
 pub(crate) static SLOTS: [u8; 256] = *b"\
     ~~~~~~2~~~~/~~~~~~~~~~~~~S~~~.?~~~~~~~~~~~~~~~W~~~~~~P=~~~~~~<~~\
     (~~~~~~B~U~~~X+~~~~G~~~~~R~~~~6~~~~~~~~~;~~~~~~~~~~~~~~~~L~~~~~~\

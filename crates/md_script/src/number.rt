@@ -3,7 +3,7 @@
 ghost use Rattle.std.specs.Prelude.{◌≡◌, ◌≤◌};
 ghost use Rattle.md_script.specs.Number.{number_of};
 
-/// The number that decimal digits write, where there are one or more and at most so many.
+/// The value of decimal digits, if there are at least one and at most `most` of them.
 pub(crate) fn read_number(digits: &[u8], most: usize) -> Option<usize>
     requires { most ≤ 9 }
     ensures { result ≡ number_of most digits.now }

@@ -12,9 +12,9 @@ use crate::line::read_kind;
 use crate::name::read_name;
 use md_base::{Event, Point};
 
-/// The event of the first line and what follows its line feed, where the line is plain: a sign, a
-/// name, one space, an index, and after a dot perhaps columns. Nothing where it is another one, and
-/// near the end of the input also where it has columns.
+/// The event of the first line and the bytes after its line feed, if the line is plain: a sign, a
+/// name, one space, an index, and optionally a dot and columns. `None` for another line, and near
+/// the end of the input also for one with columns.
 pub fn read_plain_line(input: &[u8]) -> Option<(Event, &[u8])>
     ensures { IfSome result (λ read. BeginsWithEvent input.now read.0 read.1.now) }
 {
@@ -24,7 +24,7 @@ pub fn read_plain_line(input: &[u8]) -> Option<(Event, &[u8])>
     }
 }
 
-/// The same of a line that ends with an index, in parts.
+/// The same for a line that ends with an index, in parts.
 #[inline(never)]
 fn read_uncut_line(input: &[u8]) -> Option<(Event, &[u8])>
     ensures { IfSome result (λ read. BeginsWithEvent input.now read.0 read.1.now) }
@@ -43,7 +43,7 @@ fn read_uncut_line(input: &[u8]) -> Option<(Event, &[u8])>
     Some((Event { kind, name, point }, following))
 }
 
-/// The same of a line with columns, unless the input ends soon.
+/// The same for a line with columns, unless the input ends soon.
 fn read_cut_line(input: &[u8]) -> Option<(Event, &[u8])>
     ensures { IfSome result (λ read. BeginsWithEvent input.now read.0 read.1.now) }
 {
@@ -54,7 +54,7 @@ fn read_cut_line(input: &[u8]) -> Option<(Event, &[u8])>
     Some((Event { kind, name, point }, following))
 }
 
-/// An index, after a dot columns, and what follows the line feed after them.
+/// An index, after a dot columns, and the bytes after the line feed that ends them.
 fn read_cut_place(bytes: &[u8]) -> Option<(Point, &[u8])>
     ensures { IfSome result (λ read. BeginsWithPlace bytes.now read.0 read.1.now) }
 {
@@ -75,15 +75,15 @@ fn read_cut_place(bytes: &[u8]) -> Option<(Point, &[u8])>
     Some((point, following))
 }
 
-/// How many bytes the longest index has with its line feed.
+/// The length of the longest index with its line feed.
 const INDEX_SIZE: usize = 10;
 
-/// How many bytes the most columns have with their line feed.
+/// The length of the longest columns with their line feed.
 const COLUMNS_SIZE: usize = 4;
 
-/// The event of a line that gives an index and nothing else, and what follows the line, as
-/// [`read_plain_line`] tells them, in fewer steps, of lines as most are. Nothing also where fewer
-/// than sixteen bytes follow the sign, fewer than ten the name, or few a long one.
+/// The event of a line with only an index, and the bytes after the line, as [`read_plain_line`]
+/// returns them, in fewer steps for most lines. Also `None` if fewer than sixteen bytes follow the
+/// sign, fewer than ten the name, or few a long one.
 #[inline(always)]
 pub fn read_common_line(input: &[u8]) -> Option<(Event, &[u8])>
     ensures { IfSome result (λ read. BeginsWithEvent input.now read.0 read.1.now) }
@@ -104,7 +104,7 @@ pub fn read_common_line(input: &[u8]) -> Option<(Event, &[u8])>
     Some((Event { kind, name, point }, following))
 }
 
-/// What stands before and after the first space of a line.
+/// The bytes before and after the first space of a line.
 fn split_name(bytes: &[u8]) -> Option<(&[u8], &[u8])>
     ensures whole { IfSome result (λ parts. bytes.now ≡ parts.0.now ++ 32 ∷ parts.1.now) }
     ensures unbroken { IfSome result (λ parts. list_any is_break parts.0.now ≡ false) }
@@ -125,7 +125,7 @@ fn find_break(bytes: &[u8]) -> Option<usize>
         .position(|byte| *byte == b' ' || *byte == b'\n')
 }
 
-/// An index of 1 to 9 digits, and what follows the line feed after it.
+/// An index of 1 to 9 digits, and the bytes after the line feed that ends it.
 fn split_index(bytes: &[u8]) -> Option<(usize, &[u8])>
     ensures { IfSome result (λ read. BeginsWithIndex bytes.now read.0 read.1.now) }
 {

@@ -1,4 +1,4 @@
-//! Compiles what a script stands for.
+//! Compiles scripts.
 
 ghost use Rattle.std.specs.Prelude.{string_bytes, IfOk, IfErr};
 ghost use Rattle.md_script.specs.Run.{IsCompiled, ExplainsEvents, IsTextOf, ExplainsRun};
@@ -23,12 +23,12 @@ pub(crate) const REFERENCE_NAMES: [(&str, &str); 9] = [
     ("quest", "?"),
 ];
 
-/// Reads a script and compiles what it stands for.
+/// Reads a script and compiles its events.
 ///
 /// # Errors
 ///
-/// `RunError::Line` where a line can't be read, `RunError::Event` where an event is refused, and
-/// `RunError::Memory` where memory runs out.
+/// `RunError::Line` if a line is invalid, `RunError::Event` if an event is refused, and
+/// `RunError::Memory` if memory runs out.
 ///
 /// # Examples
 ///
@@ -60,12 +60,11 @@ fn compile_script(alloc: Global, script: &Script) -> Result<String, RunError>
     )?)
 }
 
-/// Reads a script and compiles what it stands for, where its options are safe.
+/// Reads a script and compiles its events, if its options are safe.
 ///
 /// # Errors
 ///
-/// `SafeRunError::Options` where the script can be read and its options aren't safe;
-/// else as [`run`].
+/// `SafeRunError::Options` if the script is valid and its options aren't safe; else as [`run`].
 ///
 /// # Examples
 ///

@@ -1,4 +1,4 @@
-//! Compiles what a script stands for, within limits.
+//! Compiles scripts within limits.
 
 ghost use Rattle.std.specs.Prelude.{string_bytes, IfOk, IfErr};
 ghost use Rattle.md_script.specs.Within.{IsCompiledWithin, ExplainsEventsWithin};
@@ -12,16 +12,16 @@ use std::alloc::Global;
 use std::fmt;
 use thiserror::Error;
 
-/// Why a script gives no text within limits.
+/// Why a script has no text within limits.
 #[derive(Debug, PartialEq, Eq, Drop, Error)]
 pub enum RunWithinError {
-    /// The text is longer than it may be.
+    /// The text exceeds its limit.
     TooLong,
-    /// There is more to read and to print, or to use again, than there may be.
+    /// Reading, printing and reuse exceed the work limit.
     TooMuch,
-    /// The events nest deeper than they may.
+    /// The events nest deeper than the limit allows.
     TooDeep,
-    /// The script gives no text.
+    /// The script has no text.
     Run(RunError),
 }
 
@@ -29,7 +29,7 @@ impl RunWithinError {
     ghost use Rattle.std.specs.Prelude.{◌≡◌};
     ghost use Rattle.md_script.specs.Within.{within_status};
 
-    /// The status with which a program ends: that of the script's error, 5 for a text that is too
+    /// Returns the exit status of a program: that of the script's error, 5 for a text that is too
     /// long, 6 for too much work, 7 for events that nest too deep.
     /// [`ServeError`](crate::ServeError) has 4.
     ///
@@ -96,15 +96,14 @@ impl From<WithinError> for RunWithinError {
     }
 }
 
-/// Reads a script and compiles what it stands for, where its text, its work and its nesting are
-/// within limits.
+/// Reads a script and compiles its events, if its text, its work and its nesting are within limits.
 ///
 /// # Errors
 ///
-/// `RunWithinError::TooDeep` where the script can be read and its events nest deeper than
-/// `limits.depth`; `RunWithinError::TooMuch` where else it gives more work than `limits.work`, or
-/// is a document's that uses more again than that; `RunWithinError::TooLong` only where its text
-/// has more bytes than `limits.text`; else as [`run`](crate::run).
+/// `RunWithinError::TooDeep` if the script is valid and its events nest deeper than `limits.depth`;
+/// `RunWithinError::TooMuch` if otherwise its work exceeds `limits.work`, or its document's reuse
+/// does; `RunWithinError::TooLong` only if its text has more bytes than `limits.text`; else as
+/// [`run`](crate::run).
 ///
 /// # Examples
 ///

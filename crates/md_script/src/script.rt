@@ -22,16 +22,16 @@ use std::simd::prelude::*;
 /// The line that ends a script.
 const END_LINE: &[u8] = b"--";
 
-/// From how many events on the lines that follow are counted.
+/// From this number of events, the remaining lines are counted.
 const MANY_EVENTS: usize = 128;
 
-/// How many bytes most lines have, or fewer.
+/// The maximum length in bytes of most lines.
 const LINE_SIZE: usize = 16;
 
-/// How many bytes are looked at together.
+/// The number of bytes that one step reads.
 const BLOCK_SIZE: usize = 64;
 
-/// What a script stands for.
+/// The content of a script.
 #[derive(Drop)]
 pub(crate) struct Script<'a> {
     pub(crate) events: Vec<Event>,
@@ -69,7 +69,7 @@ pub(crate) fn read_script(alloc: Global, input: &[u8]) -> Result<Script<'_>, Run
                 options,
             });
         }
-        // Each line so far is an event or a setting that is kept.
+        // Each line so far is a stored event or setting.
         let read_lines = events.len() + settings.len();
         if !take_line(&mut events, &mut settings, line)? {
             return Err(RunError::Line(read_lines + 1));
@@ -81,7 +81,7 @@ pub(crate) fn read_script(alloc: Global, input: &[u8]) -> Result<Script<'_>, Run
     }
 }
 
-/// Adds an event to those before it, where this follows its line.
+/// Appends an event; `following` is the input after its line.
 fn keep_event(events: &mut Vec<Event>, event: Event, following: &[u8]) -> Result<(), AllocError>
     ensures { OnOk result (events.new.items ≡ events.old.items ++ event ∷ []) }
 {
@@ -92,8 +92,8 @@ fn keep_event(events: &mut Vec<Event>, event: Event, following: &[u8]) -> Result
     Ok(())
 }
 
-/// Makes room for an event more, and for as many as there are, unless fewer lines follow: so there
-/// is never more than where room grows by doubling.
+/// Reserves capacity for one more event, and doubles it unless fewer lines follow. So the capacity
+/// never exceeds that of growth by doubling.
 #[inline(never)]
 fn make_room(events: &mut Vec<Event>, following: &[u8]) -> Result<(), AllocError>
     ensures events { events.new.items ≡ events.old.items }
@@ -107,7 +107,7 @@ fn make_room(events: &mut Vec<Event>, following: &[u8]) -> Result<(), AllocError
     events.reserve(1)
 }
 
-/// How many line feeds there are among whole blocks of bytes, and in what is left.
+/// The number of line feeds in whole blocks of bytes, and in the rest.
 fn line_feeds(bytes: &[u8]) -> usize {
     let mut count: usize = 0;
     let mut rest = bytes;
@@ -119,7 +119,8 @@ fn line_feeds(bytes: &[u8]) -> usize {
     count.saturating_add(rest.iter().filter(|byte| **byte == b'\n').count())
 }
 
-/// Takes a line's event, or the line itself where it sets an option; whether it could be read.
+/// Stores a line's event, or the line itself if it sets an option; returns whether the line is
+/// valid.
 fn take_line<'a>(
     events: &mut Vec<Event>,
     settings: &mut Vec<&'a [u8]>,
@@ -140,8 +141,8 @@ fn take_line<'a>(
     keep_setting(settings, line)
 }
 
-/// Keeps a line that sets an option, if none of those before it sets the same one;
-/// whether it was kept.
+/// Stores a line that sets an option, unless an earlier line sets it; returns whether it was
+/// stored.
 fn keep_setting<'a>(settings: &mut Vec<&'a [u8]>, line: &'a [u8]) -> Result<bool, AllocError>
     ensures kept { IfOk result (λ kept. kept ≡ (is_setting line.now
         && is_new (texts_of settings.old.items) (option_name line.now))) }
@@ -162,7 +163,7 @@ fn is_end(line: &[u8]) -> bool
     line == END_LINE
 }
 
-/// The first line, and what follows its line feed, where it has one.
+/// The first line, and the bytes after its line feed, if it has one.
 fn first_line(input: &[u8]) -> (&[u8], Option<&[u8]>)
     ensures lines { MatchOption result.1 (lines_of input.now ≡ result.0.now ∷ [])
         (λ following. lines_of input.now ≡ result.0.now ∷ lines_of following.now) }

@@ -13,18 +13,18 @@ use std::fmt;
 use std::io::{Read, Write};
 use thiserror::Error;
 
-/// How often a reader is read at most.
+/// The maximum number of reads.
 const MOST_READS: u32 = 16_777_216;
 
-/// How many bytes are read at once at most.
+/// The maximum number of bytes of one read.
 const READ_SIZE: usize = 65_536;
 
-/// Why a script was not served.
+/// Why a script wasn't served.
 #[derive(Debug, PartialEq, Eq, Drop, Error)]
 pub enum ServeError {
-    /// It gives no text, or there is no more memory.
+    /// The script has no text, or memory ran out.
     Run(RunError),
-    /// Reading failed, or none of 16,777,216 reads met the end.
+    /// Reading failed, or 16,777,216 reads didn't reach the end.
     Input,
     /// Writing failed; a prefix of the text may have been written.
     Output,
@@ -34,8 +34,8 @@ impl ServeError {
     ghost use Rattle.std.specs.Prelude.{◌≡◌};
     ghost use Rattle.md_script.specs.Serve.{serve_status};
 
-    /// The status with which a program ends: that of the script's error, 4 where reading
-    /// or writing failed.
+    /// Returns the exit status of a program: that of the script's error, 4 if reading or writing
+    /// failed.
     ///
     /// # Examples
     ///
@@ -92,13 +92,13 @@ impl From<AllocError> for ServeError {
 
 /// Reads a script to its end, runs it, and writes its text.
 ///
-/// A read or a write that fails is told, and not made again, `Interrupted` ones included.
+/// Failed reads and writes are reported, not retried, even if they were `Interrupted`.
 ///
 /// # Errors
 ///
-/// `ServeError::Run` where the script gives no text, or memory runs out; `ServeError::Input` where
-/// a read fails, or none of 16,777,216 reads meets the end. With both nothing was written.
-/// `ServeError::Output` where a write fails; a prefix of the text was written then, or nothing.
+/// `ServeError::Run` if the script has no text, or memory runs out; `ServeError::Input` if a read
+/// fails, or 16,777,216 reads don't reach the end. In both cases nothing was written.
+/// `ServeError::Output` if a write fails; then a prefix of the text was written, or nothing.
 ///
 /// # Examples
 ///
@@ -126,12 +126,12 @@ pub fn serve<R: Read, W: Write>(
     write_text(writer, text.as_bytes())
 }
 
-/// Reads to the end.
+/// Reads the whole input.
 ///
 /// # Errors
 ///
-/// `ServeError::Input` where a read fails, or none of 16,777,216 reads meets the end, and
-/// `ServeError::Run` where memory runs out.
+/// `ServeError::Input` if a read fails, or 16,777,216 reads don't reach the end, and
+/// `ServeError::Run` if memory runs out.
 ///
 /// # Examples
 ///
@@ -159,14 +159,14 @@ pub fn read_input<R: Read>(alloc: Global, reader: &mut R) -> Result<Vec<u8>, Ser
     Err(ServeError::Input)
 }
 
-/// Room for what is read at once.
+/// Allocates the buffer of one read.
 fn buffer(alloc: Global) -> Result<Vec<u8>, AllocError>
     ensures { IfOk result (λ room. 0 < length room.items) }
 {
     vec![in alloc; 0u8; READ_SIZE]
 }
 
-/// Writes a text, whole.
+/// Writes a whole text.
 fn write_text<W: Write>(writer: &mut W, text: &[u8]) -> Result<(), ServeError>
     ensures ok { OnOk result (Appends (W.contents writer.old) (W.contents writer.new) text.now) }
     ensures err { IfErr result (λ e. e ≡ error.Output) }

@@ -1,4 +1,4 @@
-//! Lines of a script that set options, and the options that they set.
+//! Lines of a script that set options, and the options of a script.
 
 ghost use Rattle.std.specs.Prelude.{◌≡◌, unwrap_or, option_and_then, option_copied, option_map};
 ghost use Rattle.std.specs.Prelude.{string_bytes, IfOk};
@@ -12,7 +12,7 @@ use crate::split::split_at_first;
 use md_text::{CompileOptions, LineEnding};
 use std::alloc::{AllocError, Global};
 
-/// The options that are off or on.
+/// The names of options that are flags.
 const FLAG_NAMES: [&[u8]; 6] = [
     b"allow_any_img_src",
     b"allow_dangerous_html",
@@ -22,7 +22,7 @@ const FLAG_NAMES: [&[u8]; 6] = [
     b"gfm_footnote_number_ids",
 ];
 
-/// The options that are texts.
+/// The names of options that are texts.
 const TEXT_NAMES: [&[u8]; 5] = [
     b"gfm_footnote_back_label",
     b"gfm_footnote_clobber_prefix",
@@ -39,7 +39,7 @@ const CARRIAGE_RETURN: &[u8] = b"cr";
 
 const CARRIAGE_RETURN_LINE_FEED: &[u8] = b"crlf";
 
-/// Whether a line is `!` and the name of an option that is turned on, or `!` and an assignment.
+/// Whether a line is `!` and the name of a flag, or `!` and an assignment.
 pub fn is_setting(line: &[u8]) -> bool
     ensures { result ≡ spec.is_setting line.now }
 {
@@ -141,7 +141,7 @@ fn sets(line: &[u8], name: &[u8]) -> bool
     }
 }
 
-/// The value that the first such line gives, where it is a text.
+/// The value of the first such line, if it is UTF-8.
 fn value_given<'a>(lines: &[&'a [u8]], name: &[u8]) -> Option<&'a str>
     ensures { option_copied result ≡ spec.text_given (spec.texts_of lines.now) name.now }
 {
@@ -153,7 +153,7 @@ fn value_given<'a>(lines: &[&'a [u8]], name: &[u8]) -> Option<&'a str>
     None
 }
 
-/// What stands after the first `=`, where it is a text.
+/// The text after the first `=`, if it is UTF-8.
 fn value_after_equals(line: &[u8]) -> Option<&str>
     ensures { option_copied result ≡ spec.value_of line.now }
 {
@@ -189,11 +189,11 @@ fn line_ending_given(lines: &[&[u8]]) -> LineEnding
     }
 }
 
-/// The options that these lines set; all others are off or unset.
+/// Returns the options that these lines set; all others are off or unset.
 ///
 /// # Errors
 ///
-/// Only where memory runs out.
+/// Returns an error only if memory runs out.
 pub fn options_given(alloc: Global, lines: &[&[u8]]) -> Result<CompileOptions, AllocError>
     ensures { IfOk result (HasOptions (spec.texts_of lines.now)) }
 {

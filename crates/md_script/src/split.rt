@@ -1,9 +1,9 @@
-//! Bytes that are split at the first separator.
+//! Splits bytes at the first separator.
 
 ghost use Rattle.std.specs.Prelude.{◌≡◌, ◌+◌, ◌==◌, [], length, is_some, position, IfSome, IfNone};
 ghost use Rattle.std.specs.List.{list_any, before_first, after_first};
 
-/// What stands before and after the first byte that is the separator, where there is one.
+/// The bytes before and after the first separator, if there is one.
 pub fn split_at_first(bytes: &[u8], separator: u8) -> Option<(&[u8], &[u8])>
     ensures found { is_some result ≡ list_any (λ byte. byte == separator) bytes.now }
     ensures front { IfSome result

@@ -1,4 +1,4 @@
-//! Values that are looked up in a table by their texts.
+//! Tables of values whose keys are texts.
 
 ghost use Rattle.std.specs.Prelude.{◌≡◌};
 ghost use Rattle.md_base.specs.Table as spec;

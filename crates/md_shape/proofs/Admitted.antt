@@ -1,5 +1,5 @@
--- What matches the pattern of a role may stand in each node that has it: by computing over the
--- patterns, once for each name. That documents are built so goes by it.
+-- A node that matches the pattern of a role may occur in each node with that role: by computing
+-- over the patterns, once for each name. The proof that documents are built so depends on it.
 use denote.Enum.Bare.{sameb}
 use Rattle.std.proofs.Common.{◌≡◌, inl, inr, ℕ, zero, suc, Bool, true, false, ◌&&◌, ◌||◌, List, []}
 use Rattle.std.proofs.Common.{◌∷◌, ◌++◌, length, replicate, refl, sym, subst, arith}
@@ -82,12 +82,12 @@ taken test (member ∷ symbols) symbol seen h =
         subst (λ s. test s ≡ true) (same_true the_type tt member symbol e) here
     by false e seen here later = later seen
 
--- one symbol of an item, and what is left after it
+-- one symbol of an item, and the rest of the pattern after it
 abbrev pub one_admits : (Bool → Content → Bool) → Bool → Content → Symbol → Bool
 one_admits left earlier content member =
     may_show earlier content member && left true (past content member)
 
--- the rest may stand after what is left
+-- the rest is allowed after that
 abbrev Admits : (Bool → Content → Bool) → List Symbol → Type 0
 Admits left others = (earlier : Bool) (content : Content) → left earlier content ≡ true →
     admits earlier content others ≡ true

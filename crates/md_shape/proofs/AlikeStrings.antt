@@ -1,4 +1,4 @@
--- Where strings are read alike, nodes of which only strings are made mean the same.
+-- If strings are read alike, nodes that consist only of strings have the same meaning.
 use Rattle.std.proofs.Common.{◌≡◌, ℕ, Bool, true, ◌&&◌, ◌||◌, List, [], ◌∷◌, ◌++◌}
 use Rattle.std.proofs.Common.{Option, refl, ap, sym, ◌∙◌}
 use Rattle.std.specs.Prelude.{if◌then◌else◌}
@@ -26,7 +26,7 @@ use Rattle.md_shape.proofs.Standing.{implies, follows, picked, allowed-facts, is
 use Rattle.md_shape.proofs.Staying.{node-same}
 use Rattle.md_shape.proofs.Quiet.{past-callless, defines-inside}
 
--- names of which only strings are made
+-- names of nodes that consist only of strings
 abbrev pub is_plain : Name → Bool
 is_plain name = is_transparent name || (is_string name || (is_code_data name || is_source name))
 

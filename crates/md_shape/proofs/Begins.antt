@@ -1,4 +1,5 @@
--- The first symbol on a spine passes a test, which tells the same of symbols as another of names.
+-- The first symbol on a spine passes a test, which decides the same for symbols as another one for
+-- names.
 use Rattle.std.proofs.Common.{◌≡◌, ◌⊎◌, inl, inr, Bool, true, false, List, [], ◌∷◌, ◌++◌, refl, sym}
 use Rattle.std.proofs.Common.{subst, length, arith}
 use Rattle.std.specs.List.{list_all}
@@ -26,7 +27,7 @@ abbrev pub begins : (Symbol → Bool) → List Symbol → Bool
 begins test [] = false
 begins test (symbol ∷ symbols) = test symbol
 
--- a test on names that tells the same as a test on symbols
+-- a test on names that decides the same as a test on symbols
 abbrev pub Agree : (Symbol → Bool) → (Name → Bool) → Type 0
 Agree of_symbols of_names = (name : Name) → of_names name ≡ shows of_symbols (standing_of name)
 

@@ -1,4 +1,4 @@
--- Each document of the grammar fits: what stands in it stands where it may.
+-- Each document of the grammar fits: the content of each place allows its nodes.
 use Rattle.std.proofs.Common.{◌≡◌, true, false, ◌||◌, not, Option, Some, None, List, [], ◌∷◌, ◌++◌}
 use Rattle.std.proofs.Common.{refl, sym, ap, ◌∙◌, subst, if◌then◌else◌}
 use Rattle.std.proofs.lemmas.Bool.{and_parts, and_from}

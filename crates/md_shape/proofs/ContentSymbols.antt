@@ -21,7 +21,7 @@ use Rattle.md_shape.specs.Content.{is_after_label, is_source, is_in_table, may_b
 use Rattle.md_shape.specs.Content.{may_stand, content_of, content_past}
 use Rattle.md_shape.proofs.SymbolTests as built
 
--- what is asked of a name, or of a symbol
+-- the conditions on a name, or on a symbol
 pub record Tests : Type 0 where
   pub string : Bool
   pub spanning : Bool
@@ -194,7 +194,7 @@ may_by-names Childless name = refl
 abbrev pub may_show : Content → Symbol → Bool
 may_show content seen = may_by content (tests_for seen)
 
--- the symbols may stand there, one after another
+-- the symbols are allowed there, in sequence
 abbrev pub admits : Content → List Symbol → Bool
 admits content [] = true
 admits content (seen ∷ symbols) = may_show content seen && admits (content_past content) symbols

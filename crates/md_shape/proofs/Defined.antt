@@ -68,7 +68,7 @@ no-definitions given around before c (Node name start end children rest) h fits 
     none a b t x h k l =
         ap (λ m. (m ++ when t (x ∷ [])) ++ b) h ∙ ap (λ u. when u (x ∷ []) ++ b) k ∙ l
 
--- where a definition leads is what its own events tell
+-- the target of a definition is the one that its own events give
 target-defined : (given : Given) (around : Surroundings) (before : Before) (start end : Point)
     (children : Forest) →
     around.is_escaping ≡ true → around.in_code ≡ false → Fits Sources children →

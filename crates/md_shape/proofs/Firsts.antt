@@ -33,7 +33,7 @@ or_else-holds Holds (Some first) second a b = a
 module _ {A : Type 0} (of_symbols : Symbol → Bool) (of_names : Name →
     Bool) (agree : Agree of_symbols of_names) (tell : Point → Point → Forest →
     A) (bytes : List ℕ) (names : List (List ℕ × List ℕ)) where
-  -- what is told of one node
+  -- the fact about the first node, given that about the nodes inside it
   abbrev told_here : Bool → Bool → A → Option A → Option A
   told_here passes through here inside = cond passes (Some here) (cond through inside None)
 
@@ -93,7 +93,7 @@ module _ {A : Type 0} (of_symbols : Symbol → Bool) (of_names : Name →
       ap (λ o. or_else o (first_on_spine of_names tell rest)) here
       ∙ none_first rest _ _ all.2 both.1
 
-  -- the first node on a spine is told of, and nothing stands before it
+  -- the first node on a spine decides, and nothing precedes it
   pub record First (forest : Forest) (around : Role) : Type 0 where
     pub name : Name
     pub start : Point
@@ -105,7 +105,7 @@ module _ {A : Type 0} (of_symbols : Symbol → Bool) (of_names : Name →
     pub are_fine : AreFine bytes names children (inner_role (standing_of name) around None)
         (inner_before (standing_of name) None)
 
-  -- of nodes there is a first, where their spine begins with such a symbol
+  -- among nodes there is a first one, if their spine begins with such a symbol
   abbrev HasFirst : Forest → Type 0
   HasFirst forest = (around : Role) → AreFine bytes names forest around None →
       begins of_symbols (spine forest) ≡ true → First forest around

@@ -1,5 +1,5 @@
--- What else is asked of a node, as a heading's rank or a list's number, holds of each node that has
--- its shape and meets the rules.
+-- The other conditions on a node, such as a heading's rank or a list's number, hold for each node
+-- that has its shape and fulfils the rules.
 use Rattle.std.specs.Str.{bytes_eq}
 use Rattle.std.proofs.Common.{◌≡◌, ◌⊎◌, inl, inr, ℕ, Bool, true, false, ◌||◌, if◌then◌else◌, cond}
 use Rattle.std.proofs.Common.{Option, Some, None, is_some, List, [], ◌∷◌, ◌++◌, refl, ap, ◌∙◌}
@@ -143,7 +143,7 @@ any_begins : (test : Symbol → Bool) (symbols : List Symbol) → begins test sy
 any_begins test [] h = lie h
 any_begins test (symbol ∷ symbols) h = ap (λ t. t || list_any test symbols) h
 
--- what else is asked of a node
+-- the other conditions on a node
 pub fit : (bytes : List ℕ) (names : List (List ℕ × List ℕ)) (name : Name) (around : Role)
     (before : Option Symbol) (start end : Point) (children : Forest) →
     IsFine bytes names around before name start end children →

@@ -1,4 +1,4 @@
--- What is found in some nodes and in those after them: where a link or an image leads.
+-- What some nodes and those after them contain: the target of a link or an image.
 use Rattle.std.proofs.Common.{◌≡◌, Bool, true, false, Option, refl, ap, sym, subst, ◌∙◌, unwrap_or}
 use Rattle.md_base.specs.declared.event.Name.{Name}
 use Rattle.md_base.proofs.Lies.{lie}

@@ -118,7 +118,7 @@ definitions-known bytes (Node name start end children rest) around before shaped
     (defined bytes later) ∙ ap (λ xs. adds (is Definition name) (identifier_of bytes children)
     ++ xs) (definitions-known bytes rest _ _ shaped.2))
 
--- the same of footnote definitions
+-- the same for footnote definitions
 unnoted-media : (bytes : List ℕ) (target : Referral) (ds : List (Option (List ℕ))) →
     footnoted_by bytes (mention_of reading.Media target) ds ≡ ds
 unnoted-media bytes (Label label) ds = refl

@@ -60,7 +60,7 @@ footnotes-known _ identifier text captured before own inner same k =
 
 -- ---- whether the next line ending is slurped
 
--- a fence goes by the fences before it
+-- a fence depends on the fences before it
 fence-slurps : (name : Name) (left : State) →
     (if is_fence name then slurps_after name left
     else (if left.around.in_definition then left.slurps else (left.fences == 0) || left.slurps))

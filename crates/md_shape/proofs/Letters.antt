@@ -1,5 +1,6 @@
--- What holds of all letters of a role's pattern holds of what fits it, and of the spine of each
--- node with that role. So a test on symbols is computed over the patterns, and told of every spine.
+-- A fact about all letters of a role's pattern holds for what matches it, and for the spine of each
+-- node with that role. So a test on symbols is computed over the patterns, and applies to every
+-- spine.
 use Rattle.std.proofs.Common.{◌≡◌, inl, inr, ℕ, zero, suc, Bool, true, List, [], ◌∷◌, ◌++◌}
 use Rattle.std.proofs.Common.{refl, sym, subst, ◌∙◌}
 use Rattle.std.specs.Prelude.{replicate}
@@ -54,7 +55,7 @@ endings-all test (suc endings) line under = and_from (test LineEnding)
     (list_all test (replicate endings LineEnding ++ SetextUnderline ∷ [])) line
     (endings-all test endings line under)
 
--- and of what stands there
+-- and for its content
 pub tail-all : (test : Symbol → Bool) (first : Symbol) (tail : List Symbol) →
     list_all test followers ≡ true →
     IsTail first tail → list_all test tail ≡ true
@@ -103,7 +104,7 @@ grouped-all test tails (first ∷ firsts) spine g h =
     ∙ and_from (list_all test g.0) (list_all test g.1) (tails first g.0 parts.0 g.3)
     (grouped-all test tails firsts g.1 g.4 parts.1)))
 
--- so does what holds of whatever may follow in a group
+-- and what holds for anything that may follow in a group
 pub followed-all : (test : Symbol → Bool) → list_all test followers ≡ true →
     (firsts spine : List Symbol) →
     IsGrouped firsts spine → list_all test firsts ≡ true → list_all test spine ≡ true

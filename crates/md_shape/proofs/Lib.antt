@@ -1,5 +1,5 @@
--- The lemmas on documents of the grammar, from patterns to spines to whole documents: what
--- stands where in them.
+-- The lemmas on documents of the grammar, from patterns to spines to whole documents: the content
+-- of their nodes.
 pub mod SymbolTests
 pub mod Symbols
 pub mod Admitted

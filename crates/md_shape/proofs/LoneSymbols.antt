@@ -56,7 +56,7 @@ pub footnote-agree : Agree is_footnote_symbol is_footnote_label
 footnote-agree name.GfmFootnoteDefinitionLabelString = refl
 footnote-agree _ = refl
 
--- one symbol of an item that is there once, and what follows it
+-- one symbol of an item that occurs once, and what follows it
 pub record Once (one : Symbol) (items : List Item) (firsts : List Symbol) : Type 0 where
   pub others : List Symbol
   pub are : firsts ≡ one ∷ others

@@ -95,7 +95,7 @@ marks_at Nothing name facts solid = lie (sym solid ∙ facts.nothing refl)
 marks_at Childless name facts solid = lie (sym solid ∙ facts.nothing refl)
 marks_at _ name facts solid = refl
 
--- ---- what stands in a node of which a test holds, computed for all names
+-- ---- the content of a node that passes a test, computed for all names
 reference-marks : (c : Content) (name : Name) →
     (if is_reference name then has_marks (content_inside c name) else false) ≡ false
 reference-marks c Data = refl

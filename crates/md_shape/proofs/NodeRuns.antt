@@ -55,7 +55,7 @@ line_heading given c LineEnding last start end children state s h fits same e =
     ap (λ (t : State). t.heading) (same (childless children fits))
 line_heading given c _ last start end children state s h fits same e = lie e
 
--- where no mark of a reference may stand, only what is looked through does
+-- where marks of references aren't allowed, only transparent nodes are
 nothing_is : (c : Content) → has_marks c ≡ false → is_nothing c ≡ true
 nothing_is Nothing e = refl
 nothing_is Childless e = refl

@@ -1,4 +1,4 @@
--- Footnotes of which the first with each identifier is kept, and that no more is read of them.
+-- The first footnote with each identifier is kept, and no other one is read.
 use Rattle.std.proofs.Common.{◌≡◌, ℕ, true, false, not, List, [], ◌∷◌, ◌++◌, length, Option, Some}
 use Rattle.std.proofs.Common.{refl, ap, sym, ◌∙◌, append-nil, bytes_eq, codes}
 use Rattle.std.specs.Prelude.{◌==◌, if◌then◌else◌, find}

@@ -1,4 +1,4 @@
--- A definition is passed over by the steps, and prints nothing.
+-- The steps skip a definition, and it prints nothing.
 use Rattle.std.proofs.Common.{◌≡◌, Bool, true, false, ◌&&◌, ◌++◌, refl, ap, sym, subst, ◌∙◌}
 use Rattle.std.proofs.Common.{append-nil}
 use Rattle.std.specs.Prelude.{if◌then◌else◌}

@@ -59,7 +59,7 @@ past-slurps given around before (Node name start end children rest) =
     past-slurps given around (next_before given around before (around.is_outermost && is_empty rest)
     name start end children) rest
 
--- of two that are there or not, the last counts
+-- of two optional values, the last counts
 pub or_else-assoc : {A : Type 0} (one two three : Option A) →
     or_else (or_else one two) three ≡ or_else one (or_else
     two three)

@@ -1,5 +1,5 @@
--- What the meaning reads of a document of the grammar is there, and what leads to a
--- definition finds one.
+-- What the meaning reads of a document of the grammar exists, and each reference finds its
+-- definition.
 use Rattle.std.proofs.Common.{◌≡◌, ◌⊎◌, inl, inr, ℕ, ◌<◌, Option, Some, None, List, [], ◌∷◌, ◌++◌}
 use Rattle.std.proofs.Common.{sym, ap, ◌∙◌, subst}
 use Rattle.std.specs.Prelude.{map, All, Contains}
@@ -79,7 +79,7 @@ pub labels-alike : (bytes : List ℕ) (names : List (List ℕ × List ℕ)) (doc
 labels-alike bytes names document grammatical =
     refer-alike document role.Flow None grammatical.shape.0
 
--- ---- what leads to a definition finds one
+-- ---- each reference finds its definition
 all-left : {A : Type 0} (P : A → Type 0) (xs ys : List A) → All P (xs ++ ys) → All P xs
 all-left P [] ys a = All-nil P
 all-left P (x ∷ xs) ys a =

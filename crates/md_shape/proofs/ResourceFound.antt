@@ -1,4 +1,4 @@
--- Where the grammar finds a resource in a node, the meaning has found where that leads.
+-- If the grammar finds a resource in a node, the meaning has found its target.
 use Rattle.std.proofs.Common.{◌≡◌, ℕ, Bool, true, false, ◌&&◌, List, Option, Some, None, refl, ap}
 use Rattle.std.proofs.Common.{sym, ◌∙◌}
 use Rattle.md_base.specs.declared.event.Name.{Name}

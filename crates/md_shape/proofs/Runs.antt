@@ -57,7 +57,7 @@ never_outermost : (options : CompileOptions) (loose : Bool) (name : Name) (aroun
 never_outermost options loose BlockQuote around = refl
 never_outermost options loose _ around = refl
 
--- a node, passed over or not
+-- a node, skipped or not
 one-node : (given : Given) (c : Content) (waits : Bool) (around : Surroundings) (before : Before)
     (last : Bool) (name : Name) (start end : Point) (children : Forest) (state s : State) →
     is_allowed c name ≡ true →

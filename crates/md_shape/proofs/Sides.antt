@@ -1,5 +1,6 @@
--- What is printed at a node's two ends is what the node means, and its surroundings turn as the
--- meaning's do. For most names both sides compute to the same, once what the state knows is put in.
+-- What is printed at a node's two ends is what the node means, and its surroundings change as those
+-- of the meaning. For most names both sides compute to the same, once the facts in the state are
+-- substituted.
 use Rattle.std.proofs.Common.{◌≡◌, ℕ, ◌==◌, Bool, true, false, not, ◌||◌, List, [], ◌∷◌, ◌++◌}
 use Rattle.std.proofs.Common.{Option, refl, ap, sym, ◌∙◌, append-nil, codes}
 use Rattle.std.specs.Prelude.{if◌then◌else◌, count_by, slice_get}
@@ -33,7 +34,7 @@ use Rattle.md_shape.proofs.Standing.{is_quiet, is_set_aside, picked}
 use Rattle.md_shape.proofs.EachSide.{told_at, is_reference, Leaves, cell_sides}
 use Rattle.md_shape.proofs.EachSide.{list_sides, fence-sides, call-sides, led-sides}
 
--- ---- what is known of a node where it is left, put into its state
+-- ---- the facts about a node at its exit, written into its state
 abbrev informed : Name → At → State → State
 informed name at left = record left {
   around = seen at.around at.before.columns;
@@ -82,7 +83,7 @@ informed-is given name at cells left ended k =
 
 -- ---- both sides, name by name
 
--- what is printed at the end of these goes by what stands in them
+-- what is printed at the end of these depends on their content
 abbrev is_open : Name → Bool
 is_open name = elim (content_of name) [
   | Blocks ↦ true
@@ -110,7 +111,7 @@ ended-is false false true inner stop h = refl
 ended-is false false false inner [] h = sym (append-nil inner)
 ended-is false false false inner (piece ∷ pieces) h = refl
 
--- what a node prints, of what its children print, in a state that is told what it asks
+-- what a node prints, from what its children print, in a state that has the facts that it needs
 abbrev Ends : Given → At → ℕ → State → Option Name → List Piece → Name → List Piece
 Ends given at cells left ended inner name =
     opens given (seen at.around at.before.columns) (cells_at name at cells) (told_at given at) name
@@ -160,7 +161,7 @@ both-sides given at cells left ended inner name k =
       | false ↦ refl
     ]
 
--- a fence's end goes by the fences before it
+-- the end of a fence depends on the fences before it
 fence-meant : (given : Given) (at : At) (inner : List Piece) (name : Name) →
     (if is_fence name then Meant given at inner name
     else inner ++ when (is_first_fence at) (said (codes ">")))

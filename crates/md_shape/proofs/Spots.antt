@@ -1,5 +1,5 @@
--- A node, what stands in it and what stands after it: what may stand there, from the
--- spine that it is on.
+-- A node, its content and what follows it: what is allowed there, from the spine that it belongs
+-- to.
 use Rattle.std.proofs.Common.{◌≡◌, Bool, true, false, ◌&&◌, ◌||◌, cond, Option, Some, None, is_some}
 use Rattle.std.proofs.Common.{List, [], ◌∷◌, ◌++◌, refl, sym, ap, ◌∙◌, subst}
 use Rattle.std.specs.List.{list_all}

@@ -1,5 +1,5 @@
--- What content tells of the names that may stand in it: computed once for each
--- content, for all names.
+-- The facts that a content gives about the names that it allows: computed once for each content,
+-- for all names.
 use Rattle.std.proofs.Common.{◌≡◌, Bool, true, false, not, ◌&&◌, refl}
 use Rattle.std.specs.Prelude.{if◌then◌else◌}
 use Rattle.std.proofs.lemmas.Bool.{and_parts}
@@ -15,7 +15,7 @@ use Rattle.md_shape.specs.State.{captures}
 use Rattle.md_shape.specs.Steps.{is_row, is_raw, begins_target, is_labelled}
 use Rattle.md_shape.specs.Claim.{is_laid, keeps_cells, keeps_lines}
 
--- where a resource or a definition leads is kept, and the resource after a label
+-- the target of a resource or a definition is kept, and the resource after a label
 abbrev pub keeps_target : Content → Bool
 keeps_target content =
     elim content [ Strings ↦ true | Nothing ↦ true | Childless ↦ true | _ ↦ false ]
@@ -55,7 +55,7 @@ pub follows : (test holds : Bool) → implies test holds ≡ true → test ≡ t
 follows true holds h t = h
 follows false holds h t = lie t
 
--- what was computed of all names of which a test holds, of one of them
+-- a fact computed for all names that pass a test, for one of them
 pub picked : {A : Type 0} (b : Bool) (x y : A) → (if b then x else y) ≡ y → b ≡ true → x ≡ y
 picked true x y h e = h
 picked false x y h e = lie e

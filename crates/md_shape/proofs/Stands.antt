@@ -1,5 +1,5 @@
--- The nodes on a spine, one after another: what is told of a spine is told of this list, which is
--- easier to go over than the tree (`Leading.antt`).
+-- The nodes on a spine as a list: facts about a spine are stated for this list, which is easier to
+-- iterate over than the tree (`Leading.antt`).
 use Rattle.std.proofs.Common.{◌≡◌, Bool, true, false, Option, Some, None, List, [], ◌∷◌, ◌++◌, refl}
 use Rattle.std.proofs.Common.{sym, ap, ◌∙◌}
 use Rattle.std.specs.Prelude.{map, if◌then◌else◌}
@@ -98,7 +98,7 @@ leaves MdxJsxFlowTag = tt
 leaves MdxJsxTextTag = tt
 leaves _ = λ found inner there. refl
 
--- the target that nodes leave, one after another
+-- the target after nodes, in sequence
 abbrev pub sought : List Stand → Referral → Referral
 sought [] found = found
 sought (node ∷ nodes) found =
@@ -134,7 +134,7 @@ target-stands (Node name start end children rest) found =
 
 module _ {A : Type 0} (of_symbols : Symbol → Bool) (of_names : Name →
     Bool) (agree : Agree of_symbols of_names) (tell : Point → Point → Forest → A) where
-  -- what is told of the first node with such a symbol
+  -- the fact about the first node with such a symbol
   abbrev pub first_seen : List Stand → Option A
   first_seen [] = None
   first_seen (node ∷ nodes) =

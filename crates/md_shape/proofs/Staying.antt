@@ -30,7 +30,7 @@ either : (p : Content → Bool) (b : Bool) (x y : Content) (v : Bool) → p x �
 either p true x y v h k = h
 either p false x y v h k = k
 
--- a test that says the same of what is past a content says the same of what is after it
+-- a test that doesn't distinguish a content from what follows it
 pub after-same : (p : Content → Bool) → ((c : Content) → p (content_past c) ≡ p c) →
     (content : Content) (forest : Forest) → p (content_after content forest) ≡ p content
 after-same p past content Empty = refl

@@ -1,4 +1,4 @@
--- What is asked of a name where it stands, and the same of a symbol.
+-- The conditions on a name at its place, and the same for a symbol.
 use Rattle.std.proofs.Common.{Bool, true, false, ◌||◌}
 use Rattle.md_base.specs.declared.event.Name.{Name}
 use Rattle.md_pattern.specs.declared.kinds.Symbol.{Symbol}
@@ -7,7 +7,7 @@ use Rattle.md_shape.specs.Built.{is_string, is_span, is_in_media, is_autolink, i
 use Rattle.md_shape.specs.Built.{is_code_fence, is_math_fence, is_meta, is_info, is_done, is_line}
 use Rattle.md_shape.specs.Built.{is_part, is_source, is_ending}
 
--- what is asked of a name, or of a symbol
+-- the conditions on a name, or on a symbol
 pub record Tests : Type 0 where
   pub part : Bool
   pub string : Bool

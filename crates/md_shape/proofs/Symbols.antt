@@ -82,7 +82,7 @@ may_show earlier content symbol = may_by content (tests_for symbol)
 abbrev pub past : Content → Symbol → Content
 past content symbol = past_by content (tests_for symbol)
 
--- the symbols may stand there, one after another
+-- the symbols are allowed there, in sequence
 abbrev pub admits : Bool → Content → List Symbol → Bool
 admits earlier content [] = true
 admits earlier content (symbol ∷ symbols) =
@@ -102,7 +102,7 @@ same_content Nothing Nothing = true
 same_content Sources Sources = true
 same_content _ _ = false
 
--- symbols of an item may stand there, so many as it has, and what is left after them
+-- symbols of an item are allowed there, as many as it has, and the rest after them
 abbrev pub item_admits : Item → (Bool → Content → Bool) → Bool → Content → Bool
 item_admits (Once class) left earlier content = list_all (λ member. may_show earlier content member
     && left true (past content member)) (members class)

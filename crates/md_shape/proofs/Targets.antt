@@ -1,4 +1,4 @@
--- Where something leads, where a node is left: the target so far, and the resource after a label.
+-- The target of a node at its exit: the target so far, and the resource after a label.
 use Rattle.std.proofs.Common.{◌≡◌, ℕ, Bool, true, false, not, ◌||◌, List, [], Option, Some, None}
 use Rattle.std.proofs.Common.{refl, ap, sym, ◌∙◌, unwrap_or}
 use Rattle.std.specs.Prelude.{if◌then◌else◌}

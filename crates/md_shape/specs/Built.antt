@@ -1,5 +1,5 @@
--- What may stand where in a document, by names and a few texts. Only proofs speak of it: each
--- document of the grammar is built so.
+-- The content that each place of a document allows, by names and a few texts. Only proofs use it:
+-- each document of the grammar is built so.
 use Rattle.std.specs.Prelude.{ℕ, ◌≤◌, Bool, true, false, ◌&&◌, ◌||◌, nat_le, if◌then◌else◌, IsTrue}
 use Rattle.std.specs.Prelude.{List}
 use Rattle.std.specs.Option.{option_map_or}
@@ -31,10 +31,9 @@ use Rattle.md_tree.specs.Rules.{place, columns}
 use Rattle.md_meaning.specs.Meaning.At.{text_in}
 use Rattle.md_meaning.specs.Meaning.Finds.{first_named, number_in_list}
 
--- what may stand somewhere: blocks and all that prints whole elements; spans; strings; the first
--- fence of code, or of math, and what follows it; in a first fence what it says of the code, or
--- the rest of that; in a task whether it is done; nothing; where links and footnotes lead and
--- what they are called
+-- the kinds of content: blocks and all that prints whole elements; spans; strings; the first fence
+-- of code, or of math, and what follows it; in a first fence the language, or the rest after it; in
+-- a task the mark that it is done; nothing; targets and labels of links and footnotes
 pub data Content : Type 0 where
   Blocks : Content
   Spans : Content
@@ -76,7 +75,7 @@ is_span GfmTaskListItemCheck = true
 is_span GfmFootnoteCall = true
 is_span _ = false
 
--- what stands in links, images and calls
+-- a child of a link, an image or a call
 abbrev pub is_in_media : Name → Bool
 is_in_media Label = true
 is_in_media LabelText = true
@@ -135,8 +134,8 @@ is_part CodeFencedFenceInfo = true
 is_part GfmTaskListItemValueChecked = true
 is_part _ = false
 
--- where links and footnotes lead and what they are called: strings that stand in a resource or a
--- definition alone, whose text isn't printed
+-- targets and labels of links and footnotes: strings that occur only in a resource or a definition,
+-- whose text isn't printed
 abbrev pub is_source : Name → Bool
 is_source DefinitionLabelString = true
 is_source DefinitionDestinationString = true
@@ -150,7 +149,7 @@ abbrev pub is_ending : Name → Bool
 is_ending LineEnding = true
 is_ending _ = false
 
--- a name that isn't transparent may stand there
+-- a content allows a name that isn't transparent
 abbrev pub may_stand : Content → Name → Bool
 may_stand Blocks name = if is_part name || is_source name then false else true
 may_stand Spans name = is_string name || (is_span name || (is_in_media name || is_autolink name))
@@ -164,13 +163,13 @@ may_stand Done name = is_done name
 may_stand Nothing name = false
 may_stand Sources name = is_source name || is_ending name
 
--- what may stand in a first fence, and in another
+-- the content of a first fence, and of another
 abbrev pub in_fence : Name → Content → Content
 in_fence CodeFencedFence FirstFence = InfoAndMeta
 in_fence MathFlowFence FirstMathFence = MetaAlone
 in_fence _ _ = Nothing
 
--- what may stand in a node that isn't transparent
+-- the content of a node that isn't transparent
 abbrev pub content_of : Name → Content → Content
 content_of Image content = Spans
 content_of Resource content = Sources
@@ -203,7 +202,7 @@ content_of _ content = content
 abbrev pub content_inside : Content → Name → Content
 content_inside content name = if is_transparent name then content else content_of name content
 
--- what may stand after a name that isn't transparent
+-- the content allowed after a name that isn't transparent
 abbrev pub content_past : Content → Name → Content
 content_past FirstFence name = Chunks
 content_past FirstMathFence name = Chunks
@@ -212,7 +211,7 @@ content_past MetaAlone name = Nothing
 content_past Done name = Nothing
 content_past content name = content
 
--- what may stand after some nodes
+-- the content allowed after some nodes
 abbrev pub content_after : Content → Forest → Content
 content_after content Empty = content
 content_after content (Node name start end children rest) =
@@ -227,12 +226,12 @@ content_after_node content name children =
 abbrev pub is_digit : ℕ → Bool
 is_digit byte = nat_le 48 byte && nat_le byte 57
 
--- how long a heading's first mark is
+-- the length of a heading's first mark
 abbrev pub rank_in : Forest → ℕ
 rank_in children = option_map_or (λ place. columns place.start place.end)
     (first_named HeadingAtxSequence children) 0
 
--- what else is asked of a node: the text of a line ending is one; a heading's rank is 1 to 6; a
+-- the other conditions on a node: the text of a line ending is one; a heading's rank is 1 to 6; a
 -- list's number has only digits; a raw flow has a fence
 abbrev pub IsFit : List ℕ → Name → Point → Point → Forest → Type 0
 IsFit bytes LineEnding start end children = IsTrue (is_line_ends (text_in bytes (place start end)))
@@ -248,7 +247,7 @@ IsFit bytes CodeFenced start end children = IsTrue (list_any is_fence (spine_nam
 IsFit bytes MathFlow start end children = IsTrue (list_any is_fence (spine_names children))
 IsFit bytes _ start end children = Unit {0}
 
--- some nodes are built of what may stand where they are
+-- some nodes are built of what a content allows
 abbrev pub IsBuilt : List ℕ → Content → Forest → Type 0
 IsBuilt bytes content Empty = Unit {0}
 IsBuilt bytes content (Node name start end children rest) =

@@ -1,5 +1,5 @@
--- What is claimed of the steps: what a state knows before some nodes, and what is so after them.
--- Proofs alone use it.
+-- The claims about the steps: what a state knows before some nodes, and what holds after them. Only
+-- proofs use it.
 use Rattle.std.specs.Prelude.{◌≡◌, ℕ, ◌-◌, Bool, true, false, ◌&&◌, List, [], ◌∷◌, ◌++◌, Option}
 use Rattle.std.specs.Prelude.{None, count_by, unwrap_or, length, slice_get}
 use Rattle.std.specs.Option.{option_map_or}
@@ -28,7 +28,7 @@ use Rattle.md_shape.specs.Steps.{noted}
 use Rattle.md_shape.specs.Content.{Content, Blocks, Strings, Lines, BeforeLabel, AfterLabel}
 use Rattle.md_shape.specs.Content.{Sources, Rows, Cells, Nothing, Childless, content_after}
 
--- what the printer keeps of a node's surroundings
+-- the printer's copy of a node's surroundings
 abbrev pub seen : Surroundings → List AlignKind → Around
 seen around columns = record {
   is_contained = elim around.container [ container.Nothing ↦ false | _ ↦ true ];
@@ -43,19 +43,19 @@ seen around columns = record {
   columns = columns;
 }
 
--- the count of cells is kept
+-- the count of cells is preserved
 abbrev pub keeps_cells : Content → Bool
 keeps_cells content = elim content [ Blocks ↦ false | Rows ↦ false | Cells ↦ false | _ ↦ true ]
 
--- what is known of raw flow is kept
+-- the state of raw flow is preserved
 abbrev pub keeps_lines : Content → Bool
 keeps_lines content = elim content [ Blocks ↦ false | Lines ↦ false | _ ↦ true ]
 
--- marks of references may stand there
+-- marks of references may occur there
 abbrev pub has_marks : Content → Bool
 has_marks content = elim content [ Nothing ↦ false | Childless ↦ false | _ ↦ true ]
 
--- the mark of a reference that comes next, after some names on its spine
+-- the pending mark of a reference, after some names on its spine
 abbrev pub mark_after : List Name → ℕ
 mark_after spine = option_map_or marker (slice_get spine (length spine - 1)) 38
 
@@ -76,7 +76,8 @@ abbrev pub KnowsResource : Content → Option Target → Type 0
 KnowsResource BeforeLabel resource = resource ≡ None
 KnowsResource _ resource = Unit {0}
 
--- a state knows what stands before nodes, of which an underline may be the next or not
+-- a state matches the state of the meaning before some nodes; the next one may be an underline or
+-- not
 pub record Knows (content : Content) (waits : Bool) (around : Surroundings) (before : Before)
     (state : State) : Type 0 where
   pub sees : state.around ≡ seen around before.columns
@@ -89,7 +90,7 @@ pub record Knows (content : Content) (waits : Bool) (around : Surroundings) (bef
   pub resource : KnowsResource content state.resource
   pub calls : state.calls ≡ before.calls
 
--- where the resource or the definition leads, after some of what is in it
+-- the target of the resource or the definition, after some of its children
 abbrev pub TargetAfter : Content → Found → Target → Target → Type 0
 TargetAfter Sources found before after = after ≡ record {
   destination = unwrap_or found.destination before.destination;
@@ -108,16 +109,16 @@ ResourceAfter Nothing found before after = after ≡ before
 ResourceAfter Childless found before after = after ≡ before
 ResourceAfter _ found before after = Unit {0}
 
--- what is printed there goes into the text, where it isn't captured and thrown away
+-- pieces printed there go into the text, unless it is captured and dropped
 abbrev pub is_laid : Content → Bool
 is_laid content = elim content [ Sources ↦ false | _ ↦ true ]
 
--- some footnotes more, of which those that are there already change nothing
+-- the footnotes after some more, of which those with a known identifier change nothing
 abbrev pub noted_all : List Footnote → List Footnote → List Footnote
 noted_all before [] = before
 noted_all before (footnote ∷ footnotes) = noted_all (noted before footnote) footnotes
 
--- ---- a node, as its meaning sees it
+-- ---- a node in the terms of its meaning
 
 abbrev pub inner_of : Given → Surroundings → Before → Name → Forest → Outcome
 inner_of given around before name children =
@@ -140,26 +141,26 @@ node_of given around before last name start end children =
     node given (at_node given around before last name start end children) name
     (inner_of given around before name children)
 
--- what stands before its next sibling
+-- the state before its next sibling
 abbrev pub next_before : Given → Surroundings → Before → Bool → Name → Point →
     Point → Forest → Before
 next_before given around before last name start end children =
     before_next (at_node given around before last name start end children) name
     (node_of given around before last name start end children)
 
--- what stands after some nodes
+-- the state after some nodes
 abbrev pub before_past : Given → Surroundings → Before → Forest → Before
 before_past given around before Empty = before
 before_past given around before (Node name start end children rest) =
     before_past given around (next_before given around before (around.is_outermost && is_empty rest)
     name start end children) rest
 
--- all calls of the document are those before some nodes, theirs, and later ones
+-- the calls of the document are those before some nodes, those in them, and later ones
 abbrev pub Continues : Given → List (List ℕ) → List (List ℕ) → Type 0
 Continues given before calls = (later : List (List ℕ)) × (given.calls ≡ (before ++ calls) ++ later)
 
--- what is so after some nodes: their pieces are laid out, what is around is as before, what stands
--- before the next is known, and what their content can't change is as before
+-- what holds after some nodes: their pieces are laid out, the surroundings are as before, the state
+-- matches that before the next node, and what their content can't change is as before
 pub record Done (given : Given) (content : Content) (waits : Bool) (around : Surroundings)
     (before : Before) (forest : Forest) (state done : State) : Type 0 where
   pub text : is_laid content ≡ true →

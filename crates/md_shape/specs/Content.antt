@@ -1,5 +1,5 @@
--- What may stand where, by names: the part of the grammar on which the printer relies. Only
--- proofs speak of it.
+-- The content that each place allows, by names: the part of the grammar on which the printer
+-- relies. Only proofs use it.
 use Rattle.std.specs.Prelude.{◌≡◌, Bool, true, false, ◌||◌, not, ◌&&◌, if◌then◌else◌}
 use Rattle.md_base.specs.declared.event.Name.{Name}
 use Rattle.md_base.specs.declared.event.Name.TheVariants as name_variants
@@ -26,10 +26,10 @@ use name_variants.{HardBreakTrailing, Paragraph, ThematicBreak, Frontmatter}
 use Rattle.md_base.specs.Tree.{Forest, Empty, Node}
 use Rattle.md_base.specs.NameTests.{is_transparent}
 
--- what stands somewhere: blocks, and spans between them; spans; strings; lines of HTML; lines of
--- code, and fences; what a fence says; a label, and what comes after it; where something leads and
--- what it is called; rows; cells; parts of headings, items, tasks and delimiter rows; only what is
--- looked through; nothing at all
+-- the kinds of content: blocks, and spans between them; spans; strings; lines of HTML; lines of
+-- code, and fences; the texts of a fence; a label, and what comes after it; targets and labels;
+-- rows; cells; parts of headings, items, tasks and delimiter rows; only transparent nodes; nothing
+-- at all
 pub data Content : Type 0 where
   Blocks : Content
   Spans : Content
@@ -184,7 +184,7 @@ is_part name = elim name [
   | _ ↦ false
 ]
 
--- a name that isn't transparent may stand there
+-- a content allows a name that isn't transparent
 abbrev pub may_stand : Content → Name → Bool
 may_stand Blocks name = is_block name || (is_span name || is_string name)
 may_stand Spans name = is_span name || (is_string name || is_label_text name)
@@ -201,7 +201,7 @@ may_stand Parts name = is_part name
 may_stand Nothing name = false
 may_stand Childless name = false
 
--- what may stand in a node that isn't transparent
+-- the content of a node that isn't transparent
 abbrev pub content_of : Name → Content
 content_of name = elim name [
   | LineEnding ↦ Childless
@@ -264,11 +264,11 @@ is_childless content = elim content [ Childless ↦ true | _ ↦ false ]
 abbrev pub content_inside : Content → Name → Content
 content_inside content name = if is_transparent name then content else content_of name
 
--- what may stand after a name that isn't transparent
+-- the content allowed after a name that isn't transparent
 abbrev pub content_past : Content → Content
 content_past content = elim content [ BeforeLabel ↦ AfterLabel | other ↦ other ]
 
--- what may stand after some nodes
+-- the content allowed after some nodes
 abbrev pub content_after : Content → Forest → Content
 content_after content Empty = content
 content_after content (Node name start end children rest) =
@@ -279,12 +279,12 @@ abbrev pub content_after_node : Content → Name → Forest → Content
 content_after_node content name children =
     if is_transparent name then content_after content children else content_past content
 
--- a name may stand there
+-- a content allows a name
 abbrev pub is_allowed : Content → Name → Bool
 is_allowed content name =
     not (is_childless content) && (is_transparent name || may_stand content name)
 
--- some nodes stand where they may
+-- a content allows some nodes
 abbrev pub Fits : Content → Forest → Type 0
 Fits content Empty = Unit {0}
 Fits content (Node name start end children rest) =

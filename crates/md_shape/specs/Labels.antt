@@ -1,5 +1,5 @@
--- By what nodes refer to one another and are referred to, as the printer finds it ahead. Only
--- proofs speak of it.
+-- The labels by which nodes refer to one another, as the printer finds them ahead. Only proofs use
+-- it.
 use Rattle.std.specs.Prelude.{Bool, Option, None, unwrap_or, is_some, if◌then◌else◌}
 use Rattle.md_base.specs.declared.event.Name.{Name}
 use Rattle.md_base.specs.declared.event.Position.{Position}
@@ -9,11 +9,11 @@ use Rattle.md_base.specs.NameTests.{is_label, is_label_text, is_reference, is_de
 use Rattle.md_base.specs.NameTests.{is_footnote_prefix, is_footnote_label}
 use Rattle.md_tree.specs.Rules.{place}
 
--- the place of the first node on the spine whose name passes a test
+-- the position of the first node on the spine whose name passes a test
 abbrev pub first_by : (Name → Bool) → Forest → Option Position
 first_by test children = first_on_spine test (λ start end inner. place start end) children
 
--- what is found in the first such node
+-- the result of a function for the children of the first such node
 abbrev pub in_first_by : (Name → Bool) → (Forest → Option Position) → Forest → Option Position
 in_first_by test find children =
     unwrap_or (first_on_spine test (λ start end inner. find inner) children) None
@@ -22,7 +22,7 @@ in_first_by test find children =
 abbrev pub label_in_node : Forest → Option Position
 label_in_node children = in_first_by is_label (first_by is_label_text) children
 
--- a link's or an image's reference where it has one, else the text of its label
+-- the reference of a link or an image if it has one, else the text of its label
 abbrev pub referring_in : Forest → Option Position
 referring_in children =
     if is_some (first_by is_reference children) then first_by is_reference children

@@ -1,5 +1,5 @@
--- By what nodes of a document refer to one another, and that what the meaning reads of a
--- document is there.
+-- The labels by which nodes of a document refer to one another, and conditions that what the
+-- meaning reads of a document exists.
 use Rattle.std.specs.Prelude.{◌≡◌, ℕ, ◌⊎◌, ◌-◌, List, [], ◌∷◌, ◌++◌, Option, Some, None, is_some}
 use Rattle.std.specs.Prelude.{IsTrue, Contains, length, slice_get, suc, if◌then◌else◌, bytes_eq}
 use Rattle.std.specs.Prelude.{option_map, option_and_then}
@@ -28,7 +28,7 @@ use Rattle.md_meaning.specs.Meaning.Layout.{when}
 use Rattle.md_meaning.specs.Meaning.At.{identifier_of}
 use Rattle.md_shape.specs.Labels.{label_in_node, referring_in, defined_label, footnote_label}
 
--- a claim holds of each node, at any depth
+-- a claim holds for each node, at any depth
 abbrev pub Everywhere : (Name → Point → Point → Forest → Type 0) → Forest → Type 0
 Everywhere holds Empty = Unit {0}
 Everywhere holds (Node name start end children rest) =
@@ -40,7 +40,7 @@ HasItsText bytes name start end children =
     IsTrue (is_text_name name) → IsTrue (is_some (text_between bytes start end))
     × IsTrue (is_some (serialized_between bytes start end))
 
--- a claim holds of each node, at any depth, after the names on its spine
+-- a claim holds for each node, at any depth, after the names on its spine
 abbrev pub EverywhereAfter : (List Name → Name → Point → Point → Forest → Type 0) → List Name →
     Forest → Type 0
 EverywhereAfter holds spine Empty = Unit {0}
@@ -49,7 +49,7 @@ EverywhereAfter holds spine (Node name start end children rest) =
     × EverywhereAfter holds (spine_inside name spine) children
     × EverywhereAfter holds (spine_after_node name children spine) rest
 
--- a reference's value stands for a text, by the mark before it
+-- a reference's value decodes to a text, by the mark before it
 abbrev pub Decodes : List ℕ → List (List ℕ × List ℕ) → List Name → Name → Point → Point →
     Forest → Type 0
 Decodes bytes names spine CharacterReferenceValue start end children =
@@ -57,17 +57,17 @@ Decodes bytes names spine CharacterReferenceValue start end children =
     (text_of bytes start end)))
 Decodes bytes names spine _ start end children = Unit {0}
 
--- a node that identifies what it stands in has a text between its indices
+-- a node that has an identifier has a text between its indices
 abbrev pub HasItsLabel : List ℕ → Name → Point → Point → Forest → Type 0
 HasItsLabel bytes name start end children = IsTrue (is_identifier_name name) →
     IsTrue (is_some (label_between bytes start end))
 
--- the target that the place of a label is, if there is one
+-- the target with this label, if there is one
 abbrev pub label_target : Option Position → Referral
 label_target None = Missing
 label_target (Some place) = Label place
 
--- to the grammar a node with these children leads to its resource, or to this label
+-- to the grammar the target of a node with these children is its resource, or this label
 abbrev pub HasResource : Forest → Type 0
 HasResource children = target_of children Missing ≡ Resource
 
@@ -75,7 +75,7 @@ abbrev pub IsLabelled : Option Position → Forest → Type 0
 IsLabelled label children = target_of children Missing ≡ label_target label
 
 -- a link or an image refers by its resource, else by the label that the printer finds; a call, a
--- definition and a footnote definition by theirs
+-- definition and a footnote definition by their labels
 abbrev pub RefersAlike : Name → Point → Point → Forest → Type 0
 RefersAlike Link start end children =
     HasResource children ⊎ IsLabelled (referring_in children) children
@@ -112,14 +112,14 @@ LeadsSomewhere bytes document GfmFootnoteCall start end children =
     Contains (footnotes_defined_in bytes document) (identifier_of bytes children)
 LeadsSomewhere bytes document _ start end children = Unit {0}
 
--- which of some identifiers, counted from 0, is the first that is this one
+-- the number, from 0, of the first of some identifiers that equals this one
 abbrev pub first_of : List (List ℕ) → List ℕ → Option ℕ
 first_of [] wanted = None
 first_of (identifier ∷ others) wanted =
     if bytes_eq identifier wanted then Some 0
     else option_map (λ place. suc place) (first_of others wanted)
 
--- the check and the meaning mean one definition, or footnote definition, by a label
+-- the check and the meaning find the same definition, or footnote definition, for a label
 abbrev pub LeadsAlike : List ℕ → Forest → Name → Point → Point → Forest → Type 0
 LeadsAlike bytes document name start end children =
     (label : Position) → target_of children Missing ≡ Label label →
@@ -128,6 +128,6 @@ LeadsAlike bytes document name start end children =
     × (footnote_for bytes (mentions_of document) (Call label)
     ≡ first_of (footnotes_defined_in bytes document) (identifier_of bytes children))
 
--- where they are found
+-- the element at an index, if there is one
 abbrev pub found_at : {A : Type 0} → List A → Option ℕ → Option A
 found_at found place = option_and_then (λ there. slice_get found there) place

@@ -1,9 +1,10 @@
--- What the laws say of documents of the grammar: what stands where, and what leads to what.
+-- The definitions of the laws on documents of the grammar: the content of nodes, and their
+-- references.
 pub mod Built
 pub mod Labels
 pub mod Leads
 pub mod Underlined
--- The printer of one text: what may stand where, and what it does at each event.
+-- The printer of one text: the content of nodes, and its step at each event.
 pub mod Content
 pub mod State
 pub mod Sides

@@ -1,4 +1,4 @@
--- The steps over a document: over its events, and over its definitions ahead of all others.
+-- The steps over a document: over its events, after those over its definitions.
 use Rattle.std.specs.Prelude.{ℕ, zero, suc, Bool, true, false, ◌&&◌, if◌then◌else◌, List, [], ◌∷◌}
 use Rattle.std.specs.Prelude.{◌++◌, length}
 use Rattle.md_base.specs.declared.event.Name.TheVariants.{Definition}
@@ -16,12 +16,12 @@ use Rattle.md_shape.specs.State.{State, Told, told_of}
 use Rattle.md_shape.specs.Steps.{entered, exited, passed, is_passed, over}
 use Rattle.md_shape.specs.Steps.{beginning}
 
--- what was found of a node, and how many events come after its entry up to its exit
+-- the facts about a node, and how many events come between its entry and its exit
 pub record Noticed : Type 0 where
   pub told : Told
   pub inside : ℕ
 
--- what is noticed at each event of some nodes
+-- the facts at each event of some nodes
 abbrev pub noticed : List ℕ → Bool → Forest → List Noticed
 noticed bytes outermost Empty = []
 noticed bytes outermost (Node name start end children rest) =
@@ -38,12 +38,12 @@ stepped given event told state = elim event.kind [
   | Exit ↦ exited given told event.name state
 ]
 
--- how many events are passed over after one
+-- how many events are skipped after one
 abbrev pub passes : Event → ℕ → ℕ
 passes event inside =
     elim event.kind [ Enter ↦ if is_passed event.name then inside else 0 | Exit ↦ 0 ]
 
--- the events one after another, after so many that are passed over
+-- the events in order, after so many that are skipped
 abbrev pub run : Given → ℕ → List Event → List Noticed → State → State
 run given passed_over [] seen state = state
 run given passed_over (event ∷ events) [] state = state
@@ -51,7 +51,7 @@ run given (suc left) (event ∷ events) (one ∷ seen) state = run given left ev
 run given zero (event ∷ events) (one ∷ seen) state =
     run given (passes event one.inside) events seen (stepped given event one.told state)
 
--- what the definitions of some nodes define, each from its own events
+-- the definitions in some nodes, each from its own events
 abbrev pub defined : Given → Forest → List Defined
 defined given Empty = []
 defined given (Node name start end children rest) =
@@ -61,7 +61,7 @@ defined given (Node name start end children rest) =
           (told_of given.bytes false children start end) Definition beginning)).target;
     } ∷ [] else defined given children) ++ defined given rest
 
--- what is given to the nodes of a document, before its definitions are known
+-- the context of a document's nodes, before its definitions are known
 abbrev pub given_alone : CompileOptions → List (List ℕ × List ℕ) → List ℕ → List ℕ → Given
 given_alone options names bytes ending = record {
   bytes = bytes;

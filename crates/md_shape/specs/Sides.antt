@@ -1,4 +1,4 @@
--- What is printed at a node's two ends: where it is entered, and where it is left.
+-- What is printed at a node's two ends: its entry and its exit.
 use Rattle.std.specs.Prelude.{ℕ, suc, Bool, true, false, not, ◌&&◌, ◌||◌, ◌==◌, if◌then◌else◌, List}
 use Rattle.std.specs.Prelude.{[], ◌∷◌, ◌++◌, Option, None, slice_get, drop, codes, unwrap_or}
 use Rattle.std.specs.Prelude.{bytes_eq}
@@ -36,7 +36,7 @@ use Rattle.md_meaning.specs.Meaning.Tables.{align_attribute, cell_of}
 use Rattle.md_meaning.specs.Meaning.Footnotes.{call_id, count_of, distinct, id_of, place_among}
 use Rattle.md_shape.specs.State.{Told, Around, State}
 
--- ---- what is printed where a node is entered
+-- ---- what is printed at the entry of a node
 abbrev pub list_opening : Given → Told → List Piece
 list_opening given told =
     let number = without_zeros (option_map_or (text_in given.bytes) told.number (codes "1")) in
@@ -76,9 +76,9 @@ opens given around cells told GfmTableCell =
     option_map_or (λ kind. cell_opening around.in_head kind) (slice_get around.columns cells) []
 opens given around cells told _ = []
 
--- ---- what is printed where a node is left
+-- ---- what is printed at the exit of a node
 
--- a text, escaped where the surroundings say so
+-- a text, escaped if the surroundings say so
 abbrev pub shown : State → List ℕ → List Piece
 shown left text = said (encoded left.around.is_escaping text)
 
@@ -113,12 +113,12 @@ abbrev pub html_text : Given → Told → List ℕ
 html_text given told = if given.options.allow_dangerous_html && given.options.gfm_tagfilter
     then tag_filtered (text_in given.bytes told.place) else text_in given.bytes told.place
 
--- where the definition leads to which a link or an image refers; nowhere where it has a resource
+-- the target of the definition that a link or an image refers to; none if it has a resource
 abbrev pub referred : Given → Told → Target
 referred given told =
     if told.resource then target_in nothing_found else target_defined given told.identifier
 
--- where a link or an image leads
+-- the target of a link or an image
 abbrev pub leads : Given → State → Told → Target
 leads given left told = unwrap_or left.resource (referred given told)
 
@@ -147,8 +147,8 @@ abbrev pub call_closing : Given → State → Told → List Piece
 call_closing given left told =
     when (not left.around.in_image) (call_pieces given.options left.calls told.identifier)
 
--- in a state that is back to what is around the node: `inner` is its captured text,
--- `ended` its last child
+-- in a state after the node's surroundings are popped: `inner` is its captured text, `ended` its
+-- last child
 abbrev pub closes : Given → State → Option Name → Told → List ℕ → Name → List Piece
 closes given left ended told inner Data = shown left (text_in given.bytes told.place)
 closes given left ended told inner CharacterEscapeValue =

@@ -1,5 +1,5 @@
--- What the printer keeps of the text and of the nodes around, what it is told of a node, and how
--- the surroundings change in one.
+-- The printer's state: the text and the surroundings, the facts about a node, and how a node
+-- changes the surroundings.
 use Rattle.std.specs.Prelude.{ℕ, Bool, true, false, not, List, [], Option}
 use Rattle.std.specs.Option.{option_map_or}
 use Rattle.md_base.specs.declared.event.AlignKind.{AlignKind}
@@ -25,7 +25,7 @@ use Rattle.md_meaning.specs.Meaning.At.{Target, Footnote, identifier_of}
 use Rattle.md_meaning.specs.Meaning.Finds.{first_named, number_in_list}
 use Rattle.md_base.specs.declared.event.Name.TheVariants.{HeadingAtxSequence}
 
--- what is known of the nodes around, with the alignments of the innermost table
+-- the facts that the ancestors decide, with the alignments of the innermost table
 pub record Around : Type 0 where
   pub is_contained : Bool
   pub is_tight : Bool
@@ -38,12 +38,11 @@ pub record Around : Type 0 where
   pub is_escaping : Bool
   pub columns : List AlignKind
 
--- the text since the innermost capture, and those before it; the surroundings, and those to come
--- back to; whether the next line ending is slurped; the node that ended right before; the mark
--- of a reference; the fences and whether there is a chunk of the code so far; the text of the
--- latest heading; the cells of the row so far; where the resource or the definition leads so
--- far, and where the resource after the latest label leads; the calls so far, and the first
--- footnote with each identifier
+-- the text since the innermost capture, and the texts before it; the surroundings, and those to
+-- restore; whether the next line ending is slurped; the previous node; the mark of a reference; the
+-- fences and whether there is a chunk of the code so far; the text of the latest heading; the cells
+-- of the row so far; the target of the resource or the definition so far, and the target of the
+-- resource after the latest label; the calls so far, and the first footnote with each identifier
 pub record State : Type 0 where
   pub text : List ℕ
   pub below : List (List ℕ)
@@ -61,10 +60,10 @@ pub record State : Type 0 where
   pub calls : List (List ℕ)
   pub footnotes : List Footnote
 
--- what the check found of a node, at both of its events: whether it is loose, as a list, and its
--- number; its columns, as a table; its last child that contributes, as an item; how long its first
--- mark is, as a heading; by what it refers or is referred to; whether it has a resource, as a link
--- or an image; its place; whether nothing follows it in the document
+-- the node facts that the check found, the same at both of its events: whether it is loose, as a
+-- list, and its number; its columns, as a table; its last contributing child, as an item; the
+-- length of its first mark, as a heading; the label by which it refers or is referred to; whether
+-- it has a resource, as a link or an image; its position; whether it ends the document
 pub record Told : Type 0 where
   pub loose : Bool
   pub number : Option Position
@@ -94,7 +93,7 @@ told_of bytes last children start end = record {
   last = last;
 }
 
--- what is known outside all nodes
+-- the surroundings outside all nodes
 abbrev pub outside : Around
 outside = record {
   is_contained = false;
@@ -109,7 +108,7 @@ outside = record {
   columns = [];
 }
 
--- the surroundings change in nodes of this name
+-- nodes of this name change the surroundings
 abbrev pub turns : Name → Bool
 turns name = elim name [
   | BlockQuote ↦ true
@@ -130,7 +129,7 @@ turns name = elim name [
   | _ ↦ false
 ]
 
--- the surroundings in a node
+-- the surroundings inside a node
 abbrev pub turned : CompileOptions → Told → Name → Around → Around
 turned options told name around = elim name [
   | BlockQuote ↦ record around { is_contained = true; is_tight = false }

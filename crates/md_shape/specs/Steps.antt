@@ -1,5 +1,5 @@
--- What the printer does at each event: one text with the captured ones in it, and of the open nodes
--- only what changes.
+-- The printer's step at each event: one text that contains the captured ones, and a stack of only
+-- what changes.
 use Rattle.std.specs.Prelude.{ℕ, ◌+◌, Bool, true, false, ◌&&◌, ◌||◌, ◌==◌, if◌then◌else◌, List, []}
 use Rattle.std.specs.Prelude.{◌∷◌, ◌++◌, Option, Some, None, bytes_eq}
 use Rattle.md_base.specs.declared.event.Name.{Name}
@@ -21,7 +21,7 @@ use Rattle.md_shape.specs.Sides.{opens, closes}
 
 -- ---- the rest of the state
 
--- outside definitions: after a node the next line ending is slurped, or not any more
+-- outside definitions: whether the next line ending is slurped after a node
 abbrev pub slurps_after : Name → State → Bool
 slurps_after name left =
     let outside : Bool → Bool =
@@ -87,7 +87,7 @@ abbrev pub calls_after : Name → List ℕ → List (List ℕ) → List (List �
 calls_after name identifier calls =
     elim name [ GfmFootnoteCall ↦ calls ++ identifier ∷ [] | _ ↦ calls ]
 
--- a footnote more, unless one with its identifier is there
+-- the footnotes with one more, unless there is one with its identifier
 abbrev pub noted : List Footnote → Footnote → List Footnote
 noted [] footnote = footnote ∷ []
 noted (first ∷ others) footnote =
@@ -100,7 +100,7 @@ footnotes_after name identifier inner footnotes = elim name [
   | _ ↦ footnotes
 ]
 
--- a node is entered
+-- the state after a node's entry
 abbrev pub entered : Given → Told → Name → State → State
 entered given told name state =
     let opened =
@@ -131,7 +131,7 @@ abbrev pub others_of : {A : Type 0} → List A → List A
 others_of [] = []
 others_of (x ∷ xs) = xs
 
--- back to what is around a node
+-- pops the surroundings of a node
 abbrev pub restored : Name → State → State
 restored name state = record state {
   text = if captures name then first_or [] state.below else state.text;
@@ -140,7 +140,7 @@ restored name state = record state {
   arounds = if turns name then others_of state.arounds else state.arounds;
 }
 
--- a node is left
+-- the state after a node's exit
 abbrev pub exited : Given → Told → Name → State → State
 exited given told name state =
     let left = restored name state in
@@ -160,14 +160,14 @@ exited given told name state =
       footnotes = footnotes_after name told.identifier inner left.footnotes;
     }
 
--- a definition is passed over: it is printed from its own events, before all others
+-- a definition is skipped: its own events are printed before all others
 abbrev pub passed : State → State
 passed state = record state { ended = Some Definition; marker = 38 }
 
 abbrev pub is_passed : Name → Bool
 is_passed name = elim name [ Definition ↦ true | _ ↦ false ]
 
--- the steps over some nodes, of which the last is the last of the document's own nodes or not
+-- the steps over some nodes; `outermost` says whether they are the document's own nodes
 abbrev pub over : Given → Bool → Forest → State → State
 over given outermost Empty state = state
 over given outermost (Node name start end children rest) state =
@@ -175,7 +175,7 @@ over given outermost (Node name start end children rest) state =
     over given outermost rest (if is_passed name then passed state
     else exited given told name (over given false children (entered given told name state)))
 
--- before the first event
+-- the state before the first event
 abbrev pub beginning : State
 beginning = record {
   text = [];

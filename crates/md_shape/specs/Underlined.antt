@@ -1,5 +1,5 @@
--- Where the underlines of headings stand that come after their texts. Only proofs speak of it: each
--- document of the grammar is so.
+-- The positions of headings' underlines, which follow their texts. Only proofs use it: each
+-- document of the grammar fulfils it.
 use Rattle.std.specs.Prelude.{◌≡◌, Bool, true, false, if◌then◌else◌, []}
 use Rattle.md_base.specs.declared.event.Name.{Name}
 use Rattle.md_base.specs.declared.event.Name.TheVariants.{LineEnding, HeadingSetextText}
@@ -16,15 +16,14 @@ is_underline name = elim name [ HeadingSetextUnderlineSequence ↦ true | _ ↦ 
 abbrev pub waits_past : Bool → Name → Bool
 waits_past waits name = elim name [ HeadingSetextText ↦ true | LineEnding ↦ waits | _ ↦ false ]
 
--- and after some nodes
+-- the same after some nodes
 abbrev pub waits_after : Bool → Forest → Bool
 waits_after waits Empty = waits
 waits_after waits (Node name start end children rest) =
     waits_after (if is_transparent name then waits_after waits children else waits_past waits name)
     rest
 
--- an underline stands only where a heading waits for it, and nothing stands in it but what
--- is looked through
+-- an underline occurs only where a heading waits for it, and contains only transparent nodes
 abbrev pub IsUnderlined : Bool → Forest → Type 0
 IsUnderlined waits Empty = Unit {0}
 IsUnderlined waits (Node name start end children rest) =

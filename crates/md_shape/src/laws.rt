@@ -1,4 +1,4 @@
-//! What holds of every document of the grammar, as the contracts of functions that do nothing.
+//! Facts about every document of the grammar, as contracts of functions that do nothing.
 
 ghost use Rattle.std.specs.Prelude.{◌≡◌, ℕ, List, [], map, false, find, bytes_eq};
 ghost use Rattle.md_base.specs.Tree.{Forest};
@@ -15,21 +15,22 @@ ghost use Rattle.md_shape.specs.Leads.{Everywhere, EverywhereAfter, HasItsText, 
 ghost use Rattle.md_shape.specs.Leads.{Decodes, RefersAlike, LeadsSomewhere, LeadsAlike, first_of};
 ghost use Rattle.md_shape.specs.Leads.{found_at, defined_in, footnotes_defined_in};
 
-/// Each document of the grammar is built of what may stand where it is, beginning with blocks.
+/// In each document of the grammar every node has a content that its place allows, beginning with
+/// blocks.
 pub fn grammatical_documents_are_built()
     ensures { (bytes : List ℕ) (names : List (List ℕ × List ℕ)) (forest : Forest)
         → IsGrammatical bytes names forest → IsBuilt bytes Blocks forest }
 {}
 
-/// In a document of the grammar each underline stands after the text of its heading, with nothing
-/// printed between, and nothing stands in it.
+/// In a document of the grammar each underline follows the text of its heading, with nothing
+/// printed between them, and has no printed content.
 pub fn underlines_stand_after_headings()
     ensures { (bytes : List ℕ) (names : List (List ℕ × List ℕ)) (forest : Forest)
         → IsGrammatical bytes names forest → IsUnderlined false forest }
 {}
 
-/// In a document of the grammar each text and each label that the meaning reads is there, and each
-/// reference stands for a text.
+/// In a document of the grammar each text and each label that the meaning reads exists, and each
+/// reference decodes to a text.
 pub fn texts_are_there()
     ensures texts { (bytes : List ℕ) (names : List (List ℕ × List ℕ)) (document : Forest)
         → IsGrammatical bytes names document → Everywhere (HasItsText bytes) document }
@@ -39,7 +40,7 @@ pub fn texts_are_there()
         → IsGrammatical bytes names document → EverywhereAfter (Decodes bytes names) [] document }
 {}
 
-/// The label by which a node refers, or is referred to, to the grammar and to the meaning, is the
+/// The label by which a node refers, or is referred to, in the grammar and in the meaning, is the
 /// one that the printer finds ahead.
 pub fn printer_finds_the_labels()
     ensures { (bytes : List ℕ) (names : List (List ℕ × List ℕ)) (document : Forest)
@@ -71,7 +72,7 @@ pub fn references_lead_somewhere()
         ≡ footnotes_defined_in given.bytes document }
 {}
 
-/// The steps over the events of a document of the grammar, after those over its definitions,
+/// The steps over the events of a document of the grammar, after the steps over its definitions,
 /// print its meaning.
 pub fn steps_print_what_is_meant()
     ensures { (options : CompileOptions) (names : List (List ℕ × List ℕ))

@@ -1,4 +1,5 @@
--- Numbers behind an id: they are written apart, so not more of them are taken than there are ids.
+-- Numbers after an id: they are all written differently, so at most as many of them are taken as
+-- there are ids.
 use Rattle.std.proofs.Common.{◌≡◌, ℕ, ◌+◌, ◌<◌, ◌≤◌, ◌^◌, zero, suc, Bool, true, false, List}
 use Rattle.std.proofs.Common.{[], ◌∷◌, ◌++◌, map, length, refl, sym, ap, ◌∙◌, subst, append-nil}
 use Rattle.std.proofs.Common.{inl, inr, not, ◌-◌, arith, eqb, ◌||◌, String, Global, string_bytes}
@@ -54,7 +55,7 @@ number-apart base m k l n e =
     tail_of : (b c : ℕ) (x y : List ℕ) → b ∷ x ≡ c ∷ y → x ≡ y
     tail_of b c x y e = cc
 
--- ---- so many numbers from one on
+-- ---- a range of numbers from one
 abbrev tried : List ℕ → ℕ → ℕ → List (List ℕ)
 tried base first zero = []
 tried base first (suc m) = written_id (numbered base first) ∷ tried base (suc first) m

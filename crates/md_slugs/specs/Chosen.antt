@@ -1,10 +1,10 @@
--- Ids that are chosen for headings. Only contracts inside this crate speak of it.
+-- Ids that are chosen for headings. Only contracts inside this crate cite this.
 use Rattle.std.specs.Prelude.{◌≡◌, ℕ, false, IsTrue, List, ◌∷◌, ◌++◌, map}
 use Rattle.std.specs.Fmt.{decimal}
 use Rattle.md_text.specs.Ids.{are_distinct}
 use Rattle.md_page.specs.GivenIds.{is_among, written_id}
 
--- an id with a hyphen and a number behind it
+-- an id followed by a hyphen and a number
 abbrev pub numbered : List ℕ → ℕ → List ℕ
 numbered id number = id ++ (45 ∷ decimal number)
 

@@ -1,2 +1,2 @@
--- Ids that are chosen for headings: words of this crate's own, which no public contract cites.
+-- Ids that are chosen for headings: definitions of this crate, which no public contract cites.
 pub mod Chosen

@@ -1,4 +1,4 @@
-//! Ids for headings: no two of them are equal, and none is one that the text has.
+//! Chooses ids for headings: no two are equal, and none is an id that the text has.
 
 ghost use Rattle.std.specs.Prelude.{◌≡◌, ℕ, List, IfOk, OnOk, if◌then◌else◌, true, false};
 ghost use Rattle.std.specs.Prelude.{length, map, string_bytes};
@@ -13,10 +13,10 @@ use md_page::{Heading, written_id};
 use std::alloc::{AllocError, Global};
 use std::collections::{BTreeMap, BTreeSet};
 
-/// What stands for the slug of a heading whose id would be empty.
+/// The slug of a heading whose id would be empty.
 const SECTION: &str = "section";
 
-/// An id for each heading; `others` are the ids that are taken, as they are written.
+/// Chooses an id for each heading; `others` are the ids that are taken, as they are written.
 pub(crate) fn choose(
     alloc: Global,
     prefix: &str,
@@ -38,7 +38,7 @@ pub(crate) fn choose(
     Ok(ids)
 }
 
-/// A free id for a heading.
+/// Chooses a free id for a heading.
 fn next_id(
     alloc: Global,
     prefix: &str,
@@ -57,7 +57,7 @@ fn next_id(
     free_id(alloc, taken, next, base)
 }
 
-/// The ids that are taken from the beginning.
+/// The ids that are taken at the beginning.
 fn taken_by(alloc: Global, others: &[String]) -> Result<Taken, AllocError>
     ensures { IfOk result (λ taken. (written : List ℕ) →
         contains_text taken written ≡ is_among written (map string_bytes others.now)) }
@@ -69,7 +69,7 @@ fn taken_by(alloc: Global, others: &[String]) -> Result<Taken, AllocError>
     Ok(taken)
 }
 
-/// Takes an id.
+/// Marks an id as taken.
 fn take(alloc: Global, taken: &mut Taken, id: &str) -> Result<(), AllocError>
     ensures { OnOk result ((written : List ℕ) → contains_text taken.new written
         ≡ (if bytes_eq (written_id id.now) written then true

@@ -12,10 +12,10 @@ use std::collections::{BTreeMap, BTreeSet};
 /// The ids that are taken, as they are written.
 pub(crate) type Taken = BTreeSet<String>;
 
-/// The number that is tried next behind an id, which is taken.
+/// The next number to try after an id that is taken.
 pub(crate) type Next = BTreeMap<String, usize>;
 
-/// An id that isn't taken: this one, or one with the next number that is free behind it.
+/// An id that isn't taken: this one, or one with the next free number after it.
 pub(crate) fn free_id(
     alloc: Global,
     taken: &Taken,
@@ -35,8 +35,8 @@ pub(crate) fn free_id(
     Ok(id)
 }
 
-/// An id with a free number behind it, and that number. Tried are those from `next` on; it is
-/// never more than there are ids.
+/// An id with a free number after it, and that number. The search begins at `next`; the number
+/// never exceeds the number of ids.
 fn free_number(
     alloc: Global,
     taken: &Taken,
@@ -57,7 +57,7 @@ fn free_number(
     }
 }
 
-/// An id with a hyphen and a number behind it.
+/// An id followed by a hyphen and a number.
 fn numbered(alloc: Global, base: &str, number: usize) -> Result<String, AllocError>
     ensures { IfOk result (λ id. string_bytes id ≡ numbered base.now number) }
 {

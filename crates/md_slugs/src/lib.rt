@@ -1,4 +1,4 @@
-//! Ids of headings that are made of the headings' texts.
+//! Ids of headings that are derived from the headings' texts.
 #![tactic(auto)]
 
 mod chosen;
@@ -21,32 +21,31 @@ use md_page::{AttributedHtml, Heading, Html, list_headings, list_ids, with_given
 pub use slugging::slug;
 use std::alloc::{AllocError, Global};
 
-/// A text whose headings have ids that are made of their texts, and these headings.
+/// A text whose headings have ids derived from their texts, and these headings.
 #[derive(Drop)]
 pub struct WithHeadingSlugs {
     /// The text.
     pub html: AttributedHtml,
-    /// The headings that got an `id`, in their order.
+    /// The headings that got an `id`, in order.
     pub headings: Vec<Heading>,
     /// Their ids, in the same order, not escaped.
     pub ids: Vec<String>,
 }
 
-/// A safe text with an `id` in each heading that has none, made of the heading's text as GitHub
-/// makes it ([`slug`]), and a list of these headings with their ids.
+/// Adds an `id` to each heading of a safe text that has none, derived from the heading's text as
+/// GitHub does ([`slug`]), and lists these headings with their ids.
 ///
-/// An id is `prefix` and the slug of the heading's text. Where that id was in the text given, or
-/// another heading before it got it, a hyphen and a number follow, the least one from 1 on that is
-/// free. Nothing else changes: whatever the HTML Standard's tokenizer emits of the text given, it
-/// emits of the text returned the same tokens with these attributes added.
+/// An id is `prefix` and the slug of the heading's text. If the input has that id, or an earlier
+/// heading got it, a hyphen and a number follow, the least free one from 1. Nothing else changes:
+/// whatever the HTML Standard's tokenizer emits for the input, it emits for the output the same
+/// tokens with these attributes added.
 ///
-/// Where no two `id`s of the text given are equal, no two of the text returned are, whatever the
-/// headings and the prefix. Where tree construction builds the text given as it is written, it
-/// builds the text returned so.
+/// If the `id`s of the input all differ, those of the output do, whatever the headings and the
+/// prefix are. If tree construction builds the input as it is written, it builds the output so.
 ///
 /// # Errors
 ///
-/// Only where memory runs out.
+/// Returns an error only if memory runs out.
 ///
 /// # Examples
 ///

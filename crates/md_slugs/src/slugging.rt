@@ -3,12 +3,13 @@
 use std::alloc::{AllocError, Global};
 use ucd_category::GeneralCategory;
 
-/// The slug of a text that is escaped, as GitHub makes it of a heading: in lower case, without what
-/// is no letter, mark, number, connector, space or hyphen, and with a hyphen for each space.
+/// Returns the slug of an escaped text, as GitHub derives it from a heading: in lower case, only
+/// with letters, marks, numbers, connectors, spaces and hyphens, and with each space replaced by a
+/// hyphen.
 ///
 /// # Errors
 ///
-/// Only where memory runs out.
+/// Returns an error only if memory runs out.
 ///
 /// # Examples
 ///
@@ -18,7 +19,7 @@ use ucd_category::GeneralCategory;
 /// ```
 pub fn slug(alloc: Global, text: &str) -> Result<String, AllocError> {
     let mut slug = String::new(alloc);
-    // What a character reference of the four stands for is left out, as the reference is.
+    // The character of one of the four references is left out, as the reference is.
     let mut is_in_reference = false;
     for character in text.chars() {
         match character {
@@ -31,7 +32,7 @@ pub fn slug(alloc: Global, text: &str) -> Result<String, AllocError> {
     Ok(slug)
 }
 
-/// Adds what a slug has for a character.
+/// Appends the slug of a character.
 fn push_lower(slug: &mut String, character: char) -> Result<(), AllocError> {
     if character == ' ' {
         return slug.push('-');
@@ -44,7 +45,7 @@ fn push_lower(slug: &mut String, character: char) -> Result<(), AllocError> {
     Ok(())
 }
 
-/// Whether a slug has a character, in lower case.
+/// Whether a slug keeps a character, in lower case.
 fn is_kept(character: char) -> bool {
     match character {
         'a'..='z' | 'A'..='Z' | '0'..='9' | '_' | '-' => true,
@@ -53,7 +54,7 @@ fn is_kept(character: char) -> bool {
     }
 }
 
-/// Whether it is a letter, a mark, a number or a connector.
+/// Whether a character is a letter, a mark, a number or a connector.
 fn is_word(character: char) -> bool {
     match GeneralCategory::for_char(character) {
         GeneralCategory::UppercaseLetter

@@ -74,7 +74,7 @@ escaped-append (b ∷ x) y hx hy =
     and_from (is_escaped_byte b (x ++ y)) (is_escaped (x ++ y)) (escaped_byte-append b x y parts.0)
     (escaped-append x y parts.1 hy)
 
--- what is left of an escaped text after its first byte is escaped
+-- the rest of an escaped text after its first byte is escaped
 pub escaped-tail : (b : ℕ) (rest : List ℕ) → is_escaped (b ∷ rest) ≡ true → is_escaped rest ≡ true
 escaped-tail b rest h = (and_parts (is_escaped_byte b rest) (is_escaped rest) h).1
 
@@ -125,7 +125,7 @@ escaped_byte-without b c text more out h =
     by false true h = completes-without b text more out h
     by false false h = refl
 
--- such a byte may be taken out of an escaped text
+-- such a byte may be removed from an escaped text
 pub escaped-without : (b : ℕ) (text more : List ℕ) → outside_references b ≡ true →
     is_escaped (text ++ (b ∷ more)) ≡ true → is_escaped (text ++ more) ≡ true
 escaped-without b [] more out h = escaped-tail b more h

@@ -9,7 +9,7 @@ use Rattle.std.proofs.lemmas.List.Folds.{list_all-append}
 use Rattle.md_text.specs.Html.{Attribute, written_attributes}
 use Rattle.md_text.proofs.HtmlNames.{is_name, is_name_byte, no_angle, no_quote, are_tidy}
 
--- no `<` stands in a text of which each byte is none
+-- a text has no `<` if each of its bytes isn't one
 pub no_angle_inside : (b m : List ℕ) → list_all no_angle (b ++ (60 ∷ m)) ≡ true → ⊥
 no_angle_inside [] m h = lie h
 no_angle_inside (c ∷ b) m h =

@@ -1,5 +1,5 @@
--- What has a reading: nothing, a text, tags around what has one, and two such texts joined. All
--- that is printed is put together so.
+-- Texts that have a reading: the empty text, a plain text, tags around a text that has a reading,
+-- and two such texts joined. All printed text is built from these.
 use Rattle.md_base.specs.Identifier.{is_nonempty}
 use Rattle.std.specs.List.{list_all}
 use Rattle.std.proofs.Common.{◌≡◌, ℕ, Bool, true, not, ◌&&◌, List, [], ◌∷◌, ◌++◌, refl, sym, ap}

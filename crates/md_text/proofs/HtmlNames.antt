@@ -1,5 +1,5 @@
--- The names of the tables, and where names, values and texts end: by this a reading can't go
--- wrong at a boundary.
+-- The names of the tables, and where names, values and texts end: so a reading can't go wrong at a
+-- boundary.
 use Rattle.std.specs.Str.{bytes_eq}
 use Rattle.md_base.proofs.Lies.{lie}
 use Rattle.md_base.specs.Identifier.{is_nonempty}

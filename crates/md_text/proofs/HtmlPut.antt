@@ -85,7 +85,7 @@ nil_not : (before : List ℕ) (m : List ℕ) → [] ≡ before ++ (60 ∷ m) →
 nil_not [] m e = cc
 nil_not (b ∷ before) m e = cc
 
--- what is made of a forest where a text is inserted after the children of one of its elements
+-- a forest with a text inserted after the children of one of its elements
 pub record IsMade (x : List ℕ) (made : Forest → List ℕ → Type 0) : Type 0 where
   pub texts : (bytes : List ℕ) (rest : Forest) (y : List ℕ) →
       is_escaped bytes ≡ true → made rest y →
@@ -212,7 +212,7 @@ line_ends-angle (b ∷ endings) h =
       | inr is ↦ subst (λ b. no_angle b ≡ true) (sym (eqb-true b 10 is)) refl
     ]
 
--- what is made of a paragraph's text and line endings
+-- the result for a paragraph's text and line endings
 pub made-before : (made : Forest → List ℕ → Type 0) (before endings inserted : List ℕ) →
     is_line_ends endings ≡ true →
     IsMade inserted made → (f : Forest) → IsReading (before ++ codes "</p>" ++ endings) f

@@ -98,7 +98,7 @@ past_name_bytes : (name tail : List ℕ) → drop (length name) (name ++ tail) �
 past_name_bytes [] tail = refl
 past_name_bytes (b ∷ name) tail = past_name_bytes name tail
 
--- a tag up to where it goes on after its attributes
+-- a tag up to the end of its attributes
 tag-at : (go : List ℕ → Left Forest) (name : List ℕ) (attributes : List Attribute) (r : List ℕ) →
     (is_name name ≡ true) × (are_tidy attributes ≡ true) → EndsAttributes r
     → past_angle go (name ++ attributes_before attributes r) ≡ past_attributes go name attributes r
@@ -227,7 +227,7 @@ reads text h =
 pub unreadable : (text : List ℕ) → is_readable text ≡ false → HasReading text → ⊥
 unreadable text e h = lie (sym e ∙ reads text h)
 
--- a text with a reading whose attributes pass, and one with a reading of which an attribute fails
+-- a text with a reading whose attributes pass, and one with a reading in which an attribute fails
 pub readable_with : (p : Attribute → Bool) (text : List ℕ) → is_readable text ≡ true →
     all_attributes p (guessed text) ≡ true → HasReadingWith p text
 readable_with p text h passes =

@@ -7,7 +7,7 @@ use Rattle.md_text.specs.Html.{Attribute, Forest, Empty, Text, Void, Element}
 use Rattle.md_text.proofs.HtmlNames.{is_name_byte, no_angle, no_quote}
 use Rattle.md_text.proofs.HtmlSplit.{stops}
 
--- something read, and what is left
+-- a result of reading, and the rest
 pub record Left (X : Type 0) : Type 0 where
   pub found : X
   pub left : List ℕ
@@ -53,7 +53,7 @@ abbrev pub at_attribute : (List ℕ → Left (List Attribute)) → List ℕ → 
 at_attribute go [] = with_left [] []
 at_attribute go (b ∷ rest) = if b == 32 then past_space go rest else with_left [] (b ∷ rest)
 
--- at most so many attributes
+-- at most a number of attributes
 abbrev pub read_attributes : ℕ → List ℕ → Left (List Attribute)
 read_attributes zero text = with_left [] text
 read_attributes (suc n) text = at_attribute (read_attributes n) text

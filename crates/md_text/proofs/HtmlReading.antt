@@ -66,7 +66,7 @@ after_text (Text bytes rest) r h ends = lie h
 after_text (Void name attributes rest) r h ends = refl
 after_text (Element name attributes children rest) r h ends = refl
 
--- after a name come attributes, or the tag goes on
+-- attributes follow a name, or the tag continues
 pub attributes_stop : (attributes : List Attribute) (r : List ℕ) → EndsAttributes r →
     stops is_name_byte (attributes_before attributes r) ≡ true
 attributes_stop [] r ends = elim ends [
@@ -235,7 +235,7 @@ any_all : (attributes : List Attribute) → list_all any_attribute attributes �
 any_all [] = refl
 any_all (a ∷ rest) = any_all rest
 
--- any forest passes where nothing is asked
+-- any forest passes if there is no condition
 pub all-any : (f : Forest) → all_attributes any_attribute f ≡ true
 all-any Empty = refl
 all-any (Text bytes rest) = all-any rest

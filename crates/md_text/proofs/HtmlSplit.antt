@@ -1,5 +1,5 @@
--- Where two texts that are equal as a whole come apart: the longest runs, the attributes, the
--- names. That no text has two readings goes by it.
+-- How two equal texts split: the longest runs, the attributes, the names. The proof that no text
+-- has two readings depends on it.
 use Rattle.std.proofs.Common.{◌≡◌, ℕ, Bool, true, false, not, ◌&&◌, ◌⊎◌, List, [], ◌∷◌, ◌++◌, refl}
 use Rattle.std.proofs.Common.{sym, ap, ap₂, ◌∙◌, subst, inl, inr}
 use Rattle.std.specs.List.{list_all}
@@ -32,7 +32,7 @@ split t (c ∷ x) (d ∷ y) a b hx hy sa sb e =
     (and_parts (t d) (list_all t y) hy).1 sa sb later in
     (ap₂ (λ c x. c ∷ x) first rest.0, rest.1)
 
--- where a tag goes on after its attributes: `>` or ` /`
+-- the rest of a tag after its attributes: `>` or ` /`
 abbrev pub EndsAttributes : List ℕ → Type 0
 EndsAttributes r = ((more : List ℕ) × (r ≡ 62 ∷ more)) ⊎ ((more : List ℕ) × (r ≡ 32 ∷ 47 ∷ more))
 

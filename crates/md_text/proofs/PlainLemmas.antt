@@ -1,4 +1,4 @@
--- What a URL is made of: runs of plain bytes, percent triples, and bytes that become one.
+-- The parts of a URL: runs of plain bytes, percent triples, and bytes that become triples.
 use Rattle.std.proofs.Common.{◌≡◌, ◌≢◌, ℕ, ◌+◌, ◌<◌, ◌≤◌, ◌/◌, ◌%◌, Bool, true, false, not, ◌&&◌}
 use Rattle.std.proofs.Common.{cond, eqb, List, [], ◌∷◌, ◌++◌, ◌||◌, length, get_or, take, drop, min}
 use Rattle.std.proofs.Common.{codes, Fits, w8, refl, sym, ap, ap₂, subst, ◌∙◌, arith, append-nil}
@@ -56,7 +56,7 @@ sanitized-percent b rest l gone =
     ∙ sym (ap (λ t. encoded true (cond t (b ∷ []) (percent b)) ++ sanitized rest) gone)
     ∙ sym (sanitized-first b rest)
 
--- four bytes that become triples, one after another
+-- four bytes that become triples, in sequence
 sanitized-four : (a b c d : ℕ) (rest : List ℕ) → 128 ≤ a → 128 ≤ b → 128 ≤ c →
     128 ≤ d → a < 256 → b < 256 →
     c < 256 → d < 256 →
@@ -140,7 +140,7 @@ kept-triple (b ∷ c ∷ d ∷ rest) e =
           ∙ ap (λ x. c ∷ x) (sanitized-plain d rest second))),
     )
 
--- some at the front, and some of what is left
+-- some at the front, and some in the rest
 pub kept-join : (bs : List ℕ) (n m : ℕ) → AreKept bs n → AreKept (drop n bs) m → AreKept bs (n + m)
 kept-join bs n m front later =
     let both = take-add n m bs in (
@@ -197,7 +197,7 @@ sanitized-changed b rest l changes = elim (cases_eq b 38) [
       ])
 ]
 
--- the same of what comes first
+-- the same for the bytes at the beginning
 pub sanitized-changed_first : (bs : List ℕ) → 1 ≤ length bs → get_or bs 0 0 < 256 →
     begins_kept bs ≡ false → changed_byte (get_or bs 0 0) ++ sanitized (drop 1 bs) ≡ sanitized bs
 sanitized-changed_first [] long low changes = absurd (omega arith)

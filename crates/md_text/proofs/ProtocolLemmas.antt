@@ -1,5 +1,5 @@
--- Reading references back changes no protocol that is kept: so a link's protocol is the one
--- that was judged.
+-- Reading references back changes no protocol that is kept: so a link's protocol is the one that
+-- was checked.
 use Rattle.std.specs.Prelude.{◌||◌}
 use Rattle.std.specs.Str.{bytes_eq}
 use Rattle.std.proofs.Common.{◌≡◌, ◌≢◌, ℕ, ◌==◌, Bool, true, false, not, ◌&&◌, cond, List, [], ◌∷◌}
@@ -104,8 +104,7 @@ front_from : (s v : List ℕ) → list_all goes_on s ≡ true → begins_with s 
 front_from s v g e =
     subst (λ x. list_all goes_on x ≡ true) ((bytes_decides s (take (length s) v)).0 e) g
 
--- the rest of a reference has no byte that matters to a protocol, and neither has
--- what it stands for
+-- the rest of a reference has no byte that matters for a protocol, and neither has its character
 reference-goes_on : (rest : List ℕ) → front_goes_on (reference_tail rest) rest ≡ true
 reference-goes_on rest =
     let P : Option (List ℕ × ℕ) → Type 0 =

@@ -1,5 +1,5 @@
--- Bytes that are looked at together: from the mask of a load to how many of its bytes come before
--- the first that fails.
+-- Bytes that one step reads: from the mask of a load to the number of its bytes before the first
+-- that fails.
 use Rattle.std.proofs.Common.{◌≡◌, ℕ, ◌+◌, ◌%◌, ◌^◌, ◌<◌, ◌≤◌, eqb, Bool, true, false, not, cond}
 use Rattle.std.proofs.Common.{List, [], ◌∷◌, map, length, get_or, take, drop, min, Fits, w8, refl}
 use Rattle.std.proofs.Common.{ap, ap₂, ◌∙◌, arith, zero, suc}
@@ -11,7 +11,7 @@ use Rattle.std.specs.List.{prefix_len}
 use lib.Count.{count_trailing_zeros}
 use lib.Lanes.{Each1, chunk, mask_l, top}
 
--- where some pass, the others are among what is left
+-- if some pass, the others are in the rest
 pub prefix_len-drop : (q : ℕ → Bool) (i : ℕ) (xs : List ℕ) → i ≤ prefix_len q xs →
     prefix_len q xs ≡ i + prefix_len q (drop i xs)
 prefix_len-drop q zero xs le = omega arith
@@ -50,7 +50,7 @@ prefix_len-agree p q all (x ∷ xs) fits =
     ap₂ (λ b n. cond b (1 + n) 0) (agree_below_at p q 256 x all fits.0.fits)
     (prefix_len-agree p q all xs fits.1)
 
--- a load of n bytes, of which lane by lane f is computed, whose top bit is set just where q fails
+-- a load of n bytes and a lane-wise function f of it, whose top bit is set exactly where q fails
 pub run_is : (q : ℕ → Bool) (d : List ℕ) (i n r : ℕ) (z : List ℕ) → i + n ≤ length d → n ≤ 64 →
     ((k : ℕ) → Fits w8 (get_or d k 0)) →
     r ≡ cond (eqb (mask_l (map (top 7) z) % 2 ^ 64) 0) n

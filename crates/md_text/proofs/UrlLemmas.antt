@@ -1,4 +1,4 @@
--- Which bytes a URL keeps, and what becomes of them in HTML: the ground of the laws on URLs.
+-- Which bytes a URL keeps, and how HTML escapes them: the base of the laws on URLs.
 use Rattle.std.proofs.Common.{◌≡◌, ◌≢◌, ℕ, ◌<◌, ◌≤◌, true, false, eqb, List, [], ◌∷◌, refl, subst}
 use Rattle.std.proofs.Common.{arith, ne_eqb, inl, inr}
 use Rattle.std.proofs.lemmas.Bool.{cases_lt, both_ways}

@@ -1,4 +1,4 @@
--- The options where none is set.
+-- The default options.
 use Rattle.std.specs.Prelude.{false, true, None}
 use Rattle.md_text.specs.declared.line_ending.LineEnding.TheVariants.{LineFeed}
 use Rattle.md_text.specs.declared.options.CompileOptions.{CompileOptions}

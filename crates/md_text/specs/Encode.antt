@@ -1,9 +1,9 @@
--- A text made safe to stand in HTML, and the way back.
+-- Escaping for HTML, and its inverse.
 use Rattle.std.specs.Prelude.{ℕ, Bool, ◌&&◌, ◌==◌, if◌then◌else◌, List, [], ◌∷◌, codes}
 use Rattle.std.specs.List.{flat_map}
 
--- what a byte becomes: NUL is U+FFFD, and `&`, `"`, `<` and `>` are character references where
--- HTML is asked for
+-- the replacement of a byte: U+FFFD for NUL, and, if HTML is encoded, character references for `&`,
+-- `"`, `<` and `>`
 abbrev pub encoded_byte : Bool → ℕ → List ℕ
 encoded_byte html b =
     if b == 0 then 239 ∷ 191 ∷ 189 ∷ []
@@ -13,11 +13,11 @@ encoded_byte html b =
     else (if html && (b == 62) then codes "&gt;"
     else b ∷ []))))
 
--- each byte by itself
+-- each byte is escaped independently
 abbrev pub encoded : Bool → List ℕ → List ℕ
 encoded html text = flat_map (encoded_byte html) text
 
--- the same by characters: what a character becomes
+-- the same for characters: the replacement of a character
 abbrev pub encoded_character : Bool → ℕ → List ℕ
 encoded_character html c =
     if c == 0 then 65533 ∷ []

@@ -1,4 +1,4 @@
--- The grammar of the HTML that is written. It knows no events.
+-- The grammar of the HTML that the compiler writes. It doesn't refer to events.
 use Rattle.std.specs.Str.{bytes_eq}
 use Rattle.md_base.specs.Identifier.{is_nonempty}
 use Rattle.std.specs.Prelude.{◌≡◌, ℕ, Bool, true, false, not, IsTrue, ◌&&◌, List, [], ◌∷◌, ◌++◌}
@@ -7,13 +7,13 @@ use Rattle.std.specs.List.{list_any, list_all}
 use Rattle.md_text.specs.Bytes.{is_one_of}
 use Rattle.md_text.specs.References.{is_escaped}
 
--- an attribute: its name and its value as it is written
+-- an attribute: its name, and its value as it is written
 pub record Attribute : Type 0 where
   pub name : List ℕ
   pub value : List ℕ
 
--- texts, void tags and elements one after another: each has what comes after it, and an
--- element what it holds
+-- texts, void tags and elements in order: each has the nodes that follow it, and an element has its
+-- content
 pub data Forest : Type 0 where
   Empty : Forest
   Text : List ℕ → Forest → Forest
@@ -26,8 +26,8 @@ written_attributes [] = []
 written_attributes (a ∷ rest) =
     32 ∷ (a.name ++ (61 ∷ 34 ∷ (a.value ++ (34 ∷ written_attributes rest))))
 
--- a void tag is `<`, name, attributes, ` />`; an element `<`, name, attributes, `>`, what it
--- holds, `</`, name, `>`
+-- a void tag is `<`, name, attributes, ` />`; an element is `<`, name, attributes, `>`, its
+-- content, `</`, name, `>`
 abbrev pub written : Forest → List ℕ
 written Empty = []
 written (Text bytes rest) = bytes ++ written rest
@@ -61,19 +61,19 @@ elements =
           ∷ codes "data-footnote-backref" ∷ codes "aria-describedby" ∷ codes "aria-label" ∷ [],
     ) ∷ []
 
--- the void tags, so
+-- the void tags, likewise
 abbrev pub void_tags : List (List ℕ × List (List ℕ))
 void_tags = (codes "br", []) ∷ (codes "hr", [])
     ∷ (codes "img", codes "src" ∷ codes "alt" ∷ codes "title" ∷ [])
     ∷ (codes "input", codes "type" ∷ codes "disabled" ∷ codes "checked" ∷ []) ∷ []
 
--- each has a listed name that no later one has, and a value that is escaped
+-- each has a listed name that no later one has, and an escaped value
 abbrev pub are_attributes : List (List ℕ) → List Attribute → Bool
 are_attributes listed [] = true
 are_attributes listed (a ∷ rest) = is_one_of listed a.name && is_escaped a.value
     && not (list_any (λ later. bytes_eq a.name later.name) rest) && are_attributes listed rest
 
--- a tag of the table, with attributes that it may have
+-- a tag in the table, with attributes that the table lists for it
 abbrev pub is_tag : List (List ℕ × List (List ℕ)) → List ℕ → List Attribute → Bool
 is_tag rules name attributes =
     list_any (λ rule. bytes_eq rule.0 name && are_attributes rule.1 attributes) rules
@@ -82,8 +82,8 @@ is_tag rules name attributes =
 abbrev pub begins_with_text : Forest → Bool
 begins_with_text forest = elim forest [ Text bytes rest ↦ true | _ ↦ false ]
 
--- no text is empty or followed by a text, all texts and values are escaped, and all tags
--- are of the tables
+-- no text is empty or followed by a text, all texts and values are escaped, and all tags are in the
+-- tables
 abbrev pub is_forest : Forest → Bool
 is_forest Empty = true
 is_forest (Text bytes rest) =
@@ -100,7 +100,7 @@ all_attributes p (Void name attributes rest) = list_all p attributes && all_attr
 all_attributes p (Element name attributes children rest) =
     list_all p attributes && all_attributes p children && all_attributes p rest
 
--- the forest is a reading of the text: it is one, and it is written so
+-- the forest is a reading of the text: it fulfils the grammar, and is written as the text
 pub record IsReading (text : List ℕ) (forest : Forest) : Type 0 where
   pub in_grammar : IsTrue (is_forest forest)
   pub written_so : written forest ≡ text

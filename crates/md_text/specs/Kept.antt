@@ -1,4 +1,4 @@
--- Bytes that are written as they are: words of the program's, which no public contract cites.
+-- Bytes that are written unchanged; no public contract cites these definitions.
 use Rattle.std.specs.Str.{bytes_eq}
 use Rattle.std.specs.Prelude.{◌≡◌, ◌≤◌, ℕ, Bool, false, not, ◌&&◌, ◌||◌, ◌==◌, if◌then◌else◌, List}
 use Rattle.std.specs.Prelude.{[], ◌∷◌, ◌++◌, length, take, drop, codes}
@@ -6,30 +6,30 @@ use Rattle.md_text.specs.Encode.{encoded_byte}
 use Rattle.md_text.specs.Laws.{AreAscii}
 use Rattle.md_text.specs.Url.{stays_anywhere, completes_triple, percent, sanitized}
 
--- a byte that is escaped as it is
+-- a byte that escaping doesn't change
 abbrev pub is_kept : Bool → ℕ → Bool
 is_kept html b = bytes_eq (encoded_byte html b) (b ∷ [])
 
--- a byte of a URL that stays whatever follows it, and is escaped as it is
+-- a byte of a URL that stays whatever follows it, and that escaping doesn't change
 abbrev pub is_plain : ℕ → Bool
 is_plain b = stays_anywhere b && not (b == 38)
 
--- a percent triple comes first
+-- the text begins with a percent triple
 abbrev pub begins_triple : List ℕ → Bool
 begins_triple text = elim text [ [] ↦ false | b ∷ rest ↦ (b == 37) && completes_triple rest ]
 
--- a plain byte or a percent triple comes first
+-- the text begins with a plain byte or a percent triple
 abbrev pub begins_kept : List ℕ → Bool
 begins_kept text =
     elim text [ [] ↦ false | b ∷ rest ↦ is_plain b || ((b == 37) && completes_triple rest) ]
 
--- so many bytes at the front of a URL are written as they are
+-- so many bytes at the front of a URL are written unchanged
 abbrev pub AreKept : List ℕ → ℕ → Type 0
 AreKept text n =
     (n ≤ length text) × AreAscii (take n text)
     × (take n text ++ sanitized (drop n text) ≡ sanitized text)
 
--- what becomes of a byte of a URL that isn't written as it is
+-- the replacement of a byte of a URL
 abbrev pub changed_byte : ℕ → List ℕ
 changed_byte b = if b == 38 then codes "&amp;" else percent b
 

@@ -1,11 +1,11 @@
--- The words of the laws.
+-- The definitions that the laws use.
 use Rattle.std.specs.Prelude.{◌≡◌, ℕ, ◌⊎◌, ◌<◌, ◌||◌, ◌==◌, Bool, true, not, ◌&&◌, List, [], ◌∷◌}
 use Rattle.std.specs.Prelude.{◌++◌, All, codes}
 use Rattle.std.specs.Str.{bytes_eq}
 use Rattle.md_base.specs.Leaves.{bytes_where}
 use Rattle.md_text.specs.Url.{completes_triple}
 
--- the second text is the first with some of its `<` changed into `&lt;`
+-- the second text is the first with some of its `<` changed to `&lt;`
 abbrev pub ChangesOnlyAngles : List ℕ → List ℕ → Type 0
 ChangesOnlyAngles [] after = after ≡ []
 ChangesOnlyAngles (b ∷ rest) after =
@@ -31,11 +31,11 @@ percents_begin_triples [] = true
 percents_begin_triples (b ∷ rest) =
     (not (b == 37) || completes_triple rest) && percents_begin_triples rest
 
--- the bytes that stay as they are between these texts
+-- the bytes between these texts that stay unchanged
 abbrev pub kept_between : (List ℕ → List ℕ) → List ℕ → List ℕ → List ℕ
 kept_between change before after =
     bytes_where (λ b. bytes_eq (change (before ++ b ∷ after)) (before ++ b ∷ after))
 
--- the bytes that don't stay as they are, each alone
+-- the bytes that change, each alone
 abbrev pub changed : (List ℕ → List ℕ) → List ℕ
 changed change = bytes_where (λ b. not (bytes_eq (change (b ∷ [])) (b ∷ [])))

@@ -1,5 +1,5 @@
--- What becomes of a text that goes into HTML, one module for each call; and the grammar of that
--- HTML, with the words of the laws.
+-- Transformations of text that goes into HTML, one module for each call, the grammar of that HTML,
+-- and the definitions that the laws use.
 pub mod Bytes
 pub mod LineEnding
 pub mod Defaults

@@ -11,7 +11,7 @@ ending_text CarriageReturnLineFeed = 13 ∷ 10 ∷ []
 ending_text CarriageReturn = 13 ∷ []
 ending_text LineFeed = 10 ∷ []
 
--- the line ending whose text this is, if it is one's
+-- the line ending that has this text, if any
 abbrev pub ending_of : List ℕ → Option LineEnding
 ending_of text =
     find (λ ending. bytes_eq (ending_text ending) text)

@@ -1,11 +1,11 @@
--- Which links and images are safe.
+-- Safe links and images.
 use Rattle.std.specs.Str.{bytes_eq}
 use Rattle.std.specs.Prelude.{ℕ, Bool, true, if◌then◌else◌, List, codes}
 use Rattle.md_text.specs.Url.{has_permitted_protocol, link_protocols, image_protocols}
 use Rattle.md_text.specs.References.{read_back}
 use Rattle.md_text.specs.Html.{Attribute}
 
--- a value, its references read back, has no protocol or a permitted one
+-- a value, with its references read back, has no protocol or a permitted one
 abbrev pub is_safe_value : List (List ℕ) → List ℕ → Bool
 is_safe_value protocols value = has_permitted_protocol protocols (read_back value)
 

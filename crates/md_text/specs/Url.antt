@@ -1,4 +1,4 @@
--- URLs: what stays of a text, which protocol it has, and which protocols are kept.
+-- URLs: their encoding, their protocols, and which protocols are kept.
 use Rattle.std.specs.Prelude.{ℕ, ◌+◌, ◌/◌, ◌%◌, Bool, true, false, ◌&&◌, ◌||◌, ◌==◌, if◌then◌else◌}
 use Rattle.std.specs.Prelude.{nat_lt, List, [], ◌∷◌, ◌++◌, Option, Some, None, option_map, codes}
 use Rattle.std.specs.Option.{option_map_or}
@@ -11,15 +11,15 @@ stays_anywhere b =
     (b == 33) || (b == 35) || (b == 36) || is_between 38 59 b || (b == 61) || is_between 63 90 b
     || (b == 95) || is_between 97 122 b || (b == 126)
 
--- a byte that a percent triple may have after its `%`: an ASCII hexadecimal digit of either case
+-- a byte that may follow the `%` of a percent triple: an ASCII hexadecimal digit of either case
 abbrev pub is_triple_byte : ℕ → Bool
 is_triple_byte b = is_between 48 57 b || is_between 65 70 b || is_between 97 102 b
 
--- what follows a `%` makes it the first byte of a percent triple: two such bytes
+-- the bytes after a `%` make it begin a percent triple: two such bytes
 abbrev pub completes_triple : List ℕ → Bool
 completes_triple rest = elim rest [ a ∷ b ∷ _ ↦ is_triple_byte a && is_triple_byte b | _ ↦ false ]
 
--- a byte stays as it is before the bytes that follow it
+-- a byte stays, given the bytes after it
 abbrev pub stays : ℕ → List ℕ → Bool
 stays b rest = stays_anywhere b || ((b == 37) && completes_triple rest)
 
@@ -31,17 +31,17 @@ hex_digit d = if nat_lt d 10 then 48 + d else 55 + d
 abbrev pub percent : ℕ → List ℕ
 percent b = 37 ∷ hex_digit (b / 16) ∷ hex_digit (b % 16) ∷ []
 
--- each byte by what it is and what follows it; a character that doesn't stay is
--- written byte by byte
+-- each byte, depending on itself and the bytes after it; a character that doesn't stay is written
+-- byte by byte
 abbrev pub normalized_url : List ℕ → List ℕ
 normalized_url [] = []
 normalized_url (b ∷ rest) = (if stays b rest then b ∷ [] else percent b) ++ normalized_url rest
 
--- a URL that may stand in HTML
+-- a URL encoded for HTML
 abbrev pub sanitized : List ℕ → List ℕ
 sanitized text = encoded true (normalized_url text)
 
--- what stands before the first colon, where none of `?`, `#`, `/` stands before that
+-- the text before the first colon, unless a `?`, `#` or `/` comes earlier
 abbrev pub protocol_of : List ℕ → Option (List ℕ)
 protocol_of [] = None
 protocol_of (b ∷ rest) = if b == 58 then Some [] else (if (b == 63) || (b == 35) || (b == 47)
@@ -52,12 +52,12 @@ abbrev pub has_permitted_protocol : List (List ℕ) → List ℕ → Bool
 has_permitted_protocol list url =
     option_map_or (λ protocol. is_one_of list (lowered protocol)) (protocol_of url) true
 
--- the sanitized URL, or nothing where its protocol isn't permitted
+-- the sanitized URL, or the empty text if its protocol isn't permitted
 abbrev pub sanitized_with : List (List ℕ) → List ℕ → List ℕ
 sanitized_with protocols text =
     if has_permitted_protocol protocols (sanitized text) then sanitized text else []
 
--- what a byte becomes before the bytes that follow it: a word of the program's
+-- the replacement of a byte, depending on the bytes after it; only private contracts cite it
 abbrev pub normalized_byte : ℕ → List ℕ → List ℕ
 normalized_byte b rest = if stays b rest then b ∷ [] else percent b
 

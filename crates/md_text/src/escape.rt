@@ -1,4 +1,4 @@
-//! Escaping of texts that stand in HTML.
+//! Escapes text for HTML.
 
 ghost use Rattle.std.specs.Prelude.{◌≡◌, ◌+◌, ◌∷◌, ◌++◌, ◌<◌, ◌≤◌, [], false, IfOk, OnOk, is_ok};
 ghost use Rattle.std.specs.Prelude.{if◌then◌else◌, length, get_or, take, drop, min};
@@ -13,14 +13,14 @@ use crate::lanes::{ByteTest, LaneTest, first_set, run_length};
 use std::alloc::{AllocError, Global};
 use std::simd::prelude::*;
 
-/// Makes a text safe to stand in HTML; what stays is copied in runs.
+/// Escapes text for HTML. Runs of unchanged bytes are copied at once.
 ///
 /// NUL always becomes U+FFFD. With `encode_html`, `&`, `"`, `<` and `>` become `&amp;`, `&quot;`,
-/// `&lt;` and `&gt;`. All else stays.
+/// `&lt;` and `&gt;`. Other bytes stay.
 ///
 /// # Errors
 ///
-/// Only where memory runs out.
+/// Returns an error only if memory runs out.
 ///
 /// # Examples
 ///
@@ -38,12 +38,11 @@ pub fn encode(alloc: Global, value: &str, encode_html: bool) -> Result<String, A
     Ok(out)
 }
 
-/// Adds a text, made safe to stand in HTML as [`encode`] makes it. Where memory runs out a part of
-/// it may be added.
+/// Appends a text, escaped as by [`encode`]. If memory runs out, a part of it may be appended.
 ///
 /// # Errors
 ///
-/// Only where memory runs out.
+/// Returns an error only if memory runs out.
 ///
 /// # Examples
 ///
@@ -70,8 +69,8 @@ pub fn push_encoded(out: &mut String, value: &str, encode_html: bool) -> Result<
     out.push_str(rest)
 }
 
-/// Adds what stands in place of a byte that doesn't stay. Each text is added by itself, so that its
-/// few bytes are copied as one.
+/// Appends the replacement of a byte. Each replacement is appended by a call of its own, so that
+/// its few bytes are copied at once.
 #[inline(always)]
 fn push_replacement(out: &mut String, byte: u8, encode_html: bool) -> Result<(), AllocError>
     requires { is_kept encode_html byte ≡ false }
@@ -87,7 +86,7 @@ fn push_replacement(out: &mut String, byte: u8, encode_html: bool) -> Result<(),
     }
 }
 
-/// The test that a byte stays.
+/// The test whether a byte stays.
 #[derive(Clone, Copy)]
 struct Kept {
     encode_html: bool,

@@ -13,15 +13,15 @@ use md_base::GFM_HTML_TAGFILTER_NAMES;
 use std::alloc::{AllocError, Global};
 use std::simd::prelude::*;
 
-/// Disarms the tags that GitHub flavored Markdown doesn't allow in raw HTML.
+/// Escapes the tags that GitHub flavored Markdown doesn't allow in raw HTML.
 ///
-/// A `<` becomes `&lt;` where, after an optional `/`, the whole run of ASCII letters is in any case
+/// A `<` becomes `&lt;` if, after an optional `/`, the whole run of ASCII letters is, in any case,
 /// one of the names of [`GFM_HTML_TAGFILTER_NAMES`], and the run ends the text or is followed by
-/// tab, LF, FF, CR, space, `/` or `>`. All else stays. (GitHub Flavored Markdown, 6.11.)
+/// tab, LF, FF, CR, space, `/` or `>`. Other bytes stay. (GitHub Flavored Markdown, 6.11.)
 ///
 /// # Errors
 ///
-/// Only where memory runs out.
+/// Returns an error only if memory runs out.
 ///
 /// # Examples
 ///
@@ -43,7 +43,7 @@ pub fn gfm_tagfilter(alloc: Global, value: &str) -> Result<String, AllocError>
     Ok(out)
 }
 
-/// The index of the first `<` of a tag to disarm; what is before it stays.
+/// The index of the first `<` to escape; all bytes before it stay.
 fn first_disarmed(bytes: &[u8]) -> Option<usize>
     ensures { MatchOption result (tag_filtered bytes.now ≡ bytes.now)
         (λ index. (index < length bytes.now) × (slice_index bytes.now index ≡ 60)
@@ -61,7 +61,7 @@ fn first_disarmed(bytes: &[u8]) -> Option<usize>
     None
 }
 
-/// The test that a byte isn't `<`.
+/// The test whether a byte isn't `<`.
 #[derive(Clone, Copy)]
 struct OpensNoTag;
 
@@ -84,7 +84,7 @@ impl<const N: usize> LaneTest<N> for OpensNoTag {
     }
 }
 
-/// The bytes without one `/` that they begin with.
+/// The bytes without a `/` at the beginning.
 fn past_slash(bytes: &[u8]) -> &[u8]
     ensures { result.now ≡ past_slash bytes.now }
 {
@@ -94,7 +94,8 @@ fn past_slash(bytes: &[u8]) -> &[u8]
     }
 }
 
-/// Whether the run of letters at the beginning is a name to disarm, and ends as a name does.
+/// Whether the run of letters at the beginning is a filtered tag name, followed by a byte that ends
+/// a name.
 fn begins_disarmed_name(bytes: &[u8]) -> bool
     ensures { result ≡ begins_disarmed_name bytes.now }
 {

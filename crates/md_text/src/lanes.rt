@@ -1,14 +1,14 @@
-//! Runs of bytes that pass a test, found several bytes at once.
+//! Finds runs of bytes that pass a test, several bytes at once.
 
 ghost use Rattle.std.specs.Prelude.{◌≡◌, ◌+◌, ◌<◌, ◌≤◌, ◌==◌, ℕ, Bool, length, drop, min};
 ghost use Rattle.std.specs.Prelude.{if◌then◌else◌};
 ghost use Rattle.std.specs.Int.{w64, trailing_zeros};
 ghost use Rattle.std.specs.List.{prefix_len};
 
-/// How many bytes are looked at together.
+/// The number of bytes that one step reads.
 const BLOCK_SIZE: usize = 16;
 
-/// How many of a text that has no block.
+/// Block size for texts shorter than `BLOCK_SIZE`.
 const HALF_BLOCK: usize = 8;
 
 /// A test of a byte.
@@ -20,9 +20,9 @@ pub(crate) trait ByteTest: Copy {
         ensures { result ≡ passes self byte };
 }
 
-/// The same test, of `N` bytes at once.
+/// The same test for `N` bytes at once.
 pub(crate) trait LaneTest<const N: usize>: ByteTest {
-    /// Of `N` bytes from an index, how many come before the first that fails.
+    /// Among the `N` bytes from an index, the number before the first that fails.
     fn run_in(self, bytes: &[u8], at: usize) -> usize
         requires { (N ≤ 64) × (at + N ≤ length bytes.now) }
         ensures { result ≡ min N (prefix_len (Self.passes self) (drop at bytes.now)) };
@@ -45,7 +45,7 @@ pub(crate) fn run_length<T: LaneTest<BLOCK_SIZE> + LaneTest<HALF_BLOCK>>(
     }
 }
 
-/// The same, `N` bytes at once; the last `N` end with the text, and may overlap those before.
+/// The same, `N` bytes at once. The last `N` end with the text, and may overlap the previous ones.
 #[inline(always)]
 fn run_by_lanes<const N: usize, T: LaneTest<N>>(test: T, bytes: &[u8]) -> usize
     requires { (0 < N) × (N ≤ 64) × (N ≤ length bytes.now) }
@@ -75,7 +75,7 @@ fn run_by_bytes<T: ByteTest>(test: T, bytes: &[u8]) -> usize
     index
 }
 
-/// The place of the lowest bit that is set, or `lanes` where none is.
+/// The index of the lowest set bit, or `lanes` if none is set.
 #[inline(always)]
 pub(crate) fn first_set(marks: u64, lanes: usize) -> usize
     ensures { result ≡ (if marks == 0 then lanes else trailing_zeros w64 marks) }

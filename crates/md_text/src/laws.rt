@@ -1,4 +1,4 @@
-//! What holds of every text, as the contracts of functions that do nothing.
+//! Facts about every text, as contracts of functions that do nothing.
 
 pub mod cases;
 pub mod leaves;
@@ -21,13 +21,13 @@ ghost use Rattle.md_text.specs.References.{is_escaped, outside_references, read_
 ghost use Rattle.md_text.specs.Safe.{is_safe_value};
 ghost use Rattle.md_text.specs.Url.{sanitized, sanitized_with, link_protocols, image_protocols};
 
-/// Two texts joined are escaped as each by itself.
+/// Escaping two joined texts joins their escaped texts.
 pub fn encode_of_append()
     ensures { (html : Bool) (x y : List ℕ)
         → encoded html (x ++ y) ≡ encoded html x ++ encoded html y }
 {}
 
-/// An escaped text, its references read back once, is the text with U+FFFD for each NUL.
+/// Reading back the references of an escaped text once gives the text, with U+FFFD for each NUL.
 pub fn encode_reads_back()
     ensures { (x : List ℕ) → read_back (encoded true x) ≡ encoded false x }
 {}
@@ -43,26 +43,26 @@ pub fn escaped_texts_join()
         → IsTrue (is_escaped x) → IsTrue (is_escaped y) → IsTrue (is_escaped (x ++ y)) }
 {}
 
-/// A byte that stands in none of the four references may be taken out of an escaped text.
+/// An escaped text stays escaped without a byte that occurs in none of the four references.
 pub fn escaped_text_loses_a_byte()
     ensures { (b : ℕ) (x y : List ℕ) → IsTrue (outside_references b)
         → IsTrue (is_escaped (x ++ b ∷ y)) → IsTrue (is_escaped (x ++ y)) }
 {}
 
-/// A sanitized URL is escaped, whether its protocol is looked at or not.
+/// A sanitized URL is escaped, whether or not its protocol is checked.
 pub fn urls_are_escaped()
     ensures any { (x : List ℕ) → IsTrue (is_escaped (sanitized x)) }
     ensures permitted { (protocols : List (List ℕ)) (x : List ℕ)
         → IsTrue (is_escaped (sanitized_with protocols x)) }
 {}
 
-/// The tag filter changes some `<` into `&lt;` and nothing else, and a second time nothing.
+/// The tag filter changes some `<` to `&lt;` and nothing else; a second pass changes nothing.
 pub fn tagfilter_changes_only_angles()
     ensures only_angles { (x : List ℕ) → ChangesOnlyAngles x (tag_filtered x) }
     ensures twice_is_once { (x : List ℕ) → tag_filtered (tag_filtered x) ≡ tag_filtered x }
 {}
 
-/// A sanitized URL is ASCII, and where a text holds no `&`, to sanitize it twice is to do it once.
+/// A sanitized URL is ASCII. If a text has no `&`, sanitizing it twice is the same as once.
 pub fn sanitize_is_ascii()
     ensures ascii { (x : List ℕ) → AreBytes x → AreAscii (sanitized x) }
     ensures twice_is_once { (x : List ℕ)
@@ -74,13 +74,13 @@ pub fn percent_begins_a_triple()
     ensures { (x : List ℕ) → AreBytes x → IsTrue (percents_begin_triples (sanitized x)) }
 {}
 
-/// A URL is kept whole, as [`crate::sanitize`] makes it, or dropped.
+/// A URL is kept whole, as [`crate::sanitize`] writes it, or dropped.
 pub fn sanitize_with_protocols_is_all_or_nothing()
     ensures { (protocols : List (List ℕ)) (x : List ℕ)
         → (sanitized_with protocols x ≡ []) ⊎ (sanitized_with protocols x ≡ sanitized x) }
 {}
 
-/// The text of a line ending is parsed as it, and every other text is refused.
+/// The text of a line ending parses to that line ending; every other text is rejected.
 pub fn line_ending_round_trip()
     ensures parsed { (ending : LineEnding) → ending_of (ending_text ending) ≡ Some ending }
     ensures only_three { (text : List ℕ)
@@ -89,8 +89,8 @@ pub fn line_ending_round_trip()
         (λ ending. ending_text ending ≡ text) }
 {}
 
-/// Where a URL is kept, its references read back, it has no protocol or one that, its ASCII
-/// letters lowered, is in the list.
+/// If a URL is kept, then, with its references read back, it has no protocol, or one that is in the
+/// list once its ASCII letters are lowered.
 pub fn kept_protocol_is_permitted()
     ensures links { (x : List ℕ)
         → IsTrue (is_safe_value link_protocols (sanitized_with link_protocols x)) }
@@ -103,13 +103,13 @@ pub fn html_has_one_reading()
     ensures { (text : List ℕ) (x y : Forest) → IsReading text x → IsReading text y → x ≡ y }
 {}
 
-/// What has a reading in which each attribute passes a test has exactly one, and it is that one.
+/// A text that has a reading in which each attribute passes a test has no other reading.
 pub fn reading_is_the_only_one()
     ensures { (p : Attribute → Bool) (text : List ℕ)
         → HasReadingWith p text → HasOneReadingWith p text }
 {}
 
-/// Nothing has a reading, in which each attribute passes any test.
+/// The empty text has a reading; its attributes pass any test.
 pub fn nothing_has_a_reading()
     ensures { (p : Attribute → Bool) → HasReadingWith p [] }
 {}
@@ -127,7 +127,7 @@ pub fn void_tag_has_a_reading()
         → HasReadingWith p (written (Void name attributes Empty)) }
 {}
 
-/// An element of the table around a text that has a reading has one.
+/// An element of the table has a reading if its content has one.
 pub fn element_has_a_reading()
     ensures { (p : Attribute → Bool) (name : List ℕ) (attributes : List Attribute) (inside : List ℕ)
         → IsTrue (is_tag elements name attributes) → IsTrue (list_all p attributes)
@@ -135,14 +135,14 @@ pub fn element_has_a_reading()
         → HasReadingWith p (opening_tag name attributes ++ inside ++ closing_tag name) }
 {}
 
-/// Two texts that have readings have one when they are joined.
+/// If two texts have readings, the joined text has one.
 pub fn readings_join()
     ensures { (p : Attribute → Bool) (x y : List ℕ)
         → HasReadingWith p x → HasReadingWith p y → HasReadingWith p (x ++ y) }
 {}
 
-/// Where a text has a reading and, CR and LF bytes at its end aside, ends in `</p>`, another that
-/// has one may be put before that `</p>`.
+/// If a text has a reading and ends in `</p>`, apart from CR and LF bytes at its end, another text
+/// that has a reading may be inserted before that `</p>`.
 pub fn paragraph_takes_an_insertion()
     ensures { (p : Attribute → Bool) (before endings inserted : List ℕ)
         → IsTrue (is_line_ends endings)

@@ -1,5 +1,5 @@
-//! Texts that go into HTML: line endings, escaping, URLs and the tag filter, the options by which
-//! events are compiled, and a grammar of the HTML that is written.
+//! Text that goes into HTML: line endings, escaping, URLs and the tag filter, the options of the
+//! compiler, and a grammar of the HTML that it writes.
 #![tactic(auto)]
 
 mod escape;

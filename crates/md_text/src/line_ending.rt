@@ -4,7 +4,7 @@ use serde::{Deserialize, Serialize};
 use std::str::FromStr;
 use thiserror::Error;
 
-/// How a line ends.
+/// A line ending.
 ///
 /// # Examples
 ///
@@ -27,7 +27,7 @@ pub enum LineEnding {
     LineFeed,
 }
 
-/// A text that is no line ending.
+/// The error for a text that is no line ending.
 #[derive(Clone, Copy, Debug, Eq, PartialEq, Error)]
 #[error("Expected CR, LF, or CRLF")]
 pub struct LineEndingError;

@@ -1,10 +1,10 @@
-//! Names that are looked up with their ASCII letters lowered.
+//! Looks up names with their ASCII letters lowered.
 
 ghost use Rattle.std.specs.Str.{bytes_eq};
 ghost use Rattle.std.specs.Prelude.{◌≡◌, map};
 ghost use Rattle.md_text.specs.Bytes.{lowered, is_one_of};
 
-/// Whether a name, its ASCII letters lowered, is one of the texts.
+/// Whether a name, with its ASCII letters lowered, is one of the texts.
 pub(crate) fn lowered_is_one_of(name: &[u8], texts: &[&str]) -> bool
     ensures { result ≡ is_one_of (map (λ text. text.now) texts.now) (lowered name.now) }
 {
@@ -16,7 +16,7 @@ pub(crate) fn lowered_is_one_of(name: &[u8], texts: &[&str]) -> bool
     false
 }
 
-/// Whether a name, its ASCII letters lowered, is this text.
+/// Whether a name, with its ASCII letters lowered, is this text.
 fn lowered_is(name: &[u8], text: &[u8]) -> bool
     ensures { result ≡ bytes_eq (lowered name.now) text.now }
 {

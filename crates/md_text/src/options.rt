@@ -1,31 +1,32 @@
-//! How events are compiled to HTML: the options, and their defaults.
+//! The options of the compiler, and their defaults.
 
 use crate::line_ending::LineEnding;
 
-/// How events are compiled to HTML.
+/// The options of the compiler.
 ///
-/// An option of which it says what is safe must have that value for a text with one reading, safe
-/// links and safe images; the others may have any value.
+/// An option whose comment names a safe value must have that value for a text with one reading,
+/// safe links and safe images. The others may have any value.
 #[derive(Debug, Drop)]
 pub struct CompileOptions {
-    /// Let images have any source, as `allow_dangerous_protocol` alone does too. Safe: off.
+    /// Lets images have any source, as `allow_dangerous_protocol` alone does too. Safe: off.
     pub allow_any_img_src: bool,
-    /// Leave HTML in the document as it is. Safe: off.
+    /// Leaves HTML in the document unchanged. Safe: off.
     pub allow_dangerous_html: bool,
-    /// Let links and images have any protocol. Safe: off.
+    /// Lets links and images have any protocol. Safe: off.
     pub allow_dangerous_protocol: bool,
-    /// Print tasks without `disabled`.
+    /// Prints tasks without `disabled`.
     pub gfm_task_list_item_checkable: bool,
-    /// Disarm some tags of HTML that is left as it is. That doesn't make such HTML safe.
+    /// Escapes some tags in HTML that is left unchanged. That doesn't make such HTML safe.
     pub gfm_tagfilter: bool,
-    /// Make footnotes' ids of their numbers instead of their identifiers, and end each call's id in
-    /// which one it is. Safe: on or off; that no two ids are equal is promised only if it is on.
+    /// Derives footnotes' ids from their numbers instead of their identifiers, and adds the number
+    /// of the call to the id of each call. Safe: on or off; only if it is on are all ids promised
+    /// to differ.
     pub gfm_footnote_number_ids: bool,
-    /// How lines end where the document has no line ending.
+    /// The line ending to print if the document has none.
     pub default_line_ending: LineEnding,
-    /// What `aria-label` says of a way back from a footnote; unset: `Back to content`.
+    /// The `aria-label` of a backreference from a footnote; unset: `Back to content`.
     pub gfm_footnote_back_label: Option<String>,
-    /// What footnotes' ids begin with; unset: `user-content-`.
+    /// The prefix of footnotes' ids; unset: `user-content-`.
     pub gfm_footnote_clobber_prefix: Option<String>,
     /// The heading of the footnotes; unset: `Footnotes`.
     pub gfm_footnote_label: Option<String>,

@@ -1,4 +1,4 @@
-//! URLs that may stand in HTML, and their protocols.
+//! URLs in HTML, and their protocols.
 
 mod kept;
 mod protocol;
@@ -12,7 +12,7 @@ use protocol::has_permitted_protocol;
 use std::alloc::{AllocError, Global};
 use writing::{push_high, push_low};
 
-/// Makes a URL that may stand in HTML.
+/// Encodes a URL for HTML.
 ///
 /// Each character that may not stand in a URL becomes `%` and two hexadecimal digits for each of
 /// its bytes, and so does a `%` that isn't followed by two hexadecimal digits. The text is then
@@ -20,7 +20,7 @@ use writing::{push_high, push_low};
 ///
 /// # Errors
 ///
-/// Only where memory runs out.
+/// Returns an error only if memory runs out.
 ///
 /// # Examples
 ///
@@ -36,12 +36,12 @@ pub fn sanitize(alloc: Global, value: &str) -> Result<String, AllocError>
     Ok(url)
 }
 
-/// Adds a URL that may stand in HTML, as [`sanitize`] makes it. Where memory runs out a part of
-/// it may be added.
+/// Appends a URL encoded for HTML, as [`sanitize`] encodes it. If memory runs out, a part of it may
+/// be appended.
 ///
 /// # Errors
 ///
-/// Only where memory runs out.
+/// Returns an error only if memory runs out.
 ///
 /// # Examples
 ///
@@ -65,16 +65,15 @@ pub fn push_sanitized(out: &mut String, value: &str) -> Result<(), AllocError>
     Ok(())
 }
 
-/// Makes a URL that may stand in HTML, and drops it where it has a protocol that isn't among
-/// `protocols`.
+/// Encodes a URL for HTML, or drops it if it has a protocol that isn't among `protocols`.
 ///
-/// A protocol is what stands before the first `:`, where none of `?`, `#` and `/` stands before
-/// that. Its ASCII letters are lowered before it is looked up. Where it isn't found the answer is
-/// the empty text, and in all other cases what [`sanitize`] gives.
+/// A protocol is the text before the first `:`, unless a `?`, `#` or `/` comes earlier. Its ASCII
+/// letters are lowered before it is looked up. If it isn't found, the result is the empty text; in
+/// all other cases it is the result of [`sanitize`].
 ///
 /// # Errors
 ///
-/// Only where memory runs out.
+/// Returns an error only if memory runs out.
 ///
 /// # Examples
 ///
@@ -99,13 +98,12 @@ pub fn sanitize_with_protocols(
     Ok(url)
 }
 
-/// Adds a URL that may stand in HTML, or nothing where it has a protocol that isn't among
-/// `protocols`, as [`sanitize_with_protocols`] makes it. Where memory runs out a part of
-/// it may be added.
+/// Appends a URL encoded for HTML, or nothing if it has a protocol that isn't among `protocols`, as
+/// [`sanitize_with_protocols`] does. If memory runs out, a part of it may be appended.
 ///
 /// # Errors
 ///
-/// Only where memory runs out.
+/// Returns an error only if memory runs out.
 ///
 /// # Examples
 ///
@@ -127,8 +125,8 @@ pub fn push_sanitized_with_protocols(
     push_sanitized(out, value)?;
     if !has_permitted_protocol(&out.as_bytes()[start..], protocols) {
         out.truncate(start);
-        // What isn't added leaves no more room than there was, or than a text has that
-        // grows by doubling.
+        // After a dropped URL, the text has no more capacity than before, or than growth by
+        // doubling gives.
         out.shrink_to(room.max(start.saturating_mul(2)));
     }
     Ok(())

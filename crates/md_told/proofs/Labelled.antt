@@ -109,7 +109,7 @@ first-there (y ∷ ys) x there =
     others zero h same differ = lie (sym differ ∙ ap (λ z. bytes_eq z x) same ∙ itself x)
     others (suc k) h same differ = (k, less k (length ys) h, same)
 
--- it leads to a definition, or it has a resource
+-- it refers to a definition, or it has a resource
 medium :
     (bytes : List ℕ) (document : Forest) (children : Forest) (start end : Point) (name : Name) →
     broken_by_target (target_of children Missing) ≡ None →

@@ -1,4 +1,4 @@
--- The definition that the check says is the one that is found by its identifier.
+-- The definition that the check gives is the one that is found by its identifier.
 use Rattle.std.proofs.Common.{◌≡◌, ℕ, suc, Bool, true, false, Option, Some, None, List, [], ◌∷◌}
 use Rattle.std.proofs.Common.{refl, sym, ap, ◌∙◌, subst}
 use Rattle.std.specs.Prelude.{slice_get, if◌then◌else◌, map, option_map, is_some, bytes_eq, IsSome}

@@ -229,7 +229,7 @@ own-defined given document alone index place one checked flat same got there =
     some : {a b : Row} → Some a ≡ Some b → a ≡ b
     some e = cc
 
--- and there are as many
+-- and their number is the same
 pub own-length : (given : Handed) (document : Forest) (alone : Given) → IsChecked given →
     flatten document ≡ given.events →
     length (defined alone document) ≡ length (definition_entries 0 document)

@@ -20,7 +20,7 @@ picked-append {A = A} test of (x ∷ xs) ys =
     by true a all one two e = ap (λ l. a ∷ l) e
     by false a all one two e = e
 
--- a place among them is that of one row, whatever is taken of the rows
+-- an index among them is that of one row, whatever part of the rows is used
 pub record Pick {A B : Type 0} (test : Row → Bool) (one : Row → A) (other : Row → B)
     (rows : List Row) (place : ℕ) (a : A) : Type 0 where
   pub row : Row

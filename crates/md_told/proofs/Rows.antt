@@ -43,8 +43,7 @@ row_of enters index last name start end children = record {
   exit = index_after (suc index) children;
 }
 
--- those of some nodes, of which the first is entered at an index, and the last is the
--- document's last or not
+-- those of some nodes: the first is entered at an index, and the last may end the document
 abbrev pub rows_of : ℕ → Bool → Forest → List Row
 rows_of index outermost Empty = []
 rows_of index outermost (Node name start end children rest) =
@@ -53,7 +52,7 @@ rows_of index outermost (Node name start end children rest) =
     ++ row_of false index (outermost && is_empty rest) name start end children
     ∷ rows_of (suc (index_after (suc index) children)) outermost rest
 
--- ---- what is so of each event, in order, is told by its row
+-- ---- the row of each event, in order, gives the fact about it
 module _ {A : Type 0} (of_row : Row → A) (column : ℕ → Bool → Forest → List A)
     (at_end : (index : ℕ) (outermost : Bool) → column index outermost Empty ≡ [])
     (at_node : (index : ℕ) (outermost : Bool) (name : Name) (start end : Point)

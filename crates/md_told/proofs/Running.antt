@@ -27,7 +27,7 @@ noticed-length bytes outermost (Node name start end children rest) =
     ∙ ap (λ n. length (flatten children) + suc n) (noticed-length bytes outermost rest)
     ∙ sym (length-append (flatten children) (exiting name end ∷ flatten rest)))
 
--- events that are passed over
+-- events that are skipped
 run-passes : (given : Given) (events : List Event) (seen : List Noticed) (tail : List Event)
     (more : List Noticed) (state : State) → length seen ≡ length events →
     run given (length events) (events ++ tail) (seen ++ more) state ≡ run given 0 tail more state

@@ -1,3 +1,3 @@
--- What is noticed of a node at an index, and what is known of the definitions.
+-- The facts about a node at an index, and about the definitions.
 pub mod Told
 pub mod Definitions

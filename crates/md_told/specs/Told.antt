@@ -1,4 +1,4 @@
--- What the printer's steps are told at an event, by the event's index.
+-- The input of the printer's steps at an event, by the event's index.
 use Rattle.std.specs.Prelude.{◌≡◌, ℕ, Bool, true, false, List, Some, slice_get, IsTrue}
 use Rattle.md_base.specs.declared.event.Event.{Event}
 use Rattle.md_base.specs.declared.event.Name.{Name}
@@ -9,7 +9,7 @@ use Rattle.md_tree.specs.Grammar.{Handed}
 use Rattle.md_tree.specs.Texts.{EntersAt, ExitsAt}
 use Rattle.md_shape.specs.Run.{Noticed, noticed}
 
--- what is noticed at the event at an index, in the document that the events flatten
+-- the facts at the event at an index, in the document that the events flatten
 abbrev pub IsNoticedAt : Handed → ℕ → Noticed → Type 0
 IsNoticedAt given index one =
     (document : Forest) × (flatten document ≡ given.events)
@@ -23,7 +23,8 @@ ExitsSome events index = (name : Name) × ExitsAt events index name
 abbrev pub EntersOf : (Name → Bool) → List Event → ℕ → Type 0
 EntersOf is events index = (name : Name) × EntersAt events index name × IsTrue (is name)
 
--- a node of this name refers to another, or is referred to, by its label in each document
+-- a node of this name has a label by which it refers to another, or is referred to, in each
+-- document
 abbrev pub is_labelled : Name → Bool
 is_labelled name = elim name [
   | GfmFootnoteCall ↦ true

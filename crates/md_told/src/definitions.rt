@@ -1,4 +1,4 @@
-//! To which definition a link or an image leads.
+//! The definition that a link or an image refers to.
 
 ghost use Rattle.std.specs.Prelude.{slice_get, IfSome, IsSome};
 ghost use Rattle.md_meaning.specs.Meaning.At.{Given};
@@ -8,9 +8,9 @@ ghost use Rattle.md_told.specs.Definitions.{AreKnown, IsLedTo};
 use crate::found::grammatical;
 use md_tree::Checked;
 
-/// Which of the document's definitions, counted from 0 in the order of their exits, is the first
-/// with the identifier of the link or the image that the event at the index exits; None where it has
-/// a resource.
+/// Returns the number of the definition that a link or an image refers to: the first one with its
+/// identifier, counted from 0 in the order of their exits. The event at the index exits the link or
+/// the image. None if it has a resource.
 ///
 /// # Examples
 ///

@@ -1,4 +1,4 @@
-//! Where a node lies: its two events, its text, and whether it is the last one.
+//! The extent of a node: its two events, its text, and whether it ends the document.
 
 ghost use Rattle.std.specs.Prelude.{◌≡◌, ◌+◌, ◌<◌, ◌≤◌, [], suc, true, Some, length, slice_get};
 ghost use Rattle.std.specs.Prelude.{unwrap_or};
@@ -33,7 +33,8 @@ pub fn is_last_at(checked: &Checked, index: usize) -> bool
     index + 1 == count
 }
 
-/// How many events come after the event at the index, which enters a node, up to the node's exit.
+/// Returns how many events come after the event at the index, which enters a node, before the
+/// node's exit.
 ///
 /// # Examples
 ///
@@ -49,8 +50,8 @@ pub fn inside_at(checked: &Checked, index: usize) -> usize
     exit_of(checked, index) - index
 }
 
-/// Whether the node that the event at the index enters has no children: the next of the
-/// document's events, which are at hand, exits it.
+/// Whether the node that the event at the index enters has no children: the next event exits it.
+/// The caller passes the events, which it has at hand.
 ///
 /// # Examples
 ///
@@ -81,7 +82,7 @@ fn exits_next(events: &[Event], index: usize) -> bool
     matches!(events[index + 1].kind, Kind::Exit)
 }
 
-/// The place of the node that the event at the index exits.
+/// Returns the position of the node that the event at the index exits.
 ///
 /// # Examples
 ///
@@ -100,8 +101,8 @@ pub fn place_left_at(checked: &Checked, index: usize) -> Position
     }
 }
 
-/// The text of the node that the event at the index exits, without the spaces of tabs that are cut
-/// at its ends; empty where its place doesn't fit the bytes, or these aren't UTF-8.
+/// Returns the text of the node that the event at the index exits, without the spaces of tabs that
+/// are cut at its ends. It is empty if the position doesn't fit the bytes, or these aren't UTF-8.
 ///
 /// # Examples
 ///
@@ -118,7 +119,7 @@ pub fn text_left_at<'a>(checked: &Checked<'a>, index: usize) -> &'a str
     text_of_leaf(checked, start_of(checked, index), end_of(checked, index))
 }
 
-/// The same of the node that the event at one index enters, and the event at another one exits.
+/// The same for the node that the event at one index enters, and the event at another one exits.
 ///
 /// # Examples
 ///
@@ -136,7 +137,7 @@ pub fn text_inside<'a>(checked: &Checked<'a>, entry: usize, exit: usize) -> &'a 
     text_of_leaf(checked, entered_from(checked, entry), end_of(checked, exit))
 }
 
-/// The text between two points, as that of a node that lies there.
+/// The text between two points, as that of a node with this position.
 ///
 /// # Examples
 ///
@@ -179,7 +180,7 @@ pub(crate) fn exit_of(checked: &Checked, index: usize) -> usize
     checked.partner(index).unwrap()
 }
 
-/// Where the node begins that the event at the index enters.
+/// The start of the node that the event at the index enters.
 #[inline(always)]
 fn entered_from(checked: &Checked, index: usize) -> Point
     requires { EntersSome checked.now.events index }
@@ -188,7 +189,7 @@ fn entered_from(checked: &Checked, index: usize) -> Point
     event_point(checked.events(), index)
 }
 
-/// Where the node begins that the event at the index exits.
+/// The start of the node that the event at the index exits.
 #[inline(always)]
 fn start_of(checked: &Checked, index: usize) -> Point
     requires { ExitsSome checked.now.events index }
@@ -197,7 +198,7 @@ fn start_of(checked: &Checked, index: usize) -> Point
     event_point(checked.events(), entry_of(checked, index))
 }
 
-/// Where the node ends that the event at the index exits.
+/// The end of the node that the event at the index exits.
 #[inline(always)]
 fn end_of(checked: &Checked, index: usize) -> Point
     requires { ExitsSome checked.now.events index }

@@ -1,4 +1,4 @@
-//! What is found of a list, an item or a heading.
+//! Facts about a list, an item or a heading.
 
 ghost use Rattle.std.specs.Prelude.{◌≡◌, ◌⊎◌, ◌<◌, Some, length, slice_get};
 ghost use Rattle.md_base.specs.declared.event.Event.{Event as AnyEvent};
@@ -29,8 +29,8 @@ pub fn is_loose_at(checked: &Checked, index: usize) -> bool
     list_loose(checked, index, true)
 }
 
-/// The place of the number of the ordered list that the event at the index enters; None
-/// where it has none.
+/// Returns the position of the number of the ordered list that the event at the index enters, or
+/// None if it has none.
 ///
 /// # Examples
 ///
@@ -45,8 +45,8 @@ pub fn number_at(checked: &Checked, index: usize) -> Option<Position>
     checked.reads(index)
 }
 
-/// The name of the last child that contributes to the item that the event at the index exits; None
-/// where there is none.
+/// Returns the name of the last contributing child of the item that the event at the index exits,
+/// or None if there is none.
 ///
 /// # Examples
 ///
@@ -71,7 +71,7 @@ pub(crate) fn name_at(events: &[Event], index: usize) -> Name
     events[index].name
 }
 
-/// How long the first mark of the heading is that the event at the index enters.
+/// Returns the length of the first mark of the heading that the event at the index enters.
 ///
 /// # Examples
 ///
@@ -90,7 +90,7 @@ pub fn rank_at(checked: &Checked, index: usize) -> usize
     }
 }
 
-/// The same of the heading that the event at the index exits.
+/// The same for the heading that the event at the index exits.
 ///
 /// # Examples
 ///
@@ -105,7 +105,7 @@ pub fn rank_left_at(checked: &Checked, index: usize) -> usize
     rank_at(checked, entry_of(checked, index))
 }
 
-/// Nothing is done: the document is one of the grammar.
+/// Does nothing: its contract says that the document matches the grammar.
 #[inline(always)]
 pub(crate) fn grammatical(checked: &Checked)
     ensures { IsChecked checked.now }
@@ -113,8 +113,8 @@ pub(crate) fn grammatical(checked: &Checked)
     let _events = checked.events();
 }
 
-/// How many bytes a mark has, with the spaces of tabs that are cut at its ends; 0 where its place
-/// doesn't fit the bytes.
+/// The number of bytes of a mark, with the spaces of tabs that are cut at its ends; 0 if its
+/// position doesn't fit the bytes.
 fn length_of(bytes: &[u8], position: Position) -> usize
     ensures { result ≡ length_of bytes.now position }
 {

@@ -1,4 +1,4 @@
-//! By what a node refers to others, or is referred to.
+//! The labels by which nodes refer to others, or are referred to.
 
 ghost use Rattle.std.specs.Prelude.{◌≡◌, IfOk, string_bytes};
 ghost use Rattle.md_meaning.specs.Given as given;
@@ -13,12 +13,12 @@ use md_base::{Position, Slice, normalize_identifier};
 use md_tree::Checked;
 use std::alloc::{AllocError, Global};
 
-/// The identifier by which the node that the event at the index enters refers to another, or is
-/// referred to: a footnote call, a definition or a footnote definition.
+/// Returns the identifier of the node that the event at the index enters: of a footnote call, a
+/// definition or a footnote definition.
 ///
 /// # Errors
 ///
-/// `AllocError`, only where memory runs out.
+/// `AllocError`, only if memory runs out.
 ///
 /// # Examples
 ///
@@ -38,11 +38,11 @@ pub(crate) fn identifier_at(
     identifier_of(alloc, checked.bytes(), label_read_at(checked, index))
 }
 
-/// The same of the node that the event at the index exits.
+/// The same for the node that the event at the index exits.
 ///
 /// # Errors
 ///
-/// `AllocError`, only where memory runs out.
+/// `AllocError`, only if memory runs out.
 ///
 /// # Examples
 ///
@@ -62,7 +62,7 @@ pub fn identifier_left_at(
     identifier_at(alloc, checked, entry_of(checked, index))
 }
 
-/// The place of the label by which the node refers or is referred to; None where it has none.
+/// The position of the label by which the node refers or is referred to, or None if it has none.
 fn label_read_at(checked: &Checked, index: usize) -> Option<Position>
     requires { EntersOf is_labelled checked.now.events index }
     ensures { (one : Noticed) → IsNoticedAt checked.now index one
@@ -72,7 +72,7 @@ fn label_read_at(checked: &Checked, index: usize) -> Option<Position>
     checked.reads(index)
 }
 
-/// The normalized text of the label at a place; empty where there is no place.
+/// The normalized text of the label at a position; empty if there is none.
 fn identifier_of(alloc: Global, bytes: &[u8], place: Option<Position>) -> Result<String, AllocError>
     ensures { IfOk result (λ text. string_bytes text ≡ places.identifier_at bytes.now place) }
 {
@@ -82,8 +82,8 @@ fn identifier_of(alloc: Global, bytes: &[u8], place: Option<Position>) -> Result
     }
 }
 
-/// The text between the indices of two points, whatever columns they have; empty where they don't
-/// fit the bytes, or these aren't UTF-8.
+/// The text between the indices of two points, whatever their columns are; empty if they don't fit
+/// the bytes, or these aren't UTF-8.
 fn label_of(bytes: &[u8], place: Position) -> &str
     ensures { result.now ≡ given.label_of bytes.now place.start place.end }
 {

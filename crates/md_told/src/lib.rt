@@ -1,4 +1,4 @@
-//! What the check found of a node, as the printer's steps are told it.
+//! Node facts: what the check found about a node, as input for the printer's steps.
 #![tactic(auto)]
 
 mod definitions;

@@ -58,7 +58,7 @@ IsRefusal-undone given course runs undone = record {
   outside = outside-undone given course runs undone;
 }
 
--- ---- what leads nowhere
+-- ---- unresolved mentions
 
 -- any point
 somewhere : Point
@@ -83,7 +83,7 @@ got_inside mentions index mention e = by_cases (slice_get_cases mentions index).
     by_cases (inl here) = here.1
     by_cases (inr past) = let clash : Some mention ≡ None = sym e ∙ past.1 in cc
 
--- what leads nowhere, among the mentions of the document
+-- an unresolved mention, among the mentions of the document
 module _ (given : Handed) (mentioned : List Mentioned) (index : ℕ) (mention : Mention)
     (walked : IsWalked given mentioned)
     (lost : LeadsNowhere given.bytes mentioned index mention) where

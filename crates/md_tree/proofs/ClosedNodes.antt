@@ -1,4 +1,4 @@
--- A node that ends is fine, and goes on the spine around it.
+-- A node that ends is valid, and extends its parent's spine.
 use Rattle.std.proofs.Common.{◌≡◌, ◌≢◌, true, false, Option, Some, None, List, refl, sym, ap, ◌∙◌}
 use Rattle.std.proofs.Common.{subst}
 use Rattle.md_base.specs.declared.event.Point.{Point}
@@ -25,7 +25,7 @@ use Rattle.md_tree.proofs.Groups.{matches_feeds}
 use Rattle.md_tree.proofs.NodesRead.{IsReadWhere, IsFine}
 use Rattle.md_tree.proofs.OpenPaths.{some_entry}
 
--- a node that ends is fine, and goes on the spine around it
+-- a node that ends is valid, and extends its parent's spine
 pub record Closed (holds : Reads) (standing : Standing) (name : Name) (start end : Point)
     (children : Forest) (here after : State) (found : Referral) (target : Referral) : Type 0 where
   pub apart : here.role ≢ Childless

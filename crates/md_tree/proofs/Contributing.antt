@@ -1,4 +1,4 @@
--- The last contributing child that the pass finds is the one that is defined.
+-- The last contributing child that the pass finds is that of the definition.
 use Rattle.std.proofs.Common.{◌≡◌, ℕ, suc, Bool, true, false, cond, Option, Some, None, refl, ap}
 use Rattle.std.proofs.Common.{◌∙◌}
 use Rattle.std.specs.Prelude.{unwrap_or}

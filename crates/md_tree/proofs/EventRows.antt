@@ -52,7 +52,7 @@ rows_of index tables (Node name start end children rest) =
     ∷ rows_of (suc (index_after (suc index) children))
     (tables_with name (tables_after tables children)) rest
 
--- a column of the rows, where it is so of each node
+-- a column of the rows, if the claim holds for each node
 module _ {A : Type 0} (of_row : Row → A) (column : ℕ → ℕ → Forest → List A)
     (at_end : (index tables : ℕ) →
     column index tables Empty ≡ []) (at_node : (index tables : ℕ) (name : Name) (start end : Point)

@@ -1,4 +1,4 @@
--- Of the items of a settled pattern, the first that takes a symbol is the right one.
+-- In a settled pattern, the first item that takes a symbol is the right one.
 use Rattle.std.proofs.Common.{◌≡◌, ℕ, Bool, true, false, not, ◌||◌, cond, Some, None, List, [], ◌∷◌}
 use Rattle.std.proofs.Common.{◌++◌, length, refl, sym, subst, arith}
 use Rattle.std.specs.List.{list_all}
@@ -97,7 +97,7 @@ settled_kept (Maybe class) items ok =
     and_right (list_all (leaves_order (Maybe class)) items) (settled items) ok
 settled_kept (Once class) items ok = ok
 
--- what is left takes the rest
+-- the rest of the pattern takes the rest of the symbols
 pub record GoesOn (items : List Item) (symbol : Symbol) (symbols : List Symbol) : Type 0 where
   pub left : List Item
   pub is_left : left_after items symbol ≡ Some left

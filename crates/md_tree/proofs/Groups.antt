@@ -75,7 +75,7 @@ IsTailFrom-cons Setext SetextUnderline next tail e t = (
 )
 IsTailFrom-cons Setext _ next tail e t = cc
 
--- a symbol is taken by the pattern, or it goes on with a group
+-- the pattern takes a symbol, or the symbol continues a group
 pub spot_whole : (items left : List Item) (next : Stage) (symbol : Symbol) →
     spot_after items Whole symbol ≡ Some (At left next) →
     (left_after items symbol ≡ Some left) × (begun_by symbol ≡ next)

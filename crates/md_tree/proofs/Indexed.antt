@@ -1,5 +1,5 @@
--- Each exit of a text or a label has its text there. So what is looked up at an index is so in any
--- tree of the events, and no look-up fails.
+-- Each exit of a text or a label has its text there. So a look-up at an index has the same result
+-- in any tree of the events, and no look-up fails.
 use Rattle.std.proofs.Common.{◌≡◌, ℕ, suc, ◌<◌, Bool, true, Option, Some, None, List, [], ◌∷◌, ◌++◌}
 use Rattle.std.proofs.Common.{length, get_or, refl, sym, ap, ◌∙◌, append-nil, arith}
 use Rattle.std.specs.Prelude.{map, option_map, slice_get, option_copied, IsSome}

@@ -217,7 +217,7 @@ least_spine symbol.TableRow e = refl
 least_spine symbol.TableDelimiterRow e = refl
 least_spine _ e = cc
 
--- the least nodes of symbols, one after another
+-- the least nodes of symbols, in sequence
 abbrev pub nodes_of : List Symbol → Forest
 nodes_of [] = Empty
 nodes_of (one ∷ symbols) = joined (least one) (nodes_of symbols)

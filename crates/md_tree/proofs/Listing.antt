@@ -1,5 +1,5 @@
--- What a walk keeps of the mentions is all but those of nothing, each with the index of its event.
--- So what is resolved among those kept is resolved among all, as the grammar asks.
+-- The mentions that a walk keeps are all except the empty ones, each with the index of its event.
+-- So what is resolved among those kept is resolved among all, as the grammar requires.
 use Rattle.std.proofs.Common.{◌≡◌, ℕ, zero, suc, ◌+◌, Some, List, [], ◌∷◌, ◌++◌, refl, sym, ap, ◌∙◌}
 use Rattle.std.proofs.Common.{subst, append_assoc, append-nil, arith}
 use Rattle.std.specs.Prelude.{slice_get}
@@ -140,7 +140,7 @@ all-resolved bytes mentions all =
     (footnoted_listed bytes mentions 0)
     (all_listed (IsResolved bytes some) tt mentions 0 all index d inside)
 
--- what stands in the list is what the event at its index mentions
+-- an entry of the list is the mention of the event at its index
 record GotListed (mentions : List Mention) (index : ℕ) (one : Mentioned) : Type 0 where
   at : ℕ
   index_is : one.index ≡ index + at

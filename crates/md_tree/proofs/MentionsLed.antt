@@ -1,4 +1,4 @@
--- What a mention leads to: the first definition with its identifier, or nowhere.
+-- The target of a mention: the first definition with its identifier, or none.
 use Rattle.std.proofs.Common.{arith, ◌≡◌, ◌⊎◌, ℕ, suc, ◌<◌, true, false, Option, Some, None, List}
 use Rattle.std.proofs.Common.{[], ◌∷◌, length, get_or, inl, inr, true≢false, refl, sym, ap, ◌∙◌}
 use Rattle.std.proofs.Common.{subst}
@@ -20,7 +20,7 @@ use Rattle.md_tree.specs.Numbers.{is_same, which, number_of, IsNowhere, IsLed}
 use Rattle.md_tree.specs.Resolve.{IsUnresolvedBy}
 use Rattle.md_tree.proofs.OneMoreIdentifier.{Identifier, same-is, same-self}
 
--- ---- what a mention leads to
+-- ---- the target of a mention
 first_is : (x y : Identifier) (xs : List Identifier) → x ≡ y → Contains (x ∷ xs) y
 first_is x y xs e = (0, omega arith, e)
 
@@ -108,7 +108,7 @@ module _ (bytes : List ℕ) (mentions : List Mention) (label : Position) (known 
       none_is_there None e = refl
       none_is_there (Some place) e = cc
 
--- what is lost leads nowhere
+-- a lost mention is unresolved
 lost : (bytes : List ℕ) (mentioned : List Mentioned) (mention : Mention)
     (at index : ℕ) (broken : Rule) →
     slice_get mentioned at ≡ Some (record { index = index; mention = mention }) →

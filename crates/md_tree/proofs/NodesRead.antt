@@ -51,7 +51,7 @@ may_hold-from : (role : Role) → role ≢ Childless → may_hold role ≡ true
 may_hold-from Childless ne = absurd (ne refl)
 may_hold-from _ ne = refl
 
--- what is mentioned after nodes of which the first event has an index
+-- the mentions after nodes, the first event of which has an index
 abbrev pub mentions_over : ℕ → Forest → List Mentioned → List Mentioned
 mentions_over index Empty before = before
 mentions_over index (Node name start end children rest) before =

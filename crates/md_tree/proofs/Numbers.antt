@@ -164,7 +164,7 @@ got-with number (n ∷ mentions) (g ∷ facts) zero fact mention f m =
 got-with number (n ∷ mentions) (g ∷ facts) (suc index) fact mention f m =
     got-with number mentions facts index fact mention f m
 
--- ---- what a number stands for
+-- ---- the index that a number encodes
 pub kept-number : (number : ℕ) (fact : Fact) → fact.read_at ≡ 0 →
     Fact.read_at (with_number number fact) ≡ number
 kept-number zero fact none = none

@@ -1,4 +1,4 @@
--- Numbers that are put one by one are those of the list.
+-- Numbers written one by one are those of the list.
 use Rattle.std.proofs.Common.{◌≡◌, ℕ, suc, ◌≤◌, List, [], ◌∷◌, ◌++◌, length, refl, sym, ap, ◌∙◌}
 use Rattle.std.proofs.Common.{append_assoc, append-nil, arith}
 use Rattle.std.specs.Prelude.{map}
@@ -13,7 +13,7 @@ use Rattle.md_tree.specs.Numbers.{facts_with}
 use Rattle.md_tree.proofs.Listing.{listed, defined_listed}
 use Rattle.md_tree.proofs.Numbering.{put-none, put-past}
 
--- a mention of nothing puts none
+-- a mention of nothing writes no number
 module _ (number : Mention → ℕ) (none : number Nothing ≡ 0) where
   one_listed : (mention : Mention) (mentions : List Mention) (index : ℕ) (facts : List Fact) →
       numbered number (listed index (mention ∷ mentions)) facts

@@ -27,7 +27,7 @@ use Rattle.md_tree.proofs.SettledPatterns.{and_left, and_right}
 
 -- ---- names by their symbols
 
--- a name that is looked through
+-- a transparent name
 abbrev pub is_through : Standing → Bool
 is_through Through = true
 is_through Space = true
@@ -75,7 +75,7 @@ node_apart value leads transparent own inner found v l t =
     ap (λ b. cond b own (cond leads inner [])) v ∙ ap (λ b. cond b inner []) l
     ∙ ap (λ b. cond b found []) (sym t)
 
--- names with the symbol pass the test, and no other of the symbols on the spine leads to values
+-- names with the symbol pass the test, and no other symbol on the spine contains values
 module _ (test : Name → Bool) (only : Name) (one : Symbol) (p : Symbol → Bool) (found : Forest →
     List AlignKind) (test_is : (name : Name) → test name ≡ true → name ≡ only)
     (test_symbol : (name : Name) → test name ≡ has_symbol one (standing_of name))

@@ -1,5 +1,5 @@
--- Each node of a document is where its entry and the entry's partner say. So a look-up by index
--- finds the place that the tree has: `reads` of `Checked` goes by it.
+-- The entry and its partner give the position of each node of a document. So a look-up by index
+-- finds the position in the tree: `reads` of `Checked` depends on it.
 use Rattle.std.proofs.Common.{◌≡◌, ℕ, suc, ◌+◌, Some, List, [], ◌∷◌, ◌++◌, length, get_or, refl}
 use Rattle.std.proofs.Common.{sym, ap, ◌∙◌, subst, append_assoc, append-nil, arith}
 use Rattle.std.specs.Prelude.{slice_get}

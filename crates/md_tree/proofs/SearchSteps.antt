@@ -1,4 +1,4 @@
--- A search leads from one state to another over what it finds at one node.
+-- One step of a search: from the state before a node to the state after it.
 use Rattle.std.proofs.Common.{◌≡◌, ℕ, Bool, true, false, cond, Option, Some, None, refl, ap, ◌∙◌}
 use Rattle.std.specs.Prelude.{unwrap_or}
 use Rattle.md_base.specs.declared.event.Name.{Name}
@@ -77,7 +77,7 @@ place_after so_far.Nothing p o r = unwrap_or r (unwrap_or o p)
 abbrev pub At : Type 0
 At = ℕ → Option Position
 
--- a search leads from one state to another over what it finds
+-- a search changes one state to another by what it finds
 pub record Searched (at : At) (from to : Sought) (o r : Option (Option Position)) : Type 0 where
   pub wanted : to.wanted ≡ from.wanted
   pub found : to.found ≡ found_after from.found o r

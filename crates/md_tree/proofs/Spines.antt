@@ -15,7 +15,7 @@ use Rattle.md_base.specs.NameTests.{is_transparent}
 use Rattle.md_base.specs.Children.{spine_names}
 use Rattle.md_tree.specs.Laws.{symbols_of}
 
--- a way to stand is looked through
+-- a class is transparent
 abbrev is_through : Standing → Bool
 is_through Through = true
 is_through Space = true

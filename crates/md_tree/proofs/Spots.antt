@@ -35,7 +35,7 @@ spot_after items Whole symbol =
     option_map (λ left. At left (begun_by symbol)) (left_after items symbol)
 spot_after items stage symbol = option_map (λ next. At items next) (next_stage stage symbol)
 
--- symbols, one after another
+-- symbols, in sequence
 abbrev pub Goes : List Item → Stage → List Symbol → Spot → Type 0
 Goes items stage [] to = At items stage ≡ to
 Goes items stage (symbol ∷ symbols) to =

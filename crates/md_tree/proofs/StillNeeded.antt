@@ -1,4 +1,4 @@
--- What a spine still needs: symbols after which it may end, each of which has a least node.
+-- The symbols that a spine still needs before it may end; each of them has a least node.
 use Rattle.std.proofs.Common.{◌≡◌, ℕ, zero, suc, true, Option, Some, List, [], ◌∷◌, ◌++◌, drop}
 use Rattle.std.proofs.Common.{refl}
 use Rattle.std.specs.List.{list_all}

@@ -117,7 +117,7 @@ table_level children table =
     ))
     children role.Table None table.0 (matches_pass p role.Table (spine children) refl refl table.1)
 
--- ---- each by itself
+-- ---- each of them
 map_cond : {A B : Type 0} (f : A → B) (passed transparent : Bool) (own inner : List A) →
     map f (cond passed own (cond transparent inner []))
     ≡ cond passed (map f own) (cond transparent (map f inner) [])

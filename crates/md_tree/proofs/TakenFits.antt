@@ -1,4 +1,4 @@
--- What is left of a pattern after a symbol, and that what a reading takes fits.
+-- The rest of a pattern after a symbol, and the proof that the symbols taken fit the pattern.
 use Rattle.std.proofs.Common.{◌≡◌, Bool, true, false, cond, if◌then◌else◌, Option, Some, None, List}
 use Rattle.std.proofs.Common.{[], ◌∷◌, refl, sym, ap, subst, arith}
 use Rattle.std.specs.List.{list_all}
@@ -9,7 +9,7 @@ use Rattle.md_pattern.specs.Pattern.{class_of, takes, Fits, IsCount}
 use Rattle.md_pattern.specs.Steps.{is_optional}
 use Rattle.md_tree.proofs.SettledPatterns.{and_both, and_left, and_right}
 
--- what is left of a pattern after a symbol
+-- the rest of a pattern after a symbol
 abbrev pub kept : Item → List Item → List Item
 kept (Many class) items = Many class ∷ items
 kept item items = items

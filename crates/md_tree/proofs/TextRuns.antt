@@ -56,7 +56,7 @@ pub some-weaken : {A : Type 0} (P Q : A → Type 0) → ((a : A) → P a → Q a
 some-weaken P Q weaken None holds = holds
 some-weaken P Q weaken (Some a) holds = weaken a holds
 
--- a text that goes on where another ends
+-- a text that continues where another ends
 pub IsUtf8-on : (bytes : List ℕ) (start at end : ℕ) → start ≤ at → at ≤ end →
     IsUtf8 (slice_range bytes start at) →
     IsUtf8 (slice_range bytes at end) → IsUtf8 (slice_range bytes start end)

@@ -1,4 +1,4 @@
--- What follows of a list of events from how a walk over it goes on, stops or ends.
+-- Facts about a list of events, from how a walk over it continues, stops or ends.
 use Rattle.std.proofs.Common.{◌≡◌, ℕ, Bool, true, false, cond, Option, Some, None, MatchOption}
 use Rattle.std.proofs.Common.{List, [], ◌∷◌, ◌++◌, refl, sym, ◌∙◌, subst, append_assoc, append-nil}
 use Rattle.md_base.specs.declared.event.Point.{Point}

@@ -1,4 +1,4 @@
--- What a checked document keeps.
+-- The model of a checked document.
 use Rattle.std.specs.Prelude.{◌≡◌, map, length}
 use Rattle.md_tree.specs.declared.checked.Checked.TheInside.{Inside}
 use Rattle.md_tree.specs.Grammar.{Handed, handed, IsChecked}
@@ -6,12 +6,13 @@ use Rattle.md_tree.specs.Numbers.{AreNumbered}
 use Rattle.md_pattern.specs.Ending.{first_index}
 use Rattle.md_pattern.specs.Facts.{tables_at, definitions_at}
 
--- what was handed in
+-- the input of the check
 abbrev pub handed_of : Inside → Handed
 handed_of inside = handed inside.events.now inside.texts inside.names.now
 
--- the events are a document's of the grammar, each has what is found at it and its number, the
--- tables, the definitions and the first line ending are theirs, and each was visited once
+-- the events are those of a document of the grammar, each event has its fact and its number, the
+-- tables, the definitions and the first line ending are those of the document, and each event was
+-- visited once
 abbrev pub IsKept : Inside → Type 0
 IsKept inside =
     IsChecked (handed_of inside)

@@ -1,4 +1,4 @@
--- The nodes of a document by the index of the event that enters each.
+-- The nodes of a document by the index of the event that enters them.
 use Rattle.std.specs.Prelude.{◌≡◌, ℕ, Option, Some, None, List, [], ◌∷◌, ◌++◌, slice_get}
 use Rattle.md_base.specs.Tree.{Forest, Empty, Node, flatten}
 use Rattle.md_tree.specs.Grammar.{Handed}

@@ -1,4 +1,4 @@
--- The event grammar over a document's bytes and a table of names.
+-- The grammar of events over a document's bytes and a table of names.
 use Rattle.std.specs.Prelude.{◌≡◌, ℕ, None, List}
 use Rattle.std.specs.List.{All}
 use Rattle.std.specs.Borrow.{Bor}
@@ -10,21 +10,21 @@ use Rattle.md_pattern.specs.Shape.{IsShaped}
 use Rattle.md_tree.specs.Rules.{MeetRules}
 use Rattle.md_tree.specs.Mentions.{mentions_of, IsResolved}
 
--- a document is one of the grammar over these bytes and names
+-- a document matches the grammar over these bytes and names
 pub record IsGrammatical (bytes : List ℕ) (names : List (List ℕ × List ℕ))
     (forest : Forest) : Type 0 where
   pub shape : IsShaped forest
   pub rules : MeetRules bytes names forest role.Flow None
   pub resolved : All (IsResolved bytes (mentions_of forest)) (mentions_of forest)
 
--- what is handed to a check: events, the document's bytes, the names of character references
--- with their texts
+-- the input of a check: events, the document's bytes, the names of character references with their
+-- texts
 pub record Handed : Type 0 where
   pub events : List Event
   pub bytes : List ℕ
   pub names : List (List ℕ × List ℕ)
 
--- the three, as they are handed in
+-- the input as a record
 abbrev pub handed : List Event → List ℕ → List (Bor (List ℕ) × Bor (List ℕ)) → Handed
 handed events bytes names = record { events = events; bytes = bytes; names = name_table names }
 

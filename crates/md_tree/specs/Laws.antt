@@ -1,4 +1,4 @@
--- The words of the laws.
+-- The definitions that the laws use.
 use Rattle.std.specs.Prelude.{◌≡◌, List, [], ◌∷◌, ◌++◌, map, IsTrue}
 use Rattle.md_base.specs.declared.event.Name.{Name}
 use Rattle.md_pattern.specs.declared.kinds.Symbol.{Symbol}
@@ -24,6 +24,6 @@ abbrev pub symbols_of : List Name → List Symbol
 symbols_of [] = []
 symbols_of (name ∷ names) = shown (standing_of name) [] ++ symbols_of names
 
--- the spine of symbols is that of names, each with its symbol
+-- the spine of symbols is the spine of names, each name replaced by its symbol
 abbrev pub HasOneSpine : Forest → Type 0
 HasOneSpine forest = spine forest ≡ symbols_of (spine_names forest)

@@ -1,5 +1,5 @@
--- The event grammar and what a check says: begin with `Grammar`, `Rules` and `Refusal`.
--- `Machine`, `Walk` and `Reader` say it event by event, as the code reads it.
+-- The event grammar and the promises of the check: begin with `Grammar`, `Rules` and `Refusal`.
+-- `Machine`, `Walk` and `Reader` define it event by event, as the code reads it.
 pub mod Checked
 pub mod Grammar
 pub mod Machine

@@ -1,4 +1,4 @@
--- How a check reads events: one small state for each open node.
+-- The check as a machine over events: one small state for each open node.
 use Rattle.std.specs.Prelude.{◌≡◌, ℕ, suc, if◌then◌else◌, Option, Some, None, option_map, List, []}
 use Rattle.std.specs.Prelude.{◌∷◌, IsTrue, MatchOption}
 use Rattle.md_base.specs.declared.event.Point.{Point}
@@ -23,27 +23,27 @@ use Rattle.md_pattern.specs.Steps.{advance, is_complete, may_hold, start_of}
 use Rattle.md_tree.specs.Rules.{place, target_at}
 use Rattle.md_tree.specs.Mentions.{mention_of, mentions_with}
 
--- what waits for the end of a node that has a spine of its own: the spine around it with the node,
--- the symbol before it, the target of the spine around so far, and what is read of the node
+-- the state that a node with its own spine saves until it ends: its parent's spine with the node,
+-- the symbol before it, the target of that spine so far, and what is read of the node
 pub record Outer : Type 0 where
   pub state : State
   pub before : Option Symbol
   pub target : Referral
   pub reading : Reading
 
--- a node that is open; nothing waits for the end of a transparent one
+-- an open node; a transparent one saves no state
 pub record Open : Type 0 where
   pub name : Name
   pub start : Point
   pub outer : Option Outer
 
--- where a node's children begin
+-- the state at the beginning of a node's children
 pub record Entry : Type 0 where
   pub state : State
   pub target : Referral
   pub outer : Option Outer
 
--- where the children of a node begin, if it may stand on this spine
+-- the state at the beginning of a node's children, if the node may occur on this spine
 abbrev pub entered_on : Standing → State → Referral → Option Entry
 entered_on Through state target = Some (record { state = state; target = target; outer = None })
 entered_on Space state target =
@@ -63,13 +63,13 @@ entered_on (Solid symbol usual reading) state target =
     (advance state symbol)
 entered_on Mdx state target = None
 
--- the same, where the node around may have children
+-- the same, if the parent may have children
 abbrev pub entered : Standing → State → Referral → Option Entry
 entered standing state target =
     if may_hold state.role then entered_on standing state target else None
 
--- how far events have been read: how many, what they mention, and of the open nodes
--- the innermost first
+-- the state after events: how many there were, their mentions, and the open nodes, the innermost
+-- first
 pub record Course : Type 0 where
   pub state : State
   pub target : Referral
@@ -77,7 +77,7 @@ pub record Course : Type 0 where
   pub count : ℕ
   pub mentions : List Mentioned
 
--- after an entering event
+-- the state after an entering event
 abbrev pub after_entry : Entry → Name → Point → Course → Course
 after_entry entry name point course = record {
   state = entry.state;
@@ -87,7 +87,7 @@ after_entry entry name point course = record {
   mentions = course.mentions;
 }
 
--- after the exit of a transparent node
+-- the state after the exit of a transparent node
 abbrev pub after_through : List Open → Course → Course
 after_through others course = record {
   state = course.state;
@@ -97,7 +97,7 @@ after_through others course = record {
   mentions = course.mentions;
 }
 
--- after the exit of another node
+-- the state after the exit of another node
 abbrev pub after_exit : Outer → Point → Point → List Open → Course → Course
 after_exit outer start end others course = record {
   state = outer.state;
@@ -107,12 +107,12 @@ after_exit outer start end others course = record {
   mentions = mentions_with course.count (mention_of outer.reading course.target) course.mentions;
 }
 
--- a claim about nodes that stand on a spine: what is read of each, the role around it, the symbol
+-- a claim about nodes on a spine: by what is read of each, the role of its parent, the symbol
 -- before it, its start, end and target
 abbrev pub Reads : Type 1
 Reads = Reading → Role → Option Symbol → Point → Point → Referral → Type 0
 
--- the exit of a node that waits so
+-- the exit of a node with this saved state
 abbrev pub ExitsWhere : Reads → Option Outer → Point → Point → List Open → Course → Course → Type 0
 ExitsWhere holds None start end others from to = to ≡ after_through others from
 ExitsWhere holds (Some outer) start end others from to =
@@ -120,7 +120,7 @@ ExitsWhere holds (Some outer) start end others from to =
     × holds outer.reading outer.state.role outer.before start end from.target
     × (to ≡ after_exit outer start end others from)
 
--- an exiting event: of the innermost open node
+-- an exiting event: it exits the innermost open node
 abbrev pub Exits : Reads → List Open → Name → Point → Course → Course → Type 0
 Exits holds [] name point from to = ⊥
 Exits holds (open_node ∷ others) name point from to =
@@ -140,13 +140,13 @@ StepsBy holds Exit name point from to = Exits holds from.open_nodes name point f
 abbrev pub Steps : Reads → Event → Course → Course → Type 0
 Steps holds event from to = StepsBy holds event.kind event.name event.point from to
 
--- events, one after another
+-- events, in order
 abbrev pub Runs : Reads → List Event → Course → Course → Type 0
 Runs holds [] from to = from ≡ to
 Runs holds (event ∷ events) from to =
     (next : Course) × Steps holds event from next × Runs holds events next to
 
--- before any event
+-- the state before any event
 abbrev pub beginning : Course
 beginning = record {
   state = start_of role.Flow;

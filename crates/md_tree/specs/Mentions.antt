@@ -1,4 +1,4 @@
--- What the nodes of a document mention: definitions, and what leads to them.
+-- The mentions in a document: definitions, and references to them.
 use Rattle.std.specs.Prelude.{ℕ, Option, option_map, List, [], ◌∷◌, ◌++◌, map}
 use Rattle.std.specs.List.{Contains}
 use Rattle.md_base.specs.declared.event.Position.{Position}
@@ -16,7 +16,7 @@ use Rattle.md_base.specs.Tree.{Forest, Empty, Node}
 use Rattle.md_pattern.specs.Standing.{standing_of}
 use Rattle.md_tree.specs.Rules.{reading_of, target_of}
 
--- what a node mentions, by what is read of it and its target
+-- the mention of a node, by what is read of it and its target
 abbrev pub mention_of : Reading → Referral → Mention
 mention_of reading.Media (Label label) = Reference label
 mention_of reading.Call (Label label) = Call label
@@ -24,13 +24,14 @@ mention_of reading.Definition (Label label) = Definition label
 mention_of reading.FootnoteDefinition (Label label) = FootnoteDefinition label
 mention_of _ _ = Nothing
 
--- what each event of the nodes mentions, in order: an exit what its node mentions, an entry nothing
+-- the mention of each event of the nodes, in order: an exit has the mention of its node, an entry
+-- has none
 abbrev pub mentions_of : Forest → List Mention
 mentions_of Empty = []
 mentions_of (Node name start end children rest) = Nothing ∷ mentions_of children
     ++ mention_of (reading_of (standing_of name)) (target_of children Missing) ∷ mentions_of rest
 
--- what is mentioned, with what one more event mentions, if it mentions anything
+-- the mentions so far, with that of one more event, if it has one
 abbrev pub mentions_with : ℕ → Mention → List Mentioned → List Mentioned
 mentions_with index Nothing before = before
 mentions_with index mention before = before ++ record { index = index; mention = mention } ∷ []
@@ -39,11 +40,11 @@ mentions_with index mention before = before ++ record { index = index; mention =
 abbrev pub mentions_among : List Mentioned → List Mention
 mentions_among mentioned = map (λ one. one.mention) mentioned
 
--- the identifier at a label's place
+-- the identifier at a label's position
 abbrev pub identifier_at : List ℕ → Position → Option (List ℕ)
 identifier_at bytes label = option_map normalized (label_between bytes label.start label.end)
 
--- one more identifier, where a definition is mentioned
+-- the identifiers, with one more if the mention is a definition
 abbrev pub defined_by : List ℕ → Mention → List (Option (List ℕ)) → List (Option (List ℕ))
 defined_by bytes mention rest =
     elim mention [ Definition at ↦ identifier_at bytes at ∷ rest | _ ↦ rest ]
@@ -53,7 +54,7 @@ abbrev pub defined : List ℕ → List Mention → List (Option (List ℕ))
 defined bytes [] = []
 defined bytes (mention ∷ mentions) = defined_by bytes mention (defined bytes mentions)
 
--- one more identifier, where a footnote definition is mentioned
+-- the identifiers, with one more if the mention is a footnote definition
 abbrev pub footnoted_by : List ℕ → Mention → List (Option (List ℕ)) → List (Option (List ℕ))
 footnoted_by bytes mention rest =
     elim mention [ FootnoteDefinition at ↦ identifier_at bytes at ∷ rest | _ ↦ rest ]
@@ -63,7 +64,7 @@ abbrev pub footnoted : List ℕ → List Mention → List (Option (List ℕ))
 footnoted bytes [] = []
 footnoted bytes (mention ∷ mentions) = footnoted_by bytes mention (footnoted bytes mentions)
 
--- what leads to a definition or a footnote definition has one among these mentions
+-- a mention that refers to a definition or a footnote definition has one among these mentions
 abbrev pub IsResolved : List ℕ → List Mention → Mention → Type 0
 IsResolved bytes mentions (Reference label) =
     Contains (defined bytes mentions) (identifier_at bytes label)

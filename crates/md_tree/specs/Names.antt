@@ -1,4 +1,4 @@
--- How rules and refusals print.
+-- The printed text of rules and refusals.
 use Rattle.std.specs.Prelude.{ℕ, List, ◌++◌, codes}
 use Rattle.std.specs.Fmt.{decimal}
 use Rattle.md_tree.specs.declared.rule.Rule.{Rule}

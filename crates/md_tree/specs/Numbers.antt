@@ -1,4 +1,4 @@
--- To which definition a mention leads, and what is kept of it.
+-- The definition that a mention refers to, and its stored number.
 use Rattle.std.specs.Prelude.{◌≡◌, ℕ, zero, suc, ◌+◌, Bool, true, false, if◌then◌else◌, Option}
 use Rattle.std.specs.Prelude.{Some, None, option_map, is_some, List, [], ◌∷◌, bytes_eq}
 use Rattle.std.specs.Prelude.{string_bytes, String, ◌||◌}
@@ -23,33 +23,33 @@ use Rattle.md_tree.specs.declared.rule.Rule.{Rule}
 use Rattle.md_tree.specs.declared.rule.Rule.TheVariants as rule
 use Rattle.md_tree.specs.Mentions.{identifier_at, defined, footnoted, IsResolved, mentions_of}
 
--- two identifiers are the same
+-- two identifiers are equal
 abbrev pub is_same : Option (List ℕ) → Option (List ℕ) → Bool
 is_same None None = true
 is_same (Some one) (Some other) = bytes_eq one other
 is_same _ _ = false
 
--- which of some identifiers, counted from 0, is the first that is this one
+-- the number, from 0, of the first of some identifiers that equals this one
 abbrev pub which : List (Option (List ℕ)) → Option (List ℕ) → Option ℕ
 which [] wanted = None
 which (first ∷ others) wanted =
     if is_same first wanted then Some 0 else option_map (λ place. suc place) (which others wanted)
 
--- which of the definitions, in the order of their exits, is the first with the identifier of a link
--- or an image: it is the one to which they lead
+-- the number of the definition that a link or an image refers to: the first one with its
+-- identifier, in the order of their exits
 abbrev pub definition_for : List ℕ → List Mention → Mention → Option ℕ
 definition_for bytes mentions (Reference label) =
     which (defined bytes mentions) (identifier_at bytes label)
 definition_for bytes mentions _ = None
 
--- the same of the footnote definitions, for a call
+-- the same among the footnote definitions, for a call
 abbrev pub footnote_for : List ℕ → List Mention → Mention → Option ℕ
 footnote_for bytes mentions (Call label) =
     which (footnoted bytes mentions) (identifier_at bytes label)
 footnote_for bytes mentions _ = None
 
--- the first of the two for the node that the event at an index exits, in the document that
--- the events flatten
+-- the definition for the node that the event at an index exits, in the document that the events
+-- flatten
 abbrev pub IsDefinitionFor : Handed → ℕ → Option ℕ → Type 0
 IsDefinitionFor given index found =
     (forest : Forest) (mention : Mention) → flatten forest ≡ given.events →
@@ -63,9 +63,9 @@ is_of_definitions name = elim name [ Link ↦ true | Image ↦ true | _ ↦ fals
 abbrev pub ExitsOf : (Name → Bool) → List Event → ℕ → Type 0
 ExitsOf is events index = (name : Name) × ExitsAt events index name × IsTrue (is name)
 
--- ---- what is kept: only contracts of private functions speak of it
+-- ---- what is stored: only contracts of private functions cite it
 
--- the number that is kept of a mention: one more than which definition it leads to, 0 where to none
+-- the stored number of a mention: one more than the number of its definition, 0 if it has none
 abbrev pub number_of : Option ℕ → ℕ
 number_of None = 0
 number_of (Some place) = suc place
@@ -90,11 +90,11 @@ numbered number [] facts = facts
 numbered number (one ∷ others) facts =
     numbered number others (put_number one.index (number one.mention) facts)
 
--- what a map has for an identifier
+-- the value of a map for an identifier
 abbrev pub found_in : BTreeMap (Option (String Global)) ℕ → Option (String Global) → Option ℕ
 found_in numbers wanted = get (option_cmp string_cmp) numbers wanted
 
--- a map has the numbers of these identifiers, of which the first has the number after so many
+-- a map has the numbers of these identifiers; the first one has the number after `before`
 abbrev pub NumbersFrom : BTreeMap (Option (String Global)) ℕ → ℕ → List (Option (List ℕ)) → Type 0
 NumbersFrom numbers before all = (wanted : Option (String Global)) → found_in numbers wanted
     ≡ option_map (λ place. suc (before + place)) (which all (option_map string_bytes wanted))
@@ -110,7 +110,7 @@ Identifiers known all = (wanted : Option (String Global)) →
     contains (option_cmp string_cmp) known wanted
     ≡ is_some (which all (option_map string_bytes wanted))
 
--- it has each one that isn't among those that are left
+-- it has each one except the remaining ones
 abbrev pub IdentifiersBefore : BTreeSet (Option (String Global)) → List (Option (List ℕ)) →
     List (Option (List ℕ)) → Type 0
 IdentifiersBefore known left all = (wanted : Option (String Global)) →
@@ -118,8 +118,7 @@ IdentifiersBefore known left all = (wanted : Option (String Global)) →
     || is_some (which left (option_map string_bytes wanted)))
     ≡ is_some (which all (option_map string_bytes wanted))
 
--- what is said of a mention by these: its number, where what it leads to is there, else the
--- rule that it breaks
+-- the result for a mention: its number if it is resolved, else the rule that it breaks
 abbrev pub IsNowhere : List ℕ → List Mention → Mention → Rule → Type 0
 IsNowhere bytes mentions (Reference label) broken =
     (broken ≡ rule.Definition) × (IsResolved bytes mentions (Reference label) → ⊥)
@@ -132,20 +131,20 @@ IsLed bytes mentions mention (Ok number) =
     IsResolved bytes mentions mention × (number ≡ number_for bytes mentions mention)
 IsLed bytes mentions mention (Err broken) = IsNowhere bytes mentions mention broken
 
--- facts with as many numbers
+-- facts with these numbers
 abbrev pub facts_with : List ℕ → List Fact → List Fact
 facts_with [] facts = facts
 facts_with (number ∷ numbers) [] = []
 facts_with (number ∷ numbers) (fact ∷ facts) = with_number number fact ∷ facts_with numbers facts
 
--- these facts are what is found at the events, with the number of each mention at its exit
+-- these facts are those at the events, with the number of each mention at its exit
 abbrev pub AreNumbered : Handed → List Fact → Type 0
 AreNumbered given facts =
     (forest : Forest) → flatten forest ≡ given.events →
     facts ≡ facts_with (map (number_for given.bytes (mentions_of forest)) (mentions_of forest))
     (facts_at given.events)
 
--- what a number stands for
+-- the index that a stored number encodes
 abbrev pub place_of : ℕ → Option ℕ
 place_of zero = None
 place_of (suc place) = Some place

@@ -1,5 +1,4 @@
--- How far events have been read, and what was found at them. Only contracts of private
--- functions speak of it.
+-- The state of reading, and the facts so far. Only contracts of private functions cite it.
 use Rattle.std.specs.Prelude.{◌≡◌, ℕ, List, take}
 use Rattle.md_base.specs.declared.event.Event.{Event}
 use Rattle.md_base.specs.declared.event.Kind.TheVariants.{Enter, Exit}
@@ -15,7 +14,7 @@ pub record IsLeaf (entry exit : Event) : Type 0 where
   pub exits : exit.kind ≡ Exit
   pub same : entry.name ≡ exit.name
 
--- so many of the events have been read
+-- this many events have been read
 pub record HasRead (bytes : List ℕ) (names : List (List ℕ × List ℕ))
     (events : List Event) (count : ℕ)
     (reader : Reader) : Type 0 where

@@ -1,4 +1,4 @@
--- What a name reads of the nodes on its spine: the place of one of them.
+-- The node that a name reads on its spine, by its position.
 use Rattle.std.specs.Prelude.{◌≡◌, ℕ, Bool, true, false, Option, None, unwrap_or, IsTrue}
 use Rattle.md_base.specs.declared.event.Name.{Name}
 use Rattle.md_base.specs.declared.event.Name.TheVariants as name_variants
@@ -15,11 +15,11 @@ use Rattle.md_tree.specs.Grammar.{Handed}
 use Rattle.md_tree.specs.Texts.{EntersAt}
 use Rattle.md_tree.specs.Entered.{IsEnteredAt}
 
--- the place of the first node on a spine that passes a test
+-- the position of the first node on a spine that passes a test
 abbrev pub first_place : (Name → Bool) → Forest → Option Position
 first_place test children = first_on_spine test (λ start end inner. place start end) children
 
--- what is found in the first such node
+-- the result of a function for the children of the first such node
 abbrev pub in_first : (Name → Bool) → (Forest → Option Position) → Forest → Option Position
 in_first test found children =
     unwrap_or (first_on_spine test (λ start end inner. found inner) children) None
@@ -32,8 +32,8 @@ number_in item = in_first is_item_prefix (first_place is_item_value) item
 abbrev pub label_in : Forest → Option Position
 label_in children = in_first is_label (first_place is_label_text) children
 
--- the one place that a name reads: a heading's first mark, the number of a list's first item, what
--- a link, an image or a call refers by, what a definition is referred to by
+-- the position that a name reads: a heading's first mark, the number of a list's first item, the
+-- label or reference of a link, an image or a call, the label of a definition
 abbrev pub reads : Name → Forest → Option Position
 reads HeadingAtx children = first_place is_heading_mark children
 reads ListOrdered children = in_first is_item number_in children
@@ -45,7 +45,7 @@ reads GfmFootnoteDefinition children =
     in_first is_footnote_prefix (first_place is_footnote_label) children
 reads _ children = None
 
--- a name that reads a place
+-- a name that reads a position
 abbrev pub is_reader : Name → Bool
 is_reader HeadingAtx = true
 is_reader ListOrdered = true
@@ -56,7 +56,7 @@ is_reader Definition = true
 is_reader GfmFootnoteDefinition = true
 is_reader _ = false
 
--- the place that is read of the node that the event at an index enters, where its name reads one
+-- the position that is read of the node that the event at an index enters, if its name reads one
 abbrev pub IsReadAt : Handed → ℕ → Option Position → Type 0
 IsReadAt given index found =
     (name : Name) (children : Forest) → EntersAt given.events index name → IsTrue (is_reader name) →

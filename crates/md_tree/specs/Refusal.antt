@@ -1,4 +1,4 @@
--- What is known of a list of events, where a check refuses it.
+-- The promises about a list of events that the check refuses.
 use Rattle.std.specs.Prelude.{◌≡◌, ◌≢◌, ◌⊎◌, ℕ, suc, ◌<◌, ◌≤◌, Option, Some, None, List, [], ◌∷◌}
 use Rattle.std.specs.Prelude.{◌++◌, length, take, slice_get}
 use Rattle.md_base.specs.declared.event.Point.{Point}
@@ -24,23 +24,24 @@ use Rattle.md_tree.specs.Rules.{MeetRules, broken_at}
 use Rattle.md_tree.specs.Mentions.{mentions_of, IsResolved}
 use Rattle.md_tree.specs.Grammar.{Handed, IsChecked}
 
--- a node that is still open, with the whole nodes before it in the node around
+-- an open node, with the complete nodes before it in its parent
 pub record Level : Type 0 where
   pub before : Forest
   pub name : Name
   pub start : Point
 
--- the events of open nodes, the innermost first in the list, and of the whole nodes before each
+-- the events of open nodes, the innermost first in the list, and of the complete nodes before each
 abbrev pub opening : List Level → List Event
 opening [] = []
 opening (level ∷ path) =
     opening path ++ flatten level.before ++ entering level.name level.start ∷ []
 
--- the last symbol on the spine of nodes that stand after a symbol
+-- the last symbol on the spine after some nodes that follow a symbol
 abbrev pub symbol_after : Option Symbol → Forest → Option Symbol
 symbol_after before nodes = last_symbol before (spine nodes)
 
--- the role and the last symbol of the spine on which the innermost open node's children stand
+-- the last symbol, and below the role, of the spine that the innermost open node's children belong
+-- to
 abbrev pub before_in : List Level → Option Symbol
 before_in [] = None
 before_in (level ∷ path) =
@@ -51,14 +52,14 @@ role_in [] = role.Flow
 role_in (level ∷ path) =
     inner_role (standing_of level.name) (role_in path) (symbol_after (before_in path) level.before)
 
--- the whole nodes before each open one have the shape of the grammar
+-- the complete nodes before each open one have the shape of the grammar
 abbrev pub IsShapedPath : List Level → Type 0
 IsShapedPath [] = Unit {0}
 IsShapedPath (level ∷ path) =
     AreShaped level.before (role_in path) (before_in path) × IsShapedPath path
 
 -- the events begin a tree in which each node that has ended matches its pattern: some are open, and
--- these nodes stand whole in the innermost one
+-- these nodes are complete in the innermost one
 pub record Begins (events : List Event) (path : List Level) (nodes : Forest) : Type 0 where
   pub events_are : events ≡ opening path ++ flatten nodes
   pub path_shaped : IsShapedPath path
@@ -86,8 +87,8 @@ LeaveOpen events =
     BeginTree events × ((path : List Level) × (nodes : Forest) × Begins events path nodes
     × ((path ≢ []) ⊎ ((path ≡ []) × EndsInGroup (spine nodes))))
 
--- the node that ends with the last of these events breaks the rule, and each that has ended by then
--- matches its pattern
+-- the node that ends with the last of these events breaks the rule, and each node that has ended so
+-- far matches its pattern
 pub record EndsBroken (bytes : List ℕ) (names : List (List ℕ × List ℕ)) (events : List Event)
     (broken : Rule) : Type 0 where
   pub path : List Level
@@ -105,8 +106,8 @@ pub record EndsBroken (bytes : List ℕ) (names : List (List ℕ × List ℕ)) (
   pub breaks : broken_at bytes names (role_in path) (symbol_after (before_in path) nodes) name start
       end children ≡ Some broken
 
--- the events are a document that has its shape and meets the other rules, and what its node that
--- ends at the index leads to isn't there
+-- the events are a document that has its shape and fulfils the other rules, and the node that ends
+-- at the index refers to a definition that doesn't exist
 pub record EndsUnresolved (given : Handed) (index : ℕ) (mention : Mention) : Type 0 where
   pub forest : Forest
   pub flattened : flatten forest ≡ given.events
@@ -129,7 +130,7 @@ IsMdx given (error.Event index rule.Mdx) =
     × (event.kind ≡ Enter) × (standing_of event.name ≡ standing.Mdx)
 IsMdx given _ = Unit {0}
 
--- a rule that is judged when a node ends: the node that ends there breaks it
+-- a rule that is checked when a node ends: the node that ends there breaks it
 abbrev pub IsBroken : Handed → ℕ → Rule → Type 0
 IsBroken given index broken = (index < length given.events)
     × EndsBroken given.bytes given.names (take (suc index) given.events) broken
@@ -144,8 +145,8 @@ IsOfNode given (error.Event index rule.CharacterReference) =
 IsOfNode given (error.Event index rule.Target) = IsBroken given index rule.Target
 IsOfNode given _ = Unit {0}
 
--- Definition or Footnote: what the node that ends there leads to isn't there, in a document
--- that meets all else
+-- Definition or Footnote: the node that ends there refers to a definition that doesn't exist, in a
+-- document that fulfils all other rules
 abbrev pub IsLost : Handed → CompileError → Type 0
 IsLost given (error.Event index rule.Definition) =
     (label : Position) × EndsUnresolved given index (Reference label)
@@ -153,7 +154,7 @@ IsLost given (error.Event index rule.Footnote) =
     (label : Position) × EndsUnresolved given index (Call label)
 IsLost given _ = Unit {0}
 
--- an event is refused only where the events are the flattening of no document of the grammar
+-- an event is refused only if the events aren't the flattening of any document of the grammar
 abbrev pub IsOutside : Handed → CompileError → Type 0
 IsOutside given error.Memory = Unit {0}
 IsOutside given (error.Event index broken) = IsChecked given → ⊥

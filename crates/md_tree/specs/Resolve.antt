@@ -1,4 +1,4 @@
--- What leads nowhere.
+-- Mentions without a definition.
 use Rattle.std.specs.Prelude.{◌≡◌, ℕ, Some, List, slice_get}
 use Rattle.md_base.specs.declared.event.Position.{Position}
 use Rattle.md_tree.specs.declared.mention.Mention.{Mention}
@@ -10,13 +10,13 @@ use Rattle.md_tree.specs.declared.rule.CompileError.{CompileError}
 use Rattle.md_tree.specs.declared.rule.CompileError.TheVariants as error
 use Rattle.md_tree.specs.Mentions.{mentions_among, IsResolved}
 
--- the event at the index mentions this, and nothing of the kind is defined
+-- the event at the index has this mention, and no definition of that kind has its identifier
 abbrev pub LeadsNowhere : List ℕ → List Mentioned → ℕ → Mention → Type 0
 LeadsNowhere bytes mentioned index mention =
     (at : ℕ) × (slice_get mentioned at ≡ Some (record { index = index; mention = mention }))
     × (IsResolved bytes (mentions_among mentioned) mention → ⊥)
 
--- the rule that what leads nowhere breaks
+-- the rule that an unresolved mention breaks
 abbrev pub IsUnresolvedBy : List ℕ → List Mentioned → ℕ → Rule → Type 0
 IsUnresolvedBy bytes mentioned index rule.Definition = (label : Position)
     × LeadsNowhere bytes mentioned index (Reference label)

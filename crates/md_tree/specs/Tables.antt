@@ -9,7 +9,7 @@ use Rattle.md_base.specs.declared.event.Name.TheVariants.{GfmTableDelimiterCellV
 use Rattle.md_pattern.specs.Spine.{spine, Matches}
 use Rattle.md_pattern.specs.Shape.{AreShaped}
 
--- what is found in each node on the spine whose name passes a test, in order
+-- the results of a function for each node on the spine whose name passes a test, in order
 abbrev pub in_each : {A : Type 0} → (Name → Bool) → (Forest → List A) → Forest → List A
 in_each test found Empty = []
 in_each test found (Node name start end children rest) =
@@ -21,11 +21,11 @@ in_each test found (Node name start end children rest) =
 abbrev pub values_of_row : Forest → List Forest
 values_of_row children = in_each (is GfmTableDelimiterCellValue) (λ value. value ∷ []) children
 
--- those of the delimiter row on a head's spine
+-- those of the delimiter rows on a head's spine
 abbrev pub values_of_head : Forest → List Forest
 values_of_head children = in_each is_delimiter_row values_of_row children
 
--- those of the head on a table's spine
+-- those of the heads on a table's spine
 abbrev pub values_of_table : Forest → List Forest
 values_of_table children = in_each is_table_head values_of_head children
 

@@ -1,4 +1,4 @@
--- The texts of a document's nodes, by the index of the event that ends each.
+-- The texts of a document's nodes, by the index of the event that exits each.
 use Rattle.std.specs.Prelude.{◌≡◌, ℕ, Bool, true, false, Option, Some, None, List, [], ◌∷◌, ◌++◌}
 use Rattle.std.specs.Prelude.{slice_get, IsTrue}
 use Rattle.md_base.specs.declared.event.Position.{Position}
@@ -29,8 +29,7 @@ EntersAt events index name = IsEventAt events index Enter name
 abbrev pub ExitsAt : List Event → ℕ → Name → Type 0
 ExitsAt events index name = IsEventAt events index Exit name
 
--- for each event of the nodes, in order: nothing at an entry, at an exit where the
--- node starts and ends
+-- for each event of the nodes, in order: nothing at an entry, the position of the node at an exit
 abbrev pub positions_of : Forest → List (Option Position)
 positions_of Empty = []
 positions_of (Node name start end children rest) =
@@ -44,24 +43,24 @@ is_text reading.Number = true
 is_text reading.Value = true
 is_text _ = false
 
--- what is read of a node identifies what it stands in
+-- what is read of a node is the identifier of a node that contains it
 abbrev pub is_identifier : Reading → Bool
 is_identifier reading.Identifier = true
 is_identifier _ = false
 
--- a name of which this is read
+-- a name whose reading passes a test
 abbrev pub has_reading : (Reading → Bool) → Standing → Bool
 has_reading is (Solid symbol usual reading) = is reading
 has_reading is _ = false
 
--- a name whose nodes' text is read, and one whose nodes identify
+-- a name whose nodes' text is read, and one whose nodes have an identifier
 abbrev pub is_text_name : Name → Bool
 is_text_name name = has_reading is_text (standing_of name)
 
 abbrev pub is_identifier_name : Name → Bool
 is_identifier_name name = has_reading is_identifier (standing_of name)
 
--- the event at an index exits a node whose text is read, or which identifies
+-- the event at an index exits a node whose text is read, or one that has an identifier
 abbrev pub ExitsText : List Event → ℕ → Type 0
 ExitsText events index = (name : Name) × ExitsAt events index name × IsTrue (is_text_name name)
 
@@ -76,7 +75,7 @@ IsTextAt given index text =
     slice_get (positions_of forest) index ≡ Some (Some position) →
     text_between given.bytes position.start position.end ≡ Some text
 
--- the same of the text between its indices
+-- the same for the text between its indices
 abbrev pub IsIdentifierAt : Handed → ℕ → List ℕ → Type 0
 IsIdentifierAt given index text =
     (forest : Forest) (position : Position) → flatten forest ≡ given.events →

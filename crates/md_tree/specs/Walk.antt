@@ -1,4 +1,4 @@
--- How a walk over events stands, and why it stops.
+-- The state of a walk over events, and why it stops.
 use Rattle.std.specs.Prelude.{◌≡◌, ◌⊎◌, ℕ, suc, Bool, true, false, ◌&&◌, if◌then◌else◌, Option}
 use Rattle.std.specs.Prelude.{Some, None, List, [], ◌∷◌, reverse, slice_get, IsTrue}
 use Rattle.md_base.specs.declared.event.Point.{Point}
@@ -35,17 +35,17 @@ point_of (Some event) = event.point
 abbrev pub point_at : List Event → ℕ → Point
 point_at events index = point_of (slice_get events index)
 
--- where a node lies that is entered and exited at two indices
+-- the position of a node that is entered and exited at two indices
 abbrev pub place_at : List Event → ℕ → ℕ → Position
 place_at events entry exit = place (point_at events entry) (point_at events exit)
 
--- what a walk's records stand for, where these are the events
+-- what the walk's records mean, given the events
 abbrev pub target_seen : List Event → Aim → Referral
 target_seen events aim.Missing = Missing
 target_seen events aim.Resource = Resource
 target_seen events (aim.Label entry exit) = Label (place_at events entry exit)
 
--- what waits for the end of a node around which this target was found so far
+-- the saved state of a node whose parent has this target so far
 abbrev pub outer_seen : List Event → Aim → KeptOuter → Outer
 outer_seen events target outer =
     record {
@@ -55,20 +55,20 @@ outer_seen events target outer =
       reading = outer.reading;
     }
 
--- the target that was put aside where a node was entered, if there was one; the innermost of those
--- put aside is first
+-- the target that was saved when a node was entered, if there was one; the innermost saved target
+-- is first
 abbrev pub target_of : Bool → List Aim → Aim
 target_of true (target ∷ targets) = target
 target_of true [] = aim.Missing
 target_of false targets = aim.Missing
 
--- those put aside where the nodes around it were entered
+-- the targets that its ancestors saved
 abbrev pub targets_around : Bool → List Aim → List Aim
 targets_around true (target ∷ targets) = targets
 targets_around true [] = []
 targets_around false targets = targets
 
--- the spine around an open node has a target that was put aside
+-- the parent of an open node has a target that was saved
 abbrev pub is_aimed : KeptOpen → Bool
 is_aimed open_node = open_node.stands && open_node.aimed
 
@@ -91,15 +91,15 @@ opens_at events targets (open_node ∷ open_nodes) =
     open_seen events targets open_node
     ∷ opens_at events (targets_around (is_aimed open_node) targets) open_nodes
 
--- the open nodes, of which the vector has the innermost last
+-- the open nodes; the vector has the innermost last
 abbrev pub opens_seen : List Event → List Aim → List KeptOpen → List Open
 opens_seen events targets open_nodes = opens_at events targets (reverse open_nodes)
 
--- where the children of a node of this role begin
+-- the state at the beginning of the children of a node with this role
 abbrev pub entered_at : Role → Outer → Entry
 entered_at role outer = record { state = start_of role; target = Missing; outer = Some outer }
 
--- the course of a walk over so many of the events
+-- the state of a walk over the first `count` events
 abbrev pub course_of : List Event → ℕ → Walk → Course
 course_of events count walk = record {
   state = state_of walk.place walk.before;
@@ -144,7 +144,7 @@ BreaksAtExit bytes names broken (open_node ∷ others) name point course =
     (open_node.name ≡ name)
     × BreaksWhere bytes names broken open_node.outer open_node.start point course
 
--- the rule that a name breaks where no node may stand
+-- the rule that a name breaks at a place where no node may be
 abbrev pub misplaced_where : Standing → Rule
 misplaced_where standing.Mdx = rule.Mdx
 misplaced_where _ = rule.Order
@@ -152,7 +152,7 @@ misplaced_where _ = rule.Order
 abbrev pub misplaced : Name → Rule
 misplaced name = misplaced_where (standing_of name)
 
--- why an entering event stops a walk: nothing may stand there, or it is a name of MDX
+-- why an entering event stops a walk: nothing may occur there, or it is a name of MDX
 abbrev pub StopsAtEntry : Rule → Name → Point → Course → Type 0
 StopsAtEntry rule.Order name point course = (next : Course) → Enters name point course next → ⊥
 StopsAtEntry rule.Mdx name point course = standing_of name ≡ standing.Mdx
@@ -177,7 +177,7 @@ IsStop bytes names index kind name point course error.Memory = Unit {0}
 IsStop bytes names index kind name point course (error.Event named broken) =
     (named ≡ index) × StopsBy bytes names kind broken name point course
 
--- the same of a node without children: its entry stops the walk, or its exit does
+-- the same for a node without children: its entry stops the walk, or its exit does
 abbrev pub IsStopAtLeaf : List ℕ → List (List ℕ × List ℕ) → ℕ → Name → Point → Point → Course →
     CompileError → Type 0
 IsStopAtLeaf bytes names index name start end course stopped =

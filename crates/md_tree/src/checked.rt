@@ -1,4 +1,4 @@
-//! Events that have passed a check, and what is found at them.
+//! Events that have passed the check, and the facts about them.
 
 ghost use Rattle.std.specs.Prelude.{◌≡◌, ◌↔◌, ◌<◌, Some, length, map};
 ghost use Rattle.std.specs.Prelude.{slice_get, IsTrue};
@@ -15,12 +15,12 @@ use md_base::{AlignKind, Event, Name};
 use md_pattern::{Fact, FactList, Facts};
 use std::marker::Model;
 
-/// Events, a document's bytes and a table of names that have passed a check: the events are the
+/// Events, a document's bytes and a table of names that have passed the check: the events are the
 /// flattening of a document of the grammar over the bytes and names.
 #[derive(Drop)]
 pub struct Checked<'a> {
     events: &'a [Event],
-    /// The document's bytes, of which the text is found that they begin with.
+    /// The document's bytes, with the valid text at their beginning.
     texts: Texts<'a>,
     names: &'a [(&'a str, &'a str)],
     facts: FactList,
@@ -63,7 +63,7 @@ impl<'a> Checked<'a> {
     ghost use Rattle.md_tree.specs.Numbers.{IsDefinitionFor};
     ghost use Rattle.md_base.specs.declared.event.Name.TheVariants as name;
 
-    /// What has passed a check, with what is found at its events.
+    /// Collects the checked input and the facts about its events.
     pub(crate) fn new(
         events: &'a [Event],
         texts: Texts<'a>,
@@ -141,8 +141,8 @@ impl<'a> Checked<'a> {
         self.names
     }
 
-    /// The index of the event that exits the first line ending, blank or not; None
-    /// where there is none.
+    /// The index of the event that exits the first line ending, blank or not, or None if there is
+    /// none.
     ///
     /// # Examples
     ///
@@ -186,9 +186,9 @@ impl<'a> Checked<'a> {
         self.definitions.as_slice()
     }
 
-    /// Which of the definitions, counted from 0 in the order of their exits, is the first with the
-    /// identifier of the link or the image that the event at the index exits: the one to which it
-    /// leads. None where it has a resource.
+    /// Returns the number of the definition that a link or an image refers to: the first one with
+    /// its identifier, counted from 0 in the order of their exits. The event at the index exits the
+    /// link or the image. None if it has a resource.
     ///
     /// # Examples
     ///
@@ -203,9 +203,9 @@ impl<'a> Checked<'a> {
         place_of(fact_at(&self.facts, index).read_at)
     }
 
-    /// The index of the event that enters the last contributing child of the item that the event at
-    /// the index enters; None where there is none. Line endings, spaces or tabs, prefixes of block
-    /// quotes, and definitions don't contribute.
+    /// Returns the index of the event that enters the last contributing child of an item, or None
+    /// if there is none. The event at the index enters the item. Line endings, spaces or tabs,
+    /// prefixes of block quotes, and definitions don't contribute.
     ///
     /// # Examples
     ///
@@ -222,7 +222,7 @@ impl<'a> Checked<'a> {
         index_if(self.fact(index).read_at)
     }
 
-    /// What is found of the node that the event at the index enters.
+    /// The facts about the node that the event at the index enters.
     pub(crate) fn fact(&self, index: usize) -> Fact
         requires { EntersSome self.now.events index }
         ensures grammatical { IsChecked self.now }
@@ -233,7 +233,8 @@ impl<'a> Checked<'a> {
     }
 }
 
-/// What is found at the index. Few events ask for it, and where they do, what asks is short.
+/// The fact at the index. It isn't inlined, since few events need it, and so its callers stay
+/// short.
 #[inline(never)]
 fn fact_at(facts: &FactList, index: usize) -> Fact
     requires { index < length facts.now }
@@ -242,14 +243,14 @@ fn fact_at(facts: &FactList, index: usize) -> Fact
     facts.get(index).unwrap()
 }
 
-/// The place that a number stands for: one less, and none for 0.
+/// The index that a stored number encodes: one less, and None for 0.
 fn place_of(number: usize) -> Option<usize>
     ensures { result ≡ place_of number }
 {
     number.checked_sub(1)
 }
 
-/// An index that is there.
+/// Converts 0 to None.
 fn index_if(index: usize) -> Option<usize>
     ensures { result ≡ index_if index }
 {

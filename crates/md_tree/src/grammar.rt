@@ -1,4 +1,4 @@
-//! The check of a list of events by the grammar.
+//! Checks a list of events against the grammar.
 
 ghost use Rattle.std.specs.Prelude.{◌≡◌, [], true, false, length, map, IfOk, OnOk, IfErr};
 ghost use Rattle.md_base.specs.Reference.{name_table};
@@ -23,13 +23,13 @@ use md_base::Event;
 use md_pattern::Facts;
 use std::alloc::Global;
 
-/// Checks that events are the flattening of a document of the grammar over the document's bytes
-/// and the names of character references, each with its text.
+/// Checks that events are the flattening of a document of the grammar over the document's bytes and
+/// the names of character references, each with its text.
 ///
 /// # Errors
 ///
-/// `CompileError::Memory` where memory runs out, and `CompileError::Event` only where the events
-/// are the flattening of no such document, with an event and the rule that it breaks.
+/// `CompileError::Memory` if memory runs out, and `CompileError::Event` only if the events aren't
+/// the flattening of such a document, with an event and the rule that it breaks.
 ///
 /// # Examples
 ///
@@ -66,14 +66,14 @@ pub fn check<'a>(
     Ok(Checked::new(events, found.texts, names, found.facts))
 }
 
-/// What is found of a document of the grammar.
+/// The facts about a document of the grammar.
 #[derive(Drop)]
 struct Found<'a> {
     texts: Texts<'a>,
     facts: Facts,
 }
 
-/// What is found of the document, and at its events, which are of the grammar.
+/// Finds the facts about the document and its events, which match the grammar.
 fn find<'a>(
     alloc: Global,
     events: &[Event],
@@ -108,8 +108,8 @@ fn find<'a>(
         });
     }
     let Read { walk, mut found } = read;
-    // Identifiers may be long, and each is of a text that is read once: the list of other texts
-    // makes room for them.
+    // Identifiers may be long, and each is read once from a text. Dropping the list of other texts
+    // frees memory for them.
     let texts = texts.with_front_alone(alloc);
     resolve(alloc, &texts, &walk.mentions, &mut found.facts)?;
     Ok(Found {
@@ -118,14 +118,14 @@ fn find<'a>(
     })
 }
 
-/// What is known of events that have been read.
+/// The state after reading events.
 #[derive(Drop)]
 struct Read {
     walk: Walk,
     found: Facts,
 }
 
-/// Reads all events, each by the walk and by the pass that finds what is read or inferred.
+/// Reads all events, each by the walk and by the pass that finds or infers facts.
 fn read_events(input: Input) -> Result<Read, CompileError>
     ensures walked { IfOk result
         (λ read. Runs (Unbroken input.entry.bytes.now (name_table input.entry.names.now))
@@ -144,7 +144,7 @@ fn read_events(input: Input) -> Result<Read, CompileError>
 {
     let mut reader = Reader::new(input)?;
     let mut visits = 0;
-    // Each turn visits an event, or an entry and its own exit.
+    // Each iteration visits an event, or an entry and its own exit.
     while let Some(event) = input.events.get(visits) {
         visits += reader.advance(input, visits, *event)?;
     }

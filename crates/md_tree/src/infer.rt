@@ -13,8 +13,8 @@ use crate::checked::Checked;
 use md_base::AlignKind;
 use std::alloc::{AllocError, Global};
 
-/// Whether the list that the event at the index enters is loose. Whether its items are loose counts
-/// where they are included.
+/// Whether the list that the event at the index enters is loose. `include_items` decides whether
+/// loose items count.
 ///
 /// # Examples
 ///
@@ -38,7 +38,7 @@ pub fn list_loose(checked: &Checked, index: usize, include_items: bool) -> bool
     }
 }
 
-/// Whether the item of a list that the event at the index enters is loose.
+/// Whether the list item that the event at the index enters is loose.
 ///
 /// # Examples
 ///
@@ -55,12 +55,12 @@ pub fn list_item_loose(checked: &Checked, index: usize) -> bool
     checked.fact(index).looseness.of_item
 }
 
-/// How the columns of the table that the event at the index enters are aligned: one for each value
-/// of its delimiter row.
+/// Returns the alignments of the columns of the table that the event at the index enters: one for
+/// each value of its delimiter row.
 ///
 /// # Errors
 ///
-/// `AllocError` where memory runs out.
+/// `AllocError` if memory runs out.
 ///
 /// # Examples
 ///

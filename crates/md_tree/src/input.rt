@@ -1,4 +1,4 @@
-//! What the rules read of: the events and bytes that are handed in, and a node's place among them.
+//! The input of the rules: the events and bytes, and a node's position among them.
 
 ghost use Rattle.std.specs.Prelude.{◌≡◌, option_copied};
 ghost use Rattle.md_base.specs.Place.{text_between, label_between};
@@ -10,11 +10,11 @@ use std::alloc::Global;
 /// A document's events and bytes, and the names of character references with their texts.
 #[derive(Clone, Copy)]
 pub struct Input<'t, 'a> {
-    /// Where what is kept of them gets its memory.
+    /// The allocator for the results.
     pub alloc: Global,
     /// The events.
     pub events: &'a [Event],
-    /// The document's bytes, of which the texts are found.
+    /// The document's bytes, with their valid texts.
     pub bytes: &'t Texts<'a>,
     /// The names of character references, each with its text.
     pub names: &'a [(&'a str, &'a str)],
@@ -35,7 +35,7 @@ pub fn point_at(events: &[Event], index: usize) -> Point
     }
 }
 
-/// Where a node lies that is entered and exited at two indices.
+/// The position of a node that is entered and exited at two indices.
 pub fn place_at(events: &[Event], entry: usize, exit: usize) -> Position
     ensures { result ≡ place_at events.now entry exit }
 {
@@ -45,7 +45,7 @@ pub fn place_at(events: &[Event], entry: usize, exit: usize) -> Position
     }
 }
 
-/// The text of a node, where its place fits the bytes and is one.
+/// The text of a node, if its position fits the bytes and they are UTF-8.
 #[inline(always)]
 pub fn text_at<'a>(bytes: &'a [u8], position: &Position) -> Option<&'a str>
     ensures { option_copied result ≡ text_between bytes.now position.now.start position.now.end }
@@ -53,7 +53,7 @@ pub fn text_at<'a>(bytes: &'a [u8], position: &Position) -> Option<&'a str>
     Slice::text_at(bytes, position)
 }
 
-/// The text between the indices of a node's points, where they fit the bytes and it is one.
+/// The text between the indices of a node's points, if they fit the bytes and it is UTF-8.
 pub fn label_at<'a>(bytes: &'a [u8], position: &Position) -> Option<&'a str>
     ensures { option_copied result ≡ label_between bytes.now position.now.start position.now.end }
 {

@@ -1,4 +1,4 @@
-//! The rules that are judged where a node ends.
+//! The rules that are checked when a node ends.
 
 ghost use Rattle.std.specs.Prelude.{◌≡◌, None, List};
 ghost use Rattle.std.specs.Prelude.{IfOk};
@@ -34,7 +34,7 @@ pub fn rule_unless(condition: bool, rule: Rule) -> Option<Rule>
     if condition { None } else { Some(rule) }
 }
 
-/// What a node mentions that has a label.
+/// The mention of a node that has a label.
 pub fn mention_of(reading: Reading, label: Position) -> Mention
     ensures { result ≡ mention_of reading (Label label) }
 {
@@ -47,10 +47,10 @@ pub fn mention_of(reading: Reading, label: Position) -> Mention
     }
 }
 
-/// Where a node stands, and what is read of it.
+/// The position of a node in the grammar, and what is read of it.
 #[derive(Clone, Copy)]
 pub struct Spot {
-    /// The spine around it.
+    /// The place on its parent's spine.
     pub around: Place,
     /// The symbol before it.
     pub before: Option<Symbol>,
@@ -62,12 +62,12 @@ pub struct Spot {
     pub exit: usize,
 }
 
-/// Reads a node without children: answers the rule that it breaks, if it breaks one, and goes on
-/// with the target of the spine around it.
+/// Reads a node without children, and updates the target of its parent's spine. Returns the rule
+/// that the node breaks, if any.
 ///
 /// # Errors
 ///
-/// `AllocError`, only where memory runs out.
+/// `AllocError`, only if memory runs out.
 #[inline(always)]
 pub fn read_node(
     input: Input,
@@ -84,7 +84,7 @@ pub fn read_node(
         → target_seen events target.new ≡ target_at outer.entry.now.reading
         (target_seen events target.old) Missing (place_at events entry exit) }
 {
-    // Most nodes are read in one of these ways; the others are read by a call.
+    // Most nodes are read by one of these arms; a call reads the others.
     match outer.reading {
         Reading::Free => Ok(None),
         Reading::Text => Ok(broken_text(text_of(input, entry, exit))),
@@ -93,12 +93,12 @@ pub fn read_node(
     }
 }
 
-/// The same by a call. What it is handed is put together here, so that it isn't written to memory
-/// for other nodes.
+/// The same by a call. It builds its arguments here, so that other nodes don't write them to
+/// memory.
 ///
 /// # Errors
 ///
-/// `AllocError`, only where memory runs out.
+/// `AllocError`, only if memory runs out.
 #[inline(always)]
 fn read_rest(
     input: Input,
@@ -129,7 +129,7 @@ fn read_rest(
 ///
 /// # Errors
 ///
-/// `AllocError`, only where memory runs out.
+/// `AllocError`, only if memory runs out.
 #[inline(always)]
 pub fn read_ended(
     input: Input,
@@ -148,7 +148,7 @@ pub fn read_ended(
         (target_seen events target.old) (target_seen events inner)
         (place_at events open_node.entry.now.entry exit) }
 {
-    // Nodes with children are mostly read in one of these ways.
+    // One of these arms reads most nodes that have children.
     match open_node.outer.reading {
         Reading::Holder => {
             *target = inner;
@@ -170,7 +170,7 @@ pub fn read_ended(
     }
 }
 
-/// Where a node stands that ends at an index, and what is read of it.
+/// The position in the grammar of a node that ends at an index, and what is read of it.
 #[inline(always)]
 fn spot_of(open_node: &Open, exit: usize) -> Spot
     ensures { result ≡ record {
@@ -194,7 +194,7 @@ fn spot_of(open_node: &Open, exit: usize) -> Spot
 ///
 /// # Errors
 ///
-/// `AllocError`, only where memory runs out.
+/// `AllocError`, only if memory runs out.
 #[inline(never)]
 fn read_other(
     input: Input,

@@ -1,4 +1,4 @@
-//! What holds of every document, as the contracts of functions that do nothing.
+//! Facts about every document, as contracts of functions that do nothing.
 
 ghost use Rattle.md_base.specs.Tree.{Forest, flatten};
 ghost use Rattle.md_base.specs.declared.event.Event.{Event};
@@ -11,18 +11,18 @@ ghost use Rattle.md_pattern.specs.Shape.{AreShaped};
 ghost use Rattle.md_tree.specs.Numbers.{which};
 ghost use Rattle.md_tree.specs.Laws.{HasOneAlignmentForEachValue, HasOneSpine, IsLooseWithItemsToo};
 
-/// A list of events is the flattening of one document at most.
+/// A list of events is the flattening of at most one document.
 pub fn events_flatten_one_document()
     ensures { (one other : Forest) → flatten one ≡ flatten other → one ≡ other }
 {}
 
-/// Where events leave something open, each of them is in order.
+/// If events leave a node open, they are all in order.
 pub fn open_events_are_in_order()
     ensures { (events : List Event) (count : ℕ) → LeaveOpen events
         → BeginNoTree (take count events) → ⊥ }
 {}
 
-/// Where nodes have the shape of the grammar, their spine is the same by names and by symbols.
+/// If nodes have the shape of the grammar, their spine is the same by names and by symbols.
 pub fn names_and_symbols_tell_one_spine()
     ensures { (forest : Forest) (around : Role) (before : Option Symbol)
         → AreShaped forest around before
@@ -39,8 +39,8 @@ pub fn one_alignment_for_each_cell_value()
     ensures { (children : Forest) → IsTable children → HasOneAlignmentForEachValue children }
 {}
 
-/// Identifiers of which one definition is the first that has them are one: so those of two
-/// references, or two calls, are equal exactly where `Checked` says the same of them.
+/// Identifiers with the same first definition are equal. So those of two references, or of two
+/// calls, are equal exactly if `Checked` returns the same for both.
 pub fn one_identifier_for_each_place()
     ensures { (identifiers : List (Option (List ℕ))) (one other : Option (List ℕ)) (place : ℕ)
         → which identifiers one ≡ Some place → which identifiers other ≡ Some place → one ≡ other }

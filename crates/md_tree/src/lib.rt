@@ -1,4 +1,4 @@
-//! The grammar of Markdown's events: which lists of events are the flattening of a tree.
+//! The grammar of Markdown's events: decides which lists of events are the flattening of a tree.
 #![tactic(auto)]
 
 mod checked;

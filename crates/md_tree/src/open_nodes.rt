@@ -1,10 +1,11 @@
-//! What is kept of the nodes that are open while events are read.
+//! The state of the open nodes while events are read.
 
 use md_base::Name;
 use md_pattern::{Place, Reading, Symbol};
 
-/// What identifies a link, an image, a footnote call or a definition, as far as events have been
-/// read: a label by the indices of its two events. Contracts speak of `Referral`, which has places.
+/// The identifier of a link, an image, a footnote call or a definition, as far as events have been
+/// read: a label is given by the indices of its two events. Contracts use `Referral`, which has
+/// positions.
 #[derive(Clone, Copy)]
 pub enum Aim {
     Missing,
@@ -13,10 +14,10 @@ pub enum Aim {
     Label(usize, usize),
 }
 
-/// What waits for the end of a node that has a spine of its own.
+/// The state that a node with its own spine saves until it ends.
 #[derive(Clone, Copy)]
 pub struct Outer {
-    /// How far the spine around the node has been read, the node included.
+    /// The place on its parent's spine, after the node.
     pub place: Place,
     /// The last symbol of that spine.
     pub last: Option<Symbol>,
@@ -26,17 +27,17 @@ pub struct Outer {
     pub reading: Reading,
 }
 
-/// A node that is open.
+/// An open node.
 #[derive(Clone, Copy)]
 pub struct Open {
     /// The index of the event that enters it.
     pub entry: usize,
     /// Its name.
     pub name: Name,
-    /// What waits for its end, if it has a spine of its own.
+    /// The state to restore when it ends, if it has its own spine.
     pub outer: Outer,
-    /// It has a spine of its own.
+    /// Whether it has its own spine.
     pub stands: bool,
-    /// The spine around it has a target, which is kept.
+    /// Whether its parent's spine has a target, which is saved.
     pub aimed: bool,
 }

@@ -1,4 +1,4 @@
-//! Reads events, each by the walk and by the pass that finds what is read or inferred.
+//! Reads events, each by the walk and by the pass that finds or infers facts.
 
 ghost use Rattle.std.specs.Prelude.{◌≡◌, ◌<◌, ◌≤◌, ◌+◌, true, suc, None, Some, slice_get, length};
 ghost use Rattle.std.specs.Prelude.{IfOk, OnOk, IfErr, IfSome};
@@ -17,23 +17,23 @@ use md_base::{Event, Kind, Name, is_same_name};
 use md_pattern::{Pass, exits_line_ending};
 use std::alloc::AllocError;
 
-/// What is known of the events that have been read.
+/// The state after the events so far.
 #[derive(Drop)]
 pub struct Reader {
-    /// How far the walk has read them.
+    /// The state of the walk.
     pub walk: Walk,
-    /// What the pass has found at them.
+    /// The facts that the pass has found.
     pub pass: Pass,
     /// The exit of the first line ending.
     pub first_ending: Option<usize>,
 }
 
 impl Reader {
-    /// Before any event.
+    /// The state before any event.
     ///
     /// # Errors
     ///
-    /// `AllocError`, only where memory runs out.
+    /// `AllocError`, only if memory runs out.
     pub fn new(input: Input) -> Result<Reader, AllocError>
         ensures { IfOk result
             (λ reader. HasRead input.entry.bytes.now (name_table input.entry.names.now)
@@ -46,13 +46,13 @@ impl Reader {
         })
     }
 
-    /// Reads the event at an index, and the next one with it where both enter and exit a node
-    /// without children; answers how many it read.
+    /// Reads the event at an index, and also the next one if they enter and exit a node without
+    /// children. Returns the number of events that it read.
     ///
     /// # Errors
     ///
-    /// `CompileError::Memory` where memory runs out, and `CompileError::Event` where an event that
-    /// is read is refused: with the index of that event, and the rule that it breaks.
+    /// `CompileError::Memory` if memory runs out, and `CompileError::Event` if an event is refused:
+    /// with the index of that event, and the rule that it breaks.
     #[inline(always)]
     pub fn advance(
         &mut self,
@@ -96,7 +96,7 @@ impl Reader {
             (IsRefusal (handed input.entry.events.now input.entry.bytes.now
             input.entry.names.now)) }
     {
-        // Many nodes have such a name: for them it is written, as for leaves.
+        // Many nodes have such a name, so it is written here as a constant, as for leaves.
         if let Name::Other(number) = event.name {
             return self.read_other(input, index, with_name(event, Name::Other(number)));
         }
@@ -106,7 +106,7 @@ impl Reader {
         Ok(())
     }
 
-    /// The same of an event with a name that has no meaning.
+    /// The same for an event whose name has no meaning.
     fn read_other(&mut self, input: Input, index: usize, event: Event) -> Result<(), CompileError>
         requires here { slice_get input.events.now index ≡ Some event }
         requires before { HasRead input.bytes.now (name_table input.names.now) input.events.now
@@ -124,7 +124,7 @@ impl Reader {
         Ok(())
     }
 
-    /// Reads the two events of a node without children, of which the first has this index.
+    /// Reads the two events of a node without children, the first of which has this index.
     #[inline(always)]
     fn read_leaf(
         &mut self,
@@ -145,8 +145,8 @@ impl Reader {
             (IsRefusal (handed input.entry.events.now input.entry.bytes.now
             input.entry.names.now)) }
     {
-        // Most leaves have one of these names: where it is written, what goes by it is computed
-        // when this is built.
+        // Most leaves have one of these names. A name that is written here lets the compiler
+        // compute at build time what depends on the name.
         match event.name {
             Name::Data => self.read_named(input, index, with_name(event, Name::Data), exit),
             Name::LineEnding => {
@@ -165,7 +165,7 @@ impl Reader {
         }
     }
 
-    /// The same, where the name may be written at the call.
+    /// The same, for a name that may be a constant at the call.
     #[inline(always)]
     fn read_named(
         &mut self,
@@ -193,7 +193,7 @@ impl Reader {
     }
 }
 
-/// An event, with its name as it is written at the call.
+/// An event with this name, which may be a constant at the call.
 #[inline(always)]
 fn with_name(event: Event, name: Name) -> Event
     ensures { name ≡ event.name → result ≡ event }
@@ -205,7 +205,7 @@ fn with_name(event: Event, name: Name) -> Event
     }
 }
 
-/// Notes the first line ending, if it is the event at an index.
+/// Records the first line ending, if it is the event at an index.
 #[inline(always)]
 fn note_ending(first: &mut Option<usize>, index: usize, event: &Event)
     ensures { first.new ≡ ending_after first.old index event.now }
@@ -215,7 +215,7 @@ fn note_ending(first: &mut Option<usize>, index: usize, event: &Event)
     }
 }
 
-/// The event after the one at an index, where both enter and exit a node without children.
+/// The event after the one at an index, if the two enter and exit a node without children.
 fn own_exit<'a>(events: &'a [Event], index: usize, event: &Event) -> Option<&'a Event>
     requires { index < length events.now }
     ensures after { IfSome result (λ exit. slice_get events.entry.now (suc index) ≡ Some exit.now) }
@@ -224,7 +224,7 @@ fn own_exit<'a>(events: &'a [Event], index: usize, event: &Event) -> Option<&'a 
     if matches!(event.kind, Kind::Exit) {
         return None;
     }
-    // After those before this one, so that where it lies is computed once.
+    // Slicing first computes the address only once.
     let exit = events.get(index..)?.get(1)?;
     if is_exit_of(exit, event) {
         Some(exit)
@@ -233,7 +233,7 @@ fn own_exit<'a>(events: &'a [Event], index: usize, event: &Event) -> Option<&'a 
     }
 }
 
-/// Whether an event exits a node of the name that another event has.
+/// Whether an event exits a node with the name of another event.
 fn is_exit_of(exit: &Event, event: &Event) -> bool
     ensures { result ≡ true → (exit.now.kind ≡ kind.Exit) × (event.now.name ≡ exit.now.name) }
 {

@@ -1,4 +1,4 @@
-//! Whether the definitions are there to which links, images and footnote calls lead.
+//! Resolves the labels of links, images and footnote calls to definitions.
 
 ghost use Rattle.std.specs.Prelude.{◌≡◌, suc, length, List, Option, ℕ, option_map, is_some};
 ghost use Rattle.std.specs.Prelude.{string_bytes, IfOk, OnOk, IfErr};
@@ -17,14 +17,15 @@ use md_pattern::{Fact, FactList};
 use std::alloc::{AllocError, Global};
 use std::collections::{BTreeMap, BTreeSet};
 
-/// The number of each identifier: which of the definitions is the first that has it, counted from
-/// 1. They are in their order, so that one is found in few steps, whoever chose them.
+/// The number of each identifier, counted from 1: which of the definitions is the first that has
+/// it. The map is ordered, so that a look-up takes few steps, whatever identifiers an attacker
+/// chooses.
 type Numbers = BTreeMap<Option<String>, usize>;
 
-/// The identifiers of the footnote definitions, found as the numbers are.
+/// The identifiers of the footnote definitions, ordered for the same reason.
 type Identifiers = BTreeSet<Option<String>>;
 
-/// The identifier at a label's place, where it is a text.
+/// The identifier at a label's position, if it is UTF-8.
 fn identifier(alloc: Global, bytes: &Texts, label: Position) -> Result<Option<String>, AllocError>
     ensures { IfOk result (λ text. option_map string_bytes text ≡ identifier_at bytes.now label) }
 {
@@ -34,7 +35,7 @@ fn identifier(alloc: Global, bytes: &Texts, label: Position) -> Result<Option<St
     }
 }
 
-/// Keeps a number in the fact at an index, if there is one.
+/// Writes a number to the fact at an index, if there is one.
 fn keep_number(facts: &mut FactList, index: usize, number: usize) -> Result<(), AllocError>
     ensures { OnOk result (facts.new ≡ spec.put_number index number facts.old) }
 {
@@ -52,7 +53,7 @@ fn keep_number(facts: &mut FactList, index: usize, number: usize) -> Result<(), 
     Ok(())
 }
 
-/// How many definitions are mentioned.
+/// How many mentions are definitions.
 fn definition_count(mentions: &[Mentioned]) -> usize
     ensures { (bytes : List ℕ) → result ≡ length (defined bytes (mentions_among mentions.now)) }
 {
@@ -73,7 +74,8 @@ fn definitions(alloc: Global, bytes: &Texts, mentions: &[Mentioned]) -> Result<N
     let mut numbers = BTreeMap::new(alloc);
     let mut number = definition_count(mentions);
     let mut rest = mentions;
-    // From the last on, so that of those with one identifier the first one's number stays.
+    // Goes from the last to the first, so that of several definitions with one identifier the first
+    // one's number remains.
     while let Some((mentioned, before)) = rest.split_last() {
         if let Mention::Definition(label) = mentioned.mention {
             let identifier = identifier(alloc, bytes, label)?;
@@ -104,7 +106,7 @@ fn footnotes(
     Ok(identifiers)
 }
 
-/// The number of the identifier at a label's place, if it has one.
+/// The number of the identifier at a label's position, if it has one.
 fn number_of_label(
     alloc: Global,
     bytes: &Texts,
@@ -118,7 +120,7 @@ fn number_of_label(
     Ok(numbers.get(&wanted).copied())
 }
 
-/// Whether a footnote definition has the identifier at a label's place.
+/// Whether a footnote definition has the identifier at a label's position.
 fn is_footnote(
     alloc: Global,
     bytes: &Texts,
@@ -133,8 +135,8 @@ fn is_footnote(
     Ok(footnotes.contains(&wanted))
 }
 
-/// The number of the definition to which a mention leads, 0 where it leads to none, or the rule
-/// that it breaks.
+/// The number of the definition that a mention refers to, 0 if it refers to none, or the rule that
+/// it breaks.
 fn lead(
     alloc: Global,
     bytes: &Texts,
@@ -160,15 +162,15 @@ fn lead(
     }
 }
 
-/// Numbers definitions, each by the first one with its identifier, counted from 1. The number of
-/// the one to which a link or an image leads is kept in the fact of its exit. Refuses what leads to
-/// a definition or a footnote definition that isn't there.
+/// Resolves references. Definitions are numbered from 1, each by the first one with its identifier.
+/// The fact at the exit of a link or an image stores the number of its definition. Refuses a
+/// reference to a missing definition or footnote definition.
 ///
 /// # Errors
 ///
-/// `CompileError::Memory` where memory runs out, and `CompileError::Event` with the index at which
-/// what leads nowhere exits: with `Rule::Definition` for a link or an image, and with
-/// `Rule::Footnote` for a footnote call.
+/// `CompileError::Memory` if memory runs out, and `CompileError::Event` with the index at which an
+/// unresolved node exits: with `Rule::Definition` for a link or an image, and with `Rule::Footnote`
+/// for a footnote call.
 pub fn resolve(
     alloc: Global,
     bytes: &Texts,

@@ -1,17 +1,17 @@
-//! The rules of the grammar, and why a check refuses.
+//! The rules of the grammar, and the errors of the check.
 
 use std::alloc::{AllocError, AllocFailed};
 use std::fmt;
 use thiserror::Error;
 
-/// Why a list of events is refused.
+/// Why the check refuses a list of events.
 #[derive(Clone, Copy, Debug, PartialEq, Eq)]
 pub enum Rule {
     /// No tree's events begin so, or a node or a group is open at the end.
     Order,
     /// A name of MDX.
     Mdx,
-    /// A place that is read doesn't fit the bytes, or isn't UTF-8.
+    /// A position that is read doesn't fit the bytes, or isn't UTF-8.
     Place,
     /// A line ending isn't LF, CR or CR LF.
     LineEnding,
@@ -25,7 +25,7 @@ pub enum Rule {
     Definition,
     /// A footnote call has an identifier that no footnote definition has.
     Footnote,
-    /// A link or an image leads nowhere.
+    /// A link or an image has no target.
     Target,
 }
 
@@ -51,13 +51,12 @@ impl fmt::Display for Rule {
     }
 }
 
-/// Why `check` refuses.
+/// The error of `check`.
 #[derive(Debug, PartialEq, Eq, Drop, Error)]
 pub enum CompileError {
-    /// It is out of memory.
+    /// Memory ran out.
     Memory,
-    /// An event breaks a rule; the index is the number of events where something is open at the
-    /// end.
+    /// An event breaks a rule. The index is the number of events if something is open at the end.
     Event { index: usize, rule: Rule },
 }
 

@@ -1,4 +1,4 @@
-//! A document's bytes, of which the parts that are texts are found once.
+//! A document's bytes, with the valid texts in them found in advance.
 
 ghost use Rattle.std.specs.Prelude.{◌≡◌, ◌≤◌, ◌<◌, ℕ, List, Some, length, nat_le, ◌&&◌};
 ghost use Rattle.std.specs.Prelude.{option_copied, slice_range, IfOk, IfSome};
@@ -14,19 +14,19 @@ use md_base::Position;
 use std::alloc::{AllocError, Global};
 use std::marker::Model;
 
-/// How many bytes of a text behind a byte that is in no character are read without parts.
+/// How many bytes of a text after an invalid byte are read without parts.
 const NEAR: usize = 32768;
 
-/// How many bytes the first part has.
+/// The size of the first part in bytes.
 const FIRST_PART: usize = 1024;
 
-/// How many the greatest part has.
+/// The size of the largest part in bytes.
 const MOST_PART: usize = 4096;
 
-/// How many bytes of a part tell whether most of it is ASCII.
+/// How many bytes of a part decide whether it is treated as mostly ASCII.
 const SAMPLES: usize = 8;
 
-/// A part of the bytes that is a text.
+/// A valid text in the bytes.
 #[derive(Drop)]
 struct Run<'a> {
     /// The index of its first byte.
@@ -35,7 +35,7 @@ struct Run<'a> {
 }
 
 impl<'a> Run<'a> {
-    /// The text between two indices of the bytes, where it lies in this part.
+    /// The text between two indices of the bytes, if it lies in this run.
     fn text_between(&self, start: usize, end: usize) -> Option<&'a str>
         ensures { IfSome result
             (λ text. (bytes : List ℕ) → IsRun bytes self.now → text_when (nat_le start end
@@ -47,7 +47,7 @@ impl<'a> Run<'a> {
     }
 }
 
-/// The part of a text between two of its bytes, where it begins and ends with a character.
+/// The substring of a text between two byte offsets, if both are character boundaries.
 #[inline(always)]
 fn part(text: &str, from: usize, to: usize) -> Option<&str>
     ensures { IfSome result
@@ -61,13 +61,13 @@ fn part(text: &str, from: usize, to: usize) -> Option<&str>
     }
 }
 
-/// Bytes, and the parts of them that are texts, from one byte that is in no character to the next.
+/// Bytes, and the valid texts in them, each from one invalid byte to the next.
 #[derive(Drop)]
 pub struct Texts<'a> {
     bytes: &'a [u8],
-    /// The text that they begin with: mostly all of them.
+    /// The text at the beginning: usually all bytes.
     front: &'a str,
-    /// The texts behind it, in order, but for empty ones.
+    /// The texts after it, in order, without empty ones.
     runs: Vec<Run<'a>>,
 }
 
@@ -88,7 +88,7 @@ impl<'a> Texts<'a> {
     ///
     /// # Errors
     ///
-    /// `AllocError`, only where memory runs out.
+    /// `AllocError`, only if memory runs out.
     pub fn new(alloc: Global, bytes: &'a [u8]) -> Result<Texts<'a>, AllocError>
         ensures { IfOk result (λ texts. texts ≡ bytes.now) }
     {
@@ -100,8 +100,8 @@ impl<'a> Texts<'a> {
         })
     }
 
-    /// The same bytes with only the text that they begin with: mostly all of them. Other texts are
-    /// read each time that they are asked for, so that nothing is kept of them.
+    /// The same bytes with only the text at their beginning: usually all of them. Other texts are
+    /// validated again at each read, so that no memory is kept for them.
     pub fn with_front_alone(self, alloc: Global) -> Texts<'a>
         ensures { result ≡ self.entry }
     {
@@ -124,10 +124,9 @@ impl<'a> Texts<'a> {
         self.bytes
     }
 
-    /// The text of a node, where its place fits the bytes and is one.
+    /// Returns the text of a node, if its position fits the bytes and they are UTF-8.
     ///
-    /// A text that was found is not read again, however long it is, unless it begins
-    /// or ends in a tab.
+    /// A known text isn't validated again, whatever its length, unless it begins or ends in a tab.
     #[inline(always)]
     pub fn text_at(&self, position: &Position) -> Option<&'a str>
         ensures { option_copied result ≡ text_between self.now position.now.start position.now.end }
@@ -137,39 +136,40 @@ impl<'a> Texts<'a> {
                 return Some(text);
             }
         }
-        // What is no text, or begins or ends in a tab.
+        // Not UTF-8, or begins or ends in a tab.
         text_at(self.bytes, position)
     }
 
-    /// The text between the indices of a node's points, where they fit the bytes and it is one.
+    /// Returns the text between the indices of a node's points, if they fit the bytes and it is
+    /// UTF-8.
     ///
-    /// A text that was found is not read again, however long it is.
+    /// A known text isn't validated again, whatever its length.
     pub fn label_at(&self, position: &Position) -> Option<&'a str>
         ensures { option_copied result
             ≡ label_between self.now position.now.start position.now.end }
     {
         match self.text_between(position.start.index, position.end.index) {
             Some(text) => Some(text),
-            // What is no text, or an empty one among other bytes.
+            // Not UTF-8, or an empty text among other bytes.
             None => label_at(self.bytes, position),
         }
     }
 
-    /// The text between two indices, where it lies in a run.
+    /// The text between two indices, if it lies in a run.
     #[inline(always)]
     fn text_between(&self, start: usize, end: usize) -> Option<&'a str>
         ensures { IfSome result
             (λ text. text_when (nat_le start end && nat_le end (length self.now))
             (slice_range self.now start end) ≡ Some text.now) }
     {
-        // Few documents have a byte that is in no character.
+        // Few documents have an invalid byte.
         match part(self.front, start, end) {
             Some(text) => Some(text),
             None => self.run_before(start)?.text_between(start, end),
         }
     }
 
-    /// The last run that starts no later than an index.
+    /// The last run that starts at or before an index.
     fn run_before(&self, index: usize) -> Option<&Run<'a>>
         ensures { IfSome result (λ run. IsRun self.entry.now run.now) }
     {
@@ -180,7 +180,7 @@ impl<'a> Texts<'a> {
     }
 }
 
-/// The texts behind a byte that is in no character, in order, but for empty ones.
+/// The texts after an invalid byte, in order, without empty ones.
 fn runs_behind<'a>(alloc: Global, bytes: &'a [u8], fault: usize) -> Result<Vec<Run<'a>>, AllocError>
     requires { fault ≤ length bytes.now }
     ensures { IfOk result (λ runs. AreRuns bytes.now runs.items) }

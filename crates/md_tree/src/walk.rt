@@ -1,4 +1,4 @@
-//! The walk over the events, which enters and exits nodes and refuses an event that breaks a rule.
+//! The walk over the events. It enters and exits nodes, and refuses an event that breaks a rule.
 
 ghost use Rattle.std.specs.Prelude.{◌≡◌, ◌∷◌, ◌++◌, [], true, false, Err};
 ghost use Rattle.std.specs.Prelude.{OnOk, IfOk, reverse};
@@ -18,20 +18,20 @@ use md_base::{Event, Kind, Name};
 use md_pattern::{Place, Reading, Role, Standing, Symbol, standing_of};
 use std::alloc::{AllocError, Global};
 
-/// How far events have been read.
+/// The state of the walk.
 #[derive(Drop)]
 pub struct Walk {
-    /// How far the spine has been read on which the next event stands.
+    /// The place on the spine that the next event belongs to.
     pub place: Place,
     /// Its last symbol.
     pub before: Option<Symbol>,
     /// Its target so far.
     pub target: Aim,
-    /// The nodes that are open, the innermost last.
+    /// The open nodes, the innermost last.
     pub open_nodes: Vec<Open>,
-    /// The targets of the spines around them that have one, that of the innermost last.
+    /// The targets of their parents' spines that have one, that of the innermost last.
     pub targets: Vec<Aim>,
-    /// What the nodes mention that have ended.
+    /// The mentions of the nodes that have ended.
     pub mentions: Vec<Mentioned>,
 }
 
@@ -50,7 +50,7 @@ impl Walk {
     ghost use Rattle.md_tree.specs.Walk.{course_of, entered_at, Passes};
     ghost use Rattle.md_tree.specs.Walk.{Unbroken, IsStop, IsStopAtLeaf};
 
-    /// Before any event.
+    /// The state before any event.
     pub fn new(alloc: Global) -> Walk
         ensures { (events : List Event) → course_of events 0 result ≡ beginning }
     {
@@ -64,14 +64,14 @@ impl Walk {
         }
     }
 
-    /// Reads an event, the one at this index.
+    /// Reads the event at this index.
     ///
     /// # Errors
     ///
-    /// `CompileError::Memory` where memory runs out, and `CompileError::Event` with this index and
-    /// a rule: `Rule::Mdx` where the event enters a node of MDX, `Rule::Order` where no other node
-    /// may be entered there or none of this name may end, and any other rule where the node that
-    /// ends breaks it.
+    /// `CompileError::Memory` if memory runs out, and `CompileError::Event` with this index and a
+    /// rule: `Rule::Mdx` if the event enters a node of MDX, `Rule::Order` if no other node may be
+    /// entered there or none of this name may end, and any other rule if the node that ends breaks
+    /// it.
     #[inline(always)]
     pub fn step(&mut self, input: Input, index: usize, event: &Event) -> Result<(), CompileError>
         requires { event.now.point ≡ point_at input.events.now index }
@@ -148,7 +148,7 @@ impl Walk {
         }
     }
 
-    /// Goes on with the children of a node that is entered at an index.
+    /// Begins the children of a node that is entered at an index.
     #[inline(always)]
     fn open(
         &mut self,
@@ -177,11 +177,11 @@ impl Walk {
         Ok(())
     }
 
-    /// Enters a node at this index, and leaves it at the next one.
+    /// Enters a node at this index, and exits it at the next one.
     ///
     /// # Errors
     ///
-    /// Those of `step`: with this index where the entry is refused, and with the next one where the
+    /// The errors of `step`: with this index if the entry is refused, and with the next one if the
     /// exit is.
     #[inline(always)]
     pub fn leaf(&mut self, input: Input, index: usize, name: Name) -> Result<(), CompileError>
@@ -228,7 +228,7 @@ impl Walk {
     }
 }
 
-/// Adds an open node. Mostly there is room, and no call is made.
+/// Adds an open node. Usually there is capacity, and no call is made.
 #[inline(always)]
 fn push_open(open_nodes: &mut Vec<Open>, node: Open) -> Result<(), AllocError>
     ensures { OnOk result (open_nodes.new.items ≡ open_nodes.old.items ++ node ∷ []) }
@@ -240,7 +240,7 @@ fn push_open(open_nodes: &mut Vec<Open>, node: Open) -> Result<(), AllocError>
     Ok(())
 }
 
-/// Whether nothing is read of a node, and neither it nor the spine around it has a target.
+/// Whether nothing is read of a node, and neither it nor its parent's spine has a target.
 #[inline(always)]
 fn is_plain(open_node: &Open, target: Aim) -> bool
     ensures { result ≡ true → (open_node.now.outer.reading ≡ Free) × (open_node.now.aimed ≡ false)
@@ -251,8 +251,8 @@ fn is_plain(open_node: &Open, target: Aim) -> bool
         && matches!(target, Aim::Missing)
 }
 
-/// Puts aside the target of the spine around a node that is entered, if it has one;
-/// answers whether it has.
+/// Saves the target of the parent's spine when a node is entered, if there is one; returns whether
+/// there is.
 #[inline(always)]
 fn put_aside(target: &mut Aim, targets: &mut Vec<Aim>) -> Result<bool, AllocError>
     ensures begins { OnOk result (target.new ≡ Missing) }
@@ -277,7 +277,7 @@ fn refuse(index: usize, rule: Rule) -> Result<(), CompileError>
     Err(CompileError::Event { index, rule })
 }
 
-/// The rule that a node breaks that stands where no node may.
+/// The rule that a node breaks at a place where no node may be.
 fn misplaced(name: Name) -> Rule
     ensures { result ≡ misplaced name }
 {

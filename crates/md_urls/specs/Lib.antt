@@ -1,2 +1,2 @@
--- What the contracts cite.
+-- The definitions that the contracts cite.
 pub mod Urls

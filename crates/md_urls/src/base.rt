@@ -1,4 +1,4 @@
-//! A base, and URLs that are read against it.
+//! A base, and URLs resolved against it.
 
 ghost use Rattle.std.specs.Prelude.{◌≡◌, IfOk, IsTrue, false};
 ghost use Rattle.md_urls.specs.Urls.{IsOfScheme};
@@ -7,8 +7,7 @@ use crate::parts::Parts;
 use crate::path::{merged, without_dots};
 use std::alloc::{AllocError, Global};
 
-/// The URL against which others are read. It may be relative itself: what is read against it is
-/// relative then.
+/// The URL against which others are resolved. If it is relative, the results are relative.
 #[derive(Clone, Copy, Debug, PartialEq, Eq)]
 pub struct Base<'a> {
     /// Its parts.
@@ -16,20 +15,20 @@ pub struct Base<'a> {
 }
 
 impl<'a> Base<'a> {
-    /// A URL as a base.
+    /// Parses a URL as a base.
     pub fn new(url: &'a str) -> Base<'a> {
         Base {
             parts: Parts::new(url.as_bytes()),
         }
     }
 
-    /// Adds a URL, read against this base, to a text; whether it is another one. A URL with a
-    /// scheme stays as it is, and so does an empty one and one that is a fragment alone: nothing is
-    /// added then.
+    /// Appends a URL, resolved against this base, to a text; returns whether it changed. A URL with
+    /// a scheme, an empty one, and one that is only a fragment stay as they are: then nothing is
+    /// appended.
     ///
     /// # Errors
     ///
-    /// Only where memory runs out.
+    /// Returns an error only if memory runs out.
     ///
     /// # Examples
     ///

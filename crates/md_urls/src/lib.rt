@@ -1,4 +1,4 @@
-//! URLs that are read against a base, as RFC 3986 has it (5.2).
+//! Resolves URLs against a base, as in RFC 3986, 5.2.
 #![tactic(auto)]
 
 mod base;

@@ -5,22 +5,22 @@ ghost use Rattle.md_urls.specs.Urls.{IsBehind, before, behind, is_guard};
 
 use std::alloc::AllocError;
 
-/// The parts of a URL (RFC 3986, 3). What isn't there is `None`, and the path is always there.
+/// The parts of a URL (RFC 3986, 3). A missing part is `None`; the path is never missing.
 #[derive(Clone, Copy, Debug, PartialEq, Eq)]
 pub struct Parts<'a> {
-    /// What stands before the first colon, if it is a scheme.
+    /// The text before the first colon, if it is a scheme.
     pub scheme: Option<&'a [u8]>,
-    /// What stands behind `//`.
+    /// The text after `//`.
     pub authority: Option<&'a [u8]>,
     pub path: &'a [u8],
-    /// What stands behind the first `?`.
+    /// The text after the first `?`.
     pub query: Option<&'a [u8]>,
-    /// What stands behind the first `#`.
+    /// The text after the first `#`.
     pub fragment: Option<&'a [u8]>,
 }
 
 impl<'a> Parts<'a> {
-    /// The parts of a URL.
+    /// Splits a URL into its parts.
     pub fn new(url: &'a [u8]) -> Parts<'a> {
         let (rest, fragment) = cut(url, b'#');
         let (rest, query) = cut(rest, b'?');
@@ -35,11 +35,11 @@ impl<'a> Parts<'a> {
         }
     }
 
-    /// Adds the URL of these parts (5.3).
+    /// Appends the URL of these parts (5.3).
     ///
     /// # Errors
     ///
-    /// Only where memory runs out.
+    /// Returns an error only if memory runs out.
     pub fn push_onto(&self, url: &mut Vec<u8>) -> Result<(), AllocError>
         ensures { OnOk result (IsBehind self.now url.old.items url.new.items) }
     {
@@ -51,8 +51,8 @@ impl<'a> Parts<'a> {
         push_behind(url, b"#", self.fragment)
     }
 
-    /// What stands before the path so that it is read as one: as it stands its beginning would be
-    /// an authority (3.3), or a scheme (4.2).
+    /// The text to write before the path so that it is read as a path: without it, its beginning
+    /// would be an authority (3.3), or a scheme (4.2).
     fn before_path(&self) -> &'static [u8]
         ensures { IsTrue (is_guard result.now) }
     {
@@ -70,7 +70,7 @@ impl<'a> Parts<'a> {
     }
 }
 
-/// Adds a part, if it is there, and a mark behind it.
+/// Appends a part, if it exists, and a mark after it.
 fn push_before(url: &mut Vec<u8>, part: Option<&[u8]>, mark: &[u8]) -> Result<(), AllocError>
     ensures { OnOk result (url.new.items ≡ url.old.items ++ before part.entry mark.now) }
 {
@@ -83,7 +83,7 @@ fn push_before(url: &mut Vec<u8>, part: Option<&[u8]>, mark: &[u8]) -> Result<()
     }
 }
 
-/// Adds a part, if it is there, and before it a mark.
+/// Appends a part, if it exists, with a mark before it.
 fn push_behind(url: &mut Vec<u8>, mark: &[u8], part: Option<&[u8]>) -> Result<(), AllocError>
     ensures { OnOk result (url.new.items ≡ url.old.items ++ behind mark.now part.entry) }
 {
@@ -96,7 +96,7 @@ fn push_behind(url: &mut Vec<u8>, mark: &[u8], part: Option<&[u8]>) -> Result<()
     }
 }
 
-/// What stands before the first such mark, and what after it.
+/// The text before the first such mark, and the text after it.
 fn cut(text: &[u8], mark: u8) -> (&[u8], Option<&[u8]>) {
     match text.iter().position(|byte| *byte == mark) {
         Some(at) => (&text[..at], Some(&text[at + 1..])),
@@ -104,7 +104,7 @@ fn cut(text: &[u8], mark: u8) -> (&[u8], Option<&[u8]>) {
     }
 }
 
-/// The scheme with which a text begins, and what stands behind its colon.
+/// The scheme at the beginning of a text, and the text after its colon.
 fn cut_scheme(text: &[u8]) -> (Option<&[u8]>, &[u8]) {
     match cut(text, b':') {
         (scheme, Some(rest)) if is_scheme(scheme) => (Some(scheme), rest),
@@ -112,7 +112,7 @@ fn cut_scheme(text: &[u8]) -> (Option<&[u8]>, &[u8]) {
     }
 }
 
-/// The authority with which a text begins, and what stands behind it.
+/// The authority at the beginning of a text, and the text after it.
 fn cut_authority(text: &[u8]) -> (Option<&[u8]>, &[u8]) {
     if !text.starts_with(b"//") {
         return (None, text);
@@ -126,7 +126,7 @@ fn cut_authority(text: &[u8]) -> (Option<&[u8]>, &[u8]) {
     (Some(authority), path)
 }
 
-/// Whether a text is a scheme: a letter, and letters, digits, `+`, `-` and `.` behind it.
+/// Whether a text is a scheme: a letter, followed by letters, digits, `+`, `-` and `.`.
 fn is_scheme(text: &[u8]) -> bool {
     match text.first() {
         Some(first) => first.is_ascii_alphabetic() && text.iter().all(|byte| is_in_scheme(*byte)),
@@ -134,7 +134,7 @@ fn is_scheme(text: &[u8]) -> bool {
     }
 }
 
-/// Whether a byte may stand in a scheme.
+/// Whether a byte may occur in a scheme.
 fn is_in_scheme(byte: u8) -> bool {
     byte.is_ascii_alphanumeric() || matches!(byte, b'+' | b'-' | b'.')
 }

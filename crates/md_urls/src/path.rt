@@ -1,9 +1,10 @@
-//! Paths: one in place of another's last part, and without dots.
+//! Merges paths and removes dots.
 
 use crate::parts::Parts;
 use std::alloc::{AllocError, Global};
 
-/// A path in place of the last part of a base's (RFC 3986, 5.2.3), without its parts `.` and `..`.
+/// A path in place of the last part of the base's path (RFC 3986, 5.2.3), without its parts `.` and
+/// `..`.
 pub(crate) fn merged(alloc: Global, base: &Parts, path: &[u8]) -> Result<Vec<u8>, AllocError> {
     if path.starts_with(b"/") {
         return without_dots(alloc, path);
@@ -18,8 +19,8 @@ pub(crate) fn merged(alloc: Global, base: &Parts, path: &[u8]) -> Result<Vec<u8>
     without_dots(alloc, whole.as_slice())
 }
 
-/// A path without its parts `.` and `..` (5.2.4). One that isn't absolute stays so, and only an
-/// empty one becomes empty.
+/// A path without its parts `.` and `..` (5.2.4). A path that isn't absolute stays relative, and
+/// only an empty one becomes empty.
 pub(crate) fn without_dots(alloc: Global, path: &[u8]) -> Result<Vec<u8>, AllocError> {
     if path.is_empty() {
         return Ok(Vec::new(alloc));
@@ -57,7 +58,7 @@ fn ends_in_dots(path: &[u8]) -> bool {
     matches!(&path[start..], b"." | b"..")
 }
 
-/// Adds the parts of a path, with a slash between two.
+/// Appends the parts of a path, separated by slashes.
 fn push_parts(path: &mut Vec<u8>, parts: &[&[u8]]) -> Result<(), AllocError> {
     for (index, part) in parts.iter().enumerate() {
         if index > 0 {

@@ -1,4 +1,4 @@
-//! The events of a document, as they are written one after another.
+//! Writes the events of a document, in order.
 #![tactic(auto)]
 
 mod writer;

@@ -1,4 +1,4 @@
-//! Events one after another.
+//! Events in order.
 
 ghost use Rattle.std.specs.Prelude.{◌≡◌, ◌≤◌, ◌<◌, ◌++◌, ◌∷◌, [], OnOk};
 ghost use Rattle.md_base.specs.declared.event.Name.TheVariants.{Data};
@@ -10,37 +10,37 @@ use md_lines::Span;
 use md_references::UsedNames;
 use std::alloc::{AllocError, Global};
 
-/// What became of a URL.
+/// The resolution of a URL.
 #[derive(Clone, Copy, Debug, PartialEq, Eq)]
 pub enum Url {
-    /// It wasn't read yet.
+    /// It hasn't been resolved yet.
     Unread,
     /// It stays as it is.
     Own,
-    /// It stands behind the document.
+    /// Its resolved text was appended to the document.
     Added(Span),
 }
 
-/// The events of a document, as they are written one after another, and what goes with them. Places
-/// are byte indices into the document and what was added behind it; of a point only its index and
-/// its columns of a tab are set.
+/// Writes the events of a document, in order, and stores what belongs to them. Indices are byte
+/// indices into the document followed by the appended bytes. Only the index and the columns of a
+/// tab are set in each point.
 #[derive(Drop)]
 pub struct Writer {
     /// The events so far.
     pub events: Vec<Event>,
-    /// The bytes that were added behind the document's.
+    /// The bytes that were appended to the document.
     pub added: Vec<u8>,
-    /// How many bytes the document has.
+    /// The length of the document in bytes.
     length: usize,
     names: UsedNames,
-    /// Of each definition whether something refers to it by its label.
+    /// For each definition whether something refers to it by its label.
     are_referred: Vec<bool>,
-    /// Of each definition what became of its URL.
+    /// For each definition the resolution of its URL.
     urls: Vec<Url>,
 }
 
 impl Writer {
-    /// No event yet, of a document of so many bytes.
+    /// A writer without events, for a document of `length` bytes.
     pub fn new(alloc: Global, length: usize) -> Writer
         ensures events { result.events.items ≡ [] }
         ensures added { result.added.items ≡ [] }
@@ -55,16 +55,16 @@ impl Writer {
         }
     }
 
-    /// Where the next byte stands that is added behind the document.
+    /// The index of the next byte that is appended to the document.
     pub fn end(&self) -> usize {
         self.length.saturating_add(self.added.len())
     }
 
-    /// Adds bytes behind the document: where they stand.
+    /// Appends bytes to the document; returns their range.
     ///
     /// # Errors
     ///
-    /// Only where memory runs out.
+    /// Returns an error only if memory runs out.
     pub fn add(&mut self, bytes: &[u8]) -> Result<Span, AllocError>
         ensures events { self.new.events.items ≡ self.old.events.items }
         ensures added { OnOk result (self.new.added.items ≡ self.old.added.items ++ bytes.now) }
@@ -74,16 +74,16 @@ impl Writer {
         Ok(Span::new(start, self.end()))
     }
 
-    /// What became of the URL of the definition with an index.
+    /// The resolution of the URL of the definition with an index.
     pub fn url_of(&self, index: usize) -> Url {
         self.urls.get(index).copied().unwrap_or(Url::Unread)
     }
 
-    /// Notes what became of the URL of the definition with an index.
+    /// Stores the resolution of the URL of the definition with an index.
     ///
     /// # Errors
     ///
-    /// Only where memory runs out.
+    /// Returns an error only if memory runs out.
     pub fn note_url(&mut self, index: usize, url: Url) -> Result<(), AllocError> {
         if self.urls.len() <= index {
             self.urls.resize(index.saturating_add(1), Url::Unread)?;
@@ -94,36 +94,36 @@ impl Writer {
         Ok(())
     }
 
-    /// Makes room for so many more events.
+    /// Reserves capacity for `count` more events.
     ///
     /// # Errors
     ///
-    /// Only where memory runs out.
+    /// Returns an error only if memory runs out.
     pub fn reserve(&mut self, count: usize) -> Result<(), AllocError>
         ensures { self.new.events.items ≡ self.old.events.items }
     {
         self.events.reserve(count)
     }
 
-    /// The names of the character references so far, each once, with what it stands for.
+    /// The names of the character references so far, each once, with its text.
     pub fn names(&self) -> &[(&'static str, &'static str)] {
         self.names.as_slice()
     }
 
-    /// Notes that a character reference has this name.
+    /// Records that a character reference has this name.
     ///
     /// # Errors
     ///
-    /// Only where memory runs out.
+    /// Returns an error only if memory runs out.
     pub fn use_name(&mut self, name: &[u8]) -> Result<(), AllocError> {
         self.names.add(name)
     }
 
-    /// Notes that something refers to the definition with an index by its label.
+    /// Records that something refers to the definition with an index by its label.
     ///
     /// # Errors
     ///
-    /// Only where memory runs out.
+    /// Returns an error only if memory runs out.
     pub fn refer_to(&mut self, index: usize) -> Result<(), AllocError> {
         if self.are_referred.len() <= index {
             self.are_referred.resize(index.saturating_add(1), false)?;
@@ -143,7 +143,7 @@ impl Writer {
     ///
     /// # Errors
     ///
-    /// Only where memory runs out.
+    /// Returns an error only if memory runs out.
     #[inline(always)]
     pub fn enter(&mut self, name: Name, at: usize) -> Result<(), AllocError>
         ensures { OnOk result (self.new.events.items
@@ -156,7 +156,7 @@ impl Writer {
     ///
     /// # Errors
     ///
-    /// Only where memory runs out.
+    /// Returns an error only if memory runs out.
     #[inline(always)]
     pub fn exit(&mut self, name: Name, at: usize) -> Result<(), AllocError>
         ensures { OnOk result (self.new.events.items
@@ -169,7 +169,7 @@ impl Writer {
     ///
     /// # Errors
     ///
-    /// Only where memory runs out.
+    /// Returns an error only if memory runs out.
     #[inline(always)]
     pub fn leaf(&mut self, name: Name, start: usize, end: usize) -> Result<(), AllocError>
         ensures { OnOk result (self.new.events.items ≡ self.old.events.items
@@ -179,11 +179,11 @@ impl Writer {
         self.exit(name, end)
     }
 
-    /// Writes a text as it is, if it has any byte.
+    /// Writes a text unchanged, if it isn't empty.
     ///
     /// # Errors
     ///
-    /// Only where memory runs out.
+    /// Returns an error only if memory runs out.
     #[inline]
     pub fn data(&mut self, start: usize, end: usize) -> Result<(), AllocError>
         ensures some { start < end → OnOk result (self.new.events.items ≡ self.old.events.items
@@ -197,11 +197,11 @@ impl Writer {
         Ok(())
     }
 
-    /// Enters and exits a node that begins so many columns after the beginning of a tab.
+    /// Enters and exits a node that begins `columns` columns after the beginning of a tab.
     ///
     /// # Errors
     ///
-    /// Only where memory runs out.
+    /// Returns an error only if memory runs out.
     pub fn leaf_in_tab(
         &mut self,
         name: Name,

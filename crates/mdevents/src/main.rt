@@ -1,9 +1,8 @@
 //! Compiles an event script from standard input, and writes its HTML to standard output, with
 //! nothing added. Arguments are ignored.
 //!
-//! If there is no HTML, it writes one line to standard error, and ends with status 1 for an
-//! event that is refused, 2 for a line that can't be read, 3 for out of memory, and 4 where
-//! reading or writing failed.
+//! If there is no HTML, it writes one line to standard error, and exits with status 1 for an event
+//! that is refused, 2 for an invalid line, 3 if memory runs out, and 4 if reading or writing fails.
 #![tactic(auto)]
 
 use md_script::serve;

@@ -1,4 +1,4 @@
-//! Documents, alone or one after another.
+//! Documents, alone or in sequence.
 
 use md_markdown::{MarkdownOptions, SafeHtml, markdown};
 use std::alloc::Global;
@@ -9,7 +9,7 @@ use std::str;
 ///
 /// # Errors
 ///
-/// Where it has none, or can't be written.
+/// Returns an error if the document has no text, or if it can't be written.
 pub(crate) fn write_document<W: Write>(
     alloc: Global,
     input: &[u8],
@@ -22,11 +22,11 @@ pub(crate) fn write_document<W: Write>(
     }
 }
 
-/// Writes the texts of documents one after another, each of which stands behind its length.
+/// Writes the texts of documents in sequence, each after its length.
 ///
 /// # Errors
 ///
-/// Where a length can't be read, or a text can't be written.
+/// Returns an error if a length can't be read, or if a text can't be written.
 pub(crate) fn write_frames<W: Write>(
     alloc: Global,
     input: &[u8],
@@ -51,7 +51,7 @@ pub(crate) fn write_frames<W: Write>(
     Ok(())
 }
 
-/// The first document, and those after it.
+/// The first document, and the bytes after it.
 fn split_frame(input: &[u8]) -> io::Result<Option<(&[u8], &[u8])>> {
     let Some(at) = input.iter().position(|byte| *byte == b'\n') else {
         return Ok(None);
@@ -70,7 +70,7 @@ fn split_frame(input: &[u8]) -> io::Result<Option<(&[u8], &[u8])>> {
     }
 }
 
-/// The text of a document, where that is UTF-8.
+/// The text of a document, if it is UTF-8.
 fn text_of(
     alloc: Global,
     document: &[u8],

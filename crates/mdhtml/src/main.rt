@@ -4,11 +4,11 @@
 //!
 //! Options: `--math`, `--front-matter`, `--no-footnotes`, `--no-tables`, `--no-bare-links`,
 //! `--hard-breaks`, `--number-ids`, `--html=text`, `--html=left-out`, `--html=without-comments`,
-//! `--base=URL`, `--footnote-prefix=TEXT`, and `--frames`: standard input is then documents one
-//! after another, each behind how many bytes it has and a line feed, and each text stands behind
-//! `0`, a space, its length and a line feed. A document that is no UTF-8 is told by `1 0`.
+//! `--base=URL`, `--footnote-prefix=TEXT`, and `--frames`: standard input is then a sequence of
+//! documents, each after its length in bytes and a line feed, and each text comes after `0`, a
+//! space, its length and a line feed. For a document that isn't UTF-8 the output is `1 0`.
 //!
-//! If there is no HTML, it writes one line to standard error, and ends with status 1.
+//! If there is no HTML, it writes one line to standard error, and exits with status 1.
 #![tactic(auto)]
 
 mod frames;
@@ -30,7 +30,7 @@ fn main(rt: HostRuntime) -> ExitCode {
     }
 }
 
-/// Reads the arguments and the input, and writes what they ask for.
+/// Reads the arguments and the input, and writes the output.
 fn run<R: Env + Input + Print + AllocGlobal>(rt: &R) -> io::Result<()> {
     let settings = read_settings(rt)?;
     let mut input = Vec::new(rt.alloc());

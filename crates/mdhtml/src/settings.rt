@@ -1,15 +1,15 @@
-//! What the arguments ask for.
+//! The settings of the arguments.
 
 use md_markdown::{DocumentHtml, MarkdownOptions};
 use std::env;
 use std::io::{self, Error, ErrorKind};
 use std::rt::Env;
 
-/// What the arguments ask for.
+/// The settings of the arguments.
 #[derive(Drop)]
 pub(crate) struct Settings {
     pub(crate) options: MarkdownOptions,
-    /// Whether the input is documents one after another.
+    /// Whether the input is a sequence of documents.
     pub(crate) has_frames: bool,
 }
 
@@ -17,7 +17,7 @@ pub(crate) struct Settings {
 ///
 /// # Errors
 ///
-/// Where one is no option, or memory runs out.
+/// Returns an error if an argument is no option, or memory runs out.
 pub(crate) fn read_settings<R: Env + AllocGlobal>(rt: &R) -> io::Result<Settings> {
     let mut settings = Settings {
         options: MarkdownOptions::default(),
@@ -29,7 +29,7 @@ pub(crate) fn read_settings<R: Env + AllocGlobal>(rt: &R) -> io::Result<Settings
     Ok(settings)
 }
 
-/// Does what an argument says.
+/// Applies an argument.
 fn set<R: AllocGlobal>(rt: &R, settings: &mut Settings, word: &str) -> io::Result<()> {
     match word {
         "--frames" => settings.has_frames = true,
@@ -48,7 +48,7 @@ fn set<R: AllocGlobal>(rt: &R, settings: &mut Settings, word: &str) -> io::Resul
     Ok(())
 }
 
-/// Does what an argument with a text says.
+/// Applies an argument with a text.
 fn set_text<R: AllocGlobal>(rt: &R, settings: &mut Settings, word: &str) -> io::Result<()> {
     if let Some(prefix) = word.strip_prefix("--footnote-prefix=") {
         settings.options.footnote_prefix = Some(String::from_str(rt.alloc(), prefix)?);

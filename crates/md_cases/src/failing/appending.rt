@@ -6,11 +6,11 @@ ghost use Rattle.md_cases.specs.Memory.{IsAppended, ExplainsAppend};
 use md_script::{ServeError, serve};
 use std::alloc::Global;
 
-/// Appends the text of a script to some texts.
+/// Appends the text of a script to other texts.
 ///
 /// # Errors
 ///
-/// Those of [`serve`]. Then nothing is appended, except where `texts` can't grow: then a prefix of
+/// The errors of [`serve`]. Then nothing is appended, unless `texts` can't grow: then a prefix of
 /// the text may be.
 pub(crate) fn append_text(
     alloc: Global,

@@ -7,18 +7,18 @@ use md_html::SafeHtml;
 use md_page::{Heading, page_around, with_heading_ids, with_link_rel};
 use std::alloc::{AllocError, Global};
 
-/// The document's text with a `rel`.
+/// The expected text with a `rel`.
 const WITH_REL: &str = "<h1><a href=\"b\" rel=\"&lt;\">a</a></h1>";
 
-/// Its text with an `id`.
+/// The expected text with an `id`.
 const WITH_ID: &str = "<h1 id=\"&lt;1\"><a href=\"b\">a</a></h1>";
 
-/// A page around it.
+/// The expected page.
 const IN_PAGE: &str =
     "<!doctype html>\n<html><head><meta charset=\"utf-8\" /><title>&lt;</title></head><body>\
     <h1><a href=\"b\">a</a></h1></body></html>\n";
 
-/// Makes each call over a heading with a link.
+/// Makes each call for a heading with a link.
 pub fn ask_each(alloc: Global, log: &mut Log) {
     let row = attributed();
     match &safe_of(alloc, log, row) {
@@ -27,7 +27,7 @@ pub fn ask_each(alloc: Global, log: &mut Log) {
     }
 }
 
-/// Makes each call over a safe text.
+/// Makes each call for a safe text.
 fn ask(alloc: Global, log: &mut Log, html: &SafeHtml, name: &'static str) {
     let is_right = adds_rel(alloc, log, html);
     log.tell(is_right, "with_link_rel", name);
@@ -37,7 +37,7 @@ fn ask(alloc: Global, log: &mut Log, html: &SafeHtml, name: &'static str) {
     log.tell(is_right, "page_around", name);
 }
 
-/// Whether `with_link_rel` answers what is wanted.
+/// Whether `with_link_rel` returns the expected result.
 fn adds_rel(alloc: Global, log: &mut Log, html: &SafeHtml) -> bool {
     match again!(log, Err(AllocError), with_link_rel(alloc, html, "<")) {
         Ok(made) => made.as_str() == WITH_REL,
@@ -45,7 +45,7 @@ fn adds_rel(alloc: Global, log: &mut Log, html: &SafeHtml) -> bool {
     }
 }
 
-/// Whether `with_heading_ids` answers what is wanted.
+/// Whether `with_heading_ids` returns the expected result.
 fn adds_ids(alloc: Global, log: &mut Log, html: &SafeHtml) -> bool {
     match again!(log, Err(AllocError), with_heading_ids(alloc, html, "<")) {
         Ok(made) => made.html.as_str() == WITH_ID && are_listed(made.headings.as_slice()),
@@ -61,7 +61,7 @@ fn are_listed(headings: &[Heading]) -> bool {
     }
 }
 
-/// Whether `page_around` answers what is wanted.
+/// Whether `page_around` returns the expected result.
 fn is_in_page(alloc: Global, log: &mut Log, html: &SafeHtml) -> bool {
     match again!(log, Err(AllocError), page_around(alloc, "<", html)) {
         Ok(page) => page.as_str() == IN_PAGE,

@@ -1,4 +1,4 @@
-//! The calls over documents.
+//! The calls that take documents.
 
 mod judging;
 mod scripts;
@@ -15,7 +15,7 @@ use md_html::{
 use scripts::{runs, runs_safely, tells_unreadable_line, tells_unsafe_options};
 use std::alloc::{AllocError, Global};
 
-/// Makes each call over each document.
+/// Makes each call for each document.
 pub fn ask_each(alloc: Global, log: &mut Log) {
     for rows in documents() {
         ask_rows(alloc, log, rows);
@@ -27,7 +27,7 @@ pub fn ask_each(alloc: Global, log: &mut Log) {
     log.tell(is_right, "run_safe", "a line that can't be read");
 }
 
-/// Makes each call over each of these documents.
+/// Makes each call for each of these documents.
 fn ask_rows(alloc: Global, log: &mut Log, rows: &[Row]) {
     for row in rows {
         ask_script(alloc, log, row);
@@ -36,7 +36,7 @@ fn ask_rows(alloc: Global, log: &mut Log, rows: &[Row]) {
     }
 }
 
-/// Makes the calls over a script.
+/// Makes the calls that take a script.
 fn ask_script(alloc: Global, log: &mut Log, row: &Row) {
     let is_right = runs(alloc, log, row);
     log.tell(is_right, "run", row.name);
@@ -44,7 +44,7 @@ fn ask_script(alloc: Global, log: &mut Log, row: &Row) {
     log.tell(is_right, "run_safe", row.name);
 }
 
-/// Makes the call that puts a safe text into a page.
+/// Makes the call that writes a page with a safe text.
 fn ask_page(alloc: Global, log: &mut Log, row: &Row) {
     match &safe_of(alloc, log, row) {
         Ok(html) => {
@@ -55,7 +55,7 @@ fn ask_page(alloc: Global, log: &mut Log, row: &Row) {
     }
 }
 
-/// Makes the calls over events.
+/// Makes the calls that take events.
 fn ask(alloc: Global, log: &mut Log, row: &Row, names: &[(&str, &str)]) {
     ask_compilers(alloc, log, row, names);
     ask_check(alloc, log, row, names);
@@ -69,7 +69,7 @@ fn ask_compilers(alloc: Global, log: &mut Log, row: &Row, names: &[(&str, &str)]
     log.tell(is_right, "compile_counted", row.name);
 }
 
-/// Makes the call that checks events, and those over what it answers.
+/// Makes the call that checks events, and those that take its result.
 fn ask_check(alloc: Global, log: &mut Log, row: &Row, names: &[(&str, &str)]) {
     match &checked_of(alloc, log, row, names) {
         Ok(checked) => ask_checked(alloc, log, row, checked),
@@ -77,7 +77,7 @@ fn ask_check(alloc: Global, log: &mut Log, row: &Row, names: &[(&str, &str)]) {
     }
 }
 
-/// Makes the calls over what was checked.
+/// Makes the calls that take a checked document.
 fn ask_checked(alloc: Global, log: &mut Log, row: &Row, checked: &Checked) {
     let is_right = compiles_checked(alloc, log, row, checked);
     log.tell(is_right, "compile_checked", row.name);
@@ -86,8 +86,8 @@ fn ask_checked(alloc: Global, log: &mut Log, row: &Row, checked: &Checked) {
     plain::ask_of_checked(log, row, checked);
 }
 
-/// Checks each document and compiles it as safe; then, where asked, makes the calls that read
-/// what these answered.
+/// Checks each document and compiles it with `compile_safe`; then, if requested, makes the calls
+/// that read the results.
 pub fn check_each(alloc: Global, log: &mut Log, asks_methods: bool) {
     for rows in documents() {
         check_rows(alloc, log, rows, asks_methods);
@@ -102,7 +102,7 @@ fn check_rows(alloc: Global, log: &mut Log, rows: &[Row], asks_methods: bool) {
     }
 }
 
-/// Checks a document; then, where asked, makes the calls that read what was checked.
+/// Checks a document; then, if requested, makes the calls that read the checked document.
 fn check_row(alloc: Global, log: &mut Log, row: &Row, asks_methods: bool) {
     match &checked_of(alloc, log, row, &[]) {
         Ok(checked) if asks_methods => plain::ask_of_checked(log, row, checked),
@@ -110,7 +110,7 @@ fn check_row(alloc: Global, log: &mut Log, row: &Row, asks_methods: bool) {
     }
 }
 
-/// Compiles a document as safe; then, where asked, makes the call that reads the text.
+/// Compiles a document with `compile_safe`; then, if requested, makes the call that reads the text.
 fn compile_row(alloc: Global, log: &mut Log, row: &Row, asks_methods: bool) {
     match &safe_of(alloc, log, row) {
         Ok(html) if asks_methods => {
@@ -120,7 +120,7 @@ fn compile_row(alloc: Global, log: &mut Log, row: &Row, asks_methods: bool) {
     }
 }
 
-/// The answer of `compile_safe`; where it is out of memory, that of the same call made again.
+/// The result of `compile_safe`; if it runs out of memory, that of a second call.
 pub fn safe_of(alloc: Global, log: &mut Log, row: &Row) -> Result<SafeHtml, SafeError> {
     again!(
         log,
@@ -129,13 +129,13 @@ pub fn safe_of(alloc: Global, log: &mut Log, row: &Row) -> Result<SafeHtml, Safe
     )
 }
 
-/// The answer of `compile_safe`.
+/// The result of `compile_safe`.
 fn compiled_as_safe(alloc: Global, row: &Row) -> Result<SafeHtml, SafeError> {
     let options = CompileOptions::default();
     compile_safe(alloc, row.events, row.document.as_bytes(), &options, &[])
 }
 
-/// The answer of `check`.
+/// The result of `check`.
 fn checked_of<'a>(
     alloc: Global,
     log: &mut Log,
@@ -149,7 +149,7 @@ fn checked_of<'a>(
     )
 }
 
-/// Whether `compile` answers what is wanted.
+/// Whether `compile` returns the expected result.
 fn compiles(alloc: Global, log: &mut Log, row: &Row, names: &[(&str, &str)]) -> bool {
     match again!(log, Err(CompileError::Memory), compiled(alloc, row, names)) {
         Ok(text) => is_text(text.as_str(), &row.wanted),
@@ -157,13 +157,13 @@ fn compiles(alloc: Global, log: &mut Log, row: &Row, names: &[(&str, &str)]) -> 
     }
 }
 
-/// The answer of `compile`.
+/// The result of `compile`.
 fn compiled(alloc: Global, row: &Row, names: &[(&str, &str)]) -> Result<String, CompileError> {
     let options = CompileOptions::default();
     compile(alloc, row.events, row.document.as_bytes(), &options, names)
 }
 
-/// Whether `compile_counted` answers what is wanted.
+/// Whether `compile_counted` returns the expected result.
 fn counts(alloc: Global, log: &mut Log, row: &Row, names: &[(&str, &str)]) -> bool {
     match again!(log, Err(CompileError::Memory), counted(alloc, row, names)) {
         Ok(counted) => is_text(counted.text.as_str(), &row.wanted),
@@ -171,13 +171,13 @@ fn counts(alloc: Global, log: &mut Log, row: &Row, names: &[(&str, &str)]) -> bo
     }
 }
 
-/// The answer of `compile_counted`.
+/// The result of `compile_counted`.
 fn counted(alloc: Global, row: &Row, names: &[(&str, &str)]) -> Result<Counted, CompileError> {
     let options = CompileOptions::default();
     compile_counted(alloc, row.events, row.document.as_bytes(), &options, names)
 }
 
-/// Whether `compile_checked` answers what is wanted.
+/// Whether `compile_checked` returns the expected result.
 fn compiles_checked(alloc: Global, log: &mut Log, row: &Row, checked: &Checked) -> bool {
     match again!(log, Err(AllocError), compiled_checked(alloc, checked)) {
         Ok(text) => is_text(text.as_str(), &row.wanted),
@@ -185,13 +185,12 @@ fn compiles_checked(alloc: Global, log: &mut Log, row: &Row, checked: &Checked) 
     }
 }
 
-/// The answer of `compile_checked`.
+/// The result of `compile_checked`.
 fn compiled_checked(alloc: Global, checked: &Checked) -> Result<String, AllocError> {
     compile_checked(alloc, checked, &CompileOptions::default())
 }
 
-/// Whether `gfm_table_align` answers one column without an alignment, where the first
-/// node is a table.
+/// Whether `gfm_table_align` returns one column without an alignment, if the first node is a table.
 fn aligns(alloc: Global, log: &mut Log, checked: &Checked) -> bool {
     if !checked.enters(0, Name::GfmTable) {
         return true;

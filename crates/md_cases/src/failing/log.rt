@@ -1,8 +1,8 @@
-//! What is written of the calls.
+//! The log of the calls.
 
 use std::io;
 
-/// A call's answer; where it is out of memory, that of the same call made again.
+/// The result of a call; if it runs out of memory, that of a second call.
 macro_rules! again {
     ($log:expr, $want:pat, $call:expr) => {
         match $call {
@@ -17,30 +17,30 @@ macro_rules! again {
 
 pub(crate) use again;
 
-/// What is noted of the calls.
+/// The log of the calls.
 #[derive(Drop)]
 pub struct Log {
-    /// How often a call answered that it was out of memory.
+    /// How many calls ran out of memory.
     pub refusals: usize,
-    /// The first call whose answer was wrong, and what it was asked.
+    /// The first call with a wrong result, and its input.
     pub wrong: Option<(&'static str, &'static str)>,
 }
 
 impl Log {
-    /// A call answered that it was out of memory.
+    /// Records that a call ran out of memory.
     pub fn refuse(&mut self) {
         self.refusals = self.refusals.saturating_add(1);
     }
 
-    /// Notes a call whose answer is wrong, and what it was asked. The first one is kept.
+    /// Records a call, unless its result is right, and its input. The first one is kept.
     pub fn tell(&mut self, is_right: bool, call: &'static str, asked: &'static str) {
         if !is_right && self.wrong.is_none() {
             self.wrong = Some((call, asked));
         }
     }
 
-    /// Writes what was wrong, if anything was, and that each call was made. Only one request is
-    /// refused in a run, so that at most one call may run out of memory.
+    /// Prints the wrong call, if there is one, and that each call was made. Only one request is
+    /// refused in a run, so at most one call may run out of memory.
     pub fn close<R: Print>(&self, rt: &R) -> io::Result<()> {
         if self.refusals > 1 {
             println!(rt; "wrong: {} calls wanted memory", self.refusals)?;

@@ -12,7 +12,7 @@ use md_html::{
 use md_script::{RunError, ServeError};
 use std::str::FromStr;
 
-/// Makes the calls that ask for nothing that takes memory.
+/// Makes the calls that need nothing that takes memory.
 pub fn ask_each(log: &mut Log) {
     let cut = "a slice that is cut within tabs";
     log.tell(endings_answer(), "as_str and from_str", "line endings");
@@ -34,12 +34,12 @@ fn options_answer() -> bool {
     !CompileOptions::default().gfm_tagfilter && CompileOptions::gfm().gfm_tagfilter
 }
 
-/// Whether errors have their statuses.
+/// Whether errors have the expected statuses.
 fn errors_answer() -> bool {
     RunError::Line(1).status() == 2 && ServeError::Input.status() == 4
 }
 
-/// Whether the calls of slices answer over a chunk that is cut within tabs.
+/// Whether the methods of slices return the expected results for a chunk that is cut within tabs.
 fn cut_slice_answers() -> bool {
     let position = Position {
         start: point(0, 2),
@@ -53,7 +53,7 @@ fn cut_slice_answers() -> bool {
     }
 }
 
-/// Whether the calls of slices answer between the tabs.
+/// Whether the methods of slices return the expected results between the tabs.
 fn inner_slice_answers() -> bool {
     match Slice::from_indices(b"\ta\t", 1, 2) {
         Some(slice) => slice.as_str() == Some("a"),
@@ -61,13 +61,13 @@ fn inner_slice_answers() -> bool {
     }
 }
 
-/// Makes the calls that ask for what was checked.
+/// Makes the calls that read a checked document.
 pub fn ask_of_checked(log: &mut Log, row: &Row, checked: &Checked) {
     ask_of_each(log, row, checked);
     ask_of_link(log, row, checked);
 }
 
-/// Makes those that each document has.
+/// Makes those that apply to each document.
 fn ask_of_each(log: &mut Log, row: &Row, checked: &Checked) {
     let (name, of_item) = (row.name, "list_item_loose and last_contributing");
     log.tell(
@@ -80,7 +80,7 @@ fn ask_of_each(log: &mut Log, row: &Row, checked: &Checked) {
     log.tell(item_answers(checked), of_item, name);
 }
 
-/// Makes those of a link by a label, where it is the second node.
+/// Makes those for a link by a label, if it is the second node.
 fn ask_of_link(log: &mut Log, row: &Row, checked: &Checked) {
     if checked.enters(1, Name::Link)
         && checked.exits(5, Name::Data)
@@ -106,7 +106,7 @@ fn list_answers(checked: &Checked) -> bool {
     true
 }
 
-/// Whether an item that is the second node isn't loose, and has the contributing child that it has.
+/// Whether an item that is the second node isn't loose, and has the right contributing child.
 fn item_answers(checked: &Checked) -> bool {
     if checked.enters(1, Name::ListItem) {
         return !list_item_loose(checked, 1) && checked.last_contributing(1) == Some(10);
@@ -114,7 +114,7 @@ fn item_answers(checked: &Checked) -> bool {
     true
 }
 
-/// Whether each event's partner has it as its partner.
+/// Whether each event is the partner of its partner.
 fn partners_answer(row: &Row, checked: &Checked) -> bool {
     (0..row.events.len()).all(|index| match checked.partner(index) {
         Some(other) => other != index && checked.partner(other) == Some(index),
@@ -122,7 +122,8 @@ fn partners_answer(row: &Row, checked: &Checked) -> bool {
     })
 }
 
-/// Whether the calls of a link answer, where one by a label is the second node.
+/// Whether the calls for a link return the expected results, if the second node is a link by a
+/// label.
 fn link_answers(checked: &Checked) -> bool
     requires link { EntersAt checked.now.events 1 name.Link }
     requires text { ExitsAt checked.now.events 5 name.Data }

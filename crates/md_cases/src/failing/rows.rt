@@ -1,26 +1,26 @@
-//! The documents that are asked, and their answers, which were written by hand.
+//! The documents of these calls, with results that were written by hand.
 
 use md_html::{Event, Kind, Name, Point, Rule};
 
 /// A document.
 pub struct Row {
-    /// What it shows.
+    /// The feature that it shows.
     pub name: &'static str,
     /// Its events.
     pub events: &'static [Event],
     /// Its bytes.
     pub document: &'static str,
-    /// Both as a script.
+    /// Its events and bytes as a script.
     pub script: &'static str,
-    /// What it answers.
+    /// The expected result.
     pub wanted: Wanted,
 }
 
-/// What a document answers where there is memory.
+/// The expected result for a document, if there is enough memory.
 pub enum Wanted {
     /// A text.
     Text(&'static str),
-    /// A refusal of the event at an index, by a rule.
+    /// A refusal of the event at an index, with a rule.
     Refusal(usize, Rule),
 }
 
@@ -46,7 +46,7 @@ macro_rules! event {
     };
 }
 
-/// A document by its name, its bytes, its answer, and its events, each with a semicolon.
+/// A document by its name, its bytes, its result, and its events, each with a semicolon.
 macro_rules! row {
     (
         $name:literal, $document:literal, $wanted:expr;
@@ -91,17 +91,17 @@ fn refused() -> &'static [Row] {
     &REFUSED
 }
 
-/// A document that reads one of [`NAMES`]; no script tells of it.
+/// A document that reads one of [`NAMES`]; a script can't express it.
 pub fn named() -> &'static Row {
     &NAMED
 }
 
-/// A link in a link, which the grammar of events has.
+/// A link in a link, which the event grammar allows.
 pub fn nested() -> &'static Row {
     &NESTED
 }
 
-/// The same in the label of an image, which has texts alone.
+/// The same in the label of an image, which prints only texts.
 pub fn in_image() -> &'static Row {
     &IN_IMAGE
 }

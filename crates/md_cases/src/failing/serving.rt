@@ -1,4 +1,4 @@
-//! `serve` over readers and writers, of which a read or a write fails.
+//! `serve` with readers and writers that fail at a read or a write.
 
 mod messages;
 mod streams;
@@ -18,13 +18,13 @@ const BREAK: &[u8] = b"+ThematicBreak 0\n-ThematicBreak 3\n--\n***";
 
 const BREAK_TEXT: &[u8] = b"<hr />";
 
-/// Makes each call of `serve`, and those that tell of its errors.
+/// Makes each call of `serve`, and the calls that read its errors.
 pub fn ask_each(alloc: Global, log: &mut Log) {
     ask_of_scripts(alloc, log);
     ask_of_failures(alloc, log);
 }
 
-/// Makes those where each read and write succeeds, and those that tell of errors.
+/// Makes the calls in which each read and write succeeds, and those that read errors.
 fn ask_of_scripts(alloc: Global, log: &mut Log) {
     let alloc = alloc;
     log.tell(is_written(alloc), "serve", "a break");
@@ -34,7 +34,7 @@ fn ask_of_scripts(alloc: Global, log: &mut Log) {
     log.tell(have_messages(alloc) == Ok(true), "to_string", "errors");
 }
 
-/// Makes those where one fails, or never ends.
+/// Makes those in which one fails, or never ends.
 fn ask_of_failures(alloc: Global, log: &mut Log) {
     let alloc = alloc;
     log.tell(reads_are_told(alloc), "serve", "reads that fail");
@@ -43,8 +43,7 @@ fn ask_of_failures(alloc: Global, log: &mut Log) {
     log.tell(endless_is_told(alloc), "serve", "an endless reader");
 }
 
-/// What `serve` answers, and what it wrote, where these reads and writes fail, and
-/// how often it read.
+/// The result of `serve`, its output, and its number of reads, if these reads and writes fail.
 fn served(
     alloc: Global,
     script: &[u8],
@@ -65,7 +64,7 @@ fn served(
     (answer, writer.written, reader.reads)
 }
 
-/// Whether `serve` answers this, having written these bytes.
+/// Whether `serve` returns this result, and has written these bytes.
 fn answers(
     alloc: Global,
     script: &[u8],
@@ -77,7 +76,7 @@ fn answers(
     answer == *wanted && written.as_slice() == bytes
 }
 
-/// How often a script is read until its end.
+/// How many reads a script takes to its end.
 fn reads_of(alloc: Global, script: &[u8]) -> usize {
     served(alloc, script, 0, 0).2
 }
@@ -87,15 +86,14 @@ fn is_written(alloc: Global) -> bool {
     answers(alloc, BREAK, (0, 0), &Ok(()), BREAK_TEXT)
 }
 
-/// Whether a text is written after those before it.
+/// Whether a text is appended to the earlier ones.
 fn is_appended(alloc: Global) -> Result<bool, AllocError> {
     let mut texts = Vec::from_slice(alloc, b"<p>a</p>")?;
     let answer = append_text(alloc, BREAK, &mut texts);
     Ok(answer == Ok(()) && texts.as_slice() == b"<p>a</p><hr />".as_slice())
 }
 
-/// Whether each read that fails is told, also where the bytes before it are a script
-/// that can be read.
+/// Whether each failed read is reported, also if the bytes before it are a valid script.
 fn reads_are_told(alloc: Global) -> bool {
     let reads = reads_of(alloc, BREAK);
     let told = Err(ServeError::Input);
@@ -104,7 +102,7 @@ fn reads_are_told(alloc: Global) -> bool {
         && answers(alloc, BREAK, (16, 0), &Ok(()), BREAK_TEXT)
 }
 
-/// Whether each write that fails is told, and not made again.
+/// Whether each failed write is reported, not retried.
 fn writes_are_told(alloc: Global) -> bool {
     let told = Err(ServeError::Output);
     answers(alloc, BREAK, (0, 1), &told, b"")
@@ -112,7 +110,7 @@ fn writes_are_told(alloc: Global) -> bool {
         && answers(alloc, BREAK, (0, 3), &Ok(()), BREAK_TEXT)
 }
 
-/// Whether a write that takes no byte and a flush that fails are told, and other writers aren't.
+/// Whether a write that takes no byte and a failed flush are reported, and other writers aren't.
 fn stuck_is_told(alloc: Global) -> bool {
     let told = Err(ServeError::Output);
     stuck_answers(alloc, 0, true, &told)
@@ -120,8 +118,8 @@ fn stuck_is_told(alloc: Global) -> bool {
         && stuck_answers(alloc, 1, true, &Ok(()))
 }
 
-/// Whether `serve` answers this over a writer that takes so many bytes, and flushes
-/// them or doesn't.
+/// Whether `serve` returns this result with a writer that accepts `takes` bytes at each write, and
+/// flushes them or doesn't.
 fn stuck_answers(
     alloc: Global,
     takes: usize,
@@ -137,7 +135,7 @@ fn stuck_answers(
     serve(alloc, &mut reader, &mut writer) == *wanted
 }
 
-/// Whether nothing is written for a script without a text, and it is read to its end.
+/// Whether nothing is written for a script without a text, and the script is read to its end.
 fn refusals_are_told(alloc: Global) -> bool {
     let order = RunError::Event {
         index: 1,
@@ -150,14 +148,14 @@ fn refusals_are_told(alloc: Global) -> bool {
         && refusal_is_told(alloc, b"", RunError::Line(1))
 }
 
-/// Whether nothing is written for this script, for this cause, and it is read to its end.
+/// Whether nothing is written for this script, with this error, and the script is read to its end.
 fn refusal_is_told(alloc: Global, script: &[u8], cause: RunError) -> bool {
     let reads = script.len().div_ceil(STEP).saturating_add(1);
     let told = Err(ServeError::Run(cause));
     reads_of(alloc, script) == reads && answers(alloc, script, (0, 0), &told, b"")
 }
 
-/// Whether a megabyte is read to its end, a byte at a time, and its text is written.
+/// Whether a megabyte is read to its end, one byte for each read, and its text is written.
 fn slow_is_read(alloc: Global) -> bool {
     let mut writer = FailingWriter {
         written: Vec::new(alloc),
@@ -172,7 +170,7 @@ fn slow_is_read(alloc: Global) -> bool {
     answer == Ok(()) && reader.reads > MEGABYTE && writer.written.as_slice() == BREAK_TEXT
 }
 
-/// Whether a reader that never ends is given up, with nothing written.
+/// Whether a reader that never ends is abandoned, with nothing written.
 fn endless_is_told(alloc: Global) -> bool {
     let mut writer = FailingWriter {
         written: Vec::new(alloc),

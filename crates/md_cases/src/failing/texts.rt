@@ -1,4 +1,4 @@
-//! The calls over texts.
+//! The calls that take texts.
 
 use super::log::{Log, again};
 use super::rows::NAMES;
@@ -8,7 +8,7 @@ use md_html::{
 };
 use std::alloc::{AllocError, Global};
 
-/// A call over a text.
+/// A call that takes a text.
 enum Tool {
     /// `encode`, with or without HTML.
     Encode(bool),
@@ -19,11 +19,11 @@ enum Tool {
     Normalize,
     /// `decode_character_reference`, by its marker.
     Decode(u8),
-    /// `Slice::serialize`, of all bytes but two columns of a tab at each end.
+    /// `Slice::serialize` for all bytes, with two columns of a tab cut at each end.
     Serialize,
 }
 
-/// A call by its name, what it is asked, and what it answers where there is memory.
+/// A call by its name, its input, and its expected result, if there is enough memory.
 type Case = (&'static str, Tool, &'static str, Option<&'static str>);
 
 static CASES: [Case; 17] = [
@@ -114,7 +114,7 @@ fn ask_cases(alloc: Global, log: &mut Log, cases: &[Case]) {
     }
 }
 
-/// Whether a call answers what is wanted.
+/// Whether a call returns the expected result.
 fn is_answered(
     alloc: Global,
     log: &mut Log,
@@ -128,7 +128,7 @@ fn is_answered(
     }
 }
 
-/// What a call answers.
+/// The result of a call.
 fn answer(alloc: Global, tool: &Tool, text: &str) -> Result<Option<String>, AllocError> {
     match tool {
         Tool::Encode(encodes) => encode(alloc, text, *encodes).map(Some),
@@ -153,7 +153,7 @@ fn serialize(alloc: Global, bytes: &[u8]) -> Result<Option<String>, AllocError> 
     }
 }
 
-/// A place.
+/// A point.
 pub fn point(index: usize, vs: usize) -> Point {
     Point {
         line: 1,

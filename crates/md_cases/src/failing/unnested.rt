@@ -1,4 +1,4 @@
-//! The calls that tell of links in links.
+//! The calls that check for links in links.
 
 use super::documents::{is_refusal, is_text};
 use super::log::{Log, again};
@@ -9,8 +9,8 @@ use md_html::{
 };
 use std::alloc::{AllocError, Global};
 
-/// Makes these calls over each document, none of which has a link in a link, and over two with
-/// links and images.
+/// Makes these calls for each document, none of which has a link in a link, and for two with links
+/// and images.
 pub fn ask_each(alloc: Global, log: &mut Log) {
     for rows in documents() {
         ask_rows(alloc, log, rows);
@@ -24,21 +24,21 @@ pub fn ask_each(alloc: Global, log: &mut Log) {
     log.tell(is_right, "compile_unnested", "unsafe options");
 }
 
-/// Makes them over each of these documents.
+/// Makes them for each of these documents.
 fn ask_rows(alloc: Global, log: &mut Log, rows: &[Row]) {
     for row in rows {
         ask_row(alloc, log, row);
     }
 }
 
-/// Makes them over a document without a link in a link.
+/// Makes them for a document without a link in a link.
 fn ask_row(alloc: Global, log: &mut Log, row: &Row) {
     log.tell(!has_nested_link(row.events), "has_nested_link", row.name);
     let is_right = compiles_unnested(alloc, log, row);
     log.tell(is_right, "compile_unnested", row.name);
 }
 
-/// Whether `compile_unnested` answers what is wanted.
+/// Whether `compile_unnested` returns the expected result.
 fn compiles_unnested(alloc: Global, log: &mut Log, row: &Row) -> bool {
     match unnested_of(alloc, log, row) {
         Ok(html) => is_text(html.as_str(), &row.wanted),
@@ -47,7 +47,7 @@ fn compiles_unnested(alloc: Global, log: &mut Log, row: &Row) -> bool {
     }
 }
 
-/// Whether it refuses a document in which a link stands in a link.
+/// Whether it refuses a document in which a link contains a link.
 fn refuses_nested(alloc: Global, log: &mut Log, row: &Row) -> bool {
     match unnested_of(alloc, log, row) {
         Err(UnnestedError::Nested) => {
@@ -70,7 +70,7 @@ fn refuses_options(alloc: Global, log: &mut Log) -> bool {
     }
 }
 
-/// Whether an error is written so.
+/// Whether an error prints this line.
 fn is_written(alloc: Global, log: &mut Log, error: &UnnestedError, wanted: &str) -> bool {
     match again!(log, Err(AllocError), format!(in alloc; "{error}")) {
         Ok(text) => text.as_str() == wanted,
@@ -78,7 +78,7 @@ fn is_written(alloc: Global, log: &mut Log, error: &UnnestedError, wanted: &str)
     }
 }
 
-/// The answer of `compile_unnested`; where it is out of memory, that of the same call made again.
+/// The result of `compile_unnested`; if it runs out of memory, that of a second call.
 fn unnested_of(alloc: Global, log: &mut Log, row: &Row) -> Result<SafeHtml, UnnestedError> {
     again!(
         log,
@@ -87,7 +87,7 @@ fn unnested_of(alloc: Global, log: &mut Log, row: &Row) -> Result<SafeHtml, Unne
     )
 }
 
-/// The answer of `compile_unnested`.
+/// The result of `compile_unnested`.
 fn compiled_unnested(alloc: Global, row: &Row) -> Result<SafeHtml, UnnestedError> {
     let options = CompileOptions::default();
     compile_unnested(alloc, row.events, row.document.as_bytes(), &options, &[])

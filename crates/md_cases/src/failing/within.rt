@@ -12,22 +12,22 @@ use std::alloc::Global;
 /// No limit.
 const NONE: usize = usize::MAX;
 
-/// Makes these calls over each document: at its exact length, work, or what it uses again if that
-/// is more, and depth; at one less of each; and at the least and the greatest limits.
+/// Makes these calls for each document: with its exact length, work, or reuse if that is more, and
+/// depth as limits; with one less for each; and with the least and the greatest limits.
 pub fn ask_each(alloc: Global, log: &mut Log) {
     for rows in documents() {
         ask_rows(alloc, log, rows);
     }
 }
 
-/// Makes them over each of these documents.
+/// Makes them for each of these documents.
 fn ask_rows(alloc: Global, log: &mut Log, rows: &[Row]) {
     for row in rows {
         ask_row(alloc, log, row);
     }
 }
 
-/// Makes them over a document.
+/// Makes them for a document.
 fn ask_row(alloc: Global, log: &mut Log, row: &Row) {
     let (length, work) = (length_of(&row.wanted), work_of(row.events));
     let reuse = reused(alloc, log, row);
@@ -51,14 +51,14 @@ fn ask_row(alloc: Global, log: &mut Log, row: &Row) {
     }
 }
 
-/// A document, and how much it uses again.
+/// A document, and its reuse.
 #[derive(Clone, Copy)]
 struct Asked<'a> {
     row: &'a Row,
     reuse: usize,
 }
 
-/// How much a document uses again; nothing where the events are none.
+/// The reuse of a document; 0 if the events aren't a document.
 fn reused(alloc: Global, log: &mut Log, row: &Row) -> usize {
     match again!(log, Err(CompileError::Memory), reuse_of_row(alloc, row)) {
         Ok(reuse) => reuse,
@@ -66,13 +66,13 @@ fn reused(alloc: Global, log: &mut Log, row: &Row) -> usize {
     }
 }
 
-/// The answer of `reuse_of`.
+/// The result of `reuse_of`.
 fn reuse_of_row(alloc: Global, row: &Row) -> Result<usize, CompileError> {
     let checked = check(alloc, row.events, row.document.as_bytes(), &[])?;
     reuse_of(alloc, &checked, &CompileOptions::default()).map_err(CompileError::from)
 }
 
-/// Makes both calls over a document, with these limits.
+/// Makes both calls for a document, with these limits.
 fn ask_limits(alloc: Global, log: &mut Log, asked: &Asked, limits: Limits) {
     let is_right = compiles_within(alloc, log, asked, limits);
     log.tell(is_right, "compile_within", asked.row.name);
@@ -80,7 +80,7 @@ fn ask_limits(alloc: Global, log: &mut Log, asked: &Asked, limits: Limits) {
     log.tell(is_right, "compile_safe_within", asked.row.name);
 }
 
-/// Whether `compile_within` answers what is wanted.
+/// Whether `compile_within` returns the expected result.
 fn compiles_within(alloc: Global, log: &mut Log, asked: &Asked, limits: Limits) -> bool {
     match again!(
         log,
@@ -92,7 +92,7 @@ fn compiles_within(alloc: Global, log: &mut Log, asked: &Asked, limits: Limits) 
     }
 }
 
-/// Whether `compile_safe_within` answers what is wanted.
+/// Whether `compile_safe_within` returns the expected result.
 fn compiles_safe_within(alloc: Global, log: &mut Log, asked: &Asked, limits: Limits) -> bool {
     match again!(
         log,
@@ -105,7 +105,7 @@ fn compiles_safe_within(alloc: Global, log: &mut Log, asked: &Asked, limits: Lim
     }
 }
 
-/// Whether a text is wanted within limits.
+/// Whether a text is the expected result within limits.
 fn is_kept(text: &str, asked: &Asked, limits: Limits) -> bool {
     is_text(text, &asked.row.wanted)
         && text.len() <= limits.text
@@ -114,7 +114,7 @@ fn is_kept(text: &str, asked: &Asked, limits: Limits) -> bool {
         && asked.reuse <= limits.work
 }
 
-/// Whether an error is wanted within limits.
+/// Whether an error is the expected result within limits.
 fn is_right(error: &WithinError, asked: &Asked, limits: Limits) -> bool {
     let wanted = &asked.row.wanted;
     let is_deep = depth_of(asked.row.events) > limits.depth;
@@ -128,7 +128,7 @@ fn is_right(error: &WithinError, asked: &Asked, limits: Limits) -> bool {
     }
 }
 
-/// How long the text is that is wanted, if one is.
+/// The length of the expected text, if there is one.
 fn length_of(wanted: &Wanted) -> usize {
     match wanted {
         Wanted::Text(text) => text.len(),
@@ -136,14 +136,14 @@ fn length_of(wanted: &Wanted) -> usize {
     }
 }
 
-/// The answer of `compile_within`.
+/// The result of `compile_within`.
 fn compiled(alloc: Global, row: &Row, limits: Limits) -> Result<String, WithinError> {
     let options = CompileOptions::default();
     let bytes = row.document.as_bytes();
     compile_within(alloc, row.events, bytes, &options, &[], limits)
 }
 
-/// The answer of `compile_safe_within`.
+/// The result of `compile_safe_within`.
 fn compiled_safe(alloc: Global, row: &Row, limits: Limits) -> Result<SafeHtml, SafeWithinError> {
     let options = CompileOptions::default();
     let bytes = row.document.as_bytes();

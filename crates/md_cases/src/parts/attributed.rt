@@ -1,11 +1,11 @@
-//! Questions on the attributes that are added to the tags of a safe text.
+//! Questions about the attributes that are added to the tags of a safe text.
 
 use super::compiled::by_safe;
 use super::{Asked, Call, no_such_call, word_and_rest};
 use md_page::{Heading, Html, page_around, with_heading_ids, with_link_rel};
 use std::alloc::{AllocError, Global};
 
-/// What a call answers of the safe text.
+/// The result of a call for the safe text.
 pub(super) fn answer(
     alloc: Global,
     asked: &Asked<'_>,
@@ -17,7 +17,7 @@ pub(super) fn answer(
     }
 }
 
-/// What a call answers of a text; `both` and `turned` add both attributes, one or the other first.
+/// The result of a call for a text; `both` and `turned` add both attributes, in either order.
 pub(super) fn answer_of<H: Html>(
     alloc: Global,
     html: &H,
@@ -42,7 +42,7 @@ fn rel<H: Html>(alloc: Global, html: &H, rel: &str) -> Result<String, AllocError
     String::from_str(alloc, with_link_rel(alloc, html, rel)?.as_str())
 }
 
-/// The text with a `rel`, which is then asked for another.
+/// The text with a `rel`, after a second call for another one.
 fn rel_again<H: Html>(alloc: Global, html: &H, rels: (&str, &str)) -> Result<String, AllocError> {
     rel(alloc, &with_link_rel(alloc, html, rels.0)?, rels.1)
 }
@@ -62,12 +62,12 @@ fn turned<H: Html>(alloc: Global, html: &H, text: &str) -> Result<String, AllocE
     rel(alloc, &with_heading_ids(alloc, html, text)?.html, text)
 }
 
-/// A page around the text with a `rel`.
+/// A page with the text with a `rel`.
 fn page_with_rel<H: Html>(alloc: Global, html: &H, text: &str) -> Result<String, AllocError> {
     page_around(alloc, text, &with_link_rel(alloc, html, text)?)
 }
 
-/// Each heading that has got an id.
+/// Each heading that got an id.
 fn headings<H: Html>(alloc: Global, html: &H, prefix: &str) -> Result<String, AllocError> {
     listed(
         alloc,
@@ -84,7 +84,7 @@ fn listed(alloc: Global, headings: &[Heading]) -> Result<String, AllocError> {
     Ok(said)
 }
 
-/// Says a heading.
+/// Prints a heading.
 fn say(said: &mut String, heading: &Heading) -> Result<(), AllocError> {
     let (level, number) = (heading.level, heading.number);
     let text = heading.text.as_str();

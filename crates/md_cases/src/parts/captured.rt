@@ -1,11 +1,11 @@
-//! Questions on texts that are captured in one another, with heads before them.
+//! Questions about nested captured texts, with heads before them.
 
 use super::{Call, no_such_call};
 use md_output::Output;
 use std::alloc::{AllocError, Global};
 
-/// What a call answers: the argument has a step in each character, and the call's name is how
-/// many bytes a long text has. `~` stands for that, in the steps and in the answer.
+/// The result of a call: each character of the argument is a step, and the call's name is the
+/// length of a long text in bytes. `~` represents that text, in the steps and in the answer.
 pub(super) fn answer(alloc: Global, call: Call<'_>) -> Result<String, AllocError> {
     match call.name.parse() {
         Ok(length) => answer_with(alloc, call.argument, long_text(alloc, length)?.as_str()),
@@ -13,7 +13,7 @@ pub(super) fn answer(alloc: Global, call: Call<'_>) -> Result<String, AllocError
     }
 }
 
-/// So many dashes.
+/// A text of `length` dashes.
 fn long_text(alloc: Global, length: usize) -> Result<String, AllocError> {
     let mut long = String::new(alloc);
     for _ in 0..length {
@@ -35,7 +35,7 @@ fn answer_with(alloc: Global, steps: &str, long: &str) -> Result<String, AllocEr
     said.replace(alloc, long, "~")
 }
 
-/// Takes a step.
+/// Makes a step.
 fn take(out: &mut Output, moved: &mut String, long: &str, step: char) -> Result<(), AllocError> {
     match step {
         '[' => out.capture(),
@@ -51,7 +51,7 @@ fn take(out: &mut Output, moved: &mut String, long: &str, step: char) -> Result<
     }
 }
 
-/// Ends a text, or puts a letter.
+/// Ends a text, or writes a letter.
 fn end_or_put(out: &mut Output, step: char) -> Result<(), AllocError> {
     match step {
         ')' => out.join(),
@@ -63,7 +63,7 @@ fn end_or_put(out: &mut Output, step: char) -> Result<(), AllocError> {
     Ok(())
 }
 
-/// Puts a long text, byte by byte.
+/// Writes a long text, byte by byte.
 fn put_long(out: &mut Output, long: &str) -> Result<(), AllocError> {
     for _ in 0..long.len() {
         out.put("-")?;

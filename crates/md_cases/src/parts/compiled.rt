@@ -1,12 +1,12 @@
-//! Questions on a script that `run` can't ask: by the names as references, as a page,
-//! with its visits.
+//! Questions about a script that `run` can't answer: with the names as references, as a page, with
+//! its visits.
 
 use super::{Asked, Call, no_such_call, with_line_feeds};
 use md_html::{CompileError, CompileOptions, Counted, SafeError, SafeHtml, compile_safe};
 use md_page::page;
 use std::alloc::{AllocError, Global};
 
-/// What a call answers.
+/// The result of a call.
 pub(super) fn answer(
     alloc: Global,
     asked: &Asked<'_>,
@@ -54,7 +54,7 @@ fn said_counted(
     }
 }
 
-/// What `compile_safe` answers.
+/// The result of `compile_safe`.
 pub(super) fn by_safe(alloc: Global, asked: &Asked<'_>) -> Result<SafeHtml, SafeError> {
     let script = &asked.script;
     let events = script.events.as_slice();

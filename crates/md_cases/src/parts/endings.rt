@@ -1,10 +1,10 @@
-//! Questions on a document that is a line ending, or one in JSON.
+//! Questions about a document that is a line ending, or one in JSON.
 
 use super::{Asked, Call, document, no_such_call};
 use md_html::LineEnding;
 use std::alloc::{AllocError, Global};
 
-/// What a call answers.
+/// The result of a call.
 pub(super) fn answer(
     alloc: Global,
     asked: &Asked<'_>,

@@ -1,11 +1,11 @@
-//! Questions on the first two events: what stands between their places, and whether their
-//! names are the same.
+//! Questions about the first two events: the bytes between their points, and whether their names
+//! are the same.
 
 use super::{Asked, Call, boolean, no_such_call};
 use md_html::{Event, Position, Slice, is_same_name};
 use std::alloc::{AllocError, Global};
 
-/// What a call answers.
+/// The result of a call.
 pub(super) fn answer(
     alloc: Global,
     asked: &Asked<'_>,
@@ -25,7 +25,7 @@ pub(super) fn answer(
     }
 }
 
-/// The place between two events.
+/// The position between two events.
 fn between(start: &Event, end: &Event) -> Position {
     Position {
         start: start.point,
@@ -33,7 +33,7 @@ fn between(start: &Event, end: &Event) -> Position {
     }
 }
 
-/// How long a slice is, its text, and its text with what is cut of tabs as spaces.
+/// The length of a slice, its text, and its text with the cut columns of tabs as spaces.
 fn slice(alloc: Global, slice: Option<Slice<'_>>) -> Result<String, AllocError> {
     let Some(slice) = slice else {
         return String::from_str(alloc, "(none)");
@@ -44,7 +44,7 @@ fn slice(alloc: Global, slice: Option<Slice<'_>>) -> Result<String, AllocError> 
     }
 }
 
-/// How long a slice is, its text, and the other text.
+/// The length of a slice, its text, and the other text.
 fn slice_and(alloc: Global, slice: &Slice<'_>, serialized: &str) -> Result<String, AllocError> {
     let (length, text) = (slice.len(), text_of(slice));
     format!(in alloc; "{length} bytes, [{text}], [{serialized}]")

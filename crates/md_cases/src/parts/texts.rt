@@ -1,4 +1,4 @@
-//! Questions on a document that is a text.
+//! Questions about a document that is a text.
 
 use super::{Asked, Call, document, no_such_call};
 use md_html::{
@@ -7,7 +7,7 @@ use md_html::{
 };
 use std::alloc::{AllocError, Global};
 
-/// What a call answers.
+/// The result of a call.
 pub(super) fn answer(
     alloc: Global,
     asked: &Asked<'_>,
@@ -35,7 +35,7 @@ fn decode(alloc: Global, asked: &Asked<'_>, marker: &str) -> Result<String, Allo
     }
 }
 
-/// A URL under the protocols of links or of images, or else under those that are named.
+/// A URL under the protocols of links or of images, or else under the named ones.
 fn permit(alloc: Global, asked: &Asked<'_>, list: &str) -> Result<String, AllocError> {
     let url = document(asked);
     match list {
@@ -45,7 +45,7 @@ fn permit(alloc: Global, asked: &Asked<'_>, list: &str) -> Result<String, AllocE
     }
 }
 
-/// A URL under the protocols that are named, which are put into a list.
+/// A URL under the named protocols, which are collected in a list.
 fn permit_named<'a>(
     alloc: Global,
     asked: &Asked<'a>,

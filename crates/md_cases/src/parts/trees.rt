@@ -1,11 +1,12 @@
-//! Questions on events: whether they are a document, and what `check` finds of its nodes.
+//! Questions about events: whether they are a document, and the facts that `check` finds about its
+//! nodes.
 
 use super::{Asked, Call, boolean, no_such_call, number, word_and_rest};
 use crate::reading::name_of;
 use md_html::{Checked, Name, Position, check, gfm_table_align, list_item_loose, list_loose};
 use std::alloc::{AllocError, Global};
 
-/// What a call answers of a document's events, or why they are none.
+/// The result of a call for a document's events, or why they aren't a document.
 pub(super) fn answer(
     alloc: Global,
     asked: &Asked<'_>,
@@ -19,7 +20,7 @@ pub(super) fn answer(
     }
 }
 
-/// What a call answers of all events, or of one of them.
+/// The result of a call for all events, or for one of them.
 fn answer_checked(
     alloc: Global,
     asked: &Asked<'_>,
@@ -34,7 +35,7 @@ fn answer_checked(
     }
 }
 
-/// What a call answers of the event at an index, after which a name may stand.
+/// The result of a call for the event at an index, which a name may follow.
 fn answer_at(alloc: Global, checked: &Checked<'_>, call: Call<'_>) -> Result<String, AllocError> {
     let (place, name) = word_and_rest(call.argument);
     let index: usize = place.parse().unwrap_or(0);
@@ -52,14 +53,14 @@ fn answer_at(alloc: Global, checked: &Checked<'_>, call: Call<'_>) -> Result<Str
     }
 }
 
-/// Whether the events, the bytes and as many names are kept.
+/// Whether the events, the bytes and the number of names are kept.
 fn is_kept(asked: &Asked<'_>, checked: &Checked<'_>) -> bool {
     checked.events() == asked.script.events.as_slice()
         && checked.bytes() == asked.script.document
         && checked.names().len() == asked.names.len()
 }
 
-/// What is found of the node that the event at an index enters.
+/// The facts about the node that the event at the index enters.
 fn answer_found(
     alloc: Global,
     checked: &Checked<'_>,
@@ -78,7 +79,7 @@ fn answer_found(
     }
 }
 
-/// Whether a list is loose, its items looked at or not.
+/// Whether a list is loose, with or without its items.
 fn of_list(checked: &Checked<'_>, index: usize, include_items: bool) -> Option<bool> {
     if checked.enters(index, Name::ListUnordered) || checked.enters(index, Name::ListOrdered) {
         return Some(list_loose(checked, index, include_items));
@@ -111,7 +112,7 @@ fn contributing(alloc: Global, checked: &Checked<'_>, index: usize) -> Result<St
     no_such_node(alloc)
 }
 
-/// From which index to which a link reads.
+/// The indices between which a link reads.
 fn link_reads(alloc: Global, checked: &Checked<'_>, index: usize) -> Result<String, AllocError> {
     if checked.enters(index, Name::Link) {
         return span(alloc, checked.reads(index));
@@ -119,7 +120,7 @@ fn link_reads(alloc: Global, checked: &Checked<'_>, index: usize) -> Result<Stri
     no_such_node(alloc)
 }
 
-/// The same of a heading's mark.
+/// The same for a heading's mark.
 fn heading_reads(alloc: Global, checked: &Checked<'_>, index: usize) -> Result<String, AllocError> {
     if checked.enters(index, Name::HeadingAtx) {
         return span(alloc, checked.reads(index));

@@ -1,5 +1,5 @@
-//! Questions on texts of the HTML grammar that no document has, to whose tags attributes
-//! are added as to those of a safe text.
+//! Questions about texts of the HTML grammar that no document has, to whose tags attributes are
+//! added as to those of a safe text.
 
 ghost use Rattle.std.specs.Prelude.{◌++◌, ◌∷◌, [], codes};
 
@@ -8,7 +8,7 @@ use super::{Call, no_such_call, word_and_rest};
 use md_page::Html;
 use std::alloc::{AllocError, Global};
 
-/// What a call of `attributed`, which is the argument, answers of the text that is named.
+/// The result of a call of `attributed`, which is the argument, for the named text.
 pub(super) fn answer(alloc: Global, call: Call<'_>) -> Result<String, AllocError> {
     let (name, argument) = word_and_rest(call.argument);
     let asked = Call { name, argument };
@@ -20,7 +20,7 @@ pub(super) fn answer(alloc: Global, call: Call<'_>) -> Result<String, AllocError
     }
 }
 
-/// A heading right behind the tag of a quote.
+/// A heading directly after the tag of a quote.
 struct Quoted;
 
 impl Html for Quoted {
@@ -31,7 +31,7 @@ impl Html for Quoted {
     }
 }
 
-/// A heading right behind one with an `id`.
+/// A heading directly after one with an `id`.
 struct Labelled;
 
 impl Html for Labelled {
@@ -43,7 +43,7 @@ impl Html for Labelled {
     }
 }
 
-/// Headings around one with an `id`, the last with line endings in it.
+/// Headings before and after one with an `id`, the last with line endings in it.
 struct Lined;
 
 impl Html for Lined {

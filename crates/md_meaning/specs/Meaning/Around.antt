@@ -1,4 +1,4 @@
--- What a node knows of the nodes around it.
+-- What a node inherits from its ancestors.
 use Rattle.std.specs.Prelude.{Bool, true, false, not, if◌then◌else◌}
 use Rattle.md_base.specs.declared.event.Name.{Name}
 use Rattle.md_base.specs.declared.event.Name.TheVariants as name_variants

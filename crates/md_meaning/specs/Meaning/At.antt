@@ -1,4 +1,4 @@
--- What is known at a node.
+-- The context of a node.
 use Rattle.std.specs.Prelude.{ℕ, Bool, List, [], Option, None, unwrap_or}
 use Rattle.md_base.specs.declared.event.AlignKind.{AlignKind}
 use Rattle.md_base.specs.declared.event.Name.{Name}
@@ -11,12 +11,12 @@ use Rattle.md_tree.specs.declared.mention.Referral.TheVariants.{Missing, Label}
 use Rattle.md_tree.specs.Mentions.{identifier_at}
 use Rattle.md_tree.specs.Rules.{target_of}
 
--- where a link or an image leads, and its title
+-- the destination and the title of a link or an image
 pub record Target : Type 0 where
   pub destination : List ℕ
   pub title : Option (List ℕ)
 
--- a definition: its identifier, and where it leads
+-- a definition: its identifier, and its target
 pub record Defined : Type 0 where
   pub identifier : List ℕ
   pub target : Target
@@ -26,7 +26,7 @@ pub record Footnote : Type 0 where
   pub identifier : List ℕ
   pub text : List ℕ
 
--- the document's bytes, the names of references, the options, the line ending that is used; the
+-- the document's bytes, the names of references, the options, the line ending to print, the
 -- identifiers of all footnote calls, in the order of their exits, and the definitions
 pub record Given : Type 0 where
   pub bytes : List ℕ
@@ -36,8 +36,8 @@ pub record Given : Type 0 where
   pub calls : List (List ℕ)
   pub definitions : List Defined
 
--- what is found on a spine: the text of a setext heading, a destination, a title, and where
--- a resource leads
+-- what a spine contains: the text of a setext heading, a destination, a title, and the target of a
+-- resource
 pub record Found : Type 0 where
   pub heading : Option (List ℕ)
   pub destination : Option (List ℕ)
@@ -47,13 +47,13 @@ pub record Found : Type 0 where
 abbrev pub nothing_found : Found
 nothing_found = record { heading = None; destination = None; title = None; resource = None }
 
--- the destination and the title that are found
+-- the target with this destination and title
 abbrev pub target_in : Found → Target
 target_in found = record { destination = unwrap_or found.destination []; title = found.title }
 
--- what stands before a node: the calls that have ended, whether the next line ending is slurped,
--- its previous sibling, on its spine the names and the text of a setext heading; and the alignments
--- of the table around it
+-- the state before a node: the calls that have ended, whether the next line ending is slurped, its
+-- previous sibling, the names and the text of a setext heading on its spine, and the alignments of
+-- the table that contains it
 pub record Before : Type 0 where
   pub calls : List (List ℕ)
   pub slurps : Bool
@@ -62,8 +62,8 @@ pub record Before : Type 0 where
   pub heading : List ℕ
   pub columns : List AlignKind
 
--- a node: what stands around it and before it, its children, what is found on their spine, the
--- calls that end before it does, its place, and whether nothing follows it in the document
+-- a node: its ancestors' facts, the state before it, its children, what their spine contains, the
+-- calls that end before it does, its position, and whether it ends the document
 pub record At : Type 0 where
   pub around : Surroundings
   pub before : Before
@@ -73,11 +73,12 @@ pub record At : Type 0 where
   pub place : Position
   pub is_last : Bool
 
--- the text at a place; a grammatical document has no other where it is read
+-- the text at a position, or the empty text if there is none; in a grammatical document each
+-- position that is read has one
 abbrev pub text_in : List ℕ → Position → List ℕ
 text_in bytes place = unwrap_or (text_between bytes place.start place.end) []
 
--- by what a node refers to others or is referred to: the identifier of the label that the
+-- the identifier by which a node refers to others or is referred to: that of the label that the
 -- grammar finds in it
 abbrev pub identifier_of : List ℕ → Forest → List ℕ
 identifier_of bytes children = elim (target_of children Missing) [

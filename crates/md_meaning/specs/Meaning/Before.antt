@@ -1,4 +1,4 @@
--- What stands before a node, and when the next line ending is slurped.
+-- The state before a node, and when the next line ending is slurped.
 use Rattle.std.specs.Prelude.{Bool, false, not, ◌&&◌, ◌||◌, if◌then◌else◌, [], None}
 use Rattle.std.specs.List.{list_any}
 use Rattle.md_base.specs.declared.event.Name.{Name}
@@ -16,8 +16,8 @@ use Rattle.md_meaning.specs.Meaning.At.{Before, At}
 abbrev pub is_first_fence : At → Bool
 is_first_fence at = not (list_any is_fence at.before.spine)
 
--- after a node outside definitions the next line ending is slurped: the node's exit sets that, or
--- it was so after the node's children and its exit doesn't clear it
+-- after a node outside definitions the next line ending is slurped: the node's exit sets this, or
+-- it was set after the node's children and its exit doesn't clear it
 abbrev pub lets_slurp : At → Name → Bool → Bool
 lets_slurp at name inner =
     is_fence name && is_first_fence at || is HeadingSetextText name || is Frontmatter name
@@ -25,12 +25,12 @@ lets_slurp at name inner =
     || is BlockQuote name || is CodeIndented name || is CodeFenced name
     || is MathFlow name || is ListItem name || is LineEnding name && not at.around.in_code)
 
--- what stands before all nodes
+-- the state before all nodes
 abbrev pub nothing_before : Before
 nothing_before =
     record { calls = []; slurps = false; previous = None; spine = []; heading = []; columns = [] }
 
--- what stands before a node's first child
+-- the state before a node's first child
 abbrev pub before_children : Name → Forest → Before → Before
 before_children name children before = record before {
   previous = None;

@@ -19,13 +19,13 @@ use Rattle.md_meaning.specs.Meaning.Finds.{first_named, number_in_list}
 use Rattle.md_meaning.specs.Meaning.Spans.{is_at}
 use Rattle.md_meaning.specs.Meaning.At.{Given, At, text_in}
 
--- digits without the zeros before the number that they write
+-- digits without leading zeros
 abbrev pub without_zeros : List ℕ → List ℕ
 without_zeros [] = []
 without_zeros (digit ∷ digits) =
     if digit == 48 && nat_lt 0 (length digits) then without_zeros digits else digit ∷ digits
 
--- ` start="` number `"` for the number of a list's first item, but for the number 1
+-- ` start="` number `"` for the number of a list's first item, unless it is 1
 abbrev pub list_start : Given → At → List Piece
 list_start given at =
     let number =
@@ -47,21 +47,21 @@ abbrev pub heading : ℕ → List Piece → List Piece
 heading rank inner =
     on_own_line (heading_tag (codes "<h") rank) ++ (inner ++ said (heading_tag (codes "</h") rank))
 
--- how long a heading's first mark is
+-- the length of a heading's first mark
 abbrev pub atx_rank : At → ℕ
 atx_rank at = option_map_or (λ place. columns place.start place.end)
     (first_named HeadingAtxSequence at.children) 0
 
--- 2 where the underline begins with `-`, else 1
+-- 2 if the underline begins with `-`, else 1
 abbrev pub underline_rank : Given → At → ℕ
 underline_rank given at = if is_at 45 given.bytes at.place.start.index then 2 else 1
 
--- a line of code, with the spaces of tabs that are cut at its ends
+-- a line of code, with spaces for the tabs that are cut at its ends
 abbrev pub chunk : Given → At → List Piece
 chunk given at =
     said (encoded true (unwrap_or (serialized_between given.bytes at.place.start at.place.end) []))
 
--- a needed line ending where there is a line of code, and the end of code
+-- a line ending if needed, if there is a line of code, then the end of code
 abbrev pub code_end : At → List Piece
 code_end at =
     when (list_any is_chunk (spine_names at.children)) (Needed ∷ []) ++ said (codes "</code></pre>")
@@ -70,8 +70,8 @@ code_end at =
 abbrev pub is_unclosed : At → Bool
 is_unclosed at = count_by is_fence (spine_names at.children) == 1
 
--- code or math in a container, with one fence that isn't its last child: the container ends
--- before a closing fence
+-- code or math in a container, with one fence that isn't its last child: the container ends before
+-- a closing fence
 abbrev pub runs_out : At → Bool
 runs_out at = is_unclosed at && (elim at.around.container [ Nothing ↦ false | _ ↦ true ])
     && not (option_map_or is_fence (last_name at.children) false)

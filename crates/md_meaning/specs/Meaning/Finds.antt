@@ -1,5 +1,4 @@
--- What is found in nodes: the places of a heading's first mark, of a list's number and of the
--- first line ending.
+-- Positions in a tree: a heading's first mark, a list's number and the first line ending.
 use Rattle.std.specs.Prelude.{Option, Some, None, unwrap_or, if◌then◌else◌}
 use Rattle.md_base.specs.declared.event.Name.{Name}
 use Rattle.md_base.specs.declared.event.Name.TheVariants.{ListItem, ListItemPrefix, ListItemValue}
@@ -10,11 +9,11 @@ use Rattle.md_base.specs.Children.{or_else, first_on_spine}
 use Rattle.md_base.specs.NameTests.{is_line_ending}
 use Rattle.md_tree.specs.Rules.{place}
 
--- the place of the first node of a name on the spine
+-- the position of the first node of a name on the spine
 abbrev pub first_named : Name → Forest → Option Position
 first_named name children = first_on_spine (is name) (λ start end inner. place start end) children
 
--- what is found in the first such node
+-- the result of a function for the children of the first such node
 abbrev pub in_first_named : Name → (Forest → Option Position) → Forest → Option Position
 in_first_named name find children =
     unwrap_or (first_on_spine (is name) (λ start end inner. find inner) children) None
@@ -24,7 +23,7 @@ abbrev pub number_in_list : Forest → Option Position
 number_in_list children =
     in_first_named ListItem (in_first_named ListItemPrefix (first_named ListItemValue)) children
 
--- the place of the line ending, blank or not, that exits first
+-- the position of the line ending, blank or not, that exits first
 abbrev pub first_ending : Forest → Option Position
 first_ending Empty = None
 first_ending (Node name start end children rest) = or_else (first_ending children)

@@ -1,4 +1,4 @@
--- What footnote calls mean, and the section of footnotes at a document's end.
+-- The meaning of footnote calls, and the section of footnotes at the end of a document.
 use Rattle.std.specs.Prelude.{ℕ, ◌+◌, ◌-◌, zero, suc, true, not, ◌&&◌, ◌||◌, ◌==◌, if◌then◌else◌}
 use Rattle.std.specs.Prelude.{List, [], ◌∷◌, ◌++◌, length, take, drop, filter, find, Option}
 use Rattle.std.specs.Prelude.{option_map, bytes_eq, codes, string_bytes}
@@ -11,7 +11,7 @@ use Rattle.md_text.specs.declared.options.CompileOptions.{CompileOptions}
 use Rattle.md_meaning.specs.Meaning.Layout.{Piece, Text, Needed, Forced, on_own_line, when}
 use Rattle.md_meaning.specs.Meaning.At.{Footnote, Given, At, identifier_of}
 
--- the distinct ones of some identifiers, in the order in which each comes first
+-- the distinct identifiers, in the order of their first occurrences
 abbrev pub distinct : List (List ℕ) → List (List ℕ)
 distinct [] = []
 distinct (first ∷ others) = first ∷ filter (λ other. not (bytes_eq other first)) (distinct others)
@@ -27,27 +27,27 @@ abbrev pub count_of : List (List ℕ) → List ℕ → ℕ
 count_of [] wanted = 0
 count_of (other ∷ others) wanted = (if bytes_eq other wanted then 1 else 0) + count_of others wanted
 
--- what an option says, escaped, or what is said where it is unset
+-- the text of an option, escaped, or its default if it is unset
 abbrev pub option_or : Option (List ℕ) → List ℕ → List ℕ
 option_or text unset = option_map_or (λ set. encoded true set) text unset
 
--- an id: the prefix, what it is the id of, and where ids go by number the footnote's, else its
+-- an id: the prefix, the kind of id, and the footnote's number if ids are by number, else its
 -- identifier as a URL
 abbrev pub id_of : CompileOptions → List ℕ → List ℕ → ℕ → List ℕ
 id_of options kind identifier number =
     option_or (option_map string_bytes options.gfm_footnote_clobber_prefix) (codes "user-content-")
     ++ (kind ++ (if options.gfm_footnote_number_ids then decimal number else sanitized identifier))
 
--- the id of a call: after that `-` and which of its footnote's it is; where ids go by identifier
--- from the second on
+-- the id of a call: the same followed by `-` and the call's number among those of its footnote; if
+-- ids are by identifier, the first call has no such suffix
 abbrev pub call_id : CompileOptions → List ℕ → ℕ → ℕ → List ℕ
 call_id options identifier number occurrence =
     id_of options (codes "fnref-") identifier number
     ++ (if not options.gfm_footnote_number_ids && occurrence == 1 then []
     else codes "-" ++ decimal occurrence)
 
--- a call: its number is the place of its identifier among the distinct ones of all calls, and it is
--- counted with those of its identifier that ended before it
+-- a call: its number is the position of its identifier among the distinct ones of all calls; its
+-- occurrence counts the calls with its identifier that end before it, and itself
 abbrev pub call : Given → At → List Piece
 call given at =
     let identifier = identifier_of given.bytes at.children in
@@ -58,7 +58,7 @@ call given at =
     ∷ Text (codes "\" data-footnote-ref=\"\" aria-describedby=\"footnote-label\">")
     ∷ Text (decimal number) ∷ Text (codes "</a></sup>") ∷ [])
 
--- the way back from a footnote to one of its calls; the arrow is U+21A9
+-- the backreference from a footnote to one of its calls; the arrow is U+21A9
 abbrev pub backreference : CompileOptions → List ℕ → ℕ → ℕ → List ℕ
 backreference options identifier number occurrence =
     codes "<a href=\"#" ++ (call_id options identifier number occurrence
@@ -67,22 +67,22 @@ backreference options identifier number occurrence =
     ++ (codes "\" class=\"data-footnote-backref\">" ++ ((226 ∷ 134 ∷ 169 ∷ []) ++ ((if occurrence
     == 1 then [] else codes "<sup>" ++ (decimal occurrence ++ codes "</sup>")) ++ codes "</a>"))))))
 
--- the ways back to so many calls, with single spaces between
+-- the backreferences to so many calls, with single spaces between
 abbrev pub backreferences : CompileOptions → List ℕ → ℕ → ℕ → List ℕ
 backreferences options identifier number zero = []
 backreferences options identifier number (suc count) =
     backreferences options identifier number count ++ ((if count == 0 then [] else codes " ")
     ++ backreference options identifier number (suc count))
 
--- how many bytes are left of a text without the CR and LF at its end
+-- the length of a text without the CR and LF bytes at its end
 abbrev pub unended_length : List ℕ → ℕ
 unended_length [] = 0
 unended_length (byte ∷ bytes) =
     if ((byte == 13) || (byte == 10)) && (unended_length bytes == 0) then 0
     else suc (unended_length bytes)
 
--- a footnote's text and the ways back: before the `</p>` in which it ends, but for CR and
--- LF, else after it
+-- a footnote's text and its backreferences: inserted before the `</p>` that ends it, ignoring CR
+-- and LF, else appended
 abbrev pub body : List ℕ → List ℕ → List Piece
 body text back =
     let end = unended_length text - 4 in
@@ -90,7 +90,8 @@ body text back =
     then Text (take end text) ∷ Text (codes " ") ∷ Text back ∷ Text (drop end text) ∷ []
     else Text text ∷ Needed ∷ Text back ∷ []
 
--- a footnote in the section: the first that has the identifier of these calls, under their number
+-- a footnote in the section: the first one that has the identifier of these calls, with their
+-- number
 abbrev pub item : Given → List Footnote → List ℕ → List Piece
 item given footnotes identifier =
     let number = place_among (distinct given.calls) identifier in
@@ -114,7 +115,7 @@ section_start options =
     ∷ Text (option_or (option_map string_bytes options.gfm_footnote_label) (codes "Footnotes"))
     ∷ Text (codes "</") ∷ Text tag ∷ Text (codes ">") ∷ Forced ∷ Text (codes "<ol>") ∷ []
 
--- the section, where there is a call: one item for each identifier by its number
+-- the section, if there is a call: one item for each identifier, by its number
 abbrev pub section : Given → List Footnote → List Piece
 section given footnotes = when (not (length given.calls == 0)) (section_start given.options
     ++ (flat_map (item given footnotes) (distinct given.calls)

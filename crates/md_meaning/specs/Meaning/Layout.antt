@@ -1,10 +1,9 @@
--- What nodes print, and how it is laid out as one text.
+-- The pieces that nodes print, and their layout as one text.
 use Rattle.std.specs.Prelude.{ℕ, ◌-◌, Bool, true, ◌||◌, ◌==◌, if◌then◌else◌, List, [], ◌∷◌, ◌++◌}
 use Rattle.std.specs.Prelude.{length, slice_get}
 use Rattle.std.specs.Option.{option_map_or}
 
--- a part of what a node prints: a text, a line ending where one is needed, a line
--- ending in any case
+-- a part of what a node prints: a text, a line ending if one is needed, a line ending in any case
 pub data Piece : Type 0 where
   Text : (text : List ℕ) → Piece
   Needed : Piece
@@ -15,7 +14,7 @@ abbrev pub begins_line : List ℕ → Bool
 begins_line text =
     option_map_or (λ byte. byte == 13 || byte == 10) (slice_get text (length text - 1)) true
 
--- some pieces after a text, where lines end in `ending`
+-- some pieces after a text, with `ending` as the line ending
 abbrev pub laid_after : List ℕ → List ℕ → List Piece → List ℕ
 laid_after ending text [] = text
 laid_after ending text (Text more ∷ pieces) = laid_after ending (text ++ more) pieces
@@ -23,7 +22,7 @@ laid_after ending text (Needed ∷ pieces) =
     laid_after ending (if begins_line text then text else text ++ ending) pieces
 laid_after ending text (Forced ∷ pieces) = laid_after ending (text ++ ending) pieces
 
--- some pieces by themselves
+-- some pieces alone
 abbrev pub layout : List ℕ → List Piece → List ℕ
 layout ending pieces = laid_after ending [] pieces
 
@@ -31,10 +30,10 @@ layout ending pieces = laid_after ending [] pieces
 abbrev pub said : List ℕ → List Piece
 said text = Text text ∷ []
 
--- a needed line ending, and a tag
+-- a line ending if needed, and a tag
 abbrev pub on_own_line : List ℕ → List Piece
 on_own_line tag = Needed ∷ said tag
 
--- some things, where a test holds
+-- a list if a test holds, else the empty list
 abbrev pub when : {A : Type 0} → Bool → List A → List A
 when holds things = if holds then things else []

@@ -1,4 +1,4 @@
--- What each node means: `inner` are the pieces of its children.
+-- The meaning of each node: `inner` are the pieces of its children.
 use Rattle.std.specs.Prelude.{not, List, [], ◌∷◌, ◌++◌, if◌then◌else◌, codes}
 use Rattle.md_base.specs.declared.event.Name.{Name}
 use Rattle.md_base.specs.declared.event.Name.TheVariants as name_variants
@@ -28,7 +28,7 @@ use Rattle.md_meaning.specs.Meaning.Media.{anchor, picture, medium, autolink, li
 use Rattle.md_meaning.specs.Meaning.Tables.{cell, row_end}
 use Rattle.md_meaning.specs.Meaning.Footnotes.{call}
 
--- what a node of each name prints, of what its children print
+-- the pieces of a node by its name, from the pieces of its children
 abbrev pub prints : Given → At → Name → List Piece → List Piece
 prints given at Data inner = escaped at (text_in given.bytes at.place)
 prints given at CharacterEscapeValue inner = escaped at (text_in given.bytes at.place)

@@ -9,8 +9,7 @@ use Rattle.md_meaning.specs.Meaning.Layout.{Piece, Text, said}
 use Rattle.md_meaning.specs.Meaning.At.{Target, Given, At, nothing_found, target_in, text_in}
 use Rattle.md_meaning.specs.Meaning.At.{identifier_of}
 
--- a destination as a URL: with any protocol where `any` is set, else with one of
--- `protocols` or none
+-- a destination as a URL: with any protocol if `any` is set, else with none or one of `protocols`
 abbrev pub url : Bool → List (List ℕ) → List ℕ → List ℕ
 url any protocols destination =
     if any then sanitized destination else sanitized_with protocols destination
@@ -22,18 +21,18 @@ abbrev pub src : CompileOptions → List ℕ → List ℕ
 src options destination =
     url (options.allow_any_img_src || options.allow_dangerous_protocol) image_protocols destination
 
--- where the first definition with an identifier leads
+-- the target of the first definition with an identifier
 abbrev pub target_defined : Given → List ℕ → Target
 target_defined given identifier = option_map_or (λ defined. defined.target)
     (find (λ defined. bytes_eq defined.identifier identifier) given.definitions)
     (target_in nothing_found)
 
--- where a link or an image leads: as its resource says, else as the definition to which it refers
+-- the target of a link or an image: its resource, else the definition that it refers to
 abbrev pub leads_to : Given → At → Target
 leads_to given at =
     unwrap_or at.found.resource (target_defined given (identifier_of given.bytes at.children))
 
--- ` title="` title `"`, where there is one
+-- ` title="` title `"`, if there is one
 abbrev pub title_attribute : Option (List ℕ) → List Piece
 title_attribute title =
     option_map_or (λ text. Text (codes " title=\"") ∷ Text text ∷ Text (codes "\"") ∷ []) title []
@@ -51,13 +50,13 @@ picture options target label =
     ∷ Text (codes "\" alt=\"") ∷ Text label ∷ Text (codes "\"")
     ∷ (title_attribute target.title ++ said (codes " />"))
 
--- a link or an image with a label, of which an image around it leaves the label
+-- a link or an image with a label; inside an image, only the label
 abbrev pub medium : (CompileOptions → Target → List ℕ → List Piece) → Given →
     At → List ℕ → List Piece
 medium tag given at label =
     if at.around.in_image then said label else tag given.options (leads_to given at) label
 
--- an autolink: its text, which leads to itself after a prefix unless it is plain
+-- an autolink: its text, linked to itself with a prefix, unless it is plain
 abbrev pub autolink : Given → At → Bool → List ℕ → List Piece
 autolink given at plain prefix =
     let text = text_in given.bytes at.place in

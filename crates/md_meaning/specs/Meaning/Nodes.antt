@@ -1,4 +1,4 @@
--- What some nodes mean, one after another.
+-- The meaning of nodes in sequence.
 use Rattle.std.specs.Prelude.{ℕ, Bool, List, [], ◌∷◌, ◌++◌, ◌&&◌, if◌then◌else◌, unwrap_or, Some}
 use Rattle.md_base.specs.declared.event.Name.{Name}
 use Rattle.md_base.specs.declared.event.Name.TheVariants as name_variants
@@ -19,8 +19,8 @@ use Rattle.md_meaning.specs.Meaning.At.{Before, At, identifier_of}
 use Rattle.md_meaning.specs.Meaning.Before.{before_children, lets_slurp}
 use Rattle.md_meaning.specs.Meaning.Means.{prints}
 
--- what nodes mean: their pieces, what is found on their spine, the calls, the definitions and the
--- footnotes by their exits, and whether the next line ending is slurped after them
+-- the meaning of nodes: their pieces, what their spine contains, the calls, the definitions and the
+-- footnotes in the order of their exits, and whether the next line ending is slurped after them
 pub record Outcome : Type 0 where
   pub pieces : List Piece
   pub found : Found
@@ -29,7 +29,7 @@ pub record Outcome : Type 0 where
   pub footnotes : List Footnote
   pub slurps : Bool
 
--- of each thing that is found the last counts
+-- two meanings in sequence; of each thing on the spine the last one counts
 abbrev pub both : Outcome → Outcome → Outcome
 both first later = record {
   pieces = first.pieces ++ later.pieces;
@@ -45,8 +45,7 @@ both first later = record {
   slurps = later.slurps;
 }
 
--- what is found where a node stands: what it is by itself, or where it is transparent what
--- its children are
+-- what a node adds to its parent's spine: itself, or, if it is transparent, what its children add
 abbrev pub found_at : At → Name → List ℕ → Found
 found_at at HeadingSetextText text = record nothing_found { heading = Some text }
 found_at at DefinitionDestinationString text = record nothing_found { destination = Some text }
@@ -56,8 +55,8 @@ found_at at ResourceTitleString text = record nothing_found { title = Some text 
 found_at at Resource text = record nothing_found { resource = Some (target_in at.found) }
 found_at at name text = if is_transparent name then at.found else nothing_found
 
--- what a node means, by what its children mean; a call, a definition and a footnote are
--- named by their labels
+-- the meaning of a node, from the meaning of its children; a call, a definition and a footnote have
+-- the identifiers of their labels
 abbrev pub node : Given → At → Name → Outcome → Outcome
 node given at name inner =
     let text = layout given.ending inner.pieces in
@@ -73,7 +72,7 @@ node given at name inner =
       slurps = if at.around.in_definition then inner.slurps else lets_slurp at name inner.slurps;
     }
 
--- what stands before the next sibling of a node that means this
+-- the state before the next sibling of a node with this meaning
 abbrev pub before_next : At → Name → Outcome → Before
 before_next at name here = record at.before {
   calls = at.before.calls ++ here.calls;
@@ -83,11 +82,11 @@ before_next at name here = record at.before {
   heading = unwrap_or here.found.heading at.before.heading;
 }
 
--- a node, and what later nodes mean after it
+-- a node, followed by later nodes
 abbrev pub continued : At → Name → Outcome → (Before → Outcome) → Outcome
 continued at name here later = both here (later (before_next at name here))
 
--- what some nodes mean, by what stands around them and before them
+-- the meaning of nodes, from their ancestors' facts and the state before them
 abbrev pub outcome : Given → Surroundings → Before → Forest → Outcome
 outcome given around before Empty = record {
   pieces = [];

@@ -13,7 +13,7 @@ use Rattle.md_base.specs.NameTests.{is_definition}
 use Rattle.md_meaning.specs.Meaning.Layout.{Piece, Text, said, when}
 use Rattle.md_meaning.specs.Meaning.At.{Given, At, text_in}
 
--- a text, escaped where the surroundings say so
+-- a text, escaped if the surroundings say so
 abbrev pub escaped : At → List ℕ → List Piece
 escaped at text = said (encoded at.around.is_escaping text)
 
@@ -25,13 +25,13 @@ marker name = elim name [
   | _ ↦ 38
 ]
 
--- what a reference stands for: the last mark before its value says how to read it
+-- the character of a reference: the last mark before its value decides how to read it
 abbrev pub reference : Given → At → List ℕ
 reference given at =
     let last = slice_get at.before.spine (length at.before.spine - 1) in
     unwrap_or (decoded given.names (option_map_or marker last 38) (text_in given.bytes at.place)) []
 
--- a line ending is dropped where it is slurped, which none in a definition is, and after a
+-- a line ending isn't printed if it is slurped, which none in a definition is, or after a
 -- definition of either kind
 abbrev pub is_dropped : At → Bool
 is_dropped at = not at.around.in_definition && at.before.slurps
@@ -42,31 +42,31 @@ abbrev pub line_ending : Given → At → List Piece
 line_ending given at = if at.around.in_code then said (codes " ")
     else (if is_dropped at then [] else said (text_in given.bytes at.place))
 
--- HTML, which the tag filter disarms where it may stand
+-- HTML, whose tags the tag filter escapes if it is allowed
 abbrev pub html : Given → At → List ℕ
 html given at = if given.options.allow_dangerous_html && given.options.gfm_tagfilter
     then tag_filtered (text_in given.bytes at.place) else text_in given.bytes at.place
 
--- a span between its tags, which don't stand in an image
+-- a span between its tags, which aren't printed in an image
 abbrev pub span : At → List Piece → List Piece → List Piece → List Piece
 span at start inner end = if at.around.in_image then inner else start ++ (inner ++ end)
 
--- a task's tag, up to what tells that it is done
+-- a task's tag, up to the attribute for done
 abbrev pub task_start : Given → List Piece
 task_start given = Text (codes "<input type=\"checkbox\" ")
     ∷ when (not given.options.gfm_task_list_item_checkable) (said (codes "disabled=\"\" "))
 
--- this byte stands there
+-- the byte at this index is this one
 abbrev pub is_at : ℕ → List ℕ → ℕ → Bool
 is_at byte text index = option_map_or (λ found. found == byte) (slice_get text index) false
 
--- a text whose backslashes directly before pipes are gone
+-- a text without the backslashes directly before pipes
 abbrev pub without_escapes : List ℕ → List ℕ
 without_escapes [] = []
 without_escapes (byte ∷ bytes) =
     (if byte == 92 && is_at 124 bytes 0 then [] else byte ∷ []) ++ without_escapes bytes
 
--- one space less at each end of a text that begins and ends with one and isn't all spaces
+-- a text without one space at each end, if it begins and ends with one and isn't all spaces
 abbrev pub trimmed : List ℕ → List ℕ
 trimmed text = if is_at 32 text 0 && is_at 32 text (length text - 1)
     && not (list_all (λ byte. byte == 32) text) then take (length text - 2) (drop 1 text) else text

@@ -11,7 +11,7 @@ use Rattle.md_base.specs.Children.{spine_names}
 use Rattle.md_meaning.specs.Meaning.Layout.{Piece, Text, on_own_line}
 use Rattle.md_meaning.specs.Meaning.At.{At}
 
--- how the cells of a column are aligned
+-- the attribute for a column's alignment
 abbrev pub align_attribute : AlignKind → List ℕ
 align_attribute align.None = []
 align_attribute align.Left = codes " align=\"left\""
@@ -25,12 +25,12 @@ cell_of in_head text kind =
     ++ (Text (align_attribute kind) ∷ Text (codes ">")
     ∷ Text text ∷ Text (if in_head then codes "</th>" else codes "</td>") ∷ [])
 
--- a cell, where the table has its column
+-- a cell, if the table has its column
 abbrev pub cell : At → List ℕ → List Piece
 cell at text = option_map_or (λ kind. cell_of at.around.in_head text kind)
     (slice_get at.before.columns (count_by (is GfmTableCell) at.before.spine)) []
 
--- the end of a row, with empty cells for the columns that it has no cells for
+-- the end of a row, with empty cells for the columns that it lacks
 abbrev pub row_end : At → List Piece
 row_end at = flat_map (cell_of at.around.in_head [])
     (drop (count_by (is GfmTableCell) (spine_names at.children)) at.before.columns)

@@ -68,7 +68,7 @@ setext_heading_bytes = codes "a" ++ (10 ∷ []) ++ codes "--"
 abbrev pub setext_heading_text : List ℕ
 setext_heading_text = codes "<h2>a</h2>"
 
--- HTML where it is left as it is: the options, the tree, its bytes and its text
+-- HTML if it is left as it is: the options, the tree, its bytes and its text
 abbrev pub html_as_it_is_options : CompileOptions
 html_as_it_is_options = record default_options { allow_dangerous_html = true }
 
@@ -138,7 +138,7 @@ code_without_a_chunk_bytes = codes "    "
 abbrev pub code_without_a_chunk_text : List ℕ
 code_without_a_chunk_text = codes "<pre><code></code></pre>"
 
--- HTML where it is escaped: the tree, its bytes and its text
+-- HTML if it is escaped: the tree, its bytes and its text
 abbrev pub html_by_default : Forest
 html_by_default =
     Node HtmlFlow (at 0) (at 3) (Node HtmlFlowData (at 0) (at 3) (Empty) (Empty))
@@ -151,8 +151,7 @@ html_by_default_bytes = codes "<i>" ++ (10 ∷ []) ++ codes "<b>"
 abbrev pub html_by_default_text : List ℕ
 html_by_default_text = codes "&lt;i&gt;" ++ (10 ∷ []) ++ codes "<p>&lt;b&gt;</p>"
 
--- HTML where it is left, and disarmed by the tag filter: the options, the tree, its
--- bytes and its text
+-- HTML if it is left, and escaped by the tag filter: the options, the tree, its bytes and its text
 abbrev pub filtered_html_options : CompileOptions
 filtered_html_options = record default_options { allow_dangerous_html = true; gfm_tagfilter = true }
 

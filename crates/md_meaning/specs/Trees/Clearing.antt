@@ -1,4 +1,4 @@
--- Worked trees of line endings that are kept: what stands before them clears the mark to slurp one.
+-- Worked trees of line endings that are printed: a node before them clears the mark to slurp one.
 use Rattle.std.specs.Prelude.{ℕ, List, [], ◌∷◌, ◌++◌, codes}
 use Rattle.md_base.specs.declared.event.Name.TheVariants as name_variants
 use name_variants.{BlankLineEnding, BlockQuote, CodeFenced, CodeFencedFence, CodeIndented, Data}
@@ -8,7 +8,8 @@ use name_variants.{MathFlow, MathFlowFence, Paragraph, SpaceOrTab}
 use Rattle.md_base.specs.Tree.{Forest, Empty, Node}
 use Rattle.md_meaning.specs.Trees.{at}
 
--- a line ending after frontmatter and a blank line, which clears: the tree, its bytes and its text
+-- a line ending after frontmatter and a blank line, which clears the mark to slurp it: the tree,
+-- its bytes and its text
 abbrev pub ending_after_a_blank_line : Forest
 ending_after_a_blank_line =
     Node Frontmatter (at 0) (at 0) (Empty) (Node BlankLineEnding (at 0) (at 1) (Empty)
@@ -20,7 +21,8 @@ ending_after_a_blank_line_bytes = (10 ∷ []) ++ (10 ∷ [])
 abbrev pub ending_after_a_blank_line_text : List ℕ
 ending_after_a_blank_line_text = (10 ∷ [])
 
--- a line ending after frontmatter and a block quote, which clears: the tree, its bytes and its text
+-- a line ending after frontmatter and a block quote, which clears the mark to slurp it: the tree,
+-- its bytes and its text
 abbrev pub ending_after_a_quote : Forest
 ending_after_a_quote =
     Node Frontmatter (at 0) (at 0) (Empty) (Node BlockQuote (at 0) (at 0) (Empty)
@@ -32,7 +34,8 @@ ending_after_a_quote_bytes = (10 ∷ [])
 abbrev pub ending_after_a_quote_text : List ℕ
 ending_after_a_quote_text = codes "<blockquote>" ++ (10 ∷ []) ++ codes "</blockquote>" ++ (10 ∷ [])
 
--- a line ending after frontmatter and indented code, which clears: the tree, its bytes and its text
+-- a line ending after frontmatter and indented code, which clears the mark to slurp it: the tree,
+-- its bytes and its text
 abbrev pub ending_after_indented_code : Forest
 ending_after_indented_code =
     Node Frontmatter (at 0) (at 0) (Empty) (Node CodeIndented (at 0) (at 0) (Empty)
@@ -44,8 +47,8 @@ ending_after_indented_code_bytes = (10 ∷ [])
 abbrev pub ending_after_indented_code_text : List ℕ
 ending_after_indented_code_text = codes "<pre><code></code></pre>" ++ (10 ∷ [])
 
--- a line ending after fenced code, which clears what its fence sets: the tree, its
--- bytes and its text
+-- a line ending after fenced code, which clears the mark that its fence sets: the tree, its bytes
+-- and its text
 abbrev pub ending_after_fenced_code : Forest
 ending_after_fenced_code =
     Node CodeFenced (at 0) (at 6) (Node CodeFencedFence (at 0) (at 3) (Empty)
@@ -58,7 +61,8 @@ ending_after_fenced_code_bytes = codes "``````" ++ (10 ∷ [])
 abbrev pub ending_after_fenced_code_text : List ℕ
 ending_after_fenced_code_text = codes "<pre><code></code></pre>" ++ (10 ∷ [])
 
--- a line ending after math, which clears what its fence sets: the tree, its bytes and its text
+-- a line ending after math, which clears the mark that its fence sets: the tree, its bytes and its
+-- text
 abbrev pub ending_after_math : Forest
 ending_after_math =
     Node MathFlow (at 0) (at 4) (Node MathFlowFence (at 0) (at 2) (Empty)
@@ -72,8 +76,8 @@ abbrev pub ending_after_math_text : List ℕ
 ending_after_math_text =
     codes "<pre><code class=\"language-math math-display\"></code></pre>" ++ (10 ∷ [])
 
--- a line ending after a tight list, whose item clears what its paragraph sets: the tree, its
--- bytes and its text
+-- a line ending after a tight list, whose item clears the mark that its paragraph sets: the tree,
+-- its bytes and its text
 abbrev pub ending_after_a_tight_list : Forest
 ending_after_a_tight_list =
     Node ListUnordered (at 0) (at 3) (Node ListItem (at 0) (at 3)
@@ -89,7 +93,8 @@ abbrev pub ending_after_a_tight_list_text : List ℕ
 ending_after_a_tight_list_text =
     codes "<ul>" ++ (10 ∷ []) ++ codes "<li>a</li>" ++ (10 ∷ []) ++ codes "</ul>" ++ (10 ∷ [])
 
--- a line ending in a cell that prints nothing, which clears: the tree, its bytes and its text
+-- a line ending in a cell that prints nothing, which clears the mark to slurp it: the tree, its
+-- bytes and its text
 abbrev pub ending_in_a_dropped_cell : Forest
 ending_in_a_dropped_cell =
     Node Frontmatter (at 0) (at 0) (Empty) (Node GfmTable (at 0) (at 3)

@@ -1,4 +1,4 @@
--- Worked trees of line endings: which are slurped, dropped or used.
+-- Worked trees of line endings: which are slurped, dropped or printed.
 use Rattle.std.specs.Prelude.{ℕ, List, [], ◌∷◌, ◌++◌, codes}
 use Rattle.md_base.specs.declared.event.Name.TheVariants as name_variants
 use name_variants.{BlankLineEnding, CodeText, Data, Definition, DefinitionDestinationString}
@@ -55,7 +55,7 @@ endings_after_a_footnote_definition_text =
     ++ way_back "b" ++ codes "</p>" ++ (10 ∷ []) ++ codes "</li>" ++ (10 ∷ []) ++ codes "</ol>"
     ++ (10 ∷ []) ++ codes "</section>" ++ (10 ∷ [])
 
--- a thematic break after frontmatter, whose line ending is slurped: the tree, its
+-- a thematic break after frontmatter, which slurps the line ending between them: the tree, its
 -- bytes and its text
 abbrev pub break_after_frontmatter : Forest
 break_after_frontmatter =
@@ -98,8 +98,8 @@ abbrev pub default_line_ending_text : List ℕ
 default_line_ending_text =
     codes "<ul>" ++ (13 ∷ []) ++ codes "<li>a</li>" ++ (13 ∷ []) ++ codes "</ul>"
 
--- a list before a definition with the only line ending, which is the one that is used: the tree,
--- its bytes and its text
+-- a list before a definition with the only line ending, which is the one printed: the tree, its
+-- bytes and its text
 abbrev pub line_ending_in_a_definition : Forest
 line_ending_in_a_definition =
     Node ListUnordered (at 0) (at 3) (Node ListItem (at 0) (at 3)
@@ -119,8 +119,8 @@ line_ending_in_a_definition_text =
     codes "<ul>" ++ (13 ∷ []) ++ (10 ∷ []) ++ codes "<li>a</li>" ++ (13 ∷ [])
     ++ (10 ∷ []) ++ codes "</ul>"
 
--- a line ending after frontmatter and code with a line ending, which is no mark: the tree, its
--- bytes and its text
+-- a line ending after frontmatter and code with a line ending, which doesn't clear the mark to
+-- slurp one: the tree, its bytes and its text
 abbrev pub ending_after_code_with_an_ending : Forest
 ending_after_code_with_an_ending =
     Node Frontmatter (at 0) (at 0) (Empty) (Node CodeText (at 0) (at 3)
@@ -132,8 +132,8 @@ ending_after_code_with_an_ending_bytes = codes "`" ++ (10 ∷ []) ++ codes "`" +
 abbrev pub ending_after_code_with_an_ending_text : List ℕ
 ending_after_code_with_an_ending_text = codes "<code> </code>"
 
--- a line ending after frontmatter and a definition with a line ending, which is no mark: the tree,
--- its bytes and its text
+-- a line ending after frontmatter and a definition with a line ending, which doesn't clear the mark
+-- to slurp one: the tree, its bytes and its text
 abbrev pub ending_after_a_definition_with_an_ending : Forest
 ending_after_a_definition_with_an_ending =
     Node Frontmatter (at 0) (at 0) (Empty) (Node Definition (at 0) (at 6)
@@ -148,7 +148,7 @@ ending_after_a_definition_with_an_ending_bytes = codes "[a]:" ++ (10 ∷ []) ++ 
 abbrev pub ending_after_a_definition_with_an_ending_text : List ℕ
 ending_after_a_definition_with_an_ending_text = []
 
--- a title with a line ending after frontmatter, which is not slurped in a definition: the tree, its
+-- a title with a line ending after frontmatter, which isn't slurped in a definition: the tree, its
 -- bytes and its text
 abbrev pub title_on_two_lines : Forest
 title_on_two_lines =
@@ -181,8 +181,7 @@ definition_in_another_name_bytes = codes "[a]: b" ++ (10 ∷ [])
 abbrev pub definition_in_another_name_text : List ℕ
 definition_in_another_name_text = (10 ∷ [])
 
--- a blank line before all else, whose line ending is the one that is used: the tree, its
--- bytes and its text
+-- a blank line at the start, whose line ending is the one printed: the tree, its bytes and its text
 abbrev pub blank_line_at_the_start : Forest
 blank_line_at_the_start =
     Node BlankLineEnding (at 0) (at 2) (Empty)

@@ -59,8 +59,8 @@ footnote_by_number_text =
     ++ codes "<p>c " ++ way_back "1-1" ++ codes "</p>" ++ (10 ∷ []) ++ codes "</li>" ++ (10 ∷ [])
     ++ codes "</ol>" ++ (10 ∷ []) ++ codes "</section>" ++ (10 ∷ [])
 
--- a second call whose identifier's id is that of another footnote's first call: the tree, its
--- bytes, its text, and its text with ids by number, where no two ids are equal
+-- a second call whose id equals that of another footnote's first call: the tree, its bytes, its
+-- text, and its text with ids by number, where all ids differ
 abbrev pub identifiers_that_meet : Forest
 identifiers_that_meet =
     Node Paragraph (at 0) (at 14) (Node GfmFootnoteCall (at 0) (at 4)

@@ -1,4 +1,4 @@
--- Worked trees of what a footnote holds, and where the ways back to its calls stand.
+-- Worked trees of the content of footnotes, and where their backreferences are.
 use Rattle.std.specs.Prelude.{ℕ, true, List, [], ◌∷◌, ◌++◌, codes}
 use Rattle.md_base.specs.declared.event.Name.TheVariants as name_variants
 use name_variants.{BlockQuote, BlockQuotePrefix, Data, GfmFootnoteCall, GfmFootnoteDefinition}

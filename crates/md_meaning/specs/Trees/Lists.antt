@@ -185,7 +185,7 @@ item_with_a_blank_line_text =
     ++ (10 ∷ [])
     ++ codes "<p>b</p>" ++ (10 ∷ []) ++ codes "</li>" ++ (10 ∷ []) ++ codes "</ul>"
 
--- an item that ends in code, whose end stands on its own line: the tree, its bytes and its text
+-- an item that ends in code, whose end is on its own line: the tree, its bytes and its text
 abbrev pub code_in_an_item : Forest
 code_in_an_item =
     Node ListUnordered (at 0) (at 13) (Node ListItem (at 0) (at 13)
@@ -225,8 +225,8 @@ start_number_with_zeros_text =
     codes "<ol start=\"7\">" ++ (10 ∷ []) ++ codes "<li>a</li>" ++ (10 ∷ [])
     ++ codes "</ol>"
 
--- a blank line after an item that ends in a quote with nothing in it, which leaves the list tight:
--- the tree, its bytes and its text
+-- a blank line after an item that ends in an empty quote, which leaves the list tight: the tree,
+-- its bytes and its text
 abbrev pub bare_quote_in_an_item : Forest
 bare_quote_in_an_item =
     Node ListUnordered (at 0) (at 7) (Node ListItem (at 0) (at 3) (Node ListItemPrefix (at 0) (at 2)
@@ -268,8 +268,8 @@ bare_quote_before_a_space_text =
     ++ codes "</blockquote>" ++ (10 ∷ []) ++ codes "</li>" ++ (10 ∷ []) ++ codes "<li>a</li>"
     ++ (10 ∷ []) ++ codes "</ul>"
 
--- a blank line after an item that ends in a quote with a text in it, which makes the list loose:
--- the tree, its bytes and its text
+-- a blank line after an item that ends in a quote with text, which makes the list loose: the tree,
+-- its bytes and its text
 abbrev pub quote_before_a_blank_line : Forest
 quote_before_a_blank_line =
     Node ListUnordered (at 0) (at 8) (Node ListItem (at 0) (at 4) (Node ListItemPrefix (at 0) (at 2)

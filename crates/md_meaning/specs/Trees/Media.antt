@@ -173,8 +173,8 @@ literal_autolinks_text =
     ++ codes "<a href=\"mailto:f@g\">f@g</a><a href=\"xmpp:h\">xmpp:h</a>"
     ++ codes "<a href=\"mailto:i\">mailto:i</a><a href=\"\">javascript:j</a></p>"
 
--- links and images of any protocol, where the options let them: the options, the tree, its
--- bytes and its text
+-- links and images of any protocol, if the options allow it: the options, the tree, its bytes and
+-- its text
 abbrev pub any_protocol_options : CompileOptions
 any_protocol_options =
     record default_options { allow_any_img_src = true; allow_dangerous_protocol = true }
@@ -212,7 +212,7 @@ ampersand_in_a_destination_bytes = codes "[a]" ++ (10 ∷ []) ++ (10 ∷ []) ++ 
 abbrev pub ampersand_in_a_destination_text : List ℕ
 ampersand_in_a_destination_text = codes "<p><a href=\"b?c&amp;d\">a</a></p>" ++ (10 ∷ [])
 
--- a label with CR in it, which refers as a space does: the tree, its bytes and its text
+-- a label with CR in it, which is compared as a space: the tree, its bytes and its text
 abbrev pub carriage_return_in_a_label : Forest
 carriage_return_in_a_label =
     Node Paragraph (at 0) (at 5) (Node Link (at 0) (at 5) (Node Label (at 0) (at 5) (Node LabelText

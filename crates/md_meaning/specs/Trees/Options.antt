@@ -1,5 +1,5 @@
--- A worked tree with each name whose text an option that is off or on touches, under each option
--- alone and with those that it meets.
+-- A worked tree with each name whose text depends on an option, under each option alone and with
+-- the options that it interacts with.
 use Rattle.std.specs.Prelude.{ℕ, true, List, [], ◌∷◌, ◌++◌, codes}
 use Rattle.md_base.specs.declared.event.Name.TheVariants as name_variants
 use name_variants.{AutolinkProtocol, Data, GfmFootnoteCall, GfmFootnoteDefinition}
@@ -13,8 +13,8 @@ use Rattle.md_text.specs.Defaults.{default_options}
 use Rattle.md_text.specs.declared.options.CompileOptions.{CompileOptions}
 use Rattle.md_meaning.specs.Trees.{at}
 
--- a link, an image, an autolink, data, HTML in a text, a task and a call in a paragraph; HTML by
--- itself; a footnote
+-- a link, an image, an autolink, data, HTML in a text, a task and a call in a paragraph; a block of
+-- HTML; a footnote
 abbrev pub each_name : Forest
 each_name =
     Node Paragraph (at 0) (at 35)
@@ -48,9 +48,9 @@ each_name =
 abbrev pub each_name_bytes : List ℕ
 each_name_bytes = codes "[a](x:b)![a](x:c)<x:d>&<xmp>[ ][^e]<title>[^e]:f"
 
--- its text by what options change: the ids of the footnote and its call, the addresses of the
--- link, the autolink and the image, the HTML in the text and the one by itself, what a task
--- says, the line ending
+-- its text, with parameters for the parts that options change: the ids of the footnote and its
+-- call, the addresses of the link, the autolink and the image, the HTML in the text and in the
+-- block, the attribute of the task, the line ending
 abbrev pub each_name_text_by : (footnote call link autolink image span block task ending : List ℕ) →
     List ℕ
 each_name_text_by footnote call link autolink image span block task ending =
@@ -69,12 +69,12 @@ each_name_text_by footnote call link autolink image span block task ending =
     ++ codes "</a></p>" ++ ending
     ++ codes "</li>" ++ ending ++ codes "</ol>" ++ ending ++ codes "</section>" ++ ending
 
--- the same where ids go by identifier
+-- the same if ids are by identifier
 abbrev pub each_name_text : (link autolink image span block task ending : List ℕ) → List ℕ
 each_name_text link autolink image span block task ending =
     each_name_text_by (codes "e") (codes "e") link autolink image span block task ending
 
--- what a task says that can't be checked, and the three line endings
+-- the attribute of a task that can't be checked, and the three line endings
 abbrev pub disabled : List ℕ
 disabled = codes "disabled=\"\" "
 
@@ -94,7 +94,7 @@ no_option = default_options
 abbrev pub no_option_text : List ℕ
 no_option_text = each_name_text [] [] [] (codes "&lt;xmp&gt;") (codes "&lt;title&gt;") disabled lf
 
--- images may have any source; links keep to their protocols
+-- images may have any source; links need a permitted protocol
 abbrev pub any_image_source : CompileOptions
 any_image_source = record default_options { allow_any_img_src = true }
 
@@ -135,7 +135,7 @@ tag_filter = record default_options { gfm_tagfilter = true }
 abbrev pub tag_filter_text : List ℕ
 tag_filter_text = each_name_text [] [] [] (codes "&lt;xmp&gt;") (codes "&lt;title&gt;") disabled lf
 
--- HTML stays, and the tag filter disarms it
+-- HTML stays, and the tag filter escapes its tags
 abbrev pub filtered_html : CompileOptions
 filtered_html = record default_options { allow_dangerous_html = true; gfm_tagfilter = true }
 
@@ -165,7 +165,7 @@ abbrev pub both_ends_of_line_text : List ℕ
 both_ends_of_line_text =
     each_name_text [] [] [] (codes "&lt;xmp&gt;") (codes "&lt;title&gt;") disabled crlf
 
--- footnotes' ids go by number
+-- footnotes' ids are their numbers
 abbrev pub ids_by_number : CompileOptions
 ids_by_number = record default_options { gfm_footnote_number_ids = true }
 

@@ -102,7 +102,7 @@ math_on_two_lines_bytes = codes "$a" ++ (10 ∷ []) ++ codes "b$"
 abbrev pub math_on_two_lines_text : List ℕ
 math_on_two_lines_text = codes "<code class=\"language-math math-inline\">a b</code>"
 
--- references by numbers past the last character: the tree, its bytes and its text
+-- references by numbers above the last character: the tree, its bytes and its text
 abbrev pub references_past_the_last_character : Forest
 references_past_the_last_character =
     Node Paragraph (at 0) (at 23) (Node CharacterReferenceMarker (at 0) (at 1) (Empty)

@@ -25,7 +25,7 @@ pub fn meaning_of_setext_heading()
     ensures { Means blocks.setext_heading_bytes blocks.setext_heading blocks.setext_heading_text }
 {}
 
-/// The meaning of HTML where it is left as it is.
+/// The meaning of HTML if it is left as it is.
 pub fn meaning_of_html_as_it_is()
     ensures { MeansWith blocks.html_as_it_is_options blocks.html_as_it_is_bytes blocks.html_as_it_is
         blocks.html_as_it_is_text }
@@ -55,13 +55,13 @@ pub fn meaning_of_code_without_a_chunk()
         blocks.code_without_a_chunk_text }
 {}
 
-/// The meaning of HTML where it is escaped.
+/// The meaning of HTML if it is escaped.
 pub fn meaning_of_html_by_default()
     ensures { Means blocks.html_by_default_bytes blocks.html_by_default
         blocks.html_by_default_text }
 {}
 
-/// The meaning of HTML where it is left, and disarmed by the tag filter.
+/// The meaning of HTML if it is left, and escaped by the tag filter.
 pub fn meaning_of_filtered_html()
     ensures { MeansWith blocks.filtered_html_options blocks.filtered_html_bytes blocks.filtered_html
         blocks.filtered_html_text }

@@ -106,13 +106,14 @@ pub fn meaning_of_footnote_by_number()
         ids.footnote_by_number_text }
 {}
 
-/// The meaning of two footnotes of which one's second call has the id of the other's first.
+/// The meaning of two footnotes, where the id of a second call of one equals the id of the first
+/// call of the other.
 pub fn meaning_of_identifiers_that_meet()
     ensures { Means ids.identifiers_that_meet_bytes ids.identifiers_that_meet
         ids.identifiers_that_meet_text }
 {}
 
-/// The meaning of the same two with ids by number, where no two are equal.
+/// The meaning of the same two with ids by number, where all ids differ.
 pub fn meaning_of_identifiers_that_meet_by_number()
     ensures { MeansWith ids.ids_by_number ids.identifiers_that_meet_bytes
         ids.identifiers_that_meet

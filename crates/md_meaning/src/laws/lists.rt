@@ -52,7 +52,7 @@ pub fn meaning_of_item_with_a_blank_line()
         lists.item_with_a_blank_line_text }
 {}
 
-/// The meaning of an item that ends in code, whose end stands on its own line.
+/// The meaning of an item that ends in code, whose end is on its own line.
 pub fn meaning_of_code_in_an_item()
     ensures { Means lists.code_in_an_item_bytes lists.code_in_an_item lists.code_in_an_item_text }
 {}
@@ -63,8 +63,8 @@ pub fn meaning_of_start_number_with_zeros()
         lists.start_number_with_zeros_text }
 {}
 
-/// The meaning of a blank line after an item that ends in a quote with nothing in it, which
-/// leaves the list tight.
+/// The meaning of a blank line after an item that ends in an empty quote, which leaves the list
+/// tight.
 pub fn meaning_of_bare_quote_in_an_item()
     ensures { Means lists.bare_quote_in_an_item_bytes lists.bare_quote_in_an_item
         lists.bare_quote_in_an_item_text }
@@ -76,8 +76,8 @@ pub fn meaning_of_bare_quote_before_a_space()
         lists.bare_quote_before_a_space_text }
 {}
 
-/// The meaning of a blank line after an item that ends in a quote with a text in it, which
-/// makes the list loose.
+/// The meaning of a blank line after an item that ends in a quote with text, which makes the list
+/// loose.
 pub fn meaning_of_quote_before_a_blank_line()
     ensures { Means lists.quote_before_a_blank_line_bytes lists.quote_before_a_blank_line
         lists.quote_before_a_blank_line_text }

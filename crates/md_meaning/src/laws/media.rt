@@ -26,7 +26,7 @@ pub fn meaning_of_image_around_other_names()
         media.image_around_other_names_text }
 {}
 
-/// The meaning of reference beside a label.
+/// The meaning of a reference beside a label.
 pub fn meaning_of_reference_beside_a_label()
     ensures { Means media.reference_beside_a_label_bytes media.reference_beside_a_label
         media.reference_beside_a_label_text }
@@ -51,7 +51,7 @@ pub fn meaning_of_literal_autolinks()
         media.literal_autolinks_text }
 {}
 
-/// The meaning of links and images of any protocol, where the options let them.
+/// The meaning of links and images of any protocol, if the options allow it.
 pub fn meaning_of_any_protocol()
     ensures { MeansWith media.any_protocol_options media.any_protocol_bytes media.any_protocol
         media.any_protocol_text }
@@ -63,7 +63,7 @@ pub fn meaning_of_ampersand_in_a_destination()
         media.ampersand_in_a_destination_text }
 {}
 
-/// The meaning of a label with CR in it, which refers as a space does.
+/// The meaning of a label with CR in it, which is compared as a space.
 pub fn meaning_of_carriage_return_in_a_label()
     ensures { Means media.carriage_return_in_a_label_bytes media.carriage_return_in_a_label
         media.carriage_return_in_a_label_text }

@@ -9,7 +9,7 @@ pub fn meaning_under_no_option()
         options.no_option_text }
 {}
 
-/// Images may have any source; links keep to their protocols.
+/// Images may have any source; links need a permitted protocol.
 pub fn meaning_under_any_image_source()
     ensures { MeansWith options.any_image_source options.each_name_bytes options.each_name
         options.any_image_source_text }
@@ -38,7 +38,7 @@ pub fn meaning_under_tag_filter()
         options.tag_filter_text }
 {}
 
-/// HTML stays, and the tag filter disarms it.
+/// HTML stays as it is, and the tag filter escapes its tags.
 pub fn meaning_under_filtered_html()
     ensures { MeansWith options.filtered_html options.each_name_bytes options.each_name
         options.filtered_html_text }
@@ -62,7 +62,7 @@ pub fn meaning_under_both_ends_of_line()
         options.both_ends_of_line_text }
 {}
 
-/// Footnotes' ids go by number.
+/// Footnotes' ids are their numbers.
 pub fn meaning_under_ids_by_number()
     ensures { MeansWith options.ids_by_number options.each_name_bytes options.each_name
         options.ids_by_number_text }

@@ -37,7 +37,7 @@ pub fn meaning_of_math_on_two_lines()
         spans.math_on_two_lines_text }
 {}
 
-/// The meaning of references by numbers past the last character.
+/// The meaning of references by numbers above the last character.
 pub fn meaning_of_references_past_the_last_character()
     ensures { Means spans.references_past_the_last_character_bytes
         spans.references_past_the_last_character

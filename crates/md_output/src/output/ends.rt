@@ -1,4 +1,4 @@
-//! What becomes of a text that ends.
+//! Ends the innermost text.
 
 ghost use Rattle.std.specs.Prelude.{◌≡◌, ◌≤◌, ◌<◌, ◌++◌, [], OnOk, IfOk, true};
 ghost use Rattle.std.specs.Prelude.{length, string_bytes};
@@ -9,7 +9,7 @@ use crate::heads::{forget_from, push_merged, waits};
 use std::alloc::{AllocError, Global};
 
 impl Output {
-    /// How long the innermost text is, without the heads that wait in it.
+    /// The length of the innermost text, without its pending heads.
     #[inline(always)]
     pub(super) fn length(&self) -> usize
         ensures { result ≤ length self.now.text }
@@ -17,8 +17,8 @@ impl Output {
         self.bytes.len() - self.start.place
     }
 
-    /// Whether no text is captured and the only one is longer than this, even without the heads
-    /// that wait in it.
+    /// Whether no text is captured and the only one is longer than this, even without its pending
+    /// heads.
     #[inline(always)]
     pub fn is_longer(&self, limit: usize) -> bool
         ensures { result ≡ true → (self.now.below ≡ []) × (limit < length self.now.text) }
@@ -26,7 +26,7 @@ impl Output {
         self.length() > limit && self.outers.is_empty()
     }
 
-    /// Ends the innermost text, which stays where it is.
+    /// Ends the innermost text and keeps it as part of the outer one.
     #[inline(always)]
     pub fn join(&mut self)
         ensures { self.new ≡ record {
@@ -40,7 +40,7 @@ impl Output {
         self.end();
     }
 
-    /// Gives up the place of a head that wasn't put.
+    /// Removes a reserved head that wasn't used.
     #[inline(never)]
     fn close_label(&mut self)
         ensures { self.new ≡ self.old }
@@ -50,7 +50,7 @@ impl Output {
         }
     }
 
-    /// Ends the innermost text, which stays where it is.
+    /// Ends the innermost text and keeps it as part of the outer one.
     #[inline(always)]
     fn end(&mut self)
         ensures { self.new ≡ record {
@@ -63,7 +63,7 @@ impl Output {
         }
     }
 
-    /// Ends the innermost text, which goes.
+    /// Ends the innermost text and drops it.
     #[inline(always)]
     pub fn discard(&mut self)
         ensures { self.new
@@ -73,11 +73,11 @@ impl Output {
         self.end();
     }
 
-    /// Ends the innermost text, and adds it to another.
+    /// Ends the innermost text, and appends it to another.
     ///
     /// # Errors
     ///
-    /// Only where memory runs out.
+    /// Returns an error only if memory runs out.
     pub fn move_into(&mut self, out: &mut String) -> Result<(), AllocError>
         ensures moved { OnOk result (string_bytes out.new ≡ string_bytes out.old ++ self.old.text) }
         ensures left { OnOk result (self.new
@@ -88,7 +88,7 @@ impl Output {
         Ok(())
     }
 
-    /// Takes the innermost text away, and adds it to another.
+    /// Removes the innermost text, and appends it to another.
     pub(super) fn move_text(&mut self, out: &mut String) -> Result<(), AllocError>
         ensures moved { OnOk result (string_bytes out.new ≡ string_bytes out.old ++ self.old.text) }
         ensures left { OnOk result (self.new ≡ record { text = []; below = self.old.below }) }
@@ -100,11 +100,11 @@ impl Output {
         added
     }
 
-    /// The innermost text, as it is where nothing is captured and no head waits.
+    /// Returns the innermost text; without a copy if nothing is captured and no head is pending.
     ///
     /// # Errors
     ///
-    /// Only where memory runs out.
+    /// Returns an error only if memory runs out.
     pub fn into_text(self, alloc: Global) -> Result<String, AllocError>
         ensures { IfOk result (λ text. string_bytes text ≡ self.text) }
     {
@@ -131,7 +131,7 @@ impl Output {
         Ok(text)
     }
 
-    /// Adds the innermost text to another.
+    /// Appends the innermost text to another.
     fn add_to(&self, out: &mut String) -> Result<(), AllocError>
         ensures { OnOk result (string_bytes out.new ≡ string_bytes out.old ++ self.now.text) }
     {
@@ -144,7 +144,7 @@ impl Output {
         )
     }
 
-    /// Takes the innermost text away, and with it the heads that wait in it.
+    /// Removes the innermost text and its pending heads.
     #[inline(always)]
     fn take_away(&mut self)
         ensures { self.new ≡ record { text = []; below = self.old.below } }

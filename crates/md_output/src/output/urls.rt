@@ -1,4 +1,4 @@
-//! Escaped texts and URLs.
+//! Writes escaped texts and URLs.
 
 ghost use Rattle.std.specs.Prelude.{◌≡◌, ◌<◌, ◌++◌, OnOk};
 ghost use Rattle.std.specs.Prelude.{map};
@@ -10,12 +10,11 @@ use md_text::{push_encoded, push_sanitized, push_sanitized_with_protocols};
 use std::alloc::AllocError;
 
 impl Output {
-    /// Puts a text, made safe to stand in HTML where `escaping` says so, and without
-    /// NUL in any case.
+    /// Writes a text, escaped if `escaping` is set, and without NUL in any case.
     ///
     /// # Errors
     ///
-    /// Only where memory runs out.
+    /// Returns an error only if memory runs out.
     #[inline(always)]
     pub fn put_encoded(&mut self, text: &str, escaping: bool) -> Result<(), AllocError>
         ensures { OnOk result (self.new ≡ record {
@@ -27,12 +26,12 @@ impl Output {
         Ok(())
     }
 
-    /// Puts a URL, normalized and escaped. Where memory runs out no text is left, and so no
-    /// beginning of a URL.
+    /// Writes a URL, normalized and escaped. If memory runs out, no text remains, and so no partial
+    /// URL.
     ///
     /// # Errors
     ///
-    /// Only where memory runs out.
+    /// Returns an error only if memory runs out.
     pub fn put_sanitized(&mut self, url: &str) -> Result<(), AllocError>
         ensures { OnOk result (self.new ≡ record {
           text = self.old.text ++ sanitized url.now;
@@ -54,12 +53,12 @@ impl Output {
         }
     }
 
-    /// Puts a URL in the same way, or nothing if its protocol isn't among these. Where memory runs
-    /// out no text is left.
+    /// Writes a URL likewise, or nothing if its protocol isn't among these. If memory runs out, no
+    /// text remains.
     ///
     /// # Errors
     ///
-    /// Only where memory runs out.
+    /// Returns an error only if memory runs out.
     pub fn put_sanitized_with_protocols(
         &mut self,
         url: &str,

@@ -1,4 +1,4 @@
-//! What a node that ends tells the one around it.
+//! Passes the facts of a node that ends to its parent.
 
 ghost use Rattle.std.specs.Prelude.{◌≡◌, true, false, OnOk};
 ghost use Rattle.md_base.specs.NameTests.{is_transparent, contributes};
@@ -13,8 +13,8 @@ use md_base::Name;
 use md_base::name_tests::{contributes, is_transparent};
 use std::alloc::{AllocError, Global};
 
-/// Notes a child that exits: as the last contributing one of the node around it, or among
-/// the definitions.
+/// Records a child that exits: as the last contributing child of its parent, or among the
+/// definitions.
 #[inline(always)]
 fn note_child(
     contributing: &mut usize,
@@ -35,13 +35,13 @@ fn note_child(
     }
 }
 
-/// Goes on with a search after a child, given that in it.
+/// Continues a search after a child, given the search inside it.
 #[inline(always)]
 fn search_after(sought: &mut Sought, name: Name, entry: usize, own: &Sought)
     ensures { sought.new ≡ spec.sought_after name entry own.now sought.old }
 {
     if is_transparent(name) {
-        // Each field by itself, for then what lies between them isn't copied.
+        // Assigning field by field avoids copying the padding between them.
         *sought = Sought {
             read_at: own.read_at,
             wanted: own.wanted,
@@ -52,7 +52,7 @@ fn search_after(sought: &mut Sought, name: Name, entry: usize, own: &Sought)
     }
 }
 
-/// Goes on with a search after a node without children.
+/// Continues a search after a node without children.
 #[inline(always)]
 fn search_leaf(sought: &mut Sought, name: Name, entry: usize)
     ensures { sought.new
@@ -64,7 +64,7 @@ fn search_leaf(sought: &mut Sought, name: Name, entry: usize)
     see(sought, name, entry, 0);
 }
 
-/// Goes on with an open node after a child.
+/// Updates an open node after a child.
 #[inline(always)]
 pub(super) fn follow(
     alloc: Global,
@@ -96,7 +96,7 @@ pub(super) fn follow(
     Ok(())
 }
 
-/// The same after a child without children of its own.
+/// The same after a child that has no children.
 #[inline(always)]
 pub(super) fn follow_leaf(
     alloc: Global,
@@ -125,7 +125,7 @@ pub(super) fn follow_leaf(
     Ok(())
 }
 
-/// The same after one that is simple.
+/// The same after a simple child.
 #[inline(always)]
 fn follow_simple(here: &mut OpenNode, name: Name, entry: usize)
     requires { spec.is_simple name ≡ true }
@@ -141,7 +141,7 @@ fn follow_simple(here: &mut OpenNode, name: Name, entry: usize)
     }
 }
 
-/// Whether a node is as most are: it contributes, and is nothing that the node around it looks at.
+/// Whether a node is of a common name: it contributes, and its parent doesn't examine it further.
 #[inline(always)]
 fn is_common(name: Name) -> bool
     ensures { result ≡ spec.is_common name }
@@ -163,7 +163,7 @@ fn is_common(name: Name) -> bool
     }
 }
 
-/// Whether a node, where it has no children, tells no more than what the last child is.
+/// Whether a node without children only becomes the last child of its parent, with no other effect.
 #[inline(always)]
 fn is_simple(name: Name) -> bool
     ensures { result ≡ spec.is_simple name }

@@ -1,4 +1,4 @@
-//! What is found at each event, kept in one word where that is the node's other event alone.
+//! The facts at the events. An event whose fact is only the partner takes one word.
 
 ghost use Rattle.std.specs.Prelude.{◌≡◌, ◌+◌, ◌<◌, ◌^◌, true, OnOk, OnErr, IfOk, ℕ, [], ◌∷◌};
 ghost use Rattle.std.specs.Prelude.{◌++◌};
@@ -11,13 +11,13 @@ use super::nodes::partner_alone;
 use std::alloc::{AllocError, Global};
 use std::marker::Model;
 
-/// From here on a word is the number of a record; below it is the index of an event.
+/// A word from here on is the number of a record; a lower one is the index of an event.
 const RECORDS: usize = 0x8000_0000_0000_0000;
 
-/// What is found at each event, in the order of the events.
+/// The fact at each event, in the order of the events.
 #[derive(Drop)]
 pub struct FactList {
-    /// For each event its partner, where there is nothing else, or the number of its record.
+    /// For each event its partner, if that is its whole fact, or the number of its record.
     words: Vec<usize>,
     records: Vec<Fact>,
 }
@@ -38,11 +38,11 @@ impl FactList {
     ghost use Rattle.std.specs.Prelude.{◌≡◌, ◌+◌, OnOk, IfOk, [], ◌∷◌, ◌++◌, length, set};
     ghost use Rattle.std.specs.Prelude.{slice_get};
 
-    /// Of no event, with room for so many.
+    /// An empty list, with capacity for `events` events.
     ///
     /// # Errors
     ///
-    /// `AllocError`, only where memory runs out.
+    /// `AllocError`, only if memory runs out.
     pub fn with_capacity(alloc: Global, events: usize) -> Result<FactList, AllocError>
         ensures { IfOk result (λ list. list ≡ []) }
     {
@@ -52,7 +52,7 @@ impl FactList {
         })
     }
 
-    /// Of how many events.
+    /// The number of events.
     #[inline(always)]
     pub fn len(&self) -> usize
         ensures { result ≡ length self.now }
@@ -60,7 +60,7 @@ impl FactList {
         self.words.len()
     }
 
-    /// What is found at the event with this index, if there is one.
+    /// The fact at the event with this index, if there is one.
     #[inline(always)]
     pub fn get(&self, index: usize) -> Option<Fact>
         ensures { result ≡ slice_get self.now index }
@@ -69,11 +69,11 @@ impl FactList {
         Some(fact_of_word(&self.records, word))
     }
 
-    /// Adds what is found at the next event.
+    /// Adds the fact at the next event.
     ///
     /// # Errors
     ///
-    /// `AllocError`, only where memory runs out.
+    /// `AllocError`, only if memory runs out.
     #[inline(always)]
     pub fn push(&mut self, fact: Fact) -> Result<(), AllocError>
         ensures { OnOk result (self.new ≡ self.old ++ fact ∷ []) }
@@ -82,12 +82,11 @@ impl FactList {
         push_word(&mut self.words, word)
     }
 
-    /// Adds what is found at an entry and at its own exit, which comes right after; answers the
-    /// index of the entry.
+    /// Adds the facts at an entry and at the exit right after it; returns the index of the entry.
     ///
     /// # Errors
     ///
-    /// `AllocError`, only where memory runs out.
+    /// `AllocError`, only if memory runs out.
     #[inline(always)]
     pub fn push_leaf(&mut self) -> Result<usize, AllocError>
         ensures entry { IfOk result (λ entry. entry ≡ length self.old) }
@@ -98,11 +97,11 @@ impl FactList {
         push_two(&mut self.words)
     }
 
-    /// Changes what is found at the event with this index, if there is one.
+    /// Replaces the fact at the event with this index, if there is one.
     ///
     /// # Errors
     ///
-    /// `AllocError`, only where memory runs out.
+    /// `AllocError`, only if memory runs out.
     #[inline(always)]
     pub fn put(&mut self, index: usize, fact: Fact) -> Result<(), AllocError>
         ensures { OnOk result (self.new ≡ set self.old index fact) }
@@ -113,7 +112,7 @@ impl FactList {
     }
 }
 
-/// Whether a fact is the partner alone, and that fits in a word.
+/// Whether a fact is only a partner, and fits in a word.
 #[inline(always)]
 fn is_partner_alone(fact: &Fact) -> bool
     ensures alone { result ≡ true → fact.now ≡ spec.partner_alone fact.now.partner }
@@ -126,8 +125,8 @@ fn is_partner_alone(fact: &Fact) -> bool
         && fact.partner < RECORDS
 }
 
-/// The word for a fact, which gets a record where it needs one: `events` is for how many there is
-/// room.
+/// Returns the word for a fact, and adds a record if it needs one. `events` is the number of events
+/// for which there is capacity.
 #[inline(always)]
 fn word_for(records: &mut Vec<Fact>, fact: Fact, events: usize) -> Result<usize, AllocError>
     ensures word { IfOk result (λ word. IsWord records.new.items word) }
@@ -143,8 +142,8 @@ fn word_for(records: &mut Vec<Fact>, fact: Fact, events: usize) -> Result<usize,
     }
 }
 
-/// The word for a fact that gets a record. Where there is no room, it is made for an eighth of the
-/// events, since making it by and by would copy the records again and again.
+/// Adds a record for a fact, and returns its word. The first record reserves capacity for an eighth
+/// of the events, since growing step by step would copy the records repeatedly.
 #[inline(always)]
 fn number_of_record(records: &mut Vec<Fact>, fact: Fact, events: usize) -> Result<usize, AllocError>
     ensures word { IfOk result (λ word. IsWord records.new.items word) }
@@ -161,7 +160,7 @@ fn number_of_record(records: &mut Vec<Fact>, fact: Fact, events: usize) -> Resul
     Ok(RECORDS + number)
 }
 
-/// What a word says.
+/// The fact that a word encodes.
 #[inline(always)]
 fn fact_of_word(records: &[Fact], word: usize) -> Fact
     requires { IsWord records.now word }
@@ -174,7 +173,7 @@ fn fact_of_word(records: &[Fact], word: usize) -> Fact
     }
 }
 
-/// Adds a word. Mostly there is room, and no call is made.
+/// Adds a word. Usually there is capacity, and no call is made.
 #[inline(always)]
 fn push_word(words: &mut Vec<usize>, word: usize) -> Result<(), AllocError>
     ensures pushed { OnOk result (words.new.items ≡ words.old.items ++ word ∷ []) }
@@ -187,7 +186,8 @@ fn push_word(words: &mut Vec<usize>, word: usize) -> Result<(), AllocError>
     Ok(())
 }
 
-/// Adds the words of an entry and of its own exit, likewise; answers the index of the entry.
+/// Adds the words of an entry and of the exit right after it, likewise; returns the index of the
+/// entry.
 #[inline(always)]
 fn push_two(words: &mut Vec<usize>) -> Result<usize, AllocError>
     ensures entry { IfOk result (λ entry. entry ≡ length words.old.items) }
@@ -205,7 +205,7 @@ fn push_two(words: &mut Vec<usize>) -> Result<usize, AllocError>
     Ok(entry)
 }
 
-/// Puts a word at an index, where there is one.
+/// Writes a word at an index, if it exists.
 #[inline(always)]
 fn put_word(words: &mut Vec<usize>, index: usize, word: usize)
     ensures { words.new.items ≡ set words.old.items index word }

@@ -1,4 +1,4 @@
-//! What is known of an open node, and the fact of one that ends.
+//! The state of an open node, and the fact of one that ends.
 
 ghost use Rattle.std.specs.Prelude.{◌≡◌, ◌+◌, false, OnOk, [], ◌∷◌, ◌++◌, length};
 ghost use Rattle.std.specs.Prelude.{set, IfOk};
@@ -26,7 +26,7 @@ pub(super) fn document_node() -> OpenNode
     }
 }
 
-/// A spine on which a search begins, or goes on where the node is transparent.
+/// The search on a spine: a new one, or that of the parent if the node is transparent.
 #[inline(always)]
 fn sought_inside(name: Name, around: Sought) -> Sought
     ensures { result ≡ spec.sought_inside name around }
@@ -38,7 +38,7 @@ fn sought_inside(name: Name, around: Sought) -> Sought
     }
 }
 
-/// A node that has been entered at an index, in one that is open.
+/// A node entered at an index, inside an open node.
 #[inline(always)]
 pub(super) fn opened(entry: usize, name: Name, around: &OpenNode) -> OpenNode
     ensures { result ≡ spec.opened entry name around.now }
@@ -66,7 +66,7 @@ pub(super) fn opened(entry: usize, name: Name, around: &OpenNode) -> OpenNode
             sought: sought_inside(name, around.sought),
             told: NOTHING_TOLD,
         },
-        // What is sought and collected around it is in it as well.
+        // A search and a table of the parent continue inside it.
         Name::Other(_) => OpenNode {
             entry,
             contributing: 0,
@@ -74,7 +74,7 @@ pub(super) fn opened(entry: usize, name: Name, around: &OpenNode) -> OpenNode
             sought: around.sought,
             told: NOTHING_TOLD,
         },
-        // Nothing is sought or collected in any other.
+        // Inside any other node nothing is sought or collected.
         _ => OpenNode {
             entry,
             ..document_node()
@@ -82,8 +82,8 @@ pub(super) fn opened(entry: usize, name: Name, around: &OpenNode) -> OpenNode
     }
 }
 
-/// Where what is read of a node is found: which table it is, the last contributing child, or
-/// what was sought.
+/// Where to find what is read of a node: the number of the table, the last contributing child, or
+/// the result of the search.
 #[inline(always)]
 fn read_at_of(name: Name, table: usize, own: &OpenNode) -> usize
     ensures { result ≡ spec.read_at_of name table own.now.contributing own.now.sought }
@@ -96,7 +96,7 @@ fn read_at_of(name: Name, table: usize, own: &OpenNode) -> usize
     }
 }
 
-/// What is found of a node that exits at an index.
+/// The fact of a node that exits at an index.
 #[inline(always)]
 pub(super) fn fact_of(name: Name, exit: usize, table: usize, own: &OpenNode) -> Fact
     ensures { result
@@ -109,7 +109,7 @@ pub(super) fn fact_of(name: Name, exit: usize, table: usize, own: &OpenNode) -> 
     }
 }
 
-/// What is known of an exit, and of an entry before its exit.
+/// The fact at an exit, and at an entry before its exit.
 pub(super) fn partner_alone(partner: usize) -> Fact
     ensures { result ≡ spec.partner_alone partner }
 {
@@ -120,7 +120,7 @@ pub(super) fn partner_alone(partner: usize) -> Fact
     }
 }
 
-/// Adds an open node. Mostly there is room, and no call is made.
+/// Adds an open node. Usually there is capacity, and no call is made.
 #[inline(always)]
 pub(super) fn push_node(open_nodes: &mut Vec<OpenNode>, node: OpenNode) -> Result<(), AllocError>
     ensures { OnOk result (open_nodes.new.items ≡ open_nodes.old.items ++ node ∷ []) }

@@ -1,4 +1,4 @@
-//! The rows of the table by which spines are read. `bench/tables.py` makes what stands in them.
+//! The rows of the table for reading spines. `bench/tables.py` generates them.
 
 ghost use Rattle.md_pattern.specs.Places.{AreRows, AreEnds, AreRoles, AreStarts};
 
@@ -11,13 +11,13 @@ pub(super) fn starts() -> &'static [u8; 41]
     &STARTS
 }
 
-/// The row in which the spine of each role begins, in the order in which the roles are declared.
+/// The row in which the spine of each role begins, with the roles in declaration order.
 static STARTS: [u8; 41] = [
     0, 5, 11, 13, 15, 17, 23, 29, 35, 38, 41, 43, 47, 49, 50, 53, 56, 57, 60, 62, 63, 64, 65, 66,
     67, 70, 72, 80, 88, 91, 95, 99, 102, 105, 106, 107, 108, 109, 111, 112, 113,
 ];
 
-/// At each row's number `e` where the spine may end there.
+/// For each row `e` if the spine may end there.
 static ENDS: [u8; 114] = *b"\
     e-----e-----e-e-e-e-----e-----e------e--e-ee----ee-eeeeee-eeeeee\
     eee-ee-eee-------e------eee-eeee----ee--eeeeeeeeee";
@@ -36,7 +36,7 @@ pub(super) fn rows() -> &'static [[u8; 47]]
     &ROWS
 }
 
-/// The roles of the nodes on whose spines the places are.
+/// For each row the role of the node whose spine it is about.
 static ROLES: [Role; 114] = [
     Role::Flow,
     Role::Flow,
@@ -161,8 +161,8 @@ pub(super) fn roles() -> &'static [Role]
     &ROLES
 }
 
-/// A row for each place: for each symbol, in the order in which they are declared, `.` where it may
-/// not follow, else a letter that tells the next row, counted from this one, which is `m`.
+/// A row for each place: for each symbol, in declaration order, `.` if it may not follow, else a
+/// letter that encodes the next row, relative to this one, which is `m`.
 static ROWS: [[u8; 47]; 114] = [
     *b"mmmn...mmq.....................................",
     *b"....n.l........................................",

@@ -1,4 +1,4 @@
-//! Single texts: what the definitions make of them.
+//! Single texts, and the results of the definitions for them.
 
 ghost use Rattle.std.specs.Prelude.{◌≡◌, List, [], ◌∷◌, Some, false, true, codes};
 ghost use Rattle.md_safe.specs.Input.{with_line_feeds};
@@ -8,7 +8,7 @@ ghost use Rattle.md_safe.specs.Tokenizer.{run};
 ghost use Rattle.md_safe.specs.Leads.{Leads};
 ghost use Rattle.md_safe.specs.Embedded.{EndsInDataState, splits_newline};
 
-/// CR is a line feed and so is LF, and in a row they are one: so the laws need their condition.
+/// CR is a line feed and so is LF, and CR LF is one line feed: so the laws need their condition.
 pub fn split_newline()
     ensures before { EndsInDataState (13 ∷ []) (Character 10 ∷ []) }
     ensures after { run 9 Data (with_line_feeds (10 ∷ [])) ≡ Some (Character 10 ∷ EndOfFile ∷ []) }
@@ -26,7 +26,7 @@ pub fn whole_newlines()
     ensures nothing { splits_newline [] (codes "\n") ≡ false }
 {}
 
-/// A template that is cut in the data state, behind a tag or a character.
+/// A template that is cut in the data state, after a tag or a character.
 pub fn cut_in_data_state()
     ensures tags { EndsInDataState (codes "<!doctype html><div class=\"c\">\n")
         (Doctype (codes "html")
@@ -35,7 +35,7 @@ pub fn cut_in_data_state()
     ensures nothing { EndsInDataState [] [] }
 {}
 
-/// And ones that aren't: cut in a tag, in a value, in a title, or behind a `&`, which may begin a
+/// Templates that aren't: cut in a tag, in a value, in a title, or after a `&`, which may begin a
 /// reference with what follows.
 pub fn cut_in_another_state()
     ensures tag { (emits : List Token) → EndsInDataState (codes "<div ") emits → ⊥ }

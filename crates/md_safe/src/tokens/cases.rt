@@ -1,4 +1,4 @@
-//! Single texts: what the definitions make of them.
+//! Single texts, and the results of the definitions for them.
 
 ghost use Rattle.std.specs.Prelude.{◌≡◌, [], ◌∷◌, ◌++◌, Some, None, false, true, map, codes};
 ghost use Rattle.md_text.specs.References.{is_escaped};
@@ -16,7 +16,7 @@ pub fn line_ends()
         ≡ Some (map Character (codes "a\n\n\nb") ++ EndOfFile ∷ []) }
 {}
 
-/// Letters of names are lowered, of tags, attributes and end tags.
+/// Letters of names are lowered: in tags, attributes and end tags.
 pub fn names_are_lowered()
     ensures start { run 50 Data (codes "<A Id=\"X\">")
         ≡ Some (StartTag (codes "a") (record { name = codes "id"; value = codes "X" } ∷ []) false
@@ -24,7 +24,7 @@ pub fn names_are_lowered()
     ensures end { run 50 Data (codes "</dEl>") ≡ Some (EndTag (codes "del") ∷ EndOfFile ∷ []) }
 {}
 
-/// The first attribute with a name stays, and a later one is dropped; a value may be left out.
+/// The first attribute with a name stays, and later ones are dropped; a value may be omitted.
 pub fn attributes_are_kept_once()
     ensures { run 50 Data (codes "<a id=\"1\" ID=\"2\" href>") ≡ Some (StartTag (codes "a")
         (record { name = codes "id"; value = codes "1" }
@@ -32,7 +32,7 @@ pub fn attributes_are_kept_once()
         false ∷ EndOfFile ∷ []) }
 {}
 
-/// Nothing but a double quote ends a value in double quotes.
+/// Only a double quote ends a value in double quotes.
 pub fn quoted_values()
     ensures { run 50 Data (codes "<a id=\"'<b>/ =`\">")
         ≡ Some (StartTag (codes "a")
@@ -40,7 +40,7 @@ pub fn quoted_values()
         ∷ EndOfFile ∷ []) }
 {}
 
-/// A reference is read once, in a text and in a value; without its `;` it isn't written out.
+/// A reference is read once, in a text and in a value; one without its `;` isn't written out.
 pub fn references_are_read()
     ensures text { run 50 Data (codes "&amp;lt;&quot;")
         ≡ Some (map Character (codes "&lt;\"") ++ EndOfFile ∷ []) }
@@ -70,13 +70,14 @@ pub fn nul()
         ∷ EndOfFile ∷ []) }
 {}
 
-/// A `<` before no letter is a character, and a tag that the text ends in is no token.
+/// A `<` that no letter follows is a character, and a tag that is incomplete at the end of the text
+/// is no token.
 pub fn broken_tags()
     ensures { run 50 Data (codes "<1</a ><b")
         ≡ Some (Character 60 ∷ Character 49 ∷ EndTag (codes "a") ∷ EndOfFile ∷ []) }
 {}
 
-/// In a title nothing but its own end tag is a tag.
+/// In a title only its own end tag is a tag.
 pub fn titles()
     ensures { run 50 Data (codes "<title></b>&lt;</TITLE >")
         ≡ Some (StartTag (codes "title") [] false
@@ -89,7 +90,7 @@ pub fn doctypes()
         ≡ Some (Doctype (codes "html") ∷ EndOfFile ∷ []) }
 {}
 
-/// Of what isn't written out nothing is claimed.
+/// For transitions that aren't written out, nothing is claimed.
 pub fn stuck_texts()
     ensures comments { run 50 Data (codes "<!-- -->") ≡ None }
     ensures scripts { run 50 Data (codes "<script>1</script>") ≡ None }
@@ -109,8 +110,8 @@ pub fn hidden_schemes()
     ensures digit { scheme_of (codes "1a:b") ≡ None }
 {}
 
-/// The grammar's test of a link stands on its values being escaped: alone it passes this one, in
-/// which a browser reads a colon.
+/// The grammar's test of a link requires escaped values: alone it accepts this one, in which a
+/// browser reads a colon.
 pub fn escaping_is_needed()
     ensures passes { is_safe_value link_protocols (codes "javascript&#58;x") ≡ true }
     ensures not_escaped { is_escaped (codes "javascript&#58;x") ≡ false }

@@ -63,7 +63,7 @@ pub fn listed_attributes_are_allowed()
     ensures input { HasReading (codes "<input type=\"checkbox\" disabled=\"\" checked=\"\" />") }
 {}
 
-/// A text whose special characters are references has a reading, and so has nothing.
+/// A text whose special characters are references has a reading, and so has the empty text.
 pub fn texts_stand_alone()
     ensures nothing { HasReading (codes "") }
     ensures text { HasReading (codes "a\n b") }
@@ -86,7 +86,7 @@ pub fn documents_have_readings()
         (codes "<p>a <strong>b</strong><em>c</em>d<br />\n<del>e</del></p>\n<hr />") }
 {}
 
-/// A tag that the tables don't list, whatever its case.
+/// Tags that the tables don't list, in any case.
 pub fn other_tags_have_no_reading()
     ensures script { ¬ HasReading (codes "<script>") }
     ensures script_pair { ¬ HasReading (codes "<script></script>") }
@@ -101,7 +101,7 @@ pub fn other_tags_have_no_reading()
     ensures shorter_name { ¬ HasReading (codes "<h></h>") }
 {}
 
-/// Tags that aren't closed, cross each other or aren't written as the grammar writes them.
+/// Tags that aren't closed, that cross each other, or that the grammar doesn't write so.
 pub fn broken_tags_have_no_reading()
     ensures inner_unclosed { ¬ HasReading (codes "<p><b></p>") }
     ensures unclosed { ¬ HasReading (codes "<p>") }
@@ -118,7 +118,7 @@ pub fn broken_tags_have_no_reading()
     ensures angle_alone { ¬ HasReading (codes "<") }
 {}
 
-/// An attribute that isn't listed for its tag, or that stands twice.
+/// Attributes that aren't listed for their tag, or that are repeated.
 pub fn other_attributes_have_no_reading()
     ensures handler { ¬ HasReading (codes "<img onerror=\"x\">") }
     ensures handler_in_void { ¬ HasReading (codes "<img onerror=\"x\" />") }
@@ -134,7 +134,7 @@ pub fn other_attributes_have_no_reading()
     ensures two_spaces { ¬ HasReading (codes "<a  href=\"a\"></a>") }
 {}
 
-/// A special character that is no reference.
+/// Special characters that aren't part of a reference.
 pub fn raw_characters_have_no_reading()
     ensures ampersand { ¬ HasReading (codes "a & b") }
     ensures other_reference { ¬ HasReading (codes "&colon;") }
@@ -148,7 +148,7 @@ pub fn raw_characters_have_no_reading()
     ensures nul { ¬ HasReading (0 ∷ []) }
 {}
 
-/// Links with no protocol, or one that a link may have.
+/// Links with no protocol, or with one that a link may have.
 pub fn safe_links()
     ensures no_protocol { HasReadingWith is_safe_link (codes "<a href=\"a\"></a>") }
     ensures nothing { HasReadingWith is_safe_link (codes "<a href=\"\"></a>") }
@@ -179,7 +179,7 @@ pub fn unsafe_links()
         (codes "<a href=\"a\"></a><a href=\"b:c\"></a>") }
 {}
 
-/// Images with no protocol, or one that an image may have.
+/// Images with no protocol, or with one that an image may have.
 pub fn safe_images()
     ensures no_protocol { HasReadingWith is_safe_image (codes "<img src=\"a\" />") }
     ensures https { HasReadingWith is_safe_image (codes "<img src=\"https:a\" />") }
@@ -192,7 +192,7 @@ pub fn unsafe_images()
     ensures of_a_link { ¬ HasReadingWith is_safe_image (codes "<img src=\"mailto:a\" />") }
 {}
 
-/// The protocols of links and of images, and the names that the tag filter disarms.
+/// The protocols of links and of images, and the names that the tag filter escapes.
 pub fn lists_are_as_written()
     ensures links { link_protocols
         ≡ codes "http" ∷ codes "https" ∷ codes "irc" ∷ codes "ircs" ∷ codes "mailto"
@@ -203,7 +203,7 @@ pub fn lists_are_as_written()
         ∷ codes "style" ∷ codes "textarea" ∷ codes "title" ∷ codes "xmp" ∷ [] }
 {}
 
-/// Equal ids are told, whatever stands between them, and ids that differ aren't taken for equal.
+/// The test reports equal ids, whatever stands between them, and doesn't report different ids.
 pub fn equal_ids_are_told()
     ensures differ { HasDistinctIds (codes "<li id=\"a\"></li><li id=\"b\"></li>") }
     ensures other_attribute { HasDistinctIds (codes "<a title=\"a\"></a><a title=\"a\"></a>") }

@@ -1,5 +1,5 @@
-//! What the rules of texts say of each byte and each place, a second time and apart from the
-//! definitions: values that are computed, as the contracts of functions that do nothing.
+//! Computed values of the rules of texts, for each byte and at each place, as contracts of
+//! functions that do nothing. They state the rules a second time, independently of the definitions.
 
 ghost use Rattle.std.specs.Prelude.{◌≡◌, ◌∷◌, [], ◌++◌, true, false, Some, None, codes};
 ghost use Rattle.std.specs.List.{range_with_len};
@@ -21,7 +21,7 @@ pub fn endings_are_as_written()
     ensures line_feed { ending_text ending.LineFeed ≡ 10 ∷ [] }
 {}
 
-/// Of all bytes those that are letters, and the letters lowered.
+/// The bytes that are letters, and the letters lowered.
 pub fn letters_are_as_written()
     ensures letters { bytes_where is_letter
         ≡ codes "ABCDEFGHIJKLMNOPQRSTUVWXYZabcdefghijklmnopqrstuvwxyz" }
@@ -30,7 +30,7 @@ pub fn letters_are_as_written()
     ensures others_stay { changed lowered ≡ codes "ABCDEFGHIJKLMNOPQRSTUVWXYZ" }
 {}
 
-/// Of all bytes those that are escaped, and what they become, with HTML escaped and without.
+/// The bytes that are escaped, and their replacements, with HTML escaped and without.
 pub fn escapes_are_as_written()
     ensures html { changed (encoded true) ≡ 0 ∷ codes "\"&<>" }
     ensures html_texts { encoded true (0 ∷ codes "\"&<>")
@@ -41,7 +41,7 @@ pub fn escapes_are_as_written()
     ensures text_character { encoded_character false 0 ≡ 65533 ∷ [] }
 {}
 
-/// Of all bytes those that stay in a URL, alone and after a `%`, and what others become.
+/// The bytes that stay in a URL, alone and after a `%`, and the replacements of the others.
 pub fn urls_are_as_written()
     ensures stay { kept_between normalized_url [] [] ≡ codes "!#$&'()*+,-./0123456789:;=?@"
         ++ codes "ABCDEFGHIJKLMNOPQRSTUVWXYZ_abcdefghijklmnopqrstuvwxyz~" }
@@ -56,7 +56,7 @@ pub fn urls_are_as_written()
     ensures escaped { sanitized (codes "&amp;'") ≡ codes "&amp;amp;'" }
 {}
 
-/// Of all bytes those that stop the search for a protocol's colon, and where a protocol ends.
+/// The bytes that stop the search for a protocol's colon, and where a protocol ends.
 pub fn protocols_end_as_written()
     ensures stops { bytes_where (λ b. is_none (protocol_of (97 ∷ b ∷ codes ":c"))) ≡ codes "#/?" }
     ensures first_colon { protocol_of (codes "a:b:c") ≡ Some (codes "a") }
@@ -65,8 +65,8 @@ pub fn protocols_end_as_written()
     ensures stop_after { protocol_of (codes "a:/?#") ≡ Some (codes "a") }
 {}
 
-/// Of all bytes those that end the name of a tag, whose end a text's end is too, and what may
-/// stand before a name.
+/// The bytes that end a tag's name, which the end of a text ends too, and the bytes that may
+/// precede a name.
 pub fn filtered_tags_are_as_written()
     ensures ends { bytes_where (λ b.
         bytes_eq (tag_filtered (codes "<xmp" ++ b ∷ [])) (codes "&lt;xmp" ++ b ∷ []))

@@ -1,4 +1,4 @@
-//! Which bytes of a URL stay as they are.
+//! Decides which bytes of a URL stay unchanged.
 
 ghost use Rattle.std.specs.Prelude.{◌≡◌, false, drop, min};
 ghost use Rattle.std.specs.List.{prefix_len};
@@ -8,17 +8,17 @@ ghost use Rattle.md_text.specs.Url.{is_triple_byte, completes_triple};
 use crate::lanes::{ByteTest, LaneTest, first_set, run_length};
 use std::simd::prelude::*;
 
-/// How many plain bytes are looked for one by one before several are looked at together.
+/// How many plain bytes are tested one by one before several are tested at once.
 const FEW: usize = 4;
 
-/// The plain bytes, each at its own place, and a backquote at the place of every other byte.
+/// The plain bytes, each at its own index, and a backquote at the index of every other byte.
 const PLAIN_BYTES: [u8; 256] = *b"\
     `````````````````````````````````!`#$``'()*+,-./0123456789:;`=`?\
     @ABCDEFGHIJKLMNOPQRSTUVWXYZ````_`abcdefghijklmnopqrstuvwxyz```~`\
     ````````````````````````````````````````````````````````````````\
     ````````````````````````````````````````````````````````````````";
 
-/// How many bytes come before the first that doesn't stay as it is.
+/// The number of bytes before the first that must change.
 #[inline(always)]
 pub(super) fn kept_length(bytes: &[u8]) -> usize
     ensures kept { AreKept bytes.now result }
@@ -40,7 +40,7 @@ pub(super) fn kept_length(bytes: &[u8]) -> usize
     }
 }
 
-/// The same, where so many are known.
+/// The same, if the first `known` bytes are known to stay.
 #[inline(always)]
 fn kept_from(bytes: &[u8], known: usize) -> usize
     requires { AreKept bytes.now known }
@@ -57,7 +57,7 @@ fn kept_from(bytes: &[u8], known: usize) -> usize
     }
 }
 
-/// How many bytes of a triple or of plain ones come first.
+/// The length of the triple or of the plain bytes at the beginning.
 #[inline(always)]
 fn kept_step(bytes: &[u8]) -> usize
     ensures kept { AreKept bytes.now result }
@@ -79,7 +79,7 @@ fn kept_step(bytes: &[u8]) -> usize
     }
 }
 
-/// How many plain bytes come first, of the first three.
+/// The number of plain bytes at the beginning, counting up to three.
 #[inline(always)]
 fn first_plain(bytes: &[u8]) -> usize
     ensures { result ≡ min 3 (prefix_len is_plain bytes.now) }
@@ -92,7 +92,7 @@ fn first_plain(bytes: &[u8]) -> usize
     }
 }
 
-/// Whether a percent triple comes first.
+/// Whether the bytes begin with a percent triple.
 #[inline(always)]
 fn begins_triple(bytes: &[u8]) -> bool
     ensures { result ≡ begins_triple bytes.now }
@@ -103,7 +103,7 @@ fn begins_triple(bytes: &[u8]) -> bool
     }
 }
 
-/// The test that a byte is plain.
+/// The test whether a byte is plain.
 #[derive(Clone, Copy)]
 struct Plain;
 
@@ -136,7 +136,7 @@ impl<const N: usize> LaneTest<N> for Plain {
     }
 }
 
-/// Whether a byte is written as it is, whatever follows it.
+/// Whether a byte is written unchanged, whatever follows it.
 #[inline(always)]
 fn is_plain_byte(byte: u8) -> bool
     ensures { result ≡ is_plain byte }
@@ -144,7 +144,7 @@ fn is_plain_byte(byte: u8) -> bool
     PLAIN_BYTES[usize::from(byte)] != b'`'
 }
 
-/// Whether what follows a `%` makes it begin a percent triple.
+/// Whether these bytes, after a `%`, complete a percent triple.
 fn completes_triple(rest: &[u8]) -> bool
     ensures { result ≡ completes_triple rest.now }
 {

@@ -1,4 +1,4 @@
-//! The protocol with which a URL begins, and whether it is permitted.
+//! The protocol of a URL, and whether it is permitted.
 
 ghost use Rattle.std.specs.Prelude.{◌≡◌, ◌≤◌, ◌<◌, MatchOption, take, length, map, true};
 ghost use Rattle.md_text.specs.Kept.{goes_on};
@@ -19,7 +19,7 @@ pub(super) fn has_permitted_protocol(url: &[u8], protocols: &[&str]) -> bool
     }
 }
 
-/// Where the protocol of a URL ends, if it has one.
+/// The index where the protocol of a URL ends, if it has one.
 fn protocol_end(url: &[u8]) -> Option<usize>
     ensures { MatchOption result
         (protocol_of url.now ≡ None)
@@ -33,7 +33,7 @@ fn protocol_end(url: &[u8]) -> Option<usize>
     }
 }
 
-/// The test that a byte neither ends a protocol nor shows that there is none.
+/// The test whether a byte neither ends a protocol nor shows that there is none.
 #[derive(Clone, Copy)]
 struct GoesOn;
 

@@ -1,4 +1,4 @@
-//! Writes the bytes of a URL: those that stay, and what becomes of the others.
+//! Writes the bytes of a URL, unchanged or encoded.
 
 ghost use Rattle.std.specs.Prelude.{◌≡◌, ◌≤◌, ◌<◌, ◌++◌, ◌∷◌, ◌/◌, ◌%◌, false, IfOk, OnOk, drop};
 ghost use Rattle.std.specs.Prelude.{length};
@@ -13,7 +13,7 @@ use std::alloc::AllocError;
 /// The hexadecimal digits, in upper case.
 const HEX_DIGITS: [u8; 16] = *b"0123456789ABCDEF";
 
-/// Writes bytes that are ASCII.
+/// Writes ASCII bytes.
 #[inline(always)]
 fn push_ascii(out: &mut String, bytes: &[u8]) -> Result<(), AllocError>
     requires { AreAscii bytes.now }
@@ -22,7 +22,8 @@ fn push_ascii(out: &mut String, bytes: &[u8]) -> Result<(), AllocError>
     out.push_str(unsafe { str::from_utf8_unchecked(bytes) })
 }
 
-/// Writes bytes that stay as they are, or what becomes of one that doesn't, and gives what is left.
+/// Writes the unchanged bytes at the beginning, or the replacement of the first byte, and returns
+/// the rest.
 #[inline(always)]
 pub(super) fn push_low<'a>(out: &mut String, rest: &'a [u8]) -> Result<&'a [u8], AllocError>
     requires { 0 < length rest.now }
@@ -41,8 +42,8 @@ pub(super) fn push_low<'a>(out: &mut String, rest: &'a [u8]) -> Result<&'a [u8],
     }
 }
 
-/// Writes so many bytes as they are, and what becomes of an ASCII byte after them, and
-/// gives what is left.
+/// Writes `run` bytes unchanged, then the replacement of the ASCII byte after them, and returns the
+/// rest.
 #[inline(always)]
 fn push_run<'a>(out: &mut String, rest: &'a [u8], run: usize) -> Result<&'a [u8], AllocError>
     requires { (AreKept rest.now run) × (0 < run) × (begins_kept (drop run rest.now) ≡ false) }
@@ -62,7 +63,7 @@ fn push_run<'a>(out: &mut String, rest: &'a [u8], run: usize) -> Result<&'a [u8]
     }
 }
 
-/// Writes ASCII bytes as they are: so few that they are copied as one, or all.
+/// Writes ASCII bytes unchanged; a few of them by one copy.
 #[inline(always)]
 fn push_kept(out: &mut String, bytes: &[u8]) -> Result<(), AllocError>
     requires { AreAscii bytes.now }
@@ -77,8 +78,8 @@ fn push_kept(out: &mut String, bytes: &[u8]) -> Result<(), AllocError>
     }
 }
 
-/// Writes what becomes of a byte past ASCII, and of the three after it where they are so too, and
-/// gives what is left.
+/// Writes the replacement of a byte outside ASCII, and of the next three if they are outside ASCII
+/// too, and returns the rest.
 #[inline(always)]
 pub(super) fn push_high<'a>(
     out: &mut String,
@@ -103,7 +104,7 @@ pub(super) fn push_high<'a>(
     }
 }
 
-/// Writes what becomes of a byte that doesn't stay as it is.
+/// Writes the replacement of a byte.
 #[inline(always)]
 fn push_changed(out: &mut String, byte: u8) -> Result<(), AllocError>
     ensures { OnOk result (string_bytes out.new ≡ string_bytes out.old ++ changed_byte byte) }
@@ -123,7 +124,7 @@ fn push_percent(out: &mut String, byte: u8) -> Result<(), AllocError>
     push_ascii(out, &[b'%', hex_digit(byte / 16), hex_digit(byte % 16)])
 }
 
-/// The same of four bytes, which are added as one.
+/// The same for four bytes, which are appended at once.
 #[inline(always)]
 fn push_four(out: &mut String, a: u8, b: u8, c: u8, d: u8) -> Result<(), AllocError>
     ensures { OnOk result (string_bytes out.new

@@ -1,4 +1,4 @@
-//! Which node an event enters or exits.
+//! Checks which node an event enters or exits.
 
 ghost use Rattle.std.specs.Prelude.{◌≡◌, ◌↔◌, ◌<◌, Some, option_map};
 ghost use Rattle.std.specs.Prelude.{slice_get, IsTrue};
@@ -16,7 +16,7 @@ impl<'a> Checked<'a> {
     ghost use Rattle.md_tree.specs.Indices.{IsPartnerAt};
     ghost use Rattle.md_base.specs.declared.event.Name.TheVariants as name;
 
-    /// Whether the event at the index is there and enters a node of this name.
+    /// Whether the event at the index exists and enters a node of this name.
     ///
     /// # Examples
     ///
@@ -32,7 +32,7 @@ impl<'a> Checked<'a> {
         is_event(self.events, index, Kind::Enter, name)
     }
 
-    /// Whether the event at the index is there and exits a node of this name.
+    /// Whether the event at the index exists and exits a node of this name.
     ///
     /// # Examples
     ///
@@ -48,8 +48,8 @@ impl<'a> Checked<'a> {
         is_event(self.events, index, Kind::Exit, name)
     }
 
-    /// The index of the other event of the node that the event at the index enters or exits; None
-    /// past the end.
+    /// Returns the index of the other event of the node that the event at the index enters or
+    /// exits, or None past the end.
     ///
     /// # Examples
     ///
@@ -66,7 +66,7 @@ impl<'a> Checked<'a> {
     }
 }
 
-/// The partner of the event at the index, if that is there.
+/// The partner of the event at the index, if that event exists.
 fn partner_at(facts: &FactList, index: usize) -> Option<usize>
     ensures { result ≡ option_map (λ fact. Fact.partner fact) (slice_get facts.now index) }
 {
@@ -76,7 +76,7 @@ fn partner_at(facts: &FactList, index: usize) -> Option<usize>
     }
 }
 
-/// Whether the event at the index is there, of this kind and name.
+/// Whether the event at the index exists, with this kind and name.
 fn is_event(events: &[Event], index: usize, kind: Kind, name: Name) -> bool
     ensures { IsTrue result ↔ IsEventAt events.now index kind name }
 {

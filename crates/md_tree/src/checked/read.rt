@@ -1,4 +1,4 @@
-//! What is read of the document and of what the pass found.
+//! Reads the document and the results of the pass.
 
 ghost use Rattle.std.specs.Prelude.{◌≡◌, ◌<◌, Some, length, map, option_copied};
 ghost use Rattle.std.specs.Prelude.{slice_get};
@@ -23,10 +23,10 @@ impl<'a> Checked<'a> {
     ghost use Rattle.md_tree.specs.Reads.{IsReadAt};
     ghost use Rattle.md_base.specs.declared.event.Name.TheVariants as name;
 
-    /// The place of what is read of the node that the event at the index enters: of a heading its
-    /// first mark, of an ordered list its number, of a link, an image or a footnote call the label
-    /// or reference by which it refers, of a definition the label by which it is referred to. None
-    /// where there is none. Of a node of another name nothing is promised.
+    /// Returns the position of what is read of the node that the event at the index enters: for a
+    /// heading its first mark, for an ordered list its number, for a link, an image or a footnote
+    /// call the label or reference by which it refers, for a definition its own label. None if
+    /// there is none. For a node of another name nothing is promised.
     ///
     /// # Examples
     ///
@@ -43,7 +43,7 @@ impl<'a> Checked<'a> {
         position_read(self.events, &self.facts, self.fact(index))
     }
 
-    /// The alignments of the columns of the table that the event at the index enters.
+    /// Returns the alignments of the columns of the table that the event at the index enters.
     ///
     /// # Examples
     ///
@@ -61,8 +61,8 @@ impl<'a> Checked<'a> {
         table_at(&self.tables, fact_at(&self.facts, index).read_at)
     }
 
-    /// The text of the node that ends with the event at the index: only its bytes, without the
-    /// spaces of tabs that are cut at its ends.
+    /// Returns the text of the node that ends with the event at the index: only its bytes, without
+    /// the spaces of tabs that are cut at its ends.
     ///
     /// # Examples
     ///
@@ -78,9 +78,9 @@ impl<'a> Checked<'a> {
         self.texts.text_at(&position).unwrap()
     }
 
-    /// The label of the node that ends with the event at the index, as it is written
-    /// (`normalize_identifier` makes an identifier of it): the bytes between the indices of its
-    /// points; columns of tabs are not read.
+    /// Returns the label of the node that ends with the event at the index, as it is written: the
+    /// bytes between the indices of its points, without columns of tabs. `normalize_identifier`
+    /// converts it to an identifier.
     ///
     /// # Examples
     ///
@@ -97,8 +97,8 @@ impl<'a> Checked<'a> {
         self.texts.label_at(&position).unwrap()
     }
 
-    /// The text between two points, without the spaces of tabs that are cut there; None where the
-    /// points don't fit the bytes, or these aren't UTF-8.
+    /// Returns the text between two points, without the spaces of tabs that are cut there, or None
+    /// if the points don't fit the bytes, or the bytes aren't UTF-8.
     ///
     /// # Examples
     ///
@@ -115,7 +115,7 @@ impl<'a> Checked<'a> {
     }
 }
 
-/// Where the node that ends with the event at the index starts and ends.
+/// The position of the node that ends with the event at the index.
 fn position_ended(events: &[Event], facts: &FactList, index: usize) -> Option<Position>
     ensures { result ≡ position_ended events.now facts.now index }
 {
@@ -128,14 +128,14 @@ fn position_ended(events: &[Event], facts: &FactList, index: usize) -> Option<Po
     })
 }
 
-/// Where the node lies that is read of the node of a fact, if there is one.
+/// The position of the node that is read, by the fact of the node that reads it, if there is one.
 fn position_read(events: &[Event], facts: &FactList, fact: Fact) -> Option<Position>
     ensures { result ≡ position_at events.now facts.now fact.read_at }
 {
     position_of(events, facts, index_if(fact.read_at)?)
 }
 
-/// Where the node lies that the event at the index enters.
+/// The position of the node that the event at the index enters.
 fn position_of(events: &[Event], facts: &FactList, index: usize) -> Option<Position>
     ensures { result ≡ position_there events.now facts.now index }
 {

@@ -1,4 +1,4 @@
-//! Which rule a node's text breaks.
+//! Finds the rule that a node's text breaks.
 
 ghost use Rattle.std.specs.Prelude.{◌≡◌, ◌&&◌, None, List, length, nat_lt, nat_le, is_some};
 ghost use Rattle.std.specs.Prelude.{option_copied, IfOk, if◌then◌else◌};
@@ -20,7 +20,7 @@ use md_pattern::{Place, Role, Symbol};
 use md_text::LineEnding;
 use std::alloc::AllocError;
 
-/// A place that is a text.
+/// Checks that a position has text.
 #[inline(always)]
 pub(super) fn broken_text(text: Option<&str>) -> Option<Rule>
     ensures { result ≡ broken_by (option_copied text.entry) (λ _. None) }
@@ -31,7 +31,7 @@ pub(super) fn broken_text(text: Option<&str>) -> Option<Rule>
     }
 }
 
-/// The text of a line ending.
+/// Checks the text of a line ending.
 #[inline(always)]
 pub(super) fn broken_ending(text: Option<&str>) -> Option<Rule>
     ensures { result
@@ -43,14 +43,14 @@ pub(super) fn broken_ending(text: Option<&str>) -> Option<Rule>
     }
 }
 
-/// Whether a text is a line ending's.
+/// Whether a text is a line ending.
 fn is_ending(text: &str) -> bool
     ensures { result ≡ is_line_ending text.now }
 {
     text.parse::<LineEnding>().is_ok()
 }
 
-/// The value of an item, which is a number in the first one of an ordered list.
+/// Checks the value of an item, which must be a number in the first item of an ordered list.
 #[inline(always)]
 pub(super) fn broken_number(
     around: Role,
@@ -66,7 +66,7 @@ pub(super) fn broken_number(
     }
 }
 
-/// Whether a text is the number that it has to be in a node of this role, after a symbol.
+/// Whether a text is the number that a node with this role requires after a symbol.
 fn is_list_number(around: Role, before: Option<Symbol>, text: &str) -> bool
     ensures { result ≡ is_list_number around before text.now }
 {
@@ -80,14 +80,14 @@ fn is_list_number(around: Role, before: Option<Symbol>, text: &str) -> bool
 fn is_decimal(text: &str) -> bool
     ensures { result ≡ is_number 10 text.now }
 {
-    // `from_str_radix` takes a plus sign, which a list's number can't have.
+    // `from_str_radix` accepts a plus sign, which a list's number can't have.
     if text.starts_with('+') {
         return false;
     }
     u32::from_str_radix(text, 10).is_ok()
 }
 
-/// The value of a character reference.
+/// Checks the value of a character reference.
 #[inline(always)]
 pub(super) fn broken_value(
     input: Input,
@@ -109,7 +109,7 @@ pub(super) fn broken_value(
     Ok(rule_unless(decodes, Rule::CharacterReference))
 }
 
-/// Whether the value of a character reference with this marker stands for a text.
+/// Whether the value of a character reference with this marker decodes to a text.
 fn is_decodable(input: Input, marker: u8, value: &str) -> Result<bool, AllocError>
     ensures { IfOk result
         (λ decodes.
@@ -119,7 +119,7 @@ fn is_decodable(input: Input, marker: u8, value: &str) -> Result<bool, AllocErro
     Ok(text.is_some())
 }
 
-/// The marker of the reference whose value stands after a symbol, where it is one of its marks.
+/// The marker of the reference whose value follows a symbol, if the symbol is one of its marks.
 fn marker(before: Option<Symbol>) -> Option<u8>
     ensures { result ≡ marker_after before }
 {
@@ -131,7 +131,8 @@ fn marker(before: Option<Symbol>) -> Option<u8>
     }
 }
 
-/// A mark of a heading that is entered and exited at two indices: the first one is its rank.
+/// Checks a mark of a heading that is entered and exited at two indices: the first one gives its
+/// rank.
 #[inline(always)]
 pub(super) fn broken_mark(
     input: Input,
@@ -153,8 +154,8 @@ pub(super) fn broken_mark(
     }
 }
 
-/// What identifies a link, an image, a footnote call or a definition, and is entered and
-/// exited at two indices.
+/// Checks the node, entered and exited at two indices, that has the identifier of a link, an image,
+/// a footnote call or a definition.
 #[inline(always)]
 pub(super) fn broken_identifier(input: Input, entry: usize, exit: usize) -> Option<Rule>
     ensures { result
@@ -165,7 +166,7 @@ pub(super) fn broken_identifier(input: Input, entry: usize, exit: usize) -> Opti
     broken_text(input.bytes.label_at(&position))
 }
 
-/// Whether a mark of this length may stand in a node of this role, after a symbol.
+/// Whether a mark of this length may occur in a node with this role, after a symbol.
 fn is_rank(around: Role, before: Option<Symbol>, length: usize) -> bool
     ensures { result ≡ is_rank around before length }
 {
@@ -175,14 +176,14 @@ fn is_rank(around: Role, before: Option<Symbol>, length: usize) -> bool
     }
 }
 
-/// Whether headings have this rank.
+/// Whether this is a valid rank of headings.
 fn is_heading_rank(rank: usize) -> bool
     ensures { result ≡ (nat_le 1 rank && nat_le rank 6) }
 {
     1 <= rank && rank <= 6
 }
 
-/// The first byte of an underline.
+/// Checks the first byte of an underline.
 #[inline(always)]
 pub(super) fn broken_underline(bytes: &[u8], start: Point) -> Option<Rule>
     ensures { result ≡ unless (nat_lt start.index (length bytes.now)) rule.Place }
@@ -190,7 +191,7 @@ pub(super) fn broken_underline(bytes: &[u8], start: Point) -> Option<Rule>
     rule_unless(start.index < bytes.len(), Rule::Place)
 }
 
-/// The target of a link or an image.
+/// Checks the target of a link or an image.
 pub(super) fn broken_target(target: Aim) -> Option<Rule>
     ensures { (events : List Event) → result ≡ broken_by_target (target_seen events target) }
 {

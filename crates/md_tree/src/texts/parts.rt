@@ -1,4 +1,4 @@
-//! Where a part of the bytes that is a text ends.
+//! Finds where a valid text ends.
 
 ghost use Rattle.std.specs.Prelude.{◌≤◌, ◌<◌, ◌+◌, length, ◌&&◌};
 ghost use Rattle.std.specs.Prelude.{slice_range, IsTrue};
@@ -7,7 +7,7 @@ ghost use Rattle.std.specs.Str.{IsUtf8};
 use super::{FIRST_PART, MOST_PART, NEAR, SAMPLES};
 use simdutf8::basic::from_utf8;
 
-/// Where a text may begin behind a byte that is in no character.
+/// Where the next text may begin after an invalid byte.
 #[inline(always)]
 pub(super) fn next_start(bytes: &[u8], fault: usize) -> usize
     requires { fault ≤ length bytes.now }
@@ -21,14 +21,14 @@ pub(super) fn next_start(bytes: &[u8], fault: usize) -> usize
     at
 }
 
-/// Whether a byte goes on a character that began before.
+/// Whether a byte continues a character.
 #[inline(always)]
 fn goes_on(byte: u8) -> bool {
     byte & 0xC0 == 0x80
 }
 
-/// Where a text ends that begins at an index. Only if it is long it is read by parts: where one is
-/// no text, a look is lost.
+/// The end of the valid text that begins at an index. Only a long text is read by parts, since a
+/// part that isn't valid costs a second read.
 #[inline(always)]
 pub(super) fn text_end(bytes: &[u8], start: usize) -> usize
     requires { start ≤ length bytes.now }
@@ -37,15 +37,15 @@ pub(super) fn text_end(bytes: &[u8], start: usize) -> usize
 {
     let near = bytes.len().min(start + NEAR);
     let end = text_end_before(bytes, start, near);
-    // A character may go on behind the bytes that were read.
+    // A character may continue after the bytes that were read.
     if near - end > 3 || near == bytes.len() {
         return end;
     }
     text_end_by_parts(bytes, start, end)
 }
 
-/// Where a text ends that begins at an index, if it is read byte by byte and no further than
-/// to another index.
+/// The end of the valid text that begins at an index, if it is read byte by byte and at most up to
+/// another index.
 #[inline(always)]
 fn text_end_before(bytes: &[u8], start: usize, end: usize) -> usize
     requires { (start ≤ end) × (end ≤ length bytes.now) }
@@ -57,8 +57,9 @@ fn text_end_before(bytes: &[u8], start: usize, end: usize) -> usize
     }
 }
 
-/// Where a text ends that begins at an index and is known as far as another. A part that is a text
-/// is read in one look, which doesn't tell where another has its fault: that is read again.
+/// The end of the valid text that begins at an index and is known to be valid up to another. A
+/// valid part is read once. Validation of another part doesn't report where the invalid byte is, so
+/// that part is read again.
 #[inline(never)]
 pub(super) fn text_end_by_parts(bytes: &[u8], start: usize, known: usize) -> usize
     requires { (start ≤ known) × (known ≤ length bytes.now)
@@ -79,7 +80,7 @@ pub(super) fn text_end_by_parts(bytes: &[u8], start: usize, known: usize) -> usi
     text_end_before(bytes, at, bytes.len())
 }
 
-/// Whether bytes are a text. `std` is quicker with ASCII, and `simdutf8` with other characters.
+/// Whether bytes are UTF-8. `std` is faster for ASCII, and `simdutf8` for other characters.
 fn is_text(bytes: &[u8]) -> bool
     ensures { IsTrue result → IsUtf8 bytes.now }
 {
@@ -90,7 +91,7 @@ fn is_text(bytes: &[u8]) -> bool
     }
 }
 
-/// Whether a few of the bytes are ASCII.
+/// Whether a sample of the bytes is ASCII.
 #[inline(always)]
 fn looks_ascii(bytes: &[u8]) -> bool {
     let step = bytes.len() / SAMPLES + 1;
@@ -104,7 +105,7 @@ fn looks_ascii(bytes: &[u8]) -> bool {
     true
 }
 
-/// Where a part of so many bytes ends, before a character that it would cut.
+/// The end of a part of `size` bytes, moved before a character that it would cut.
 fn part_end(bytes: &[u8], at: usize, size: usize) -> usize
     requires { (at < length bytes.now) × (FIRST_PART ≤ size) × (size ≤ MOST_PART) }
     ensures { (at < result) × (result ≤ length bytes.now) }
@@ -118,7 +119,7 @@ fn part_end(bytes: &[u8], at: usize, size: usize) -> usize
     )
 }
 
-/// The index, or the one before it where its byte goes on a character.
+/// The index, or the one before it if its byte continues a character.
 fn character_start(bytes: &[u8], at: usize) -> usize
     requires { (0 < at) × (at < length bytes.now) }
     ensures { (result ≤ at) × (at ≤ result + 1) }

@@ -1,4 +1,4 @@
-//! Where a node is left.
+//! Exits nodes.
 
 ghost use Rattle.std.specs.Prelude.{◌≡◌, true};
 ghost use Rattle.std.specs.Prelude.{OnOk, reverse};
@@ -28,7 +28,7 @@ impl Walk {
     ghost use Rattle.md_tree.specs.Walk.{targets_around, course_of};
     ghost use Rattle.md_tree.specs.Walk.{Unbroken, IsStop, IsStopInside};
 
-    /// Leaves the innermost open node.
+    /// Exits the innermost open node.
     #[inline(always)]
     pub(super) fn exit(
         &mut self,
@@ -60,7 +60,7 @@ impl Walk {
         }
     }
 
-    /// Leaves a node that has a spine of its own, which was read so far.
+    /// Exits a node that has its own spine, which was read so far.
     #[inline(always)]
     fn leave(&mut self, input: Input, index: usize, open_node: &Open) -> Result<(), CompileError>
         ensures ok { OnOk result
@@ -88,7 +88,7 @@ impl Walk {
         self.leave_read(input, index, open_node)
     }
 
-    /// The same where something is read of the node, or it or the spine around it has a target.
+    /// The same if something is read of the node, or if it or its parent's spine has a target.
     fn leave_read(
         &mut self,
         input: Input,
@@ -129,7 +129,7 @@ impl Walk {
     }
 }
 
-/// The target of the spine around a node that ends, if it was put aside.
+/// The saved target of the parent's spine of a node that ends, if there is one.
 fn take_back(aimed: bool, targets: &mut Vec<Aim>) -> Aim
     ensures target { result ≡ target_of aimed (reverse targets.old.items) }
     ensures around { reverse targets.new.items ≡ targets_around aimed (reverse targets.old.items) }
@@ -143,7 +143,7 @@ fn take_back(aimed: bool, targets: &mut Vec<Aim>) -> Aim
     }
 }
 
-/// Keeps what a node mentions that exits at the index, if it mentions anything.
+/// Records the mention of a node that exits at the index, if it has one.
 fn keep(
     mentions: &mut Vec<Mentioned>,
     events: &[Event],

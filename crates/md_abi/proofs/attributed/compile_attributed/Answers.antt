@@ -1,5 +1,5 @@
--- What was read stands for what C handed in, also as slices, and what is asked for is what was
--- read. By itself the search can't carry the promise from the one to the other.
+-- The converted input is what C's input encodes, also as slices, and the requested attributes are
+-- those that were read. The search alone doesn't carry the promise from one to the other.
 use Rattle.std.proofs.Common.{option_copied, string_bytes}
 use Rattle.md_abi.proofs.GivenLemmas.{read_as, rendered}
 use Rattle.md_abi.proofs.AttributedLemmas.{made_text}

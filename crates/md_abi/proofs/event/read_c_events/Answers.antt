@@ -1,5 +1,5 @@
--- An event that is read adds to those before it; the first that can't be read is told; at the end
--- all are read. By itself the search takes long over it.
+-- A converted event is appended to those before it; the first invalid one is reported; at the end
+-- all are converted. The search alone takes long.
 use Rattle.std.proofs.Common.{length, ap}
 use Rattle.md_abi.specs.Events.{event_of}
 use Rattle.md_abi.proofs.StandingLemmas.{one_more, first_without, all_read}

@@ -1,5 +1,5 @@
--- What was read stands for what C handed in, also as slices: so what `compile_read` says holds of
--- C's arguments. By itself the search can't carry its promise from the one to the other.
+-- The converted input is what C's input encodes, also as slices: so the promise of `compile_read`
+-- holds for C's arguments. The search alone doesn't carry it from one to the other.
 use Rattle.std.specs.Prelude.{string_bytes}
 use Rattle.md_abi.proofs.GivenLemmas.{read_as, text_given, refusal_given}
 use Rattle.md_abi.proofs.given.compile_given.Goals as goal

@@ -1,5 +1,5 @@
--- The compiler's refusal stays true as the failure that `?` makes of it.
--- By itself the search can't put the five clauses of a refusal together.
+-- The compiler's refusal stays true as the failure that `?` converts it to. The search alone
+-- doesn't combine the five clauses of a refusal.
 use Rattle.md_tree.specs.Grammar.{handed}
 use Rattle.md_abi.proofs.GivenLemmas.{told}
 use Rattle.md_abi.proofs.given.compile_read.Goals as goal

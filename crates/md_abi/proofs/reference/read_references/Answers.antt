@@ -1,5 +1,5 @@
--- A reference that is read adds to those before it; the first that can't be read is told; at the
--- end all are read. By itself the search takes long over it.
+-- A converted reference is appended to those before it; the first invalid one is reported; at the
+-- end all are converted. The search alone takes long.
 use Rattle.std.proofs.Common.{◌∷◌, [], length, sym, ap, ◌∙◌}
 use Rattle.std.proofs.lemmas.List.{length-map, map-append}
 use Rattle.md_base.specs.Reference.{name_table}

@@ -1,5 +1,5 @@
--- Bytes are a text exactly where std's check says that they are UTF-8.
--- By itself the search doesn't go through the two answers of the check.
+-- Bytes are a text exactly if std's check accepts them as UTF-8. The search alone doesn't split the
+-- two results of the check.
 use Rattle.std.proofs.Common.{ap, ◌∙◌}
 use Rattle.std.specs.Prelude.{option_copied}
 use Rattle.md_script.proofs.SettingLemmas.{read_text}

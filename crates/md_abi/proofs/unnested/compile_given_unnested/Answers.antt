@@ -1,5 +1,6 @@
--- What was read stands for what C handed in, also as slices: so what `compile_read_unnested` says
--- holds of C's arguments. By itself the search can't carry its promise from the one to the other.
+-- The converted input is what C's input encodes, also as slices: so the promise of
+-- `compile_read_unnested` holds for C's arguments. The search alone doesn't carry it from one to
+-- the other.
 use Rattle.md_abi.proofs.GivenLemmas.{read_as}
 use Rattle.md_abi.proofs.UnnestedLemmas.{unnested_given, fault_given}
 use Rattle.md_abi.proofs.unnested.compile_given_unnested.Goals as goal

@@ -1,5 +1,6 @@
--- What was read stands for what C handed in, also as slices: so what `compile_read_within` says
--- holds of C's arguments. By itself the search can't carry its promise from the one to the other.
+-- The converted input is what C's input encodes, also as slices: so the promise of
+-- `compile_read_within` holds for C's arguments. The search alone doesn't carry it from one to the
+-- other.
 use Rattle.std.proofs.Common.{refl}
 use Rattle.std.specs.Prelude.{string_bytes}
 use Rattle.md_abi.proofs.GivenLemmas.{read_as}

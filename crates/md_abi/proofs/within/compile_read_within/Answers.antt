@@ -1,5 +1,5 @@
--- The compiler's error stays true as the failure that `?` makes of it.
--- By itself the search can't put the clauses of a text and of an error together.
+-- The compiler's error stays true as the failure that `?` converts it to. The search alone doesn't
+-- combine the clauses of a text and of an error.
 use Rattle.md_tree.specs.Grammar.{handed}
 use Rattle.md_abi.proofs.WithinLemmas.{refusal_within, told_within}
 use Rattle.md_abi.proofs.within.compile_read_within.Goals as goal

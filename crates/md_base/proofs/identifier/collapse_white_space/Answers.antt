@@ -1,5 +1,5 @@
--- What is written and what stands for the rest is the collapsed text at each character: the steps
--- of the one pass.
+-- The written text, followed by the result for the rest, is the collapsed text at each character:
+-- the steps of the one pass.
 use Rattle.std.proofs.Common.{◌≡◌, ◌++◌, length, eqb, string_bytes, false, sym, ap, ◌∙◌, arith}
 use Rattle.std.proofs.lemmas.Bool.{false≢true}
 use Rattle.std.proofs.lemmas.List.{nil_from_length}

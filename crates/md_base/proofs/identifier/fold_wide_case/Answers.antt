@@ -1,4 +1,5 @@
--- What is written and what stands for the rest is the folding of the text at each character.
+-- The written text, followed by the result for the rest, is the folding of the text at each
+-- character.
 use Rattle.std.proofs.Common.{◌++◌, string_bytes, encode_utf8_all, chars, sym, ap, ◌∙◌}
 use Rattle.std.proofs.lemmas.List.{append-nil, nil_from_length}
 use Rattle.std.proofs.lemmas.Str.{IsUtf8-past_char}

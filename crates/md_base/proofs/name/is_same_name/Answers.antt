@@ -1,5 +1,5 @@
--- Where the first name is none of those with a number: the derived `==` goes by the variants in
--- turn, and by the number under the one that has one.
+-- If the first name has no number: the derived `==` tests the variants in order, and the number for
+-- the variant that has one.
 use Rattle.std.proofs.Common.{eqb, sym, ◌∙◌}
 use Rattle.std.proofs.lemmas.Bool.Decides.{Decides-eqb, Decides-like}
 use Rattle.md_base.specs.contracts.event.Name.{enum}

@@ -1,4 +1,4 @@
--- The loop over the table: what is left of it has the same entry.
+-- The loop over the table: the rest of it has the same entry.
 use Rattle.std.proofs.Common.{◌≡◌, drop}
 use Rattle.md_base.specs.Reference.{name_table, named}
 use Rattle.md_base.proofs.reference.find_name.Given as goal

@@ -1,4 +1,4 @@
--- The loop: as many spaces are pushed as turns were made.
+-- The loop: the number of spaces pushed is the number of iterations.
 use Rattle.std.proofs.Common.{◌≡◌, ◌++◌, replicate, string_bytes}
 use Rattle.md_base.proofs.slice.push_spaces.Given as goal
 

@@ -1,4 +1,4 @@
--- Each turn goes on in the line.
+-- Each iteration moves forward in the line.
 use Rattle.std.proofs.Common.{◌-◌, length}
 use Rattle.md_blocks.proofs.code.first_word.Given as goal
 

@@ -1,4 +1,4 @@
--- Each turn goes on in the text.
+-- Each iteration moves forward in the text.
 use Rattle.std.proofs.Common.{◌-◌, length}
 use Rattle.md_blocks.proofs.html.kind_of_tag.Given as goal
 

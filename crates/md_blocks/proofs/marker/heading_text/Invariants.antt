@@ -1,4 +1,4 @@
--- Each turn goes back by a mark.
+-- Each iteration moves back by a mark.
 use Rattle.md_blocks.proofs.marker.heading_text.Given as goal
 
 abbrev pub decreases-loop-mark : goal.decreases-loop-mark

@@ -1,4 +1,4 @@
--- Each turn goes on in the row.
+-- Each iteration moves forward in the row.
 use Rattle.std.proofs.Common.{◌-◌}
 use Rattle.md_blocks.proofs.table.count_cells.Given as goal
 

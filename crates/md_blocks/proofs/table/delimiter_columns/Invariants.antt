@@ -1,4 +1,4 @@
--- Each turn goes on in the row.
+-- Each iteration moves forward in the row.
 use Rattle.std.proofs.Common.{◌-◌, length}
 use Rattle.md_blocks.proofs.table.delimiter_columns.Given as goal
 

@@ -1,4 +1,4 @@
-//! Whether a text or a refusal is the one that is wanted.
+//! Whether a text or a refusal is the expected one.
 
 use super::super::log::{Log, again};
 use super::super::rows::Wanted;
@@ -6,14 +6,14 @@ use md_html::{CompileError, SafeHtml};
 use md_page::page;
 use std::alloc::{AllocError, Global};
 
-/// What stands before the text of a page that has the title `<`.
+/// The part of a page with the title `<` before its text.
 const BEFORE: &str =
     "<!doctype html>\n<html><head><meta charset=\"utf-8\" /><title>&lt;</title></head><body>";
 
-/// What stands after it.
+/// The part after it.
 const AFTER: &str = "</body></html>\n";
 
-/// Whether `page` puts the text that is wanted into a page.
+/// Whether `page` writes a page with the expected text.
 pub(super) fn is_in_page(alloc: Global, log: &mut Log, html: &SafeHtml, wanted: &Wanted) -> bool {
     match again!(log, Err(AllocError), page(alloc, "<", html)) {
         Ok(page) => is_between(page.as_str(), wanted),
@@ -21,7 +21,7 @@ pub(super) fn is_in_page(alloc: Global, log: &mut Log, html: &SafeHtml, wanted: 
     }
 }
 
-/// Whether the text that is wanted stands between the two.
+/// Whether the expected text is between the two.
 fn is_between(page: &str, wanted: &Wanted) -> bool {
     let inside = page
         .strip_prefix(BEFORE)
@@ -32,7 +32,7 @@ fn is_between(page: &str, wanted: &Wanted) -> bool {
     }
 }
 
-/// Whether this text is wanted.
+/// Whether this text is the expected one.
 pub fn is_text(text: &str, wanted: &Wanted) -> bool {
     match wanted {
         Wanted::Text(wanted) => text == *wanted,
@@ -40,7 +40,7 @@ pub fn is_text(text: &str, wanted: &Wanted) -> bool {
     }
 }
 
-/// Whether this refusal is wanted.
+/// Whether this refusal is the expected one.
 pub fn is_refusal(cause: &CompileError, wanted: &Wanted) -> bool {
     match (cause, wanted) {
         (CompileError::Event { index, rule }, Wanted::Refusal(at, by)) => {

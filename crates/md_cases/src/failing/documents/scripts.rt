@@ -1,4 +1,4 @@
-//! The calls over event scripts.
+//! The calls that take event scripts.
 
 use super::super::log::{Log, again};
 use super::super::rows::Row;
@@ -7,7 +7,7 @@ use md_html::{CompileError, SafeHtml};
 use md_script::{RunError, SafeRunError, run, run_safe};
 use std::alloc::{AllocError, Global};
 
-/// Whether `run` answers what is wanted.
+/// Whether `run` returns the expected result.
 pub(super) fn runs(alloc: Global, log: &mut Log, row: &Row) -> bool {
     match again!(
         log,
@@ -22,7 +22,7 @@ pub(super) fn runs(alloc: Global, log: &mut Log, row: &Row) -> bool {
     }
 }
 
-/// The answer of `run_safe`; where it is out of memory, that of the same call made again.
+/// The result of `run_safe`; if it runs out of memory, that of a second call.
 fn ran_safely(alloc: Global, log: &mut Log, script: &[u8]) -> Result<SafeHtml, SafeRunError> {
     again!(
         log,
@@ -31,7 +31,7 @@ fn ran_safely(alloc: Global, log: &mut Log, script: &[u8]) -> Result<SafeHtml, S
     )
 }
 
-/// Whether `run_safe` answers what is wanted.
+/// Whether `run_safe` returns the expected result.
 pub(super) fn runs_safely(alloc: Global, log: &mut Log, row: &Row) -> bool {
     match ran_safely(alloc, log, row.script.as_bytes()) {
         Ok(html) => is_text(html.as_str(), &row.wanted),
@@ -42,7 +42,7 @@ pub(super) fn runs_safely(alloc: Global, log: &mut Log, row: &Row) -> bool {
     }
 }
 
-/// Whether `run_safe` tells that a script's options aren't safe.
+/// Whether `run_safe` reports that a script's options aren't safe.
 pub(super) fn tells_unsafe_options(alloc: Global, log: &mut Log) -> bool {
     match ran_safely(alloc, log, b"!allow_dangerous_html\n--\n") {
         Err(SafeRunError::Options) => {
@@ -52,7 +52,7 @@ pub(super) fn tells_unsafe_options(alloc: Global, log: &mut Log) -> bool {
     }
 }
 
-/// Whether `run_safe` tells that the first line can't be read.
+/// Whether `run_safe` reports that the first line is invalid.
 pub(super) fn tells_unreadable_line(alloc: Global, log: &mut Log) -> bool {
     match ran_safely(alloc, log, b"*\n--\n") {
         Err(SafeRunError::Run(cause)) => {
@@ -62,7 +62,7 @@ pub(super) fn tells_unreadable_line(alloc: Global, log: &mut Log) -> bool {
     }
 }
 
-/// Whether an error is written so.
+/// Whether an error prints this line.
 fn is_written(alloc: Global, log: &mut Log, error: &SafeRunError, wanted: &str) -> bool {
     match again!(log, Err(AllocError), format!(in alloc; "{error}")) {
         Ok(text) => text.as_str() == wanted,

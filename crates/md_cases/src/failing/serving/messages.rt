@@ -1,4 +1,4 @@
-//! What the errors of `serve` say.
+//! The messages of the errors of `serve`.
 
 use md_html::{CompileError, Rule};
 use md_script::{RunError, ServeError};

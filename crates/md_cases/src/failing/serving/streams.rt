@@ -1,14 +1,14 @@
-//! Readers and writers of which a read or a write fails, or never ends.
+//! Readers and writers that fail at a read or a write, or never end.
 
 use std::io::{self, ErrorKind, Read, Write};
 
-/// How many bytes are read or written at once.
+/// The maximum number of bytes of one read or write.
 pub(super) const STEP: usize = 3;
 
-/// How many bytes a script has that is read byte by byte.
+/// The length of the script that is read byte by byte.
 pub(super) const MEGABYTE: usize = 1_048_576;
 
-/// Some bytes, of which one read fails; 0 for none.
+/// Some bytes, and the read that fails; 0 for none.
 #[derive(Drop)]
 pub(super) struct FailingReader<'a> {
     pub(super) bytes: &'a [u8],
@@ -29,7 +29,7 @@ impl Read for FailingReader<'_> {
     }
 }
 
-/// What was written, where one write fails; 0 for none.
+/// The output, and the write that fails; 0 for none.
 #[derive(Drop)]
 pub(super) struct FailingWriter {
     pub(super) written: Vec<u8>,
@@ -55,7 +55,7 @@ impl Write for FailingWriter {
     }
 }
 
-/// A script, with more after its end until there is a megabyte; a byte at each read.
+/// A script, padded after its end to a megabyte, one byte for each read.
 #[derive(Drop)]
 pub(super) struct SlowReader<'a> {
     pub(super) script: &'a [u8],
@@ -74,11 +74,11 @@ impl Read for SlowReader<'_> {
     }
 }
 
-/// A reader that gives a byte at each read, and never ends.
+/// A reader that returns a byte at each read, and never ends.
 #[derive(Drop)]
 pub(super) struct EndlessReader {
     pub(super) reads: usize,
-    /// How much the last read had room for.
+    /// The size of the buffer at the last read.
     pub(super) room: usize,
 }
 
@@ -94,7 +94,7 @@ impl Read for EndlessReader {
     }
 }
 
-/// A writer that takes so many bytes at each write, and may fail to flush them.
+/// A writer that accepts a fixed number of bytes at each write, and may fail to flush them.
 #[derive(Drop)]
 pub(super) struct StuckWriter {
     pub(super) takes: usize,

@@ -1,6 +1,6 @@
--- The bytes that are kept are so many as the definition counts; and a text may be cut where the
--- `</p>` at its end begins, since `<` is ASCII.
--- By itself the search can't find that byte in the text from the test on the text's end.
+-- The remaining bytes are as many as the definition counts; and a text may be cut where the `</p>`
+-- at its end begins, since `<` is ASCII. The search alone doesn't find that byte in the text from
+-- the test on the text's end.
 use Rattle.std.proofs.Common.{◌≡◌, codes, length, ℕ, ◌-◌, true, List, Some, None, ap, sym, ◌∙◌}
 use Rattle.std.proofs.Common.{arith, drop, bytes_eq}
 use Rattle.std.specs.Prelude.{if◌then◌else◌}

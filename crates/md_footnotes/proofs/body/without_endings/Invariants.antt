@@ -1,5 +1,5 @@
--- At each turn: without the line endings at its end, what is kept is the same as the whole text.
--- It gets shorter.
+-- In each iteration, the remaining text and the whole text are the same without the line endings at
+-- their ends. It gets shorter.
 use Rattle.std.proofs.Common.{◌≡◌, length}
 use Rattle.md_footnotes.specs.Words.{unended}
 use Rattle.md_footnotes.proofs.body.without_endings.Given as goal

@@ -1,5 +1,5 @@
--- At each turn: to add the footnotes that are left is to add all of them to the text as it was at
--- the start. It ends, as fewer are left each time.
+-- In each iteration, appending the remaining footnotes gives the same as appending all of them to
+-- the text at the start. The loop ends, since fewer remain each time.
 use Rattle.std.proofs.Common.{◌≡◌, ◌-◌, ◌≤◌, length, drop, string_bytes}
 use Rattle.std.specs.List.{flat_map}
 use Rattle.md_meaning.specs.Meaning.Layout.{laid_after}

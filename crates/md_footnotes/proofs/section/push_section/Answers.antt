@@ -1,5 +1,5 @@
--- Where there is a call, the opening, the items and the end, laid one after another, are the
--- section. By itself the search can't lay pieces in parts.
+-- If there is a call, the opening, the items and the end, laid out in sequence, are the section.
+-- The search alone doesn't lay out pieces in parts.
 use Rattle.std.proofs.Common.{◌≡◌, ◌∷◌, [], ◌++◌, OnOk, List, ℕ, not, ap, sym, ◌∙◌, subst, codes}
 use Rattle.std.proofs.Common.{string_bytes}
 use Rattle.std.specs.List.{flat_map}

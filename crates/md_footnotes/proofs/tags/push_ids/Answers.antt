@@ -1,5 +1,4 @@
--- The texts one after another.
--- By itself the search unfolds the call's id, and then doesn't find the rest.
+-- The texts in sequence. The search alone unfolds the call's id, and then doesn't find the rest.
 use Rattle.std.proofs.Common.{◌≡◌, ◌++◌, OnOk, ap, ◌∙◌, subst, codes, string_bytes}
 use Rattle.md_meaning.specs.Meaning.Footnotes as meaning
 use Rattle.md_footnotes.proofs.tags.push_ids.Goals as goal

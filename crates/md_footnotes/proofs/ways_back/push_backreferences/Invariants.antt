@@ -1,5 +1,5 @@
--- At each turn: the ways back to as many calls as are done were added, which are no
--- more than there are.
+-- In each iteration, the backreferences to the calls so far were appended, and these are no more
+-- than exist.
 use Rattle.std.proofs.Common.{◌-◌, ◌≡◌, ◌++◌, string_bytes, ◌≤◌}
 use Rattle.md_meaning.specs.Meaning.Footnotes as meaning
 use Rattle.md_footnotes.proofs.ways_back.push_backreferences.Given as goal

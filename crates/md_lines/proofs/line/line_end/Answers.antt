@@ -1,4 +1,4 @@
--- What is looked through is the rest of the bytes.
+-- The searched bytes are the rest of the bytes.
 use Rattle.std.proofs.Common.{◌+◌, ap, ◌∙◌}
 use Rattle.std.proofs.lemmas.List.{take_rest}
 use Rattle.std.specs.List.{prefix_len}

@@ -1,4 +1,4 @@
--- Bytes of which none ends a line are passed.
+-- The loop passes bytes that don't end a line.
 use Rattle.std.proofs.Common.{arith}
 use Rattle.std.proofs.lemmas.List.Sums.{prefix_len-le-length}
 use Rattle.md_lines.specs.Lines.{ends_no_line}

@@ -1,4 +1,4 @@
--- Each turn goes on to another line.
+-- Each iteration moves on to another line.
 use Rattle.md_lines.specs.Reading.{left}
 use Rattle.md_lines.proofs.link.read_title.Given as goal
 

@@ -1,4 +1,4 @@
--- What is passed isn't gone back over.
+-- The index never decreases.
 use Rattle.std.proofs.Common.{◌≤◌, ◌-◌, length}
 use Rattle.md_lines.proofs.tag.index_of.Given as goal
 

@@ -1,4 +1,4 @@
--- Each attribute goes past a byte.
+-- Each attribute moves past a byte.
 use Rattle.md_lines.specs.Reading.{left}
 use Rattle.md_lines.proofs.tag.skip_attributes.Given as goal
 

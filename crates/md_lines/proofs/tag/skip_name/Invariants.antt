@@ -1,4 +1,4 @@
--- Each turn goes past a byte.
+-- Each iteration moves past a byte.
 use Rattle.md_lines.specs.Reading.{left}
 use Rattle.md_lines.proofs.tag.skip_name.Given as goal
 

@@ -1,5 +1,5 @@
--- A field that stands for no option is told under its own number; else each option is the one of
--- its field. By itself the search takes long over so many fields.
+-- A field that encodes no option is reported with its own number; else each option is the one of
+-- its field. The search alone takes long for so many fields.
 use Rattle.std.proofs.Common.{refl}
 use Rattle.md_markdown_abi.proofs.GivenLemmas.{fault_told}
 use Rattle.md_markdown_abi.proofs.option.read_markdown_options.Goals as goal

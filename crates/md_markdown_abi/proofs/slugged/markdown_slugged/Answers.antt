@@ -1,5 +1,5 @@
--- What was promised of a text, carried to what C is told, and what was read. By itself the search
--- can't put the clauses together.
+-- The promises about a text, for C's answer and the input that was read. The search alone doesn't
+-- combine the clauses.
 use Rattle.std.proofs.Common.{option_copied, string_bytes, rules}
 use Rattle.md_markdown_abi.proofs.GivenLemmas.{plain_of, told, option_fault}
 use Rattle.md_markdown_abi.proofs.SluggedLemmas.{made_slugged}

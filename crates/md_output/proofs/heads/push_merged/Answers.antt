@@ -1,5 +1,5 @@
--- A head that fits has its place and its text between characters, and is put in before what comes
--- after its place. By itself the search does not see that the rest fits.
+-- A head that fits has its offset and its text at character boundaries, and is inserted before the
+-- text after its offset. The search alone doesn't find that the rest fits.
 use Rattle.std.proofs.Common.{◌++◌, ◌≤◌, List, ℕ, length, string_bytes, arith, ap, sym, subst, ◌∙◌}
 use Rattle.std.proofs.Common.{append_assoc, drop, take}
 use Rattle.std.proofs.lemmas.Str.{IsCharBoundary-from_take}

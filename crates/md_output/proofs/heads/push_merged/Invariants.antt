@@ -1,4 +1,4 @@
--- At each turn: what is added, and after it the rest from the last place on, is the whole.
+-- In each iteration, the appended text, followed by the rest from the last offset, is the whole.
 use Rattle.std.proofs.Common.{◌≡◌, ◌++◌, length, string_bytes}
 use Rattle.md_output.specs.Waiting.{merged, Fit}
 use Rattle.md_output.proofs.heads.push_merged.Given as goal

@@ -1,4 +1,4 @@
--- The text is put together in five steps.
+-- Five steps build the text.
 use Rattle.std.proofs.Common.{◌≡◌, ℕ, true, List, ◌++◌, ap, sym, ◌∙◌, subst, codes}
 use Rattle.std.proofs.lemmas.List.{append_assoc}
 use Rattle.md_text.specs.Encode.{encoded}

@@ -1,4 +1,4 @@
--- A turn writes up to a tag's end, and its attribute.
+-- An iteration writes up to a tag's end, and its attribute.
 use Rattle.std.proofs.Common.{◌≡◌, ◌+◌, ℕ, suc, false, List, [], ◌∷◌, ◌++◌, length, string_bytes}
 use Rattle.std.proofs.Common.{refl, map, ap, ◌∙◌, subst, arith}
 use Rattle.std.proofs.lemmas.List.{length-drop}

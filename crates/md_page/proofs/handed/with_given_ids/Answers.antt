@@ -1,4 +1,4 @@
--- What comes of the text by its bytes, in the words of the Standard.
+-- The result for the text by its bytes, in the Standard's terms.
 use Rattle.std.proofs.Common.{map, string_bytes, sym, ap, ◌∙◌, subst}
 use Rattle.md_safe.specs.Tokenizer.{IsTokenized}
 use Rattle.md_page.specs.Added.{gets_id}

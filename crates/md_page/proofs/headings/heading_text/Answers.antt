@@ -1,4 +1,4 @@
--- A turn writes a text, and passes a tag.
+-- An iteration writes a text, and skips a tag.
 use Rattle.std.proofs.Common.{◌++◌, string_bytes, sym, ap, ◌∙◌}
 use Rattle.md_page.specs.Scan.{closes_heading}
 use Rattle.md_page.proofs.HeadingTurns.{text-ends, text-turn, text-all}

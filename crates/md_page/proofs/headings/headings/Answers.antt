@@ -1,4 +1,4 @@
--- A turn adds the heading that is found.
+-- An iteration adds the heading that it finds.
 use Rattle.std.proofs.Common.{◌≡◌, ◌+◌, ◌++◌, [], ◌∷◌, drop, length, map, vec_len, append-nil, sym}
 use Rattle.std.proofs.Common.{ap, ◌∙◌, arith}
 use Rattle.std.proofs.lemmas.List.{map-append, length-drop}

@@ -1,5 +1,5 @@
--- Those that are found, and after them those of the rest, are all; no more are found than
--- bytes are passed.
+-- The headings found so far, followed by those of the rest, are all; their number is at most that
+-- of the bytes so far.
 use Rattle.std.proofs.Common.{◌≡◌, ◌≤◌, ◌+◌, ◌++◌, map, length, vec_len}
 use Rattle.md_page.specs.Headings.{listed}
 use Rattle.md_page.specs.Scan.{scanned_headings}

@@ -1,4 +1,4 @@
--- A turn writes a line and its line feed.
+-- An iteration writes a line and its line feed.
 use Rattle.std.proofs.Common.{◌≡◌, ◌++◌, OnOk, string_bytes, sym, ap, ◌∙◌, subst, arith}
 use Rattle.std.proofs.lemmas.Grind.{common_steps}
 use Rattle.md_page.proofs.HeadingTurns.{lined-turn, lined-all}

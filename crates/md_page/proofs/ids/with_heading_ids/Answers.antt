@@ -1,4 +1,4 @@
--- What comes of the text by its bytes, in the words of the Standard.
+-- The result for the text by its bytes, in the Standard's terms.
 use Rattle.std.proofs.Common.{sym, ap, ◌∙◌, subst, length, ◌<◌, ◌^◌, arith}
 use Rattle.std.proofs.lemmas.List.{length-map}
 use Rattle.md_safe.specs.Tokenizer.{IsTokenized}

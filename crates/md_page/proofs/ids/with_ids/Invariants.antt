@@ -1,5 +1,5 @@
--- What is written, and after it what becomes of the rest, is the whole; no more are numbered than
--- bytes are passed.
+-- The written text, followed by the result for the rest, is the whole; the number of headings is at
+-- most that of the bytes so far.
 use Rattle.std.proofs.Common.{◌≡◌, ◌≤◌, ◌+◌, false, ◌++◌, [], ◌∷◌, length, string_bytes}
 use denote.Text.{Utf8}
 use denote.Shadow.{shadow}

@@ -1,4 +1,4 @@
--- A turn writes up to a tag's end, and its attribute.
+-- An iteration writes up to a tag's end, and its attribute.
 use Rattle.std.proofs.Common.{ℕ, suc, List, [], ◌∷◌, string_bytes, ◌∙◌}
 use Rattle.md_text.specs.Html.{written_attributes}
 use Rattle.md_page.specs.Scan.{picks_link, new_rel}

@@ -1,4 +1,4 @@
--- What is written, and after it what becomes of the rest, is the whole.
+-- The written text, followed by the result for the rest, is the whole.
 use Rattle.std.proofs.Common.{◌≡◌, ℕ, false, ◌++◌, [], ◌∷◌, length, string_bytes}
 use denote.Text.{Utf8}
 use denote.Shadow.{shadow}

@@ -1,4 +1,4 @@
--- The byte isn't among those that were looked at.
+-- The byte isn't among those tested so far.
 use Rattle.std.proofs.Common.{◌≡◌, ◌≤◌, ◌-◌, true, take}
 use Rattle.std.specs.List.{list_all}
 use Rattle.md_page.specs.Scan.{differs}

@@ -1,4 +1,4 @@
--- A turn passes two bytes, or stops before the second.
+-- An iteration skips two bytes, or stops before the second.
 use Rattle.std.proofs.Common.{◌≡◌, ◌<◌, ◌+◌, ℕ, true, length, subst, arith, ne_eqb}
 use Rattle.std.specs.Prelude.{slice_index}
 use Rattle.md_page.specs.Scan.{clear, picks_of}

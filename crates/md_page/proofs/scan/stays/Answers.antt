@@ -1,4 +1,4 @@
--- The first attribute is such an address, so that the link gets no `rel`.
+-- The first attribute is such an address, so the link gets no `rel`.
 use Rattle.std.proofs.Common.{sym, ◌∙◌}
 use Rattle.md_page.proofs.Nearby.{stays-within, leads-nowhere}
 use Rattle.md_page.proofs.scan.stays.Goals as goal

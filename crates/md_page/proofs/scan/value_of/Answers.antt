@@ -1,4 +1,4 @@
--- The name is the one that is looked for.
+-- The name is the target.
 use Rattle.std.proofs.Common.{sym, ◌∙◌}
 use Rattle.md_page.proofs.Parts.{value-found}
 use Rattle.md_page.proofs.scan.value_of.Goals as goal

@@ -1,4 +1,4 @@
--- What is left of the attributes has the same value.
+-- The rest of the attributes has the same value.
 use Rattle.std.proofs.Common.{◌≡◌, length}
 use Rattle.md_page.specs.Scan.{value_of}
 use Rattle.md_page.proofs.scan.value_of.Given as goal

@@ -1,4 +1,4 @@
--- A turn adds a value that stands after ` id=`.
+-- An iteration adds a value that follows ` id=`.
 use Rattle.std.proofs.Common.{◌++◌, map, string_bytes, sym, ap, ◌∙◌, append-nil}
 use Rattle.md_page.specs.Scan.{scanned_ids}
 use Rattle.md_page.proofs.TakenIds.{id-turn, nothing-left, one-left}

@@ -1,4 +1,5 @@
--- The letter of the table at this row and symbol tells what follows; past the rows nothing does.
+-- The letter of the table at this row and symbol encodes the next place; past the rows there is
+-- none.
 use Rattle.std.proofs.Common.{rules, [], ◌≡◌, ◌<◌, ◌≤◌, length, get_or, ap, ◌∙◌, subst}
 use Rattle.md_pattern.proofs.PlaceLemmas.{letter-told, letter-led, moved-outside, rows-count}
 use Rattle.md_pattern.specs.Places.{told, leads}

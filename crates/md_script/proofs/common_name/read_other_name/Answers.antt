@@ -1,5 +1,5 @@
--- `Other` and the number that is read after it are the name that they spell.
--- By itself the search can't put the text together from them.
+-- `Other` and the number that is read after it are the name that they spell. The search alone
+-- doesn't assemble the text from them.
 use Rattle.md_script.proofs.CommonLemmas.{other_read}
 use Rattle.md_script.proofs.common_name.read_other_name.Goals as goal
 

@@ -1,5 +1,5 @@
--- At each turn: what was passed lies within the bytes. Less is left before the longest
--- name's end each time.
+-- In each iteration, the searched blocks lie within the bytes. Fewer bytes remain before the end of
+-- the longest name each time.
 use Rattle.std.proofs.Common.{◌≤◌, ◌-◌, length}
 use Rattle.md_script.proofs.common_name.space_after_block.Given as goal
 

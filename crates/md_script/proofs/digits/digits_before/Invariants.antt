@@ -1,4 +1,4 @@
--- At each turn: the bytes so far are digits, and the number is what they write.
+-- In each iteration, the bytes so far are digits, and the number is their value.
 use Rattle.std.proofs.Common.{◌≡◌, true, take}
 use Rattle.std.specs.Str.{all_ascii_digits}
 use Rattle.std.specs.Str.Parse.{digits_value}

@@ -1,5 +1,5 @@
--- The sign, the name and the place that are read are those of the input's first line, and make up
--- its event. By itself the search can't put the line together from them.
+-- The sign, the name and the point are those of the input's first line, and form its event. The
+-- search alone doesn't assemble the line from them.
 use Rattle.std.proofs.Common.{sym}
 use Rattle.md_script.proofs.CommonLemmas.{line_cut}
 use Rattle.md_script.proofs.plain_line.read_cut_line.Goals as goal

@@ -1,5 +1,5 @@
--- The two numbers, up to the dot and up to the line feed, are the place's.
--- By itself the search can't put the place together from them.
+-- The two numbers, up to the dot and up to the line feed, are those of the point. The search alone
+-- doesn't assemble the point from them.
 use Rattle.md_script.proofs.PlainLemmas.{place_cut}
 use Rattle.md_script.proofs.plain_line.read_cut_place.Goals as goal
 

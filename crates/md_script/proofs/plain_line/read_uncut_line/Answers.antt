@@ -1,5 +1,5 @@
--- The sign, the name and the index that are split off are those of the input's first line, and make
--- up its event. By itself the search can't put the line together from them.
+-- The sign, the name and the index that are split off are those of the input's first line, and form
+-- its event. The search alone doesn't assemble the line from them.
 use Rattle.std.proofs.Common.{◌∷◌, sym, ap, ◌∙◌}
 use Rattle.md_script.proofs.PlainLemmas.{line_plain}
 use Rattle.md_script.proofs.plain_line.read_uncut_line.Goals as goal

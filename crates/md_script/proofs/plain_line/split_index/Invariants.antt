@@ -1,5 +1,5 @@
--- At each turn: the bytes so far are digits, at most nine and as many as `length`, and the index is
--- what they write.
+-- In each iteration, the bytes so far are digits, at most nine and as many as `length`, and the
+-- index is their value.
 use Rattle.std.proofs.Common.{◌≡◌, ◌≤◌, true, take}
 use Rattle.std.specs.Str.{all_ascii_digits}
 use Rattle.std.specs.Str.Parse.{digits_value}

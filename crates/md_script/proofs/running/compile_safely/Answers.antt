@@ -1,5 +1,5 @@
--- The compiler's refusal, of options or of an event, stays true as the error that `?` makes of it.
--- By itself the search can't put the clauses of a refusal together.
+-- The compiler's refusal, of options or of an event, stays true as the error that `?` converts it
+-- to. The search alone doesn't combine the clauses of a refusal.
 use Rattle.md_script.proofs.RunLemmas.{refusal_of, told_safely}
 use Rattle.md_script.specs.Run.{document_of}
 use Rattle.md_script.proofs.running.compile_safely.Goals as goal

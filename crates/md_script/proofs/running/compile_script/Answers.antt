@@ -1,5 +1,5 @@
--- The compiler's refusal stays true as the error that `?` makes of it.
--- By itself the search can't put the five clauses of a refusal together.
+-- The compiler's refusal stays true as the error that `?` converts it to. The search alone doesn't
+-- combine the five clauses of a refusal.
 use Rattle.md_script.proofs.RunLemmas.{told}
 use Rattle.md_script.proofs.running.compile_script.Goals as goal
 

@@ -1,5 +1,5 @@
--- The compiler's error stays true as the one that `?` makes of it.
--- By itself the search can't put the clauses of an error together.
+-- The compiler's error stays true as the one that `?` converts it to. The search alone doesn't
+-- combine the clauses of an error.
 use Rattle.md_script.proofs.WithinLemmas.{refusal_within, told_within}
 use Rattle.md_script.specs.Run.{document_of}
 use Rattle.md_script.proofs.running_within.compile_script_within.Goals as goal

@@ -1,6 +1,6 @@
--- A line that is read is one step of progress; the line that ends the script, an unreadable one
--- or the input's end says what is answered. By itself the search can't tell what all lines say
--- from the last one.
+-- A valid line is one step of progress; the line that ends the script, an invalid one or the
+-- input's end decides the result. The search alone doesn't derive the meaning of all lines from the
+-- last one.
 use Rattle.std.proofs.Common.{rules, ◌≡◌, ℕ, ◌+◌, ◌++◌, ◌∷◌, [], List, true, cond, refl, sym, ◌∙◌}
 use Rattle.std.proofs.Common.{subst, arith, length, option_to_list, is_some}
 use Rattle.std.specs.Borrow.{Bor}
@@ -99,6 +99,6 @@ lines-preserved c =
     (settings ++ cond (is_some said) [] (line ∷ [])) left)
     (counted_more events settings line said) more))
 
--- The search that proves this one, and no other: a wrong body is refused by it in a second.
+-- The one search that proves this: it refuses a mutant in a second.
 pub lines-init : goal.lines-init
 lines-init c = search rules

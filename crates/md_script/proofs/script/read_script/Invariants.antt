@@ -1,5 +1,5 @@
--- At each turn: the lines so far can be read, and events and settings are theirs, as many as there
--- are lines (`Progress`). Less is left each time.
+-- In each iteration, the lines so far are valid, and events and settings are theirs, as many as
+-- there are lines (`Progress`). Less input remains each time.
 use Rattle.std.proofs.Common.{◌+◌, length}
 use Rattle.md_script.specs.Setting.{texts_of}
 use Rattle.md_script.proofs.ScriptLemmas.{Progress}

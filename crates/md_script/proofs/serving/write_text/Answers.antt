@@ -24,6 +24,6 @@ loop-rest-preserved g c =
       Appends-trans _ _ _ _ _ appended c.in-Ok.ensures.bytes,
     )
 
--- The search that proves this one, and no other: a wrong body is refused by it in a second.
+-- The one search that proves this: it refuses a mutant in a second.
 pub returns-in-Ok-flush-clause-ok : goal.returns-in-Ok-flush-clause-ok
 returns-in-Ok-flush-clause-ok c = grind (arith, common_steps)

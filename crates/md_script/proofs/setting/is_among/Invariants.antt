@@ -1,4 +1,4 @@
--- At each turn: whether the text is among the names that are left is whether it is among all.
+-- In each iteration, the text is among the remaining names exactly if it is among all.
 use Rattle.std.proofs.Common.{◌≡◌, drop}
 use Rattle.md_script.specs.Setting.{is_among, texts_of}
 use Rattle.md_script.proofs.setting.is_among.Given as goal

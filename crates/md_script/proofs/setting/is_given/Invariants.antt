@@ -1,4 +1,4 @@
--- At each turn: whether one of the lines that are left sets the option is whether one of all does.
+-- In each iteration, one of the remaining lines sets the option exactly if one of all lines does.
 use Rattle.std.proofs.Common.{◌≡◌, drop}
 use Rattle.md_script.specs.Setting.{is_given, texts_of}
 use Rattle.md_script.proofs.setting.is_given.Given as goal

@@ -1,5 +1,5 @@
--- Bytes are UTF-8 exactly where std's check says so.
--- By itself the search doesn't go through the two answers of the check.
+-- Bytes are UTF-8 exactly if std's check accepts them. The search alone doesn't split the two
+-- results of the check.
 use Rattle.std.proofs.Common.{◌∙◌}
 use Rattle.md_script.proofs.SettingLemmas.{reads_as_text}
 use Rattle.md_script.proofs.setting.is_utf8.Goals as goal

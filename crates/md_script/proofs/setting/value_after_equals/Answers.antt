@@ -1,5 +1,5 @@
--- What stands after `=` is a text exactly where std's check says that it is UTF-8.
--- By itself the search doesn't go through the two answers of the check.
+-- The bytes after `=` are a text exactly if std's check accepts them as UTF-8. The search alone
+-- doesn't split the two results of the check.
 use Rattle.std.proofs.Common.{true, ap, ◌∙◌}
 use Rattle.std.specs.Prelude.{option_copied}
 use Rattle.md_base.specs.Place.{text_when}

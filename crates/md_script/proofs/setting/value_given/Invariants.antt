@@ -1,4 +1,4 @@
--- At each turn: the value that the lines that are left give is the value that all give.
+-- In each iteration, the value that the remaining lines give is the value that all lines give.
 use Rattle.std.proofs.Common.{◌≡◌, drop}
 use Rattle.md_script.specs.Setting.{text_given, texts_of}
 use Rattle.md_script.proofs.setting.value_given.Given as goal

@@ -1,4 +1,5 @@
--- At each turn: the value of the text in the entries that are left is its value in the whole table.
+-- In each iteration, the value of the text in the remaining entries is its value in the whole
+-- table.
 use Rattle.std.proofs.Common.{◌≡◌, drop}
 use Rattle.md_base.specs.Table.{entries_of, listed}
 use Rattle.md_script.proofs.table.listed.Given as goal

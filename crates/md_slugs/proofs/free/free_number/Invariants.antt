@@ -1,4 +1,4 @@
--- All numbers from the first one on are taken, so they are no more than there are ids.
+-- All numbers from the first one on are taken, so they are at most as many as the ids.
 use Rattle.std.proofs.Common.{◌≤◌, ◌+◌, ◌-◌, length}
 use Rattle.md_slugs.proofs.Numbers.{AreTaken}
 use Rattle.md_slugs.proofs.free.free_number.Given as goal

@@ -17,7 +17,7 @@ abbrev is_filled : List ℕ → Bool
 is_filled [] = false
 is_filled (b ∷ bs) = true
 
--- a text that is there stays at the front
+-- an existing text stays at the front
 goes_on : (before now more : List ℕ) → take (length before) now ≡ before →
     take (length before) (now ++ more) ≡ before
 goes_on [] now more e = refl

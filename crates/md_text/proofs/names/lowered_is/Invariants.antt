@@ -6,7 +6,7 @@ use Rattle.std.specs.Iterator.Adapters.{zip_first, zip_second}
 use Rattle.md_text.specs.Bytes.{lowered}
 use Rattle.md_text.proofs.names.lowered_is.Given as goal
 
--- what is left decides
+-- the rest decides
 abbrev pub invariant-loop-a : goal.invariant-loop-a
 invariant-loop-a l = record {
   decides :

@@ -1,4 +1,4 @@
--- What is written, and what becomes of the rest, is the text before and the sanitized URL.
+-- The written text, followed by the result for the rest, is the text before and the sanitized URL.
 use Rattle.std.proofs.Common.{◌≡◌, ◌++◌, length, string_bytes}
 use Rattle.md_text.specs.Url.{sanitized}
 use Rattle.md_text.proofs.url.push_sanitized.Given as goal

@@ -1,4 +1,4 @@
--- What the check says leads to the definition that is found by its identifier; where it says none,
+-- The definition that the check gives is the one that is found by its identifier; if it gives none,
 -- the link has a resource.
 use Rattle.std.proofs.Common.{ℕ, Option, Some, None}
 use Rattle.std.specs.Prelude.{IfSome}

@@ -1,5 +1,5 @@
--- What `find` says where the walk isn't done, where a mention leads nowhere, and where all is well.
--- The search can't go from how a walk ends to what holds of the events: `Checking` does.
+-- The result of `find` if the walk isn't done, if a mention is unresolved, and if all is well. The
+-- search can't derive facts about the events from the end of a walk: `Checking` does.
 use Rattle.std.proofs.Common.{◌≡◌, [], ◌∷◌, refl, sym, ap, ◌∙◌, subst, length, List}
 use Rattle.std.specs.Prelude.{reverse}
 use Rattle.md_base.specs.declared.event.Event.{Event}

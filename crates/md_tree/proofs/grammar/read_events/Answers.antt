@@ -11,7 +11,7 @@ use Rattle.md_tree.specs.Machine.{Runs, beginning}
 use Rattle.md_tree.specs.Walk.{course_of, Unbroken}
 use Rattle.md_tree.proofs.grammar.read_events.Goals as goal
 
--- so many events are all
+-- this many events are all
 all_read : (events : List Event) (count : ℕ) → count ≤ length events → length events ≤ count →
     count ≡ length events
 all_read events count within all = omega arith

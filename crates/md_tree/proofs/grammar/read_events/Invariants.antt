@@ -1,5 +1,5 @@
--- At each turn: so many events have been read, by the walk and by the pass, and no more than there
--- are. Fewer are left after each turn, so the loop ends.
+-- In each iteration, `visits` events have been read, by the walk and by the pass, and no more than
+-- exist. Each iteration leaves fewer, so the loop ends.
 use Rattle.std.proofs.Common.{◌≤◌, ◌-◌, length}
 use Rattle.md_base.specs.Reference.{name_table}
 use Rattle.md_tree.specs.Reader.{HasRead}

@@ -1,5 +1,5 @@
--- What the fact says of the item is what is defined of its children. The pass is told it child by
--- child, so it is shown by induction, in `Telling`.
+-- The fact about the item is the one that is defined for its children. The pass receives it child
+-- by child, so `Telling` proves it by induction.
 use Rattle.std.proofs.Common.{ap, ◌∙◌}
 use Rattle.md_base.specs.declared.event.Name.TheVariants.{ListItem}
 use Rattle.md_pattern.specs.declared.facts.Fact.{Fact}

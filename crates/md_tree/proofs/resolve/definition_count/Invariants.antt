@@ -1,4 +1,4 @@
--- At each turn: what is counted, and the definitions from here on, are all of them.
+-- In each iteration, the count and the remaining definitions add up to all of them.
 use Rattle.std.proofs.Common.{◌≡◌, ◌+◌, ◌≤◌, ℕ, List, drop, length}
 use Rattle.md_tree.specs.Mentions.{defined, mentions_among}
 use Rattle.md_tree.proofs.resolve.definition_count.Given as goal

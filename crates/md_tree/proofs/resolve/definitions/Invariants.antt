@@ -1,5 +1,5 @@
--- At each turn: as many definitions are left as the number says, and the map has the numbers of
--- those that were passed.
+-- In each iteration, the number says how many definitions remain, and the map has the numbers of
+-- the others.
 use Rattle.std.proofs.Common.{◌≡◌, ◌++◌, List, length}
 use Rattle.md_tree.specs.declared.mention.Mentioned.{Mentioned}
 use Rattle.md_tree.specs.Mentions.{defined, mentions_among}

@@ -1,4 +1,4 @@
--- At each turn: the set has the identifiers of the footnote definitions before this mention.
+-- In each iteration, the set has the identifiers of the footnote definitions before this mention.
 use Rattle.std.proofs.Common.{drop}
 use Rattle.md_tree.specs.Mentions.{footnoted, mentions_among}
 use Rattle.md_tree.specs.Numbers.{IdentifiersBefore}

@@ -1,5 +1,5 @@
--- What has a number is there, and what has none leads nowhere. The search does no induction over
--- the identifiers.
+-- A mention with a number has a definition, and one without is unresolved. The search does no
+-- induction over the identifiers.
 use Rattle.md_tree.proofs.MentionsLed.{led-reference, led-call, lost-call}
 use Rattle.md_tree.specs.Mentions.{defined, footnoted}
 use Rattle.md_tree.proofs.resolve.lead.Goals as goal

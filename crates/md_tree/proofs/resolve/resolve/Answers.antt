@@ -1,5 +1,5 @@
--- A mention that is refused leads nowhere, and after one that passes all so far are resolved and
--- numbered. The search doesn't go from the numbers to what the mentions define: `Numbering` does.
+-- A mention that is refused is unresolved, and after one that passes, all so far are resolved and
+-- numbered. The search doesn't derive the mentions' definitions from the numbers: `Numbering` does.
 use Rattle.std.proofs.Common.{below_more, get_or, sym}
 use Rattle.md_tree.specs.Mentions.{mentions_among, IsResolved}
 use Rattle.md_tree.specs.Numbers.{number_for}

@@ -1,5 +1,5 @@
--- At each turn: each mention before this one is resolved, and with the numbers of those from here
--- on the facts are those with all numbers.
+-- In each iteration, each mention before this one is resolved, and the facts with the numbers of
+-- the remaining mentions are those with all numbers.
 use Rattle.std.proofs.Common.{◌≡◌, ℕ, ◌<◌, get_or, drop}
 use Rattle.md_tree.specs.declared.mention.Mention.{Mention}
 use Rattle.md_tree.specs.Mentions.{mentions_among, IsResolved}

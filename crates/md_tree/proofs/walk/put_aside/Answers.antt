@@ -1,4 +1,4 @@
--- What is put aside comes first of those that are, and is nothing where there is no target.
+-- The saved target comes first among the saved ones, and is nothing if there was no target.
 use Rattle.std.proofs.Common.{◌≡◌, Bool, true, false, sym, ap, ◌∙◌, ◌∷◌, []}
 use Rattle.std.specs.Prelude.{reverse}
 use Rattle.std.proofs.lemmas.List.{reverse-append}

@@ -1,4 +1,4 @@
--- Each turn closes a block.
+-- Each iteration closes a block.
 use Rattle.std.proofs.Common.{◌≤◌, vec_len}
 use Rattle.md_blocks.proofs.nesting.Nesting.close_to.Given as goal
 

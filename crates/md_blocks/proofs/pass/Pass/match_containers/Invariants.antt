@@ -1,4 +1,4 @@
--- As many are matched as were looked at.
+-- All blocks examined so far match.
 use Rattle.std.proofs.Common.{◌≤◌}
 use Rattle.md_blocks.proofs.pass.Pass.match_containers.Given as goal
 

@@ -1,4 +1,4 @@
--- Each turn goes on to the next line.
+-- Each iteration moves on to the next line.
 use Rattle.std.proofs.Common.{◌-◌, length}
 use Rattle.md_blocks.proofs.pass.Pass.run.Given as goal
 

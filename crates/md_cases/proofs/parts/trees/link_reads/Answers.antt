@@ -1,5 +1,5 @@
--- `reads` asks that some node is entered at the index: a link, as `enters` has said.
--- By itself the search can't choose the name.
+-- `reads` requires that some node is entered at the index: a link, as `enters` has found. The
+-- search alone doesn't choose the name.
 use Rattle.std.proofs.Common.{rules}
 use Rattle.md_base.specs.declared.event.Name.TheVariants.{Link}
 use Rattle.md_cases.proofs.parts.trees.link_reads.Goals as goal

@@ -1,5 +1,5 @@
--- What stands at an index of the entries is what stands there among the distinct identifiers, with
--- its count. By itself the search does no induction over the entries.
+-- The entry at an index is the distinct identifier at that index, with its count. The search alone
+-- does no induction over the entries.
 use Rattle.std.proofs.Common.{◌≡◌, ℕ, ◌+◌, suc, List, String, Global, Some, length, refl, ap, sym}
 use Rattle.std.proofs.Common.{◌∙◌, arith, string_bytes}
 use Rattle.std.specs.Prelude.{slice_get}

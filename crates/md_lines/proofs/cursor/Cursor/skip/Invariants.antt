@@ -1,4 +1,4 @@
--- What is passed isn't gone back over, and stands in the line.
+-- The index never decreases, and stays in the line.
 use Rattle.std.proofs.Common.{◌≤◌, ◌<◌, ◌-◌}
 use Rattle.md_lines.proofs.cursor.Cursor.skip.Given as goal
 

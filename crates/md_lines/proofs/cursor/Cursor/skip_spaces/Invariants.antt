@@ -1,4 +1,4 @@
--- What is passed isn't gone back over.
+-- The position never moves back.
 use Rattle.std.proofs.Common.{◌≤◌}
 use Rattle.md_lines.specs.Reading.{left}
 use Rattle.md_lines.proofs.cursor.Cursor.skip_spaces.Given as goal

@@ -1,5 +1,5 @@
--- The last byte of the bytes is that of the text, since no head is at its end.
--- By itself the search cites no lemma on texts in one another.
+-- The last byte of the bytes is that of the text, since no head is at its end. The search alone
+-- cites no lemma on nested texts.
 use Rattle.std.proofs.Common.{rules, List, ap, sym, ◌∙◌, drop, reverse}
 use Rattle.std.specs.Prelude.{string_bytes}
 use Rattle.std.proofs.lemmas.Str.{IsUtf8-string_bytes}

@@ -1,5 +1,5 @@
--- The texts end where the new one starts, and it has no heads.
--- By itself the search cites no lemma on texts in one another.
+-- The texts end where the new one starts, and it has no heads. The search alone cites no lemma on
+-- nested texts.
 use Rattle.std.proofs.Common.{rules, ◌≡◌, ◌∷◌, [], List, length, ap, sym, subst, ◌∙◌, reverse}
 use Rattle.std.specs.Prelude.{string_bytes}
 use Rattle.std.proofs.lemmas.Str.{IsUtf8-string_bytes}

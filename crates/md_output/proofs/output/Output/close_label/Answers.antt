@@ -1,5 +1,5 @@
--- Where no head waits in the innermost text, those that were kept for it change nothing.
--- By itself the search cites no lemma on texts in one another.
+-- If no head is pending in the innermost text, those that were reserved for it change nothing. The
+-- search alone cites no lemma on nested texts.
 use Rattle.std.proofs.Common.{List, ap, sym, subst, ◌∙◌, drop, reverse}
 use Rattle.std.specs.Prelude.{string_bytes}
 use Rattle.std.proofs.lemmas.List.{take_rest}

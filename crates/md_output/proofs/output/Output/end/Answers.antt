@@ -1,5 +1,5 @@
--- The texts of two parts in a row are one after another.
--- By itself the search cites no lemma on texts in one another.
+-- The texts of two adjacent parts come in sequence. The search alone cites no lemma on nested
+-- texts.
 use Rattle.std.proofs.Common.{◌++◌, [], List, ap, sym, subst, ◌∙◌, reverse}
 use Rattle.std.specs.Prelude.{string_bytes}
 use Rattle.md_output.specs.declared.output.Start.{Start}

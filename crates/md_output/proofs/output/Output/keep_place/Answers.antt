@@ -1,5 +1,4 @@
--- An empty head at the end changes no text.
--- By itself the search cites no lemma on texts in one another.
+-- An empty head at the end changes no text. The search alone cites no lemma on nested texts.
 use Rattle.std.proofs.Common.{rules, ◌≡◌, List, length, refl, ap, sym, subst, ◌∙◌, reverse}
 use Rattle.std.specs.Prelude.{string_bytes}
 use Rattle.std.proofs.lemmas.Str.{IsUtf8-string_bytes}

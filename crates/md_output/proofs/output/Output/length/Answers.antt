@@ -1,5 +1,4 @@
--- No text is shorter than its bytes.
--- By itself the search cites no lemma on texts in one another.
+-- No text is shorter than its bytes. The search alone cites no lemma on nested texts.
 use Rattle.std.proofs.Common.{rules, ◌≡◌, List, length, ap, arith, reverse}
 use Rattle.std.specs.Prelude.{string_bytes}
 use Rattle.md_output.specs.declared.output.Start.{Start}

@@ -1,5 +1,5 @@
--- A text that is put comes after the innermost one, and after the heads that wait in it.
--- By itself the search cites no lemma on texts in one another.
+-- A written text comes after the innermost one, and after its pending heads. The search alone cites
+-- no lemma on nested texts.
 use Rattle.std.proofs.Common.{◌++◌, List, ap, sym, subst, ◌∙◌, reverse}
 use Rattle.std.specs.Prelude.{string_bytes}
 use Rattle.md_output.specs.declared.output.Start.{Start}

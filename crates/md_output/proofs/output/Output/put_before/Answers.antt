@@ -1,6 +1,5 @@
--- A head that waits before all others in the innermost text stands before all of it; an empty text
--- is itself put before.
--- By itself the search cites no lemma on texts in one another.
+-- A head that is pending before all others in the innermost text comes before all of it; into an
+-- empty text the head itself is written. The search alone cites no lemma on nested texts.
 use Rattle.std.proofs.Common.{rules, ◌≡◌, ◌<◌, ◌++◌, [], ℕ, List, length, refl, ap, sym, subst, ◌∙◌}
 use Rattle.std.proofs.Common.{arith, drop, reverse, append-nil}
 use Rattle.std.specs.Prelude.{string_bytes, OnOk}

@@ -1,6 +1,5 @@
--- The encoded text comes after the innermost one; where memory runs out a part of it may be put,
--- and all texts are sound.
--- By itself the search cites no lemma on texts in one another.
+-- The encoded text comes after the innermost one. If memory runs out, a part of it may be written,
+-- and all texts are sound. The search alone cites no lemma on nested texts.
 use Rattle.std.proofs.Common.{◌++◌, List, ap, ◌∙◌, reverse}
 use Rattle.std.specs.Prelude.{string_bytes}
 use Rattle.md_text.specs.Encode.{encoded}

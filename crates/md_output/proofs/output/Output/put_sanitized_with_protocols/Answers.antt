@@ -1,5 +1,5 @@
--- The URL comes after the innermost text; where memory runs out all texts are empty.
--- By itself the search cites no lemma on texts in one another.
+-- The URL comes after the innermost text; if memory runs out, all texts are empty. The search alone
+-- cites no lemma on nested texts.
 use Rattle.std.proofs.Common.{◌++◌, List, ℕ, ap, sym, subst, ◌∙◌, reverse, Bor, map}
 use Rattle.std.specs.Prelude.{string_bytes}
 use Rattle.md_text.specs.Url.{sanitized_with}

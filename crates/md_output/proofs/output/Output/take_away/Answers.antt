@@ -1,5 +1,5 @@
--- The texts before the innermost one do not read what is taken away.
--- By itself the search cites no lemma on texts in one another.
+-- The texts before the innermost one don't depend on what is removed. The search alone cites no
+-- lemma on nested texts.
 use Rattle.std.proofs.Common.{[], List, ap, sym, subst, ◌∙◌, take, reverse, string_bytes}
 use Rattle.std.specs.Prelude.{string_bytes}
 use Rattle.std.proofs.lemmas.Str.{IsUtf8-string_bytes}

@@ -1,5 +1,5 @@
--- What the letter tells is where the spine is, with the symbol as its last; and a letter that leads
--- to a row stays within a byte.
+-- The letter encodes the place after the symbol, which becomes the last symbol; and a letter that
+-- encodes a row fits a byte.
 use Rattle.std.proofs.Common.{◌+◌, ◌<◌, ◌≤◌, arith, rules}
 use Rattle.md_pattern.proofs.PlaceLemmas.{leads-some}
 use Rattle.md_pattern.proofs.places.Place.after.Goals as goal

@@ -1,4 +1,4 @@
--- The letter at a row tells it; past the rows a spine has no symbols.
+-- The letter at a row decides it; past the rows a spine has no symbols.
 use Rattle.std.proofs.Common.{rules, None, ◌≡◌, ◌<◌, ◌≤◌, length, get_or, subst}
 use Rattle.md_pattern.proofs.PlaceLemmas.{ends-at, ends-outside, ends-count}
 use Rattle.md_pattern.proofs.places.Place.may_end.Goals as goal

@@ -1,4 +1,4 @@
--- The role of the place is that of the spine's state, whatever its last symbol.
+-- The role of the place is that of the spine's state, whatever its last symbol is.
 use Rattle.std.proofs.Common.{ap, ◌∙◌}
 use Rattle.md_pattern.specs.Shape.{role_for}
 use Rattle.md_pattern.proofs.places.Place.role_inside.Goals as goal

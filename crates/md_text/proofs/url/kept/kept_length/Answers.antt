@@ -1,4 +1,4 @@
--- A few plain bytes or a triple, and what comes behind them.
+-- A few plain bytes or a triple, and the bytes after them.
 use Rattle.std.proofs.Common.{◌≡◌, ◌≤◌, ◌+◌, ℕ, List, false, true, length, get_or, min, drop, sym}
 use Rattle.std.proofs.Common.{ap, subst, ◌∙◌, arith}
 use Rattle.std.proofs.lemmas.List.{take_rest}

@@ -1,4 +1,4 @@
--- The first byte over which no protocol goes on ends one, or shows that there is none.
+-- The first byte that can't be in a protocol ends one, or shows that there is none.
 use Rattle.std.proofs.Common.{◌≡◌, ◌==◌, ◌<◌, ℕ, List, Some, false, true, length, get_or, take, ap}
 use Rattle.std.proofs.Common.{sym, subst, arith, ne_eqb}
 use Rattle.md_text.specs.Url.{protocol_of}

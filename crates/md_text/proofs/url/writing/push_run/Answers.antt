@@ -1,4 +1,4 @@
--- What is kept, and what becomes of the byte behind it.
+-- The unchanged bytes, and the replacement of the byte after them.
 use Rattle.std.proofs.Common.{◌≡◌, ◌++◌, ◌-◌, ℕ, List, false, length, get_or, take, drop, ap, ◌∙◌}
 use Rattle.std.proofs.Common.{arith, append_assoc, string_bytes}
 use Rattle.std.proofs.lemmas.List.{take_rest}

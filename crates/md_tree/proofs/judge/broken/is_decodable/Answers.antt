@@ -1,5 +1,5 @@
--- A text is there exactly where the definition has its bytes. The search reads into what a
--- reference stands for before it sees that.
+-- There is a text exactly if the definition has its bytes. The search unfolds the decoding of a
+-- reference before it finds that.
 use Rattle.std.proofs.Common.{◌≡◌, Option, Some, None, refl, ap, ◌∙◌}
 use Rattle.std.specs.Prelude.{is_some, option_map}
 use Rattle.md_tree.proofs.judge.broken.is_decodable.Goals as goal

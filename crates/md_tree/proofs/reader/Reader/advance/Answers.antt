@@ -1,6 +1,5 @@
--- One event was read, or two, and no more than there are: the last of them is there. The
--- search doesn't see that both sums are the same index, nor that an index with an event is
--- within the list.
+-- One event was read, or two, and no more than exist: the last of them exists. The search doesn't
+-- find that both sums are the same index, nor that an index with an event is within the list.
 use Rattle.std.proofs.Common.{◌≡◌, suc, ◌+◌, ◌<◌, arith, subst, length, ℕ}
 use Rattle.std.proofs.lemmas.Option.{slice_get_within}
 use Rattle.md_base.specs.Reference.{name_table}

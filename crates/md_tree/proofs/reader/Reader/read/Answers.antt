@@ -1,6 +1,6 @@
--- After one event more the walk, the pass and the first line ending stand as all events so far say;
--- and an event that stops the walk refuses the list. The search doesn't put an event at the end of
--- those before it.
+-- After one more event, the walk, the pass and the first line ending match all events so far; and
+-- an event that stops the walk refuses the list. The search doesn't append an event to those before
+-- it.
 use Rattle.std.proofs.Common.{◌≡◌, suc, add-one, sym, ap, ◌∙◌, subst, take}
 use Rattle.std.proofs.lemmas.Option.{slice_get_within, get_or_from_slice_get}
 use Rattle.std.proofs.lemmas.Result.{err_from_is_err_and}

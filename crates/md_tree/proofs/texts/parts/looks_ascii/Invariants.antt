@@ -1,4 +1,4 @@
--- Each step goes on.
+-- Each step moves forward.
 use Rattle.std.proofs.Common.{◌-◌, length}
 use Rattle.md_tree.proofs.texts.parts.looks_ascii.Given as goal
 

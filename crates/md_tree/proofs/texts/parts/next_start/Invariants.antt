@@ -1,4 +1,4 @@
--- The start lies behind the fault, within the bytes.
+-- The start is after the invalid byte, within the bytes.
 use Rattle.std.proofs.Common.{◌≤◌, ◌<◌, ◌-◌, length}
 use Rattle.md_tree.proofs.texts.parts.next_start.Given as goal
 

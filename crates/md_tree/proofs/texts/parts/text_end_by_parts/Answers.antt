@@ -1,5 +1,4 @@
--- A part that is a text goes on with the text before it, and so do the bytes that are
--- read one by one.
+-- A valid part continues the text before it, and so do the bytes that are read one by one.
 use Rattle.std.proofs.Common.{arith, rules}
 use Rattle.md_tree.proofs.TextRuns.{IsUtf8-on}
 use Rattle.md_tree.proofs.texts.parts.text_end_by_parts.Goals as goal

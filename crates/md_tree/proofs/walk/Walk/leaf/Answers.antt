@@ -1,6 +1,6 @@
--- What `leaf` answers where a node may stand: the walk's course after both its events, or why
--- the exit stops it. The search doesn't find the course between the two events, which the
--- code never makes.
+-- The result of `leaf` where a node may be: the walk's course after both its events, or why the
+-- exit stops it. The search doesn't find the course between the two events, which the code never
+-- computes.
 use Rattle.std.proofs.Common.{◌≡◌, ◌⊎◌, Option, Some, None, sym, ap, ◌∙◌, subst, add-one, suc}
 use Rattle.std.specs.Prelude.{option_map}
 use Rattle.md_pattern.specs.declared.kinds.Symbol.{Symbol}

@@ -1,5 +1,5 @@
--- What is said with the word that is put is what was said, with the fact put: `FactLists` shows it
--- by induction.
+-- After a word is written, the words encode the previous facts with the new fact written:
+-- `FactLists` shows it by induction.
 use Rattle.std.proofs.Common.{sym, ap, ◌∙◌, subst}
 use Rattle.md_pattern.specs.FactWords.{facts_of_words, AreWords}
 use Rattle.md_pattern.proofs.FactLists.{AreWords-put, facts-put}
