@@ -128,7 +128,8 @@ def main():
     code = {path: source for path, source in texts.items() if path.endswith(".rt")}
     say("crates", len(re.findall(r"(?m)^\w", texts["crates.txt"])), "19 at most")
     say("lines of README.md", texts["README.md"].count("\n"), "90 at most")
-    say("lines of docs/GATE.md", texts["docs/GATE.md"].count("\n"), "80 at most")
+    for page in ("docs/use/SPEED.md", "docs/maintain/PERF.md"):
+        say(f"lines of {page}", texts[page].count("\n"), "140 at most")
 
     say_lengths(texts)
     counts = {f"{path} {found.group(2)}": parameters(source, found.end())

@@ -123,7 +123,8 @@ def listed(paths):
     """The files that git has, at or below the paths."""
     done = subprocess.run(["git", "ls-files", "-z", "--", *paths], cwd=ROOT, check=True,
                           capture_output=True, text=True)
-    return [path for path in done.stdout.split("\0") if path and path != PAGE]
+    return [path for path in done.stdout.split("\0")
+            if path and path != PAGE and not (ROOT / path).is_symlink()]
 
 
 def main():
