@@ -41,7 +41,8 @@ HEAD = 300
 def kept():
     """The paths that git keeps."""
     listed = subprocess.check_output(["git", "-C", ROOT, "ls-files", "-z"], text=True)
-    return [path for path in listed.split("\0") if (ROOT / path).is_file()]
+    paths = (path for path in listed.split("\0") if (ROOT / path).is_file())
+    return [path for path in paths if not (ROOT / path).is_symlink()]
 
 
 def parameters(source, place):
