@@ -1,5 +1,5 @@
 #!/usr/bin/env python3
-"""Compares docs/API.md with what the code exports.
+"""Compares docs/use/API.md with what the code exports.
 
     bench/api.py
 
@@ -24,7 +24,7 @@ HANDED_ON = {"md_script": "md_html", "md_markdown": "md_html"}
 # The C interface, the programs and the benchmark, whose folder stays as it is; what the README of
 # each other crate says.
 OTHERS = ["md_ffi", "mdevents", "mdhtml", "md_bench"]
-INTERNAL = "Internal: users call nothing of it ([docs/API.md](../../docs/API.md))."
+INTERNAL = "Internal: users call nothing of it ([docs/use/API.md](../../docs/use/API.md))."
 # What the inline functions of the headers call.
 HELPERS = {"bivdrazo_answer_memory", "bivdrazo_is_too_long", "bivdrazo_first_size", "bivdrazo_grow",
            "bivdrazo_settle", "bivdrazo_markdown_alloc", "bivdrazo_markdown_alloc_by",
@@ -87,8 +87,9 @@ def methods(crate, types):
 
 def told(what, expected, found):
     """A fault for each name that is only on one side."""
-    return [f"{what}: {name} isn't in docs/API.md" for name in sorted(found - expected)] + [
-        f"{what}: docs/API.md has {name}, which isn't there" for name in sorted(expected - found)]
+    return [f"{what}: {name} isn't in docs/use/API.md" for name in sorted(found - expected)] + [
+        f"{what}: docs/use/API.md has {name}, which isn't there"
+        for name in sorted(expected - found)]
 
 
 def crates_faults(found):
@@ -137,9 +138,9 @@ def readme_faults():
 
 def main():
     """Says what differs."""
-    found = listed((ROOT / "docs" / "API.md").read_text())
+    found = listed((ROOT / "docs" / "use" / "API.md").read_text())
     faults = [*crates_faults(found), *header_faults(found), *readme_faults()]
-    print("\n".join(faults) if faults else "the public interface is as docs/API.md says")
+    print("\n".join(faults) if faults else "the public interface is as docs/use/API.md says")
     sys.exit(1 if faults else 0)
 
 

@@ -1,5 +1,5 @@
 #!/usr/bin/env python3
-"""Measures `mdevents` beside the original, and prints the Markdown tables of docs/SPEED.md.
+"""Measures `mdevents` beside the original, and prints the Markdown tables of docs/use/SPEED.md.
 
     python3 bench/beside.py PROGRAM [--picture FILE] [--runs R] [--shapes NAME,..|none]
 

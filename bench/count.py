@@ -41,7 +41,8 @@ HEAD = 300
 def kept():
     """The paths that git tracks."""
     listed = subprocess.check_output(["git", "-C", ROOT, "ls-files", "-z"], text=True)
-    return [path for path in listed.split("\0") if (ROOT / path).is_file()]
+    paths = (path for path in listed.split("\0") if (ROOT / path).is_file())
+    return [path for path in paths if not (ROOT / path).is_symlink()]
 
 
 def parameters(source, place):
@@ -128,7 +129,8 @@ def main():
     code = {path: source for path, source in texts.items() if path.endswith(".rt")}
     say("crates", len(re.findall(r"(?m)^\w", texts["crates.txt"])), "19 at most")
     say("lines of README.md", texts["README.md"].count("\n"), "90 at most")
-    say("lines of docs/GATE.md", texts["docs/GATE.md"].count("\n"), "80 at most")
+    for page in ("docs/use/SPEED.md", "docs/maintain/PERF.md"):
+        say(f"lines of {page}", texts[page].count("\n"), "140 at most")
 
     say_lengths(texts)
     counts = {f"{path} {found.group(2)}": parameters(source, found.end())

@@ -7,9 +7,9 @@
 
 `bench/edits.txt` has a line for each edit of the last release: its crate, its name, and a checksum
 of what `rt` reads of it (comments don't count). An edit that is gone since, or has another text, is
-an item of "Edits that changed" in docs/DOUBT.md, which begins with the edit's name and says what
-took its place: `md_tree/definition_turned`. An item of an edit that is as it was is refused too, so
-the list there is made anew with this one.
+an item of "Edits that changed" in docs/maintain/GATE.md, which begins with the edit's name and says
+what took its place: `md_tree/definition_turned`. An item of an edit that is as it was is refused
+too, so the list there is made anew with this one.
 """
 import argparse
 import hashlib
@@ -19,7 +19,7 @@ import sys
 
 ROOT = pathlib.Path(__file__).resolve().parents[1]
 LIST = ROOT / "bench" / "edits.txt"
-PAGE = ROOT / "docs" / "DOUBT.md"
+PAGE = ROOT / "docs" / "maintain" / "GATE.md"
 HEADING = "Edits that changed"
 READ = ("file: ", "old: ", "new:")
 ITEM = re.compile(r"^- ((?:`\w+/\w+`(?:,\s+)?)+):\s", re.MULTILINE)
@@ -63,9 +63,9 @@ def main():
     then, page = released(), told()
     changed = {edit: "is gone" if edit not in now else "has another text"
                for edit, known in then.items() if now.get(edit) != known}
-    faults = [f"{edit} {how}, and docs/DOUBT.md ({HEADING!r}) doesn't name it"
+    faults = [f"{edit} {how}, and docs/maintain/GATE.md ({HEADING!r}) doesn't name it"
               for edit, how in changed.items() if edit not in page]
-    faults += [f"docs/DOUBT.md ({HEADING!r}) names {edit}, which is as it was, or was none"
+    faults += [f"docs/maintain/GATE.md ({HEADING!r}) names {edit}, which is as it was, or was none"
                for edit in sorted(page - set(changed))]
     for fault in faults:
         print(fault)

@@ -1,15 +1,19 @@
 #!/usr/bin/env python3
-"""Checks that what the pages lead to is there.
+"""Checks every link, path and name in the pages.
 
     bench/links.py
 
-Of each page (each `.md` file that git has): a link leads to a file or folder, and behind `#` to a
-heading; words that are quoted behind a link (`[CALLS.md](CALLS.md), "Within limits"`) begin a
-heading or an item there; a path in backticks leads from the top, from the page's folder or from a
-crate's folder, or is the end of a path; one that begins with `src/`, `specs/` or the like stands in
-a crate that the page is of, or names; `md_crate::path::item` and `Type::method` stand in the
-sources. In a path `*` and `..` are anything. What is broken is printed, a line each, and the status
-is 1.
+A page is a `.md` file in git; a symbolic link isn't a page of its own, but must point to one. In
+each page:
+
+- A link points to an existing file or folder, and its `#` to a heading.
+- Words quoted after a link (`[CALLS](CALLS.md), "Within limits"`) begin a heading or an item there.
+- A path in backticks exists from the top, from the page's folder or from a crate's folder, or is
+  the end of a path. One that begins with `src/`, `specs/` or the like exists in the page's own
+  crate, or in a crate that the page names. `*` and `..` match anything.
+- `md_crate::path::item` and `Type::method` exist in the sources.
+
+Prints each broken one on a line, and exits with status 1.
 """
 
 import collections
@@ -26,23 +30,23 @@ ROOT = pathlib.Path(__file__).resolve().parents[1]
 ENDINGS = (".rt", ".antt", ".edit", ".py", ".c", ".h", ".rs", ".md", ".txt", ".toml", ".sh")
 # Folders of a crate.
 WITHIN = {"src", "specs", "proofs", "must-fail", "cases", "make"}
-# Paths that git hasn't, and why pages name them.
+# Paths that aren't in git, and why pages name them.
 MADE = {
     "clients/out": "clients/build and clients/package make it",
     "crates/*/out": "rt makes it",
     "out": "the same, from a crate's folder",
-    "crates/app": "a user's crate, in the example of docs/API.md",
+    "crates/app": "a user's crate, in the example of docs/use/API.md",
     "c/liblibc_c.a": "the Rattle kit has it",
     "AnswersOffered.antt": "rattle check --generated writes it",
-    "compile.rt": "an example of docs/TRAPS.md, of a name that a file can't have",
+    "compile.rt": "an example of docs/maintain/PROVING.md, of a name that a file can't have",
     "src/to_html.rs": "the original's",
     "src/util": "the original's",
     "text/html": "a media type",
 }
-# Types that our sources haven't, and why pages name them.
+# Types that aren't in our sources, and why pages name them.
 FOREIGN = {
     "CompileContext": "the original's",
-    "One": "an example of docs/DECISIONS.md",
+    "One": "an example of docs/maintain/DECISIONS.md",
 }
 
 FENCED = re.compile(r"^ *```.*?^ *```$", re.MULTILINE | re.DOTALL)
@@ -64,7 +68,7 @@ VARIANT = re.compile(r"^    (?:pub(?:\(\w+\))? )?(\w+)", re.MULTILINE)
 
 @functools.cache
 def files():
-    """The files that git has, and their folders, from the top."""
+    """The files in git and their folders, from the top."""
     listed = subprocess.run(["git", "ls-files", "-z"], cwd=ROOT, check=True, capture_output=True)
     paths = [pathlib.PurePosixPath(name) for name in listed.stdout.decode().split("\0") if name]
     return {str(place) for path in paths for place in [path, *path.parents]} - {"."}
@@ -94,13 +98,13 @@ def prose(page):
 
 
 def slug(heading):
-    """What leads to a heading, as GitHub makes it."""
+    """The id of a heading, as GitHub makes it."""
     plain = re.sub(r"\[([^\]]*)\]\([^)]*\)", r"\1", heading.strip())
     return re.sub(r"[^\w\- ]", "", plain.lower()).replace(" ", "-")
 
 
 def broken_links(page):
-    """The links that lead nowhere. What code has isn't one."""
+    """The broken links outside code."""
     for target, quoted in LINK.findall(SPAN.sub("code", prose(page))):
         if re.match(r"\w+:", target):
             continue
@@ -117,7 +121,7 @@ def broken_links(page):
                 yield f"{quoted!r}, which isn't in {place}"
 
 
-def is_there(path, known):
+def exists(path, known):
     """Whether a path is one of these; a file's may be without its ending."""
     pattern = re.sub(r"\.\.+", "*", path)
     return path in known or bool(fnmatch.filter(known, pattern)) or (
@@ -125,21 +129,21 @@ def is_there(path, known):
 
 
 def is_broken_path(page, path, named):
-    """Whether a path leads nowhere, in a page that names these crates."""
+    """Whether a path is broken, in a page that names these crates."""
     path = re.sub(r"(?<!\.)\.$", "", path.removeprefix("./")).strip("/")
     folder = page.rpartition("/")[0]
     first, _, rest = path.partition("/")
     if any(fnmatch.fnmatch(path, made) or fnmatch.fnmatch(path, made + "/*") for made in MADE):
         return False
     if first in files():
-        return not is_there(path, files()) and not is_there(f"{folder}/{path}", files())
+        return not exists(path, files()) and not exists(f"{folder}/{path}", files())
     if first in WITHIN:
         owners = [folder, *(f"crates/{crate}" for crate in named)]
-        return not any(is_there(f"{owner}/{path}", files()) for owner in owners)
+        return not any(exists(f"{owner}/{path}", files()) for owner in owners)
     if first in crates():
-        return not (path in edits.told() or is_there(f"crates/{path}", files())
-                    or is_there(f"crates/{first}/must-fail/{rest}", files()))
-    return (path.endswith(ENDINGS) or first in ends()) and not is_there(path, ends())
+        return not (path in edits.told() or exists(f"crates/{path}", files())
+                    or exists(f"crates/{first}/must-fail/{rest}", files()))
+    return (path.endswith(ENDINGS) or first in ends()) and not exists(path, ends())
 
 
 @functools.cache
@@ -151,7 +155,7 @@ def sources(front):
 
 @functools.cache
 def members():
-    """What stands in each type: functions, variants, fields and constants."""
+    """The members of each type: functions, variants, fields and constants."""
     found = collections.defaultdict(set)
     blocks = (block for text in sources("").values() for block in BLOCK.findall(text))
     for kind, head, body in blocks:
@@ -162,7 +166,7 @@ def members():
 
 
 def is_broken_item(first, *rest):
-    """Whether the parts of an item's name lead nowhere."""
+    """Whether the sources have no item of this name."""
     if first[0].isupper():
         return first not in FOREIGN and rest[0] not in members()[first]
     modules = sources(f"crates/{first}/src/")
@@ -175,7 +179,7 @@ def is_broken_item(first, *rest):
 
 
 def broken(page):
-    """What leads nowhere in a page."""
+    """Everything broken in a page."""
     yield from broken_links(page)
     named = sorted(crates() & set(re.findall(r"\w+", prose(page))))
     for span in (" ".join(span.split()) for _, span in SPAN.findall(prose(page))):
@@ -189,8 +193,11 @@ def broken(page):
 
 
 def main():
-    pages = sorted(path for path in files() if path.endswith(".md"))
+    found = sorted(path for path in files() if path.endswith(".md"))
+    pages = [path for path in found if not (ROOT / path).is_symlink()]
     faults = [f"{page}: {fault}" for page in pages for fault in broken(page)]
+    faults += [f"{path}: it points to no page" for path in found
+               if (ROOT / path).is_symlink() and not (ROOT / path).is_file()]
     print("\n".join(faults) if faults else f"links: {len(pages)} pages")
     return bool(faults)
 

@@ -9,7 +9,7 @@ PROGRAM is crates/mdhtml/out/mdhtml if it isn't given, which `rt ci` builds. Fiv
 - the documents of bench/markdown_cases.py that must be read as cmark-gfm reads them, likewise;
 - its documents under each option, its URLs against bases, each name of a character reference, and
   each mark at each of OFFSETS places in a line;
-- the cases of docs/MARKDOWN.md, here and by cmark-gfm;
+- the cases of docs/use/MARKDOWN.md, here and by cmark-gfm;
 - documents that make parsers slow: four times as long a one takes at most GROWTH times the
   processor time, and at most MEMORY bytes for each of its bytes beyond MEGABYTES.
 The first two parts need Debian's cmark-gfm and its extensions, the fourth cmark-gfm: if they are
@@ -140,7 +140,7 @@ def is_like(pattern, text):
 
 def choices(program):
     """The faults of the page's cases."""
-    page = (ROOT / "docs" / "MARKDOWN.md").read_text("utf-8")
+    page = (ROOT / "docs" / "use" / "MARKDOWN.md").read_text("utf-8")
     faults, count = [], 0
     for section in re.split(r"^## ", page, flags=re.MULTILINE):
         options = re.search(r"Options of these cases: `([^`]+)`", section)
@@ -153,8 +153,8 @@ def choices(program):
                 ways.append(("cmark-gfm", other or own, by_gfm(text)))
             faults += [f"{given}: {name} gives {found!r}" for name, pattern, found in ways
                        if not is_like(pattern, found)]
-    print(f"markdown: {count} cases of docs/MARKDOWN.md")
-    return faults if count else ["docs/MARKDOWN.md has no cases"]
+    print(f"markdown: {count} cases of docs/use/MARKDOWN.md")
+    return faults if count else ["docs/use/MARKDOWN.md has no cases"]
 
 
 def times(length, unit):
@@ -267,7 +267,7 @@ def main(arguments):
         left_out("the examples of the GFM specification by mdhtml",
                  "cmark-gfm libcmark-gfm-extensions-dev")
     if not shutil.which("cmark-gfm"):
-        left_out("the cases of docs/MARKDOWN.md by cmark-gfm", "cmark-gfm")
+        left_out("the cases of docs/use/MARKDOWN.md by cmark-gfm", "cmark-gfm")
     for fault in faults:
         print(f"markdown: {fault}")
     return 1 if faults else 0

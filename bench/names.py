@@ -9,7 +9,7 @@ part where it belongs, with the next number. This generates the files that consi
 names, whole (`WHOLE`), the variants of the enum, between the marks `bench/names.py: begin` and
 `bench/names.py: end`, the imports of all names, and how many names there are, where a test or a
 page says so, and has `clients/numbers/generate` write the clients' tables. What a name means,
-prints and is in the grammar is by hand (docs/PROVING.md, "A new name of events").
+prints and is in the grammar is by hand (docs/maintain/PROVING.md, "A new name of events").
 """
 import argparse
 import pathlib
@@ -35,7 +35,7 @@ CONTINUED = "\n    "
 # The places that state the number of names, and by how much each is greater.
 COUNTS = [
     ("crates/md_ffi/README.md", r"Names: 1 to (\d+) in the order", 0),
-    ("docs/DEFINITIONS_CALLS.md", r"Names 1 to (\d+) are those", 0),
+    ("docs/review/DEFINITIONS.md", r"Names 1 to (\d+) are those", 0),
     ("clients/rust/src/tests/names.rs", r"in_order: Vec<u16> = \(1\.\.=(\d+)\)", 0),
     ("clients/checks/batch.c", r"to = \(uint16_t\)\(1 \+ next_under\(state, (\d+)\)\)", 0),
     ("clients/checks/batch.c", r"event->name = \(uint16_t\)next_under\(state, (\d+)\)", 2),

@@ -7,8 +7,8 @@ Prose is what a person reads: pages without their code, comments and docstrings 
 pages. It reads the table "Old words" of that page, and every file that git has (or those at or
 below the paths that are named). Each use of an old word is printed with its place, and so is each
 sentence that begins with "Of a", "Of the" or "Of each"; then the status is 1. With --count it
-prints how many there are in each folder. It passes over that page itself, and over the releases
-before the newest in CHANGELOG.md.
+prints how many there are in each folder. It skips that page itself, the releases before the newest
+in CHANGELOG.md, and crates/md_bench, which stays as it is to the byte.
 """
 
 import argparse
@@ -22,6 +22,8 @@ import tokenize
 
 ROOT = pathlib.Path(__file__).resolve().parents[1]
 PAGE = "docs/maintain/words.md"
+# The benchmark stays as it is to the byte, so that commits can be compared by it.
+FIXED = "crates/md_bench/"
 BEGINNING = r"(?:\A|\n\n|\n- |[.!?:]\s+)Of (?:a|an|the|each|every)\b"
 
 FENCED = re.compile(r"^ *```.*?^ *```$", re.MULTILINE | re.DOTALL)
@@ -123,7 +125,9 @@ def listed(paths):
     """The files that git has, at or below the paths."""
     done = subprocess.run(["git", "ls-files", "-z", "--", *paths], cwd=ROOT, check=True,
                           capture_output=True, text=True)
-    return [path for path in done.stdout.split("\0") if path and path != PAGE]
+    return [path for path in done.stdout.split("\0")
+            if path and path != PAGE and not path.startswith(FIXED)
+            and not (ROOT / path).is_symlink()]
 
 
 def main():

@@ -22,7 +22,7 @@
  *         fwrite(text, 1, answer.length, stdout);          (prints <p>Hi &lt;b&gt;</p>)
  *     free(text);
  *
- * Link with libbivdrazo.a, as clients/build makes it. docs/CALLS.md tells more.
+ * Link with libbivdrazo.a, as clients/build makes it. docs/use/CALLS.md tells more.
  *
  * What a caller of bivdrazo_compile(), bivdrazo_compile_within(), bivdrazo_compile_attributed(),
  * bivdrazo_compile_unnested() and bivdrazo_run() must keep to, since nothing checks it:

@@ -1,5 +1,5 @@
 #!/usr/bin/env python3
-"""Runs the cases of docs/GFM.md here and by cmark-gfm.
+"""Runs the cases of docs/use/GFM.md here and by cmark-gfm.
 
     differs_test.py [--own]
 
@@ -46,7 +46,7 @@ def is_like(pattern, text):
 
 def main(arguments):
     """Runs the cases; the status to end with."""
-    page = (CLIENTS.parent / "docs" / "GFM.md").read_text("utf-8")
+    page = (CLIENTS.parent / "docs" / "use" / "GFM.md").read_text("utf-8")
     cases = CASE.findall(page)
     wrong = 0
     for given, own, other in cases:

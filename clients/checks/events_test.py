@@ -1,5 +1,5 @@
 #!/usr/bin/env python3
-"""Runs the examples of docs/EVENTS*.md: each script must have the HTML that stands below it.
+"""Runs the examples of docs/use/EVENTS.md: each script must have the HTML that stands below it.
 
     events_test.py            tells which one hasn't
     events_test.py --write    puts the HTML there that each has
@@ -10,7 +10,7 @@ import re
 import sys
 
 HERE = pathlib.Path(__file__).resolve().parent
-PAGES = sorted((HERE.parent.parent / "docs").glob("EVENTS*.md"))
+PAGES = [HERE.parent.parent / "docs" / "use" / "EVENTS.md"]
 sys.path.insert(0, str(HERE.parent / "python"))
 
 from bivdrazo import run  # noqa: E402

@@ -41,9 +41,10 @@ class Unmarked(Exception):
 
 
 def pages():
-    """All pages: those at the top, in docs, and of the crates."""
-    return [*sorted(ROOT.glob("*.md")), *sorted(ROOT.glob("docs/*.md")),
-            *sorted(ROOT.glob("crates/*/README.md"))]
+    """All pages: those at the top, in docs and its folders, and of the crates; each once."""
+    found = [*sorted(ROOT.glob("*.md")), *sorted(ROOT.glob("docs/**/*.md")),
+             *sorted(ROOT.glob("crates/*/README.md"))]
+    return [page for page in found if not page.is_symlink()]
 
 
 def example_of(place, mark, language, code):

@@ -1,5 +1,5 @@
-/* A strict reader of the HTML grammar of docs/DEFINITIONS.md, with its safe links and images, apart
-   from the library. */
+/* A strict reader of the HTML grammar of docs/review/DEFINITIONS.md, with its safe links and
+   images, apart from the library. */
 #ifndef BIVDRAZO_FUZZ_HTML_H
 #define BIVDRAZO_FUZZ_HTML_H
 

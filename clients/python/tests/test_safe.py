@@ -20,7 +20,7 @@ try:
     WHY_NO_JINJA = None
 except ImportError:
     WHY_NO_JINJA = "Jinja isn't there"
-PAGE = pathlib.Path(__file__).resolve().parents[3] / "docs" / "CLIENTS.md"
+PAGE = pathlib.Path(__file__).resolve().parents[3] / "docs" / "use" / "PYTHON.md"
 EVENTS = (Event.enter(Name.DATA, 0), Event.exit(Name.DATA, 6))
 UNSAFE = ({"allow_any_img_src": True}, {"allow_dangerous_html": True},
           {"allow_dangerous_protocol": True}, {"gfm_footnote_label_attributes": ""},
