@@ -1,7 +1,7 @@
 """What documents mean: a small model of the rules, for the names that stand in the cases that
 `bench/cases.py` makes.
 
-It goes over trees, and was written from the rules (docs/DEFINITIONS_MEANING.md has them) and apart
+It goes over trees, and was written from the rules (docs/review/DEFINITIONS.md has them) and apart
 from the crates, which go over lists of events. The meaning of a name is defined in the module of
 its subject: `prose`, `raw`, `media`, `tables` or `footnotes`. A name or an option that none of them
 knows is an error: whoever makes a case of one adds a method there, from the rules. Lists and block

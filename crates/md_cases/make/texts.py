@@ -1,6 +1,6 @@
 """The rules for texts: escaping, URLs and their protocols, the tag filter, references, identifiers.
 
-Written from the rules and apart from the crates (docs/DEFINITIONS.md says the same rules), for the
+Written from the rules and apart from the crates (docs/review/DEFINITIONS.md says the same rules), for the
 answers of the cases that `bench/cases.py` makes. Nothing here is run by itself.
 """
 import re
