@@ -35,7 +35,7 @@ pub(crate) fn read_c_events(alloc: Global, events: &[CEvent]) -> Result<Vec<Even
     ensures ok { IfOk result (λ read. StandFor event_of events.now read.items) }
     ensures err { IfErr result (IsEventFault events.now) }
 {
-    let mut read = Vec::new(alloc);
+    let mut read = Vec::with_capacity(alloc, events.len())?;
     for event in events {
         match read_c_event(event) {
             Some(event) => add_event(&mut read, event)?,

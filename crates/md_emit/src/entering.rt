@@ -4,7 +4,6 @@ ghost use Rattle.std.specs.Prelude.{OnOk};
 ghost use Rattle.md_tree.specs.Texts.{EntersAt};
 ghost use Rattle.md_emit.specs.Supplies.{Enters};
 
-use crate::around::Around;
 use crate::given::Given;
 use crate::printer::Printer;
 use crate::told::columns_at;
@@ -95,11 +94,7 @@ impl<'a> Printer<'a> {
             }
             Name::BlockQuote => {
                 self.enter_line(given.ending, "<blockquote>")?;
-                self.turn(Around {
-                    is_contained: true,
-                    is_tight: false,
-                    ..self.around
-                })
+                self.turn_contained()
             }
             Name::ListUnordered => {
                 self.enter_line(given.ending, "<ul>")?;
@@ -133,10 +128,7 @@ impl<'a> Printer<'a> {
             }
             Name::GfmTableHead => {
                 self.enter_line(given.ending, "<thead>")?;
-                self.turn(Around {
-                    in_head: true,
-                    ..self.around
-                })
+                self.turn_head()
             }
             Name::GfmTableBody => {
                 self.enters();
@@ -156,18 +148,12 @@ impl<'a> Printer<'a> {
             Name::Link => {
                 self.enters();
                 self.enter_label()?;
-                self.turn(Around {
-                    in_link: true,
-                    ..self.around
-                })
+                self.turn_link()
             }
             Name::Image => {
                 self.enters();
                 self.enter_label()?;
-                self.turn(Around {
-                    in_image: true,
-                    ..self.around
-                })
+                self.turn_image()
             }
             Name::Resource => {
                 self.enters();
@@ -176,10 +162,7 @@ impl<'a> Printer<'a> {
             Name::Definition => {
                 self.enters();
                 self.enter_target()?;
-                self.turn(Around {
-                    in_definition: true,
-                    ..self.around
-                })
+                self.turn_definition()
             }
             Name::DefinitionDestinationString => {
                 self.enters();
@@ -192,11 +175,7 @@ impl<'a> Printer<'a> {
             Name::GfmFootnoteDefinition => {
                 self.enters();
                 self.capture()?;
-                self.turn(Around {
-                    is_contained: true,
-                    is_tight: false,
-                    ..self.around
-                })
+                self.turn_contained()
             }
             Name::GfmFootnoteCall => {
                 self.enters();

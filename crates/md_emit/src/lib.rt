@@ -16,6 +16,7 @@ mod links;
 mod lists;
 mod printer;
 mod spans;
+mod surroundings;
 mod tables;
 mod told;
 

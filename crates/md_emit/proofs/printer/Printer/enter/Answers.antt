@@ -4,7 +4,7 @@ use Rattle.std.proofs.Common.{None, ap, ◌∙◌}
 use Rattle.std.specs.Prelude.{codes}
 use Rattle.md_base.specs.declared.event.Name.TheVariants as names
 use Rattle.md_shape.specs.Sides as sides
-use Rattle.md_shape.specs.State.{State, Around}
+use Rattle.md_shape.specs.State.{State}
 use Rattle.md_meaning.specs.Meaning.Layout.{laid_after, said, when, on_own_line}
 use Rattle.md_base.specs.declared.event.AlignKind.{AlignKind}
 use Rattle.md_meaning.specs.Meaning.Blocks.{heading_tag}
@@ -108,21 +108,6 @@ returns-in_ok-enter_line-in-GfmTable c =
     c.in-GfmTable.is (λ given one supplies there.
     e ∙ ap (λ s. inside s c.columns_at.result.now) c.in_ok-enter_line-in-GfmTable.ensures
     ∙ ap (inside tagged) (c.columns_at.ensures one there))) c.turn_table.ensures
-
-pub returns-in_ok-enter_line-in-BlockQuote : goal.returns-in_ok-enter_line-in-BlockQuote
-returns-in_ok-enter_line-in-BlockQuote c =
-    let old = c.args.self.now in
-    let tagged = c.enter_line-in-BlockQuote.new.self in
-    let contained : Around → State → State = λ a s. record s {
-      around = record a { is_contained = true; is_tight = false };
-      arounds = s.around ∷ s.arounds;
-    } in
-    on_ok_weaker c.turn-in-BlockQuote.result
-    (λ e. enters-by c.args.given.now c.args.index c.args.name names.BlockQuote old
-    c.turn-in-BlockQuote.new.self c.in-BlockQuote.is (λ given one supplies there.
-    e ∙ ap (λ s. contained s.around tagged) c.turn.view_is
-    ∙ ap (λ s. contained s.around s) c.in_ok-enter_line-in-BlockQuote.ensures))
-    c.turn-in-BlockQuote.ensures
 
 pub returns-in-MathText : goal.returns-in-MathText
 returns-in-MathText c =
