@@ -1,4 +1,4 @@
--- From what the compiler promises to what a text is of what C hands in.
+-- From the compiler's promises to those about a text in terms of C's input.
 use Rattle.std.proofs.Common.{◌≡◌, ℕ, Bool, true, false, cond, eqb, List, map, Option, Some, None}
 use Rattle.std.proofs.Common.{Result, Ok, Err, IfOk, IfErr, refl, sym, ap, ◌∙◌, subst}
 use Rattle.std.specs.Prelude.{IsErrAnd, option_map, string_bytes}

@@ -1,5 +1,5 @@
--- The lemmas of the C interface: on the way in, from what C hands in to a text; on the way out,
--- what an answer says.
+-- The lemmas of the C interface: for the input, from C's arguments to a text; for the output, the
+-- promises of an answer.
 pub mod GivenLemmas
 pub mod AnswerLemmas
 pub mod OptionLemmas

@@ -1,9 +1,9 @@
 """The cases of the group `labels`: links and images whose labels are about as long as those that
-are taken aside.
+are copied aside.
 
-What stands before a label is known after it. A label of at most 512 bytes is taken aside until that
-is written; before a longer one it waits. To add a case, write a row in `rows`. `bench/cases.py`
-makes the cases.
+The tag before a label is known only after it. A label of at most 512 bytes is copied aside until
+the tag is written; before a longer label the tag stays pending. To add a case, write a row in
+`rows`. `bench/cases.py` writes the cases.
 """
 from meaning import meaning
 from media import image, link

@@ -82,7 +82,7 @@ class Tables:
 
 
 def rows():
-    """A row of `flags::plain`: the delimiter has a node that is passed over."""
+    """A row of `flags::plain`: the delimiter contains a transparent node."""
     marked = row(cell("|", data(MARKUP)), "|")
     return [("cells", "", [node("GfmTable", head(marked, ending(), delimiter(node("Other1", "-"))),
                                 ending(), body(marked))])]

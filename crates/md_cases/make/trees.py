@@ -61,8 +61,8 @@ def placed(*parts):
 
 
 def spread(text, parts):
-    """The document of this text alone, over all of which each of these nodes stands that has no
-    place; texts among the parts are passed over.
+    """The document of only this text. Each of these nodes that has no place extends over all of it;
+    texts among the parts are skipped.
     """
     source = text.encode()
 

@@ -7,7 +7,7 @@ use crate::cursor::Cursor;
 use crate::span::Span;
 use std::simd::prelude::*;
 
-/// How many bytes are looked at together.
+/// The number of bytes that one step reads.
 const LANES: usize = 16;
 
 /// The maximum number of characters in a label.

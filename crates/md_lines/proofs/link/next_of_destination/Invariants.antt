@@ -1,4 +1,4 @@
--- Each iteration goes on in the line.
+-- Each iteration moves forward in the line.
 use Rattle.std.proofs.Common.{◌-◌, ◌≤◌, length}
 use Rattle.md_lines.proofs.link.next_of_destination.Given as goal
 
