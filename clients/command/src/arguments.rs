@@ -20,8 +20,8 @@ const MOST_DEPTH: usize = 240;
 ///
 /// Reads tables, strikethrough, tasks, footnotes and bare links, and math with --math. Links and
 /// images whose protocol isn't permitted get an empty URL. The exit status is 0 if every file was
-/// rendered; 1 if a file failed (the others are written); 2 for invalid arguments; 5 if files failed
-/// only because of --max-output, 6 if only because of --max-work.
+/// rendered; 1 if a file failed (the others are written); 2 for invalid arguments; 5 if files
+/// failed only because of --max-output, 6 if only because of --max-work.
 #[derive(Debug, Parser)]
 #[command(name = "bivdrazo-render", version = bivdrazo::VERSION_TEXT)]
 pub struct Arguments {

@@ -1,7 +1,7 @@
 //! cmark-gfm's parser, in a process of its own.
 //!
-//! It is written in C: an error in it can't corrupt the memory of the library. It has limits of time
-//! and memory, and its events are checked like any others.
+//! It is written in C: an error in it can't corrupt the memory of the library. It has limits of
+//! time and memory, and its events are checked like any others.
 
 use crate::script::{self, ScriptError};
 use bivdrazo::Document;
@@ -20,8 +20,8 @@ use std::time::{Duration, Instant};
 const PROGRAM: &str = "bivdrazo-render-cmark";
 
 /// A shell sets the limits and becomes the parser, so that no code of ours runs between fork and
-/// exec, which would be unsafe. The first limit of processor time sends the parser a signal, and the
-/// second kills it.
+/// exec, which would be unsafe. The first limit of processor time sends the parser a signal, and
+/// the second kills it.
 const LIMITED: &str = concat!(
     r#"ulimit -c 0 && ulimit -v "$1" && ulimit -S -t "$2" && ulimit -H -t "$3" && "#,
     r#"exec "$0" --events"#

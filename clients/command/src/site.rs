@@ -211,8 +211,8 @@ impl<'a> Site<'a> {
         format!("{one} and {other} would both be written to {place}")
     }
 
-    /// Writes a page, unless it is newer than all its inputs. An empty one is written again: a power
-    /// cut may have left it.
+    /// Writes a page, unless it is newer than all its inputs. An empty one is written again: a
+    /// power cut may have left it.
     fn write(&self, source: &Path, read: &Read) -> Result<Done, Failure> {
         let target = self.site.join(page_of(source));
         if !self.is_asked_for(source) {

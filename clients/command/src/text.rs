@@ -71,8 +71,8 @@ pub fn ids(html: &str) -> impl Iterator<Item = Cow<'_, str>> {
         .map(|(_, value)| unescaped(value))
 }
 
-/// The text of the first heading, escaped, without tags and footnote calls; none if the document has
-/// no heading or that is empty.
+/// The text of the first heading, escaped, without tags and footnote calls; none if the document
+/// has no heading or that is empty.
 pub fn heading(html: &str) -> Option<String> {
     let start = html
         .match_indices("<h")
