@@ -9,7 +9,7 @@ use crate::layouts::{
 use crate::markdown::unescaped;
 use crate::numbers::{STATUS_NESTED, STATUS_OK, STATUS_TOO_SHORT};
 use crate::options::c_options;
-use crate::{Attributes, Error, Event, Heading, Limits, Options, Rendered};
+use crate::{Attributes, Error, Event, Heading, Limits, Options, Rendered, SafeHtml};
 use std::str;
 
 /// As `crate::compile`.
@@ -181,7 +181,7 @@ pub(crate) fn rendered_of(mut whole: Vec<u8>, start: usize, prefix: &str) -> Opt
     });
     let headings = headings.collect::<Option<_>>()?;
     whole.truncate(start);
-    let html = String::from_utf8(whole).ok()?;
+    let html = SafeHtml::made(String::from_utf8(whole).ok()?);
     Some(Rendered { html, headings })
 }
 
@@ -192,7 +192,7 @@ fn heading_of(line: &str, id: Option<String>, prefix: &str) -> Option<Heading> {
     Some(Heading {
         level: level.parse().ok()?,
         number: number.parse().ok()?,
-        text: text.to_string(),
+        text: SafeHtml::made(text.to_string()),
         id: id.unwrap_or_else(|| format!("{prefix}{number}")),
     })
 }

@@ -1,4 +1,5 @@
-//! Markdown to safe HTML, by a parser and a compiler that are proved.
+//! Markdown to safe HTML: it is proved that the HTML is safe, and that the parser ends for every
+//! document and refuses none. That it reads Markdown as GFM says is only tested.
 //!
 //! ```
 //! use bivdrazo::{markdown_to_html, MarkdownOptions};
@@ -8,12 +9,11 @@
 //! # Ok::<(), bivdrazo::Error>(())
 //! ```
 //!
-//! The library can also be called with the events of any other parser, which says what it found in
-//! a document as a list of them: a paragraph begins at byte 0, a text runs from there to byte 6,
-//! the paragraph ends. [`compile`] makes HTML of such a list.
-//! Nothing is assumed of the events: whatever a parser hands in is refused or gives a text that,
-//! under the default options, has one reading as HTML, with links and images of permitted
-//! protocols alone.
+//! The library also takes the events of any other parser, which reports a document as a list of
+//! them: a paragraph begins at byte 0, a text runs from there to byte 6, the paragraph ends.
+//! [`compile`] makes HTML from such a list. Nothing is assumed about the events: they are refused,
+//! or give a text that, under the default options, has one reading as HTML, in which links and
+//! images have no protocol or a permitted one.
 //!
 //! ```
 //! use bivdrazo::{compile, Event, Name, Options};
@@ -44,12 +44,13 @@ mod options;
 #[cfg(feature = "pulldown-cmark")]
 mod pulldown;
 mod references;
+mod safe;
 mod setters;
 mod values;
 
 #[cfg(feature = "pulldown-cmark")]
 pub use pulldown::events_of;
-/// pulldown-cmark, of the version that [`events_of`] takes the events of.
+/// The version of pulldown-cmark whose events [`events_of`] takes.
 #[cfg(feature = "pulldown-cmark")]
 pub use pulldown_cmark;
 
@@ -57,21 +58,22 @@ pub use document::Document;
 pub use errors::Error;
 pub use markdown::{
     contents, default_work, front_matter_of, markdown_to_html, markdown_with_headings,
-    DocumentHtml, MarkdownOptions,
+    DocumentHtml, MarkdownOptions, ParseDocumentHtmlError,
 };
 pub use numbers::{Name, Rule, VERSION, VERSION_TEXT};
 pub use references::REFERENCES;
+pub use safe::SafeHtml;
 pub use values::{Attributes, Event, Heading, Kind, Limits, LineEnding, Options, Rendered};
 
-/// The HTML of a list of events over a document's bytes.
+/// Compiles a list of events over a document's bytes to HTML.
 ///
-/// `names` are the character references by name that a document may use, each with what it stands
-/// for; of two with one name the first counts. HTML's are [`REFERENCES`]. The bytes need not be
-/// UTF-8 but where events read them as text.
+/// `names` are the named character references that a document may use, each with its text; of two
+/// with the same name the first counts. HTML's are [`REFERENCES`]. The bytes must be UTF-8 only
+/// where events refer to them as text.
 ///
 /// # Errors
 ///
-/// [`Error::Refused`] where the events are refused, and [`Error::Memory`].
+/// [`Error::Refused`] if the events are refused, and [`Error::Memory`].
 ///
 /// ```
 /// use bivdrazo::{compile, Error, Event, Name, Options, Rule};
@@ -89,8 +91,8 @@ pub fn compile(
     ffi::compile(events, bytes, options, names)
 }
 
-/// As [`compile`] under safe options, where no link stands in a link: the HTML Standard's tree
-/// construction builds the tree that the text is read as.
+/// Compiles events as [`compile`] does, under safe options and without a link in a link: then the
+/// HTML Standard's tree construction builds the tree of the text's reading.
 ///
 /// Links are also automatic ones that are none by letters alone, and calls of footnotes; a link in
 /// an image counts as none.
@@ -115,8 +117,8 @@ pub fn compile_unnested(
     bytes: &[u8],
     options: &Options,
     names: &[(&str, &str)],
-) -> Result<String, Error> {
-    ffi::compile_unnested(events, bytes, options, names)
+) -> Result<SafeHtml, Error> {
+    ffi::compile_unnested(events, bytes, options, names).map(SafeHtml::made)
 }
 
 /// Whether a link stands in a link, of events that are a document's. Nothing is compiled.

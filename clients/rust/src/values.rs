@@ -1,6 +1,7 @@
 //! What is handed in and returned: events, options, attributes, limits and headings.
 
 use crate::numbers::Name;
+use crate::SafeHtml;
 
 /// Whether an event begins a node or ends it.
 #[derive(Clone, Copy, Debug, Eq, Hash, PartialEq)]
@@ -156,7 +157,7 @@ pub struct Heading {
     /// Its number, from 1.
     pub number: usize,
     /// Its text without tags, escaped: it may be set into HTML as it is.
-    pub text: String,
+    pub text: SafeHtml,
     /// Its `id`, not escaped.
     pub id: String,
 }
@@ -166,7 +167,7 @@ pub struct Heading {
 #[non_exhaustive]
 pub struct Rendered {
     /// The text.
-    pub html: String,
+    pub html: SafeHtml,
     /// These headings, in their order.
     pub headings: Vec<Heading>,
 }

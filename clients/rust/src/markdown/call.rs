@@ -11,16 +11,17 @@ use crate::markdown_numbers::{
     MARKDOWN_VERSION, STATUS_INPUT_TOO_LONG, STATUS_OUTPUT_TOO_LONG, STATUS_TOO_MUCH_WORK,
 };
 use crate::numbers::{STATUS_NO_OPTION, STATUS_OK, STATUS_TOO_SHORT};
-use crate::{Error, Rendered};
+use crate::{Error, Rendered, SafeHtml};
 
 /// As `max_work` in C: a bound that goes by the length of the Markdown.
 const WORK_BY_LENGTH: usize = usize::MAX - 1;
 
 /// As `crate::markdown_to_html`.
-pub(super) fn html(text: &str, options: &MarkdownOptions) -> Result<String, Error> {
+pub(super) fn html(text: &str, options: &MarkdownOptions) -> Result<SafeHtml, Error> {
     let (mut whole, end) = whole_of(text, options)?;
     whole.truncate(end);
-    String::from_utf8(whole).map_err(|_| Error::Unknown)
+    let html = String::from_utf8(whole).map_err(|_| Error::Unknown)?;
+    Ok(SafeHtml::made(html))
 }
 
 /// As `crate::markdown_with_headings`.

@@ -2,6 +2,7 @@
 
 use crate::{
     front_matter_of, markdown_to_html, markdown_with_headings, DocumentHtml, Error, MarkdownOptions,
+    SafeHtml,
 };
 
 mod additions;
@@ -10,11 +11,11 @@ mod choices;
 mod limits;
 mod setters;
 
-/// The HTML under options that differ from the default ones as told.
+/// The HTML under changed default options.
 fn html_with(text: &str, change: impl Fn(&mut MarkdownOptions)) -> Result<String, Error> {
     let mut options = MarkdownOptions::default();
     change(&mut options);
-    markdown_to_html(text, &options)
+    markdown_to_html(text, &options).map(SafeHtml::into_string)
 }
 
 fn html(text: &str) -> String {
