@@ -29,7 +29,7 @@ static void test_status_texts(void) {
 
 static void test_rule_and_name_texts(void) {
     CHECK(strcmp(bivdrazo_rule_text(BIVDRAZO_RULE_MDX), "a name of MDX") == 0);
-    CHECK(strcmp(bivdrazo_rule_text(BIVDRAZO_RULE_TARGET), "a link or an image leads nowhere") ==
+    CHECK(strcmp(bivdrazo_rule_text(BIVDRAZO_RULE_TARGET), "a link or an image has no target") ==
           0);
     for (uint32_t rule = BIVDRAZO_RULE_ORDER; rule <= BIVDRAZO_RULE_TARGET; rule++)
         CHECK(strcmp(bivdrazo_rule_text(rule), "an unknown rule") != 0);

@@ -94,13 +94,13 @@ pub fn compile(
 /// Compiles events as [`compile`] does, under safe options and without a link in a link: then the
 /// HTML Standard's tree construction builds the tree of the text's reading.
 ///
-/// Links are also automatic ones that are none by letters alone, and calls of footnotes; a link in
-/// an image counts as none.
+/// Links are also automatic ones that are none by letters alone, and footnote calls; a link in an
+/// image doesn't count.
 ///
 /// # Errors
 ///
-/// Those of [`compile`], [`Error::Nested`] where a link stands in a link, and [`Error::Unsafe`]
-/// where the options aren't safe.
+/// Those of [`compile`], [`Error::Nested`] for a link in a link, and [`Error::Unsafe`] if the
+/// options aren't safe.
 ///
 /// ```
 /// use bivdrazo::{compile_unnested, Error, Event, Name, Options};
@@ -121,9 +121,9 @@ pub fn compile_unnested(
     ffi::compile_unnested(events, bytes, options, names).map(SafeHtml::made)
 }
 
-/// Whether a link stands in a link, of events that are a document's. Nothing is compiled.
+/// Whether the events of a document have a link in a link. Nothing is compiled.
 ///
-/// What counts as a link is as of [`compile_unnested`].
+/// Links are those that [`compile_unnested`] counts.
 ///
 /// # Errors
 ///
@@ -139,14 +139,14 @@ pub fn has_nested_link(events: &[Event]) -> Result<bool, Error> {
     ffi::has_nested_link(events)
 }
 
-/// As [`compile`], where the text has at most as many bytes as it may have, there is at most as
-/// much work, and the events nest no deeper than they may.
+/// Compiles events as [`compile`] does, within limits on the text, the work and the nesting.
 ///
 /// # Errors
 ///
-/// Those of [`compile`]; [`Error::TooDeep`] where the events nest deeper and else
-/// [`Error::TooMuchWork`] where there is more work, whether or not they are a document's, but for
-/// want of memory; [`Error::OutputTooLong`] where they are one's whose text is longer.
+/// Those of [`compile`]. Unless the library runs out of memory: [`Error::TooDeep`] if the events
+/// nest too deep, and otherwise [`Error::TooMuchWork`] if there is too much work; both even if the
+/// events aren't a document's. For a document's events [`Error::OutputTooLong`] if the text is too
+/// long.
 ///
 /// ```
 /// use bivdrazo::{compile_within, Error, Event, Limits, Name, Options};
@@ -178,12 +178,12 @@ pub fn compile_within(
     ffi::compile_within(events, bytes, options, names, limits)
 }
 
-/// As [`compile`], with attributes that are added to the tags of the text, and the headings
-/// that got an `id`.
+/// Compiles events as [`compile`] does, adds attributes to the tags of the text, and returns also
+/// the headings that got an `id`.
 ///
 /// # Errors
 ///
-/// Those of [`compile`], and [`Error::Unsafe`] where the options aren't safe.
+/// Those of [`compile`], and [`Error::Unsafe`] if the options aren't safe.
 ///
 /// ```
 /// use bivdrazo::{compile_attributed, Attributes, Event, Name, Options};
@@ -215,11 +215,12 @@ pub fn compile_attributed(
     ffi::compile_attributed(events, bytes, options, names, attributes, limits)
 }
 
-/// The HTML of an event script: lines of options and events, a line `--`, the document.
+/// Compiles an event script: lines of options and events, a line `--`, the document. The script
+/// sets its own options, so the HTML may be unsafe.
 ///
 /// # Errors
 ///
-/// [`Error::Line`] where a line can't be read, [`Error::Refused`] where the events are refused, and
+/// [`Error::Line`] if a line can't be read, [`Error::Refused`] if the events are refused, and
 /// [`Error::Memory`].
 ///
 /// ```
@@ -231,7 +232,7 @@ pub fn run(script: &[u8]) -> Result<String, Error> {
     ffi::run(script)
 }
 
-/// The number of the interface that the library was built with: it is to be [`VERSION`].
+/// The number of the library's interface, which must be [`VERSION`].
 ///
 /// ```
 /// assert_eq!(bivdrazo::library_version(), bivdrazo::VERSION);
@@ -240,7 +241,7 @@ pub fn library_version() -> u32 {
     ffi::version()
 }
 
-/// So that the example of the page is run.
+/// So that the page's example is run.
 #[cfg(doctest)]
 #[doc = include_str!("../README.md")]
 struct Readme;

@@ -1,4 +1,4 @@
-//! A table of contents, made by the library of a document that is written for it.
+//! A table of contents, rendered from a Markdown document that has it.
 
 use super::{call, MarkdownOptions};
 use crate::{Error, Heading, SafeHtml};
@@ -50,7 +50,7 @@ fn document_of(headings: &[Heading]) -> String {
     document
 }
 
-/// A text that the library escaped, as it was.
+/// A text without the library's escapes.
 pub(crate) fn unescaped(text: &str) -> String {
     if !text.contains('&') {
         return text.to_string();

@@ -137,8 +137,8 @@ pub struct MarkdownOptions {
     pub heading_ids: Option<String>,
     /// Make the `id` of each heading from its text, nearly as GitHub does: in lower case, with a
     /// hyphen for each space, and only of letters, marks, numbers, connectors and hyphens. If
-    /// `heading_ids` is set, each id begins with that. An id that exists already gets a hyphen and a
-    /// number: these ids are distinct from one another and from all others, if the others are
+    /// `heading_ids` is set, each id begins with that. An id that exists already gets a hyphen and
+    /// a number: these ids are distinct from one another and from all others, if the others are
     /// distinct, as with `number_ids`.
     pub heading_slugs: bool,
     /// The limit on the length of the document in bytes; by default none.

@@ -1,8 +1,8 @@
 //! Markdown in: documents, and the options below.
 
 use crate::{
-    front_matter_of, markdown_to_html, markdown_with_headings, DocumentHtml, Error, MarkdownOptions,
-    SafeHtml,
+    front_matter_of, markdown_to_html, markdown_with_headings, DocumentHtml, Error,
+    MarkdownOptions, SafeHtml,
 };
 
 mod additions;

@@ -30,7 +30,7 @@ impl Document {
 
     /// A node with one text in it.
     pub(super) fn within(&mut self, outer: Name, inner: Name, text: &str) {
-        let range = self.put(text);
+        let range = self.append(text);
         self.within_at(outer, inner, range);
     }
 
@@ -44,8 +44,8 @@ impl Document {
         ]);
     }
 
-    /// Puts a text at the end of the bytes; where it stands.
-    pub(super) fn put(&mut self, text: &str) -> Range<usize> {
+    /// Appends a text to the bytes; returns its range.
+    pub(super) fn append(&mut self, text: &str) -> Range<usize> {
         let start = self.bytes.len();
         self.bytes.extend_from_slice(text.as_bytes());
         start..self.bytes.len()

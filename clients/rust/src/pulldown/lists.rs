@@ -14,7 +14,7 @@ impl Walk<'_> {
         Open::List(List {
             name,
             start,
-            is_told_loose: false,
+            is_marked_loose: false,
         })
     }
 
@@ -36,8 +36,8 @@ impl Walk<'_> {
     pub(super) fn end_item(&mut self, has_paragraph: bool) {
         self.document.exit(Name::ListItem);
         if let Some(Open::List(list)) = self.open.last_mut() {
-            if has_paragraph && !list.is_told_loose {
-                list.is_told_loose = true;
+            if has_paragraph && !list.is_marked_loose {
+                list.is_marked_loose = true;
                 self.document.text(Name::BlankLineEnding, "\n");
             }
         }
@@ -47,7 +47,7 @@ impl Walk<'_> {
     pub(super) fn is_in_loose_item(&self) -> bool {
         match self.open[..] {
             [.., Open::List(ref list), Open::Item(ref item)] => {
-                list.is_told_loose || item.has_paragraph
+                list.is_marked_loose || item.has_paragraph
             }
             _ => false,
         }

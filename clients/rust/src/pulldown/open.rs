@@ -24,8 +24,8 @@ pub(super) struct List {
     pub(super) name: Name,
     /// What the first item has to say.
     pub(super) start: Option<u64>,
-    /// Whether a blank line was told, which makes it loose.
-    pub(super) is_told_loose: bool,
+    /// Whether a blank line was added, which makes it loose.
+    pub(super) is_marked_loose: bool,
 }
 
 /// An item of a list.

@@ -86,7 +86,7 @@ impl Walk<'_> {
             _ => None,
         };
         let known = place.and_then(|place| self.shared.get(&place).cloned());
-        let range = known.unwrap_or_else(|| self.document.put(&made(text)));
+        let range = known.unwrap_or_else(|| self.document.append(&made(text)));
         self.document.within_at(name, Name::Data, range.clone());
         if let Some(place) = place {
             self.shared.insert(place, range);

@@ -116,7 +116,7 @@ fn long_destinations_with_references() {
     }
 }
 
-/// Neither links of another definition count, nor what an image's description leads to.
+/// Neither the links in another definition count, nor the targets in an image's description.
 #[test]
 fn what_is_not_printed() {
     let defined = format!("[a]: /&amp;{}\n\n", "b".repeat(50_000));
