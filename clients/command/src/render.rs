@@ -33,7 +33,7 @@ pub fn read(arguments: &Arguments, source: &Path) -> Result<Read, Failure> {
     let (html, headings) = match arguments.parser {
         ParserName::Bivdrazo => {
             let made = markdown_with_headings(rest, &arguments.options())?;
-            (made.html, made.headings)
+            (made.html.into_string(), made.headings)
         }
         ParserName::CmarkGfm => (by_cmark_gfm(arguments, rest.to_string())?, Vec::new()),
     };
@@ -54,7 +54,7 @@ fn by_cmark_gfm(arguments: &Arguments, text: String) -> Result<String, Failure> 
         true => document.compile_within(&options, limits),
         false => document
             .compile_attributed(&options, &attributes, limits)
-            .map(|made| made.html),
+            .map(|made| made.html.into_string()),
     };
     made.map_err(|error| match error {
         Error::Refused { .. } => ParserError::Refused(error).into(),
@@ -92,7 +92,7 @@ impl Read {
             false => String::new(),
         };
         let toc = match page.has_toc {
-            true => contents(&self.headings)?,
+            true => contents(&self.headings)?.into_string(),
             false => String::new(),
         };
         let texts = page.around(&Parts {

@@ -143,7 +143,9 @@ mod tests {
     use bivdrazo::{markdown_to_html, MarkdownOptions};
 
     fn html(text: &str) -> String {
-        markdown_to_html(text, &MarkdownOptions::default()).unwrap()
+        markdown_to_html(text, &MarkdownOptions::default())
+            .unwrap()
+            .into_string()
     }
 
     #[test]
