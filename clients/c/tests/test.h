@@ -21,7 +21,7 @@ extern int failures;
 extern size_t calls_left;
 
 /* How often the library was asked for a text. */
-extern _Atomic size_t turns;
+extern _Atomic size_t calls;
 
 /* An event at an index. */
 bivdrazo_event event(uint8_t kind, uint16_t name, size_t index);

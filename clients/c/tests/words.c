@@ -19,7 +19,7 @@ static void test_status_texts(void) {
                  {BIVDRAZO_NO_ATTRIBUTE, "an attribute has no such value"},
                  {BIVDRAZO_TOO_LONG, "the text is too long"},
                  {BIVDRAZO_TOO_MUCH, "there is too much work"},
-                 {BIVDRAZO_NESTED, "a link stands in a link"},
+                 {BIVDRAZO_NESTED, "a link is in a link"},
                  {BIVDRAZO_TOO_DEEP, "the events nest too deep"},
                  {BIVDRAZO_TOO_DEEP + 1, "an unknown status"},
                  {UINT32_MAX, "an unknown status"}};

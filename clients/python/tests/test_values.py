@@ -78,11 +78,11 @@ class Lies(unittest.TestCase):
         for data in ("a", 5, [1, 2], None):
             with self.subTest(data=data), self.assertRaisesRegex(TypeError, "^data: bytes are "):
                 compile(self.EVENTS, data)
-        with self.assertRaisesRegex(TypeError, "^script: bytes are wanted, not str$"):
+        with self.assertRaisesRegex(TypeError, "^script: expected bytes, not str$"):
             run("--")
-        with self.assertRaisesRegex(TypeError, "^names: str is wanted, not bytes$"):
+        with self.assertRaisesRegex(TypeError, "^names: expected str, not bytes$"):
             compile([], b"", names={b"x": "y"})
-        with self.assertRaisesRegex(TypeError, "^gfm_footnote_label: str is wanted, not int$"):
+        with self.assertRaisesRegex(TypeError, "^gfm_footnote_label: expected str, not int$"):
             compile([], b"", gfm_footnote_label=1)
 
     def test_markdown(self):

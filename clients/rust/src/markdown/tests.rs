@@ -197,7 +197,7 @@ fn html_at_the_end_of_a_list() {
     assert_eq!(html("- a\n- <div>"), format!("<ul>\n<li>a</li>\n{block}"));
 }
 
-/// No link stands in a link, nor does a footnote's call.
+/// No link is in a link, and no footnote call is.
 #[test]
 fn links_in_links() {
     for (text, wanted) in [
