@@ -2,7 +2,7 @@
 
     attacks_test.py OUT
 
-OUT is the folder where clients/build put what it made, with bivdrazo-checks in target/release and
+OUT is the folder that clients/build wrote, with bivdrazo-checks in target/release and
 markdown_file. All ways with the library's parser must make the same text, and no text may hold what
 isn't permitted. Wants html5lib.
 """

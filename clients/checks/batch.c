@@ -96,7 +96,7 @@ static bivdrazo_text random_text(const struct document *document, uint64_t *stat
     return text;
 }
 
-/* Options that are safe, some of which now and then stand for none. */
+/* Safe options, of which some are invalid now and then. */
 static bivdrazo_options random_options(const struct document *document, uint64_t *state) {
     bivdrazo_options options = bivdrazo_options_default();
     options.gfm_task_list_item_checkable = (uint8_t)next_under(state, 2);

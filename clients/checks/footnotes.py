@@ -109,13 +109,13 @@ def with_footnotes(text, calls):
     return CALL.sub(lambda match: with_call(match, calls), text) if section else text
 
 
-# Where a node of cmark-gfm 0.29.0.gfm.6 keeps the how manieth call of its footnote it is.
+# The offset of the number of a call of its footnote in a node of cmark-gfm 0.29.0.gfm.6.
 FOOTNOTE_FIELD = 112
 
 
 def calls_of(root):
-    """The calls of footnotes in a tree; cmark-gfm puts definitions at its end, and forgets some
-    lines before tables.
+    """The calls of footnotes in a tree; cmark-gfm moves definitions to its end, and loses some line
+    numbers before tables.
     """
     found = []
     line = 0

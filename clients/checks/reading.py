@@ -1,4 +1,4 @@
-"""Reads HTML with a parser as browsers have it, and tells what isn't permitted in it."""
+"""Reads HTML with a parser like that of browsers, and lists what isn't permitted in it."""
 
 import re
 

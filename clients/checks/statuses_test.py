@@ -1,10 +1,10 @@
 #!/usr/bin/env python3
-"""Whether each status in numbers.txt has words of its own in C, and Python has the same.
+"""Checks that each status in numbers.txt has its own text in C, and the same in Python.
 
     statuses_test.py OUT
 
-Compiles a program in the folder OUT, with CC, that prints what bivdrazo_markdown_status_text says
-of each number. Ends with status 1 where a status has none.
+Compiles a program in the folder OUT, with CC, that prints bivdrazo_markdown_status_text of each
+number. Ends with status 1 if a status has no text.
 """
 
 import os
@@ -17,7 +17,7 @@ CLIENTS = pathlib.Path(__file__).resolve().parent.parent
 sys.path.insert(0, str(CLIENTS / "python"))
 sys.dont_write_bytecode = True
 
-from bivdrazo.errors import TEXTS  # noqa: E402  (where the module is was just told)
+from bivdrazo.errors import TEXTS  # noqa: E402  (after the path of the module is set)
 
 PROGRAM = """
 #include "bivdrazo_markdown.h"

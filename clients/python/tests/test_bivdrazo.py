@@ -316,7 +316,7 @@ class Errors(unittest.TestCase):
         self.assertEqual(repr(error_of(7, 0, 0)), "MemoryError('out of memory')")
         self.assertEqual(repr(error_of(12, 0, 0)), "Nested('a link is in a link')")
         self.assertEqual(repr(error_of(99, 0, 0)),
-                         "RuntimeError('the library answered the unknown status 99')")
+                         "RuntimeError('the library returned the unknown status 99')")
 
 
 class Interface(unittest.TestCase):

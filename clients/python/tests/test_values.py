@@ -76,7 +76,7 @@ class Lies(unittest.TestCase):
 
     def test_no_buffers(self):
         for data in ("a", 5, [1, 2], None):
-            with self.subTest(data=data), self.assertRaisesRegex(TypeError, "^data: bytes are "):
+            with self.subTest(data=data), self.assertRaisesRegex(TypeError, "^data: expected bytes, not "):
                 compile(self.EVENTS, data)
         with self.assertRaisesRegex(TypeError, "^script: expected bytes, not str$"):
             run("--")
@@ -180,7 +180,7 @@ class Statuses(unittest.TestCase):
 
     def test_texts(self):
         self.assertEqual(set(TEXTS), {*Status, *MarkdownStatus})
-        self.assertEqual(text_of_status(99), "the library answered the unknown status 99")
+        self.assertEqual(text_of_status(99), "the library returned the unknown status 99")
 
     def test_errors(self):
         for status in [*Status, *MarkdownStatus]:

@@ -4,7 +4,7 @@ use std::error::Error;
 use std::fs;
 use std::path::Path;
 
-/// Writes a document of each shape, of about so many bytes, to a folder that is there: `NAME.md`.
+/// Writes a document of each shape, of about this size, to an existing folder, as `NAME.md`.
 pub fn write(folder: &str, size: &str) -> Result<(), Box<dyn Error>> {
     let size = size.parse()?;
     for shape in SHAPES {

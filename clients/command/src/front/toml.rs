@@ -13,7 +13,7 @@ const TITLE: &str = "title";
 /// The most dots outside of strings, in all keys and numbers together.
 const MOST_DOTS: usize = 500;
 
-/// How the error for a key that is there twice begins.
+/// The beginning of the error for a duplicate key.
 const DUPLICATE: &str = "duplicate key";
 
 /// The title in a text: in TOML before any table.
