@@ -1,9 +1,9 @@
-"""Renders documents by one way in Python:
+"""Renders documents with one way in Python:
 
     beside.py WAY < DOCUMENTS > HTML
 
 DOCUMENTS are frames: a count of bytes in decimal digits, a line feed, the document. The ways are
-those of WAYS. What bleach cleans may hold all elements that the renderers make.
+those of WAYS. bleach permits all elements that the renderers make.
 """
 
 import sys

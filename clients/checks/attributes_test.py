@@ -62,7 +62,7 @@ def fault_of(before, after, rel, number):
             else f"{after.tag}: {dict(after.attrib)}, not {wanted}")
 
 
-def told(heading):
+def listing(heading):
     """A heading as it is handed out: its level, and its text."""
     return int(heading.tag[1]), " ".join("".join(heading.itertext()).split("\n"))
 
@@ -83,8 +83,8 @@ def faults(markdown, rel):
     if len(set(ids)) != len(ids):
         found.append("an id stands twice")
     listed = [(heading.level, html.unescape(heading.text)) for heading in headings]
-    if listed != [told(heading) for heading in numbered]:
-        found.append(f"the headings are told as {listed}")
+    if listed != [listing(heading) for heading in numbered]:
+        found.append(f"the headings are listed as {listed}")
     if [heading.number for heading in headings] != list(range(1, len(headings) + 1)):
         found.append("the headings have other numbers")
     if not is_without_label(made, elements(text.replace(LABEL, ""))):

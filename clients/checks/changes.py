@@ -1,4 +1,4 @@
-"""The changes of a tree and of a text that are permitted, but for footnotes."""
+"""The permitted changes of a tree and of a text, except those of footnotes."""
 
 import codecs
 import re

@@ -48,7 +48,7 @@ def rendered(program, document):
 
 
 def unlike(number, document, text, judged):
-    """Prints a text that differs from the expected one; returns the number of differences, 0 or 1."""
+    """Prints a text that differs from the expected one; returns 1 then, otherwise 0."""
     if text == judged.wanted:
         return 0
     print(f"document {number}: {document!r}\n  wanted {judged.wanted!r}\n  is     {text!r}")

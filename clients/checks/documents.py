@@ -62,8 +62,8 @@ def examples():
 
 
 def mutate_once(text, other, generator):
-    """A text with one change: a piece is inserted, or a part is removed, repeated, or taken from the
-    other text.
+    """A text with one change: a piece is inserted, or a part is removed, repeated, or taken from
+    the other text.
     """
     start = generator.randrange(len(text) + 1)
     end = min(len(text), start + generator.randrange(1, 12))

@@ -41,7 +41,8 @@ def main(arguments):
     """Runs each example; returns the exit status."""
     if arguments == ["--write"]:
         for page in PAGES:
-            page.write_text(EXAMPLE.sub(corrected, page.read_text(encoding="utf-8")), encoding="utf-8")
+            text = page.read_text(encoding="utf-8")
+            page.write_text(EXAMPLE.sub(corrected, text), encoding="utf-8")
         return 0
     return 0 if all([is_right(page) for page in PAGES]) else 1
 

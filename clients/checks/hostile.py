@@ -121,7 +121,8 @@ def faults(path, runs, most):
 def row(path, runs, plain):
     """A row of the table."""
     text = next(iter(runs.values())).length
-    cells = " | ".join(f"{found.seconds:.2f} | {beyond(path, found):.0f}" for found in runs.values())
+    cells = " | ".join(f"{found.seconds:.2f} | {beyond(path, found):.0f}"
+                       for found in runs.values())
     own = f"{plain.seconds:.2f} | {beyond(path, plain):.0f}" if plain.status == 0 else "– | –"
     return (f"| {path.stem} | {os.path.getsize(path) / MEGA:.2f} | {text / MEGA:.2f} "
             f"| {cells} | {own} |")

@@ -31,7 +31,7 @@ int main(int count, char **numbers) {
 """
 
 
-def told(out, numbers):
+def texts_of(out, numbers):
     """What C says of each of these numbers."""
     program = out / "statuses"
     subprocess.run([*os.environ.get("CC", "cc").split(), "-std=c11", "-I", CLIENTS / "c", "-x", "c",
@@ -45,7 +45,7 @@ def main(arguments):
     listed = (CLIENTS / "numbers" / "numbers.txt").read_text()
     numbers = [int(number)
                for number in re.findall(r"(?m)^(?:markdown_)?status (\d+) ", listed)]
-    texts = told(pathlib.Path(arguments[0]), [*numbers, 999])
+    texts = texts_of(pathlib.Path(arguments[0]), [*numbers, 999])
     unknown = texts.pop()
     wrong = [number for number, text in zip(numbers, texts)
              if text == unknown or text != TEXTS.get(number)]

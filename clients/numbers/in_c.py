@@ -32,7 +32,8 @@ def rule_text():
     text = "/* What a rule means, in English. */\n"
     text += "static inline const char *bivdrazo_rule_text(uint32_t rule) {\n    switch (rule) {\n"
     for entry in of_group("rule"):
-        text += f"    case BIVDRAZO_RULE_{upper(entry.name)}:\n        return \"{meaning(entry)}\";\n"
+        text += (f"    case BIVDRAZO_RULE_{upper(entry.name)}:\n"
+                 f"        return \"{meaning(entry)}\";\n")
     return text + "    default:\n        return \"an unknown rule\";\n    }\n}\n"
 
 

@@ -76,7 +76,8 @@ class Lies(unittest.TestCase):
 
     def test_no_buffers(self):
         for data in ("a", 5, [1, 2], None):
-            with self.subTest(data=data), self.assertRaisesRegex(TypeError, "^data: expected bytes, not "):
+            with self.subTest(data=data), \
+                    self.assertRaisesRegex(TypeError, "^data: expected bytes, not "):
                 compile(self.EVENTS, data)
         with self.assertRaisesRegex(TypeError, "^script: expected bytes, not str$"):
             run("--")

@@ -14,8 +14,8 @@ const SHOWN: usize = 10;
 /// How many documents have each class.
 type Counts = BTreeMap<String, usize>;
 
-/// Compares the documents of standard input, and their counts with a list, or writes the counts into
-/// it. Returns whether there is no other difference.
+/// Compares the documents of standard input, and their counts with a list, or writes the counts
+/// into it. Returns whether there is no other difference.
 pub fn run(list: &str, is_write: bool) -> Result<bool, Box<dyn Error>> {
     let documents = read_documents(&mut io::stdin().lock())?;
     let mut counts = Counts::new();

@@ -1,4 +1,4 @@
-//! Markdown in: documents, and the options below.
+//! Documents; the modules below test the options.
 
 use crate::{
     front_matter_of, markdown_to_html, markdown_with_headings, DocumentHtml, Error,
@@ -215,7 +215,7 @@ fn links_in_links() {
     }
 }
 
-/// What was read otherwise by pulldown-cmark.
+/// Documents that pulldown-cmark reads differently.
 #[test]
 fn as_gfm() {
     for (text, wanted) in [

@@ -1,4 +1,4 @@
-//! How a document is made, node by node.
+//! Makes a document, node by node.
 
 use crate::{Document, Event, Kind, Name};
 use std::borrow::Cow;
@@ -21,7 +21,7 @@ impl Document {
         self.exit(name);
     }
 
-    /// A node over a text of its own.
+    /// A node with its own text.
     pub(super) fn text(&mut self, name: Name, text: &str) {
         self.enter(name);
         self.bytes.extend_from_slice(text.as_bytes());
@@ -34,7 +34,7 @@ impl Document {
         self.within_at(outer, inner, range);
     }
 
-    /// A node with one text in it, which stands there in the bytes.
+    /// A node with one text in it, which is at that place in the bytes.
     pub(super) fn within_at(&mut self, outer: Name, inner: Name, range: Range<usize>) {
         self.events.extend([
             Event::enter(outer, range.start),
@@ -79,7 +79,7 @@ impl Document {
         }
     }
 
-    /// Takes away the empty cells at the end of a row, which the library prints anyway.
+    /// Removes the empty cells at the end of a row, which the library prints anyway.
     pub(super) fn drop_empty_cells(&mut self) {
         let is = |event: &Event, kind| event.kind == kind && event.name == Name::GfmTableCell;
         while let [.., start, end] = &self.events[..] {

@@ -18,7 +18,7 @@ impl Walk<'_> {
         })
     }
 
-    /// The number of an ordered list stands in its first item.
+    /// The number of an ordered list is in its first item.
     pub(super) fn start_item(&mut self) -> Open {
         self.document.enter(Name::ListItem);
         self.document.enter(Name::ListItemPrefix);
@@ -53,9 +53,8 @@ impl Walk<'_> {
         }
     }
 
-    /// The box of a task and a space. They stand in a quote's prefix, which prints nothing
-    /// itself and isn't part of what an item holds: so an item that holds no more than its box
-    /// ends on the same line.
+    /// The box of a task and a space. They are in a quote's prefix, which prints nothing itself and
+    /// isn't part of an item's content: so an item with only its box ends on the same line.
     pub(super) fn task(&mut self, is_checked: bool) {
         self.document.enter(Name::BlockQuotePrefix);
         self.document.enter(Name::GfmTaskListItemCheck);

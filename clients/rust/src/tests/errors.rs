@@ -1,4 +1,4 @@
-//! What statuses stand for, and how errors print.
+//! The errors of statuses, and their texts.
 
 use super::*;
 use crate::errors::error_of;

@@ -14,7 +14,7 @@ fn names_of_references() {
     );
 }
 
-/// Each of HTML's names stands for its text.
+/// Each of HTML's names has its text.
 #[test]
 fn references() {
     assert_eq!(REFERENCES.len(), 2125);

@@ -1,4 +1,4 @@
-//! The bounds, and what is long, wide or deep.
+//! The limits, and documents that are long, wide or deep.
 
 use super::*;
 use crate::default_work;
@@ -79,7 +79,7 @@ fn long_texts_with_attributes() {
     assert!(start.elapsed() < Duration::from_secs(10));
 }
 
-/// Where no limit of the work is set, the document's length says it.
+/// The default limit of the work depends on the document's length.
 #[test]
 fn default_limit_of_work() {
     let text = |uses| format!("[a]: {}\n\n{}", "b".repeat(10_000), "[a] ".repeat(uses));
@@ -146,7 +146,7 @@ fn wide_tables() {
     assert!(((1 << 19) - 2000..=1 << 19).contains(&cells), "{cells}");
 }
 
-/// What would nest deeper than its bound is shown as it is written.
+/// A document that nests deeper than its limit is shown as it is written.
 #[test]
 fn depth() {
     let quotes = "> > > > *a*";
