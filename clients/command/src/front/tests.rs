@@ -124,6 +124,10 @@ fn yaml_titles() {
             ("\"title\": a", "a"),
             ("'title' : a", "a"),
             ("? title\n: a", "a"),
+            ("abc: d\n? title\n: a", "a"),
+            ("  b:\n  c:\n  title:\n    a", "a"),
+            ("b:\n- c\n? d\n:\n  e\ntitle: a", "a"),
+            ("{b: c,\ntitle:\na}", "a"),
             ("{date: b, title: a}", "a"),
             ("{\"title\":\"a\"}", "a"),
             ("title: &b a", "a"),
@@ -210,6 +214,11 @@ fn yaml_faults() {
         ("title: a\n--- b", at(3, "a second document")),
         ("a: b\ntitle: c\0d", at(3, "a control character")),
         ("title: &a [*a]", is("a list")),
+        ("title:\nb c\n", at(3, "a value without indentation")),
+        (
+            "a:\n  b\ntitle: # c\n\n'd'",
+            at(6, "a value without indentation"),
+        ),
     ] {
         assert_eq!(yaml(text), Err(fault), "{text:?}");
     }

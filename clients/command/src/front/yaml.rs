@@ -31,8 +31,8 @@ enum Value {
     Nothing,
     /// A null that is written.
     Null,
-    /// What yaml-rust has for no value and for `~`, at a character of the text.
-    Tilde(usize),
+    /// What yaml-rust has for no value, and for `~` at this place.
+    Tilde(Marker),
     /// A text with the tag of another type.
     Tagged,
     List,
@@ -77,7 +77,7 @@ impl Reader<'_> {
             return Ok(None);
         }
         let found = match self.next()? {
-            (Event::MappingStart(_), _) => self.mapping()?,
+            (Event::MappingStart(_), mark) => self.mapping(mark)?,
             (_, mark) => return Err(self.error(mark, "no key, such as title:")),
         };
         loop {
@@ -89,9 +89,7 @@ impl Reader<'_> {
         }
         match found {
             Some(Value::Text(title)) => Ok(Some(title.to_string())),
-            Some(Value::Tilde(at)) if self.text.chars().nth(at) == Some('~') => {
-                Err(no_text("null"))
-            }
+            Some(Value::Tilde(mark)) if self.is_at(mark, '~') => Err(no_text("null")),
             None | Some(Value::Nothing | Value::Tilde(_)) => Ok(None),
             Some(Value::Null) => Err(no_text("null")),
             Some(Value::Tagged) => Err(no_text("of a type that isn't known")),
@@ -101,9 +99,10 @@ impl Reader<'_> {
     }
 
     /// The title in the outermost mapping, whose start was read.
-    fn mapping(&mut self) -> Result<Option<Value>, String> {
+    fn mapping(&mut self, start: Marker) -> Result<Option<Value>, String> {
         let mut found = None;
         let mut merged = None;
+        let is_block = !self.is_at(start, '{');
         loop {
             let (event, mark) = self.next()?;
             if event == Event::MappingEnd {
@@ -111,6 +110,10 @@ impl Reader<'_> {
             }
             let key = self.value(event, mark)?;
             let (event, at) = self.next()?;
+            // yaml-rust accepts this, though YAML doesn't.
+            if is_block && at.line() > mark.line() && at.col() == 0 && self.is_there(&event, at) {
+                return Err(self.error(at, "a value without indentation"));
+            }
             let value = self.value(event, at)?;
             match key {
                 Value::Text(key) if &*key == TITLE => {
@@ -187,6 +190,22 @@ impl Reader<'_> {
         Ok(())
     }
 
+    /// Whether a character is at a place.
+    fn is_at(&self, mark: Marker, wanted: char) -> bool {
+        self.text.chars().nth(mark.index()) == Some(wanted)
+    }
+
+    /// Whether an event is a scalar in a line, and not a value that is missing.
+    fn is_there(&self, event: &Event, mark: Marker) -> bool {
+        match event {
+            Event::Scalar(_, TScalarStyle::Literal | TScalarStyle::Foled, ..) => false,
+            Event::Scalar(text, TScalarStyle::Plain, ..) if text == "~" => self.is_at(mark, '~'),
+            Event::Scalar(text, TScalarStyle::Plain, ..) => !text.is_empty(),
+            Event::Scalar(..) => true,
+            _ => false,
+        }
+    }
+
     /// The next event.
     fn next(&mut self) -> Result<(Event, Marker), String> {
         self.left = self.left.checked_sub(1).ok_or(NO_END)?;
@@ -211,7 +230,7 @@ fn scalar(text: &str, style: TScalarStyle, tag: Option<&TokenType>, mark: Marker
         _ if tag.is_some() && !is_string => Value::Tagged,
         _ if is_string || style != TScalarStyle::Plain => Value::Text(text.into()),
         "" => Value::Nothing,
-        "~" => Value::Tilde(mark.index()),
+        "~" => Value::Tilde(mark),
         "null" | "Null" | "NULL" => Value::Null,
         _ => Value::Text(text.into()),
     }
