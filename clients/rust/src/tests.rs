@@ -11,6 +11,7 @@ use std::thread;
 mod errors;
 mod limits;
 mod names;
+mod safe;
 pub(crate) mod setters;
 
 /// The events of a node over some bytes, with others in it.
