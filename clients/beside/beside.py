@@ -36,7 +36,7 @@ def markdown_it():
 
 
 def mistune():
-    """mistune, with HTML as it stands and the extensions of GFM."""
+    """mistune, with HTML unchanged and the extensions of GFM."""
     import mistune as module
 
     plugins = ["strikethrough", "footnotes", "table", "url", "task_lists"]
@@ -44,7 +44,7 @@ def mistune():
 
 
 def cmarkgfm():
-    """cmarkgfm, cmark-gfm for Python, with HTML as it stands but for its tag filter."""
+    """cmarkgfm, cmark-gfm for Python, with HTML unchanged, except by its tag filter."""
     import cmarkgfm as module
     from cmarkgfm.cmark import Options
 

@@ -23,7 +23,7 @@ from bivdrazo.library import LIBRARY, COptions  # noqa: E402
 
 
 def moved(line, start):
-    """An event's line, so many bytes further on."""
+    """An event's line, with its index increased."""
     return re.sub(rb" (\d+)", lambda match: b" %d" % (int(match[1]) + start), line)
 
 

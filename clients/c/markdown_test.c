@@ -110,7 +110,7 @@ static void test_readings(void) {
     check(renders(note, &options, "<p>a<a href=\"c\">^b</a></p>\n"), "no footnotes");
 }
 
-/* Where front matter stands. */
+/* The place of front matter. */
 static void test_front_matter(void) {
     const struct {
         const char *text;

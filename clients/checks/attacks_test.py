@@ -26,7 +26,7 @@ def rendered(command, path):
 
 
 def main():
-    """Tries all attacks; the status to end with."""
+    """Tries all attacks; returns the exit status."""
     out = pathlib.Path(sys.argv[1])
     own = ways(out)
     cmark = out / "bivdrazo-render-cmark"

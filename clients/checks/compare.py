@@ -183,7 +183,7 @@ def check_counts(examples, mutated):
 
 
 def main(arguments):
-    """Runs each part; the status to end with."""
+    """Runs each part; returns the exit status."""
     out = pathlib.Path(arguments[0])
     start = time.monotonic()
     mutated = documents.mutated(MUTATED, SEED)

@@ -41,11 +41,12 @@ def gfm(text):
 def is_like(pattern, text):
     """Whether a text matches that of a case."""
     parts = meant(pattern).split("..")
-    return re.fullmatch(".*".join(map(re.escape, parts)), text.rstrip("\r\n"), re.DOTALL) is not None
+    pattern = ".*".join(map(re.escape, parts))
+    return re.fullmatch(pattern, text.rstrip("\r\n"), re.DOTALL) is not None
 
 
 def main(arguments):
-    """Runs the cases; the status to end with."""
+    """Runs the cases; returns the exit status."""
     page = (CLIENTS.parent / "docs" / "GFM.md").read_text("utf-8")
     cases = CASE.findall(page)
     wrong = 0

@@ -1,7 +1,7 @@
 """Documents to render: the examples of the GFM specification, and mutations of these and of our
 own.
 
-    documents.py COUNT SEED    writes the examples and so many mutated documents, each after its
+    documents.py COUNT SEED    writes the examples and COUNT mutated documents, each after its
                                length and a line feed
 """
 

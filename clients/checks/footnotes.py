@@ -33,7 +33,7 @@ class Calls(NamedTuple):
     keeps footnotes that are called from there alone, ways back to there, and their numbers.
     """
 
-    # The footnote's number, and the how manieth call of it this is.
+    # The footnote's number, and the number of this call of it.
     pairs: tuple[tuple[int, int], ...]
 
     def numbers(self):
@@ -92,7 +92,7 @@ SECTION_HERE = (
 
 
 def with_item(item, calls):
-    """A footnote, as it is written here, with so many calls."""
+    """A footnote, as it is written here, with this number of calls."""
     label, rest = item.split(b'"', 1)
     rest = BACK.sub(lambda match: with_way_back(match, calls), rest)
     return b'<li id="user-content-fn-' + footnote_id(label) + b'"' + rest

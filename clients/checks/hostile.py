@@ -109,7 +109,7 @@ def faults(path, runs, most):
         memory = beyond(path, found)
         if most == WORK:
             if found.status != TOO_MUCH[name] or found.length != 0:
-                yield f"{name} ends with status {found.status}, and it is to be too much work"
+                yield f"{name} ends with status {found.status}, but must report too much work"
         elif found.status != 0:
             yield f"{name} ends with status {found.status}"
         elif found.digest != first.digest:

@@ -36,7 +36,7 @@ def same(programs, found):
 
 
 def main(arguments):
-    """Compares each document; the status to end with."""
+    """Compares each document; returns the exit status."""
     out = pathlib.Path(arguments[0])
     programs = (out / "bivdrazo-render", out / "bivdrazo-render-cmark")
     examples = documents.examples()

@@ -41,7 +41,7 @@ def texts_of(out, numbers):
 
 
 def main(arguments):
-    """Compares the texts; the status to end with."""
+    """Compares the texts; returns the exit status."""
     listed = (CLIENTS / "numbers" / "numbers.txt").read_text()
     numbers = [int(number)
                for number in re.findall(r"(?m)^(?:markdown_)?status (\d+) ", listed)]

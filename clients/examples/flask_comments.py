@@ -3,7 +3,7 @@
 
     FLASK_APP=flask_comments.py flask run
 
-Shows the comments of the list COMMENTS, which stands for a database. A comment that exceeds a limit
+Shows the comments in the list COMMENTS, which replaces a database. A comment that exceeds a limit
 is shown as an error. Requires Flask (Debian: python3-flask).
 """
 

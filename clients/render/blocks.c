@@ -43,9 +43,8 @@ static void add_list_value(struct walk *walk, cmark_node *list) {
 }
 
 /*
- * The box of a task, and a space after it. They stand in a quote's prefix, which prints nothing
- * itself and isn't part of what an item holds: so an item that holds no more than its box ends
- * on the same line.
+ * The box of a task, and a space after it. They are in a quote's prefix, which prints nothing
+ * itself and isn't part of an item's content: so an item with only its box ends on the same line.
  */
 static void add_task(struct walk *walk, cmark_node *item) {
     document_enter(&walk->document, BIVDRAZO_NAME_BLOCK_QUOTE_PREFIX);

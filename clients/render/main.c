@@ -90,7 +90,7 @@ static enum status read_document(const char *path, struct document *document) {
     return status;
 }
 
-/* The HTML of a document, in memory of its own. */
+/* The HTML of a document, in allocated memory. */
 static enum status compile(const struct document *document, uint8_t **text, size_t *length) {
     const bivdrazo_answer answer =
         bivdrazo_compile_alloc(document->events, document->events_length, document->bytes,
@@ -124,7 +124,7 @@ static enum status compile_title(const char *title, struct text *text) {
     return status;
 }
 
-/* Ends what is written to standard output. */
+/* Ends the output. */
 static enum status end_output(void) {
     return fflush(stdout) != 0 || ferror(stdout) ? NO_INPUT_OUTPUT : DONE;
 }

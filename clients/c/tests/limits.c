@@ -76,7 +76,7 @@ static void test_limits_refused(void) {
     CHECK(answer.status == BIVDRAZO_NO_EVENT && answer.index == 3 && !text);
 }
 
-/* Adds the events of a node over no bytes to a list, around those that stand there from `start`. */
+/* Adds the events of a node over no bytes to a list, around its events from `start` on. */
 static void wrap(bivdrazo_event *events, size_t *length, size_t start, uint16_t name) {
     memmove(events + start + 1, events + start, (*length - start) * sizeof *events);
     events[start] = event(BIVDRAZO_ENTER, name, 0);

@@ -38,7 +38,7 @@ static void test_rule_and_name_texts(void) {
     CHECK(bivdrazo_name_text(0) == NULL && bivdrazo_name_text(BIVDRAZO_NAME_OTHER) == NULL);
 }
 
-/* Some of HTML's names, each in a document of its own. */
+/* Some of HTML's names, each in its own document. */
 static void test_references(void) {
     for (size_t at = 0; at < BIVDRAZO_REFERENCES_LENGTH; at += 17) {
         const bivdrazo_reference *reference = &BIVDRAZO_REFERENCES[at];

@@ -1,4 +1,4 @@
-//! cmark-gfm's parser, in a process of its own.
+//! cmark-gfm's parser, in a separate process.
 //!
 //! It is written in C: an error in it can't corrupt the memory of the library. It has limits of
 //! time and memory, and its events are checked like any others.

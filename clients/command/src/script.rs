@@ -19,7 +19,7 @@ pub enum ScriptError {
     Read(io::Error),
     /// The line with this number, from 1, isn't valid.
     Line(usize),
-    /// The events and the bytes take more than so many bytes of memory.
+    /// The events and the bytes take more than this number of bytes of memory.
     TooLong(usize),
 }
 

@@ -57,7 +57,7 @@ fn find(html: &str, from: usize, wanted: u8) -> Option<usize> {
 
 /// The ids of a text.
 pub fn ids(html: &str) -> impl Iterator<Item = Cow<'_, str>> {
-    // A quotation mark stands only around values.
+    // Quotation marks are only around values.
     let mut at = 0;
     let values = iter::from_fn(move || {
         let start = find(html, at, b'"')? + 1;

@@ -30,7 +30,7 @@ from bivdrazo.library import CAnswer, CEvent, CLimits, COptions, CReference, CTe
 
 
 def paragraph(length):
-    """The events of a paragraph over so many bytes."""
+    """The events of a paragraph over this number of bytes."""
     return [
         Event.enter(Name.PARAGRAPH, 0),
         Event.enter(Name.DATA, 0),

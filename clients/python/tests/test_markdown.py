@@ -190,7 +190,7 @@ class Texts(unittest.TestCase):
 
 
 class Errors(unittest.TestCase):
-    """What is handed in has another type or value."""
+    """What is passed has another type or value."""
 
     def test_types(self):
         values = {

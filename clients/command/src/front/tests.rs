@@ -4,7 +4,7 @@ use super::yaml::QUOTE_IT;
 use super::*;
 use std::time::{Duration, Instant};
 
-/// The title, and what is left of the document.
+/// The title, and the rest of the document.
 fn of(document: &str) -> (Option<String>, &str) {
     let front = front_matter(document);
     (front.title, &document[front.end..])

@@ -63,7 +63,7 @@ pub fn title(text: &str) -> Result<Option<String>, String> {
     reader.document()
 }
 
-/// Whether a character can't stand in YAML; yaml-rust takes NUL for the end.
+/// Whether YAML doesn't allow a character; yaml-rust takes NUL for the end.
 fn is_unprintable(each: char) -> bool {
     (each.is_control() && !matches!(each, '\t' | '\n' | '\u{85}'))
         || matches!(each, '\u{fffe}' | '\u{ffff}')
@@ -138,7 +138,8 @@ impl Reader<'_> {
         let (anchor, value) = match event {
             Event::Alias(anchor) => {
                 let value = self.anchors.get(&anchor).cloned();
-                return value.ok_or_else(|| self.error(mark, "an alias of what it stands in"));
+                return value
+                    .ok_or_else(|| self.error(mark, "an alias of a value that contains it"));
             }
             Event::Scalar(text, style, anchor, tag) => {
                 (anchor, scalar(&text, style, tag.as_ref(), mark))

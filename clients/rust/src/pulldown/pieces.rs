@@ -24,7 +24,7 @@ where
     whole
 }
 
-/// A line of HTML with the lines that follow it, and with what is left of tabs before them.
+/// A line of HTML with the lines that follow it, and with the rests of tabs before them.
 pub(super) fn whole_html<'a, P>(first: &str, rest: &mut Peekable<P>) -> String
 where
     P: Iterator<Item = (Event<'a>, Range<usize>)>,

@@ -130,7 +130,7 @@ fn what_is_not_printed() {
     assert_eq!(html.as_deref(), Ok("<p><img src=\"y\" alt=\"a\" /></p>\n"));
 }
 
-/// A row that is too short is filled up with cells, up to so many that nobody wrote.
+/// A row that is too short is filled with cells, up to a limit on the added ones.
 #[test]
 fn wide_tables() {
     let table = |columns, rows| {
@@ -168,7 +168,7 @@ fn depth() {
     assert_eq!(made, Err(Error::OutputTooLong { limit }));
 }
 
-/// A mark in which so many quotes, lists and items are open is text.
+/// A mark is text if too many quotes, lists and items are open.
 #[test]
 fn nests() {
     let deep = html(&("> ".repeat(40_000) + "a"));
