@@ -3,8 +3,8 @@
  * makes.
  *
  * Reads frames from standard input, each a line with a length in decimal and then that many bytes
- * of Markdown. Writes a frame for each, `STATUS LENGTH`, a newline, and the text, with the functions
- * of bivdrazo-render-cmark.
+ * of Markdown. Writes a frame for each, `STATUS LENGTH`, a newline, and the text, with the
+ * functions of bivdrazo-render-cmark.
  *
  *     batch              only the documents
  *     batch SEED TIMES   then, for each document, TIMES lists made from its events by random

@@ -1,10 +1,10 @@
 /*
  * Calls bivdrazo_run() with event scripts, and bivdrazo_compile() and bivdrazo_compile_within()
- * with their events, for libFuzzer. The first byte of an input is the size of the first buffer, the
- * rest is the script. The arguments and the buffer end at a page that can't be read or written. A call
- * without a text must leave the buffer unchanged, and one with a text the bytes after it. If the
- * script sets no option, all calls must return the same, and the text must be in the HTML grammar.
- * With a limit of one byte less it must be too long.
+ * with their events, for libFuzzer. The first byte of an input is the size of the first buffer,
+ * the rest is the script. The arguments and the buffer end at a page that can't be read or
+ * written. A call without a text must leave the buffer unchanged, and one with a text the bytes
+ * after it. If the script sets no option, all calls must return the same, and the text must be in
+ * the HTML grammar. With a limit of one byte less it must be too long.
  */
 #include "bivdrazo.h"
 #include "guard.h"
