@@ -1,6 +1,5 @@
 /*
- * Renders documents by cmark-gfm with its tag filter, as GitHub's pages are made before
- * they are cleaned:
+ * Renders documents with cmark-gfm and its tag filter, as GitHub does before it sanitizes them:
  *
  *     beside < DOCUMENTS > HTML
  *

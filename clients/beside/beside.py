@@ -1,9 +1,9 @@
-"""Renders documents by one way in Python:
+"""Renders documents with one way in Python:
 
     beside.py WAY < DOCUMENTS > HTML
 
 DOCUMENTS are frames: a count of bytes in decimal digits, a line feed, the document. The ways are
-those of WAYS. What bleach cleans may hold all elements that the renderers make.
+those of WAYS. bleach permits all elements that the renderers make.
 """
 
 import sys
@@ -36,7 +36,7 @@ def markdown_it():
 
 
 def mistune():
-    """mistune, with HTML as it stands and the extensions of GFM."""
+    """mistune, with HTML unchanged and the extensions of GFM."""
     import mistune as module
 
     plugins = ["strikethrough", "footnotes", "table", "url", "task_lists"]
@@ -44,7 +44,7 @@ def mistune():
 
 
 def cmarkgfm():
-    """cmarkgfm, cmark-gfm for Python, with HTML as it stands but for its tag filter."""
+    """cmarkgfm, cmark-gfm for Python, with HTML unchanged, except by its tag filter."""
     import cmarkgfm as module
     from cmarkgfm.cmark import Options
 

@@ -3,10 +3,10 @@
 
     clients/beside/calls.py FOLDER ORIGINAL
 
-FOLDER has event scripts NAME.script. ORIGINAL is a program that answers
-`ORIGINAL --bench CALLS < SCRIPT` with `least_ns=` the least time of a call. clients/build has made
-the library. Prints a table in Markdown: the scripts that set no option one after another, as often
-as a row says, and of each call the least time.
+FOLDER has event scripts NAME.script. ORIGINAL is a program for which
+`ORIGINAL --bench CALLS < SCRIPT` prints `least_ns=` and the least time of a call. clients/build
+makes the library first. Prints a table in Markdown: the scripts that set no option, joined as often
+as a row says, with the least time of each call.
 """
 
 import ctypes
@@ -23,7 +23,7 @@ from bivdrazo.library import LIBRARY, COptions  # noqa: E402
 
 
 def moved(line, start):
-    """An event's line, so many bytes further on."""
+    """An event's line, with its index increased."""
     return re.sub(rb" (\d+)", lambda match: b" %d" % (int(match[1]) + start), line)
 
 
@@ -86,9 +86,9 @@ def print_calls(folder, original):
         own, text = call_time(lines, document, calls_)
         other, other_text = original_time(original, b"\n".join(lines) + b"\n--\n" + document,
                                           calls_)
-        told = "" if text == other_text else " the texts differ"
+        note = "" if text == other_text else " the texts differ"
         sizes = f"{times} | {len(lines):,} | {len(document):,}"
-        print(f"| {sizes} | {own / 1000:.0f} | {other / 1000:.0f} | {own / other:.2f} |{told}")
+        print(f"| {sizes} | {own / 1000:.0f} | {other / 1000:.0f} | {own / other:.2f} |{note}")
 
 
 if __name__ == "__main__":

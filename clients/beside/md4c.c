@@ -1,5 +1,5 @@
 /*
- * Renders documents by md4c with GitHub's extensions, HTML as it stands:
+ * Renders documents by md4c with GitHub's extensions, with HTML unchanged:
  *
  *     md4c < DOCUMENTS > HTML
  *

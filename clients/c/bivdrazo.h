@@ -1,12 +1,11 @@
 /*
- * Bivdrazo for C: the events of a Markdown parser in, HTML out.
+ * Bivdrazo for C: compiles the events of a Markdown parser to HTML.
  *
- * A parser says what it found in a document as a flat list of events: a paragraph begins at byte 0,
- * a text runs from there to byte 5, the paragraph ends. bivdrazo_compile() makes HTML of such a
- * list. Nothing is assumed of the events: whatever a parser hands in, right or wrong, is refused or
- * gives a text that, under the default options, has one reading as HTML, with the elements and
- * attributes of a short list, and with links and images of permitted protocols alone. That is
- * proved of the library.
+ * A parser reports a document as a flat list of events: a paragraph begins at byte 0, a text runs
+ * from there to byte 5, the paragraph ends. bivdrazo_compile() makes HTML from such a list. Nothing
+ * is assumed about the events: they are refused, or give a text that, under the default options,
+ * has one reading as HTML, with the elements and attributes of a short list, in which links and
+ * images have no protocol or a permitted one. This is proved.
  *
  *     static const uint8_t document[] = "Hi <b>";
  *     const bivdrazo_event events[] = {
@@ -22,22 +21,23 @@
  *         fwrite(text, 1, answer.length, stdout);          (prints <p>Hi &lt;b&gt;</p>)
  *     free(text);
  *
- * Link with libbivdrazo.a, as clients/build makes it. docs/use/CALLS.md tells more.
+ * Link with libbivdrazo.a, which clients/build makes. docs/use/CALLS.md says more.
  *
- * What a caller of bivdrazo_compile(), bivdrazo_compile_within(), bivdrazo_compile_attributed(),
- * bivdrazo_compile_unnested() and bivdrazo_run() must keep to, since nothing checks it:
- *  - No pointer is null, also where the length beside it is 0: then pass the address of any object
- *    that lives and is aligned for the type. Each points to as many readable elements as its length
- *    says; `buffer` to writable bytes. That holds of the pointers inside of options, names and
- *    attributes too, also of a text whose `is_set` is 0.
- *  - The buffer overlaps nothing else that is handed in, and nobody writes what is handed in
- *    during the call.
- *  - No length in bytes is past PTRDIFF_MAX.
+ * Nothing checks these requirements on the arguments of bivdrazo_compile(),
+ * bivdrazo_compile_within(), bivdrazo_compile_attributed(), bivdrazo_compile_unnested() and
+ * bivdrazo_run():
+ *  - No pointer is null, even if the length that belongs to it is 0: then pass the address of any
+ *    live object that is aligned for the type. Each pointer points to as many readable elements as
+ *    its length says; `buffer` points to writable bytes. The same holds for the pointers in
+ *    options, names and attributes, even in a text whose `is_set` is 0.
+ *  - The buffer doesn't overlap any other argument, and nobody writes to the arguments during the
+ *    call.
+ *  - No length in bytes exceeds PTRDIFF_MAX.
  *  - malloc, realloc and free are the C library's. No call is made from a signal handler.
- * The functions named .._alloc take null for events, bytes, names and a script where the length is
- * 0, for the options, the attributes and the limits, and check these lengths; pointers inside of
- * options, names and attributes they don't look at. A script sets its own options: its text is safe
- * only where it sets none that isn't.
+ * The functions named .._alloc accept null for events, bytes, names and a script with length 0, and
+ * for options, attributes and limits, and check these lengths; they don't check pointers in
+ * options, names and attributes. A script sets its own options: its text is safe only if these
+ * are.
  *
  * There is no state between calls: any number of threads may call at once, also over the same
  * events and bytes.
@@ -56,10 +56,10 @@ extern "C" {
 #endif
 
 /*
- * The HTML of a list of events over a document's bytes, written into the buffer. `names` are the
- * character references by name that a document may use; there may be none. The bytes need not be
- * UTF-8 but where events read them as text. Any status but BIVDRAZO_OK leaves the buffer as it was;
- * under BIVDRAZO_OK what lies after the text is as it was.
+ * Writes the HTML of a list of events over a document's bytes into the buffer. `names` are the
+ * named character references that a document may use; there may be none. The bytes must be UTF-8
+ * only where events refer to them as text. Any status but BIVDRAZO_OK leaves the buffer unchanged;
+ * BIVDRAZO_OK leaves the rest of the buffer, after the text, unchanged.
  */
 bivdrazo_answer bivdrazo_compile(const bivdrazo_event *events, size_t events_length,
                                  const uint8_t *bytes, size_t bytes_length,
@@ -67,13 +67,13 @@ bivdrazo_answer bivdrazo_compile(const bivdrazo_event *events, size_t events_len
                                  size_t names_length, uint8_t *buffer, size_t buffer_length);
 
 /*
- * As bivdrazo_compile(), within limits. What can't be read, an event, a name or an option, is
- * reported first. Then the status is BIVDRAZO_TOO_DEEP where the events nest deeper than
- * `limits->depth`, whether or not they are a document; else BIVDRAZO_TOO_MUCH where there is more
- * to read and to print than `limits->work`, likewise, or where they are one that uses more again;
- * else BIVDRAZO_TOO_LONG where they are one whose text has more than `limits->text`
- * bytes. Under BIVDRAZO_TOO_SHORT `length` isn't more than `limits->text`: a buffer of as many
- * bytes is never too short.
+ * As bivdrazo_compile(), within limits. An invalid event, name or option is reported first. Then
+ * the status is BIVDRAZO_TOO_DEEP if the events nest deeper than `limits->depth`, and otherwise
+ * BIVDRAZO_TOO_MUCH if there is more to read and to print than `limits->work`; both even if the
+ * events aren't a document. For a document it is also BIVDRAZO_TOO_MUCH if more than that is used
+ * again, and otherwise BIVDRAZO_TOO_LONG if the text exceeds `limits->text` bytes. With
+ * BIVDRAZO_TOO_SHORT `length` doesn't exceed `limits->text`: a buffer of that size is never too
+ * short.
  */
 bivdrazo_answer bivdrazo_compile_within(const bivdrazo_event *events, size_t events_length,
                                         const uint8_t *bytes, size_t bytes_length,
@@ -83,11 +83,11 @@ bivdrazo_answer bivdrazo_compile_within(const bivdrazo_event *events, size_t eve
                                         size_t buffer_length);
 
 /*
- * As bivdrazo_compile(), with attributes, under options that are safe: else the status is
- * BIVDRAZO_UNSAFE. Under BIVDRAZO_OK the text is the buffer's first `index` bytes, and those from
+ * As bivdrazo_compile(), with attributes, under safe options: otherwise the status is
+ * BIVDRAZO_UNSAFE. With BIVDRAZO_OK the text is the buffer's first `index` bytes. The bytes from
  * there up to `length` are the list of the headings that got an id, which bivdrazo_next_heading()
- * reads. Under BIVDRAZO_TOO_SHORT `length` is what both need, and `index` what the text has.
- * BIVDRAZO_NO_ATTRIBUTE tells an attribute that stands for none.
+ * reads. With BIVDRAZO_TOO_SHORT `length` is the size that both need, and `index` the length of the
+ * text. BIVDRAZO_NO_ATTRIBUTE reports an invalid attribute.
  */
 bivdrazo_answer bivdrazo_compile_attributed(const bivdrazo_event *events, size_t events_length,
                                             const uint8_t *bytes, size_t bytes_length,
@@ -97,8 +97,8 @@ bivdrazo_answer bivdrazo_compile_attributed(const bivdrazo_event *events, size_t
                                             size_t buffer_length);
 
 /*
- * As bivdrazo_compile(), under options that are safe, where no link stands in a link: the HTML
- * Standard's tree construction builds the tree that the text is read as. Else the status is
+ * As bivdrazo_compile(), under safe options and without a link in a link: then the HTML Standard's
+ * tree construction builds the tree of the text's reading. Otherwise the status is
  * BIVDRAZO_UNSAFE or BIVDRAZO_NESTED. Links are also automatic ones that are none by letters alone,
  * and calls of footnotes; a link in an image counts as none.
  */
@@ -109,26 +109,27 @@ bivdrazo_answer bivdrazo_compile_unnested(const bivdrazo_event *events, size_t e
                                           uint8_t *buffer, size_t buffer_length);
 
 /*
- * Whether a link stands in a link, of events that are a document's: BIVDRAZO_NESTED where one does,
- * BIVDRAZO_OK where none does, and BIVDRAZO_NO_EVENT or BIVDRAZO_MEMORY. Nothing is compiled. What
- * counts as a link is as of bivdrazo_compile_unnested(). `events` isn't null.
+ * Whether the events of a document have a link in a link: BIVDRAZO_NESTED if so, BIVDRAZO_OK if
+ * not; or BIVDRAZO_NO_EVENT or BIVDRAZO_MEMORY. Nothing is compiled. Links are those that
+ * bivdrazo_compile_unnested() counts. `events` isn't null.
  */
 bivdrazo_answer bivdrazo_has_nested_link(const bivdrazo_event *events, size_t events_length);
 
 /*
- * The HTML of an event script (lines of options and events, a line `--`, the document), likewise.
- * Its statuses are BIVDRAZO_OK, BIVDRAZO_TOO_SHORT, BIVDRAZO_REFUSED, BIVDRAZO_NO_LINE and
- * BIVDRAZO_MEMORY.
+ * Writes the HTML of an event script (lines of options and events, a line `--`, the document)
+ * likewise. Its statuses are BIVDRAZO_OK, BIVDRAZO_TOO_SHORT, BIVDRAZO_REFUSED, BIVDRAZO_NO_LINE
+ * and BIVDRAZO_MEMORY.
  */
 bivdrazo_answer bivdrazo_run(const uint8_t *script, size_t script_length, uint8_t *buffer,
                              size_t buffer_length);
 
-/* The number of the interface that the library was built with: it is to be BIVDRAZO_VERSION. */
+/* The number of the library's interface, which must be BIVDRAZO_VERSION. */
 uint32_t bivdrazo_version(void);
 
 /*
- * Reads the first heading of a list that ends at `end`, and moves `*at` past it; 0 where none is
- * left. The list is what bivdrazo_compile_attributed() wrote from the text's end up to `length`.
+ * Reads the first heading of a list that ends at `end`, and moves `*at` past it; returns 0 at the
+ * end of the list. bivdrazo_compile_attributed() writes the list from the text's end up to
+ * `length`.
  */
 static inline int bivdrazo_next_heading(const uint8_t **at, const uint8_t *end,
                                         bivdrazo_heading *heading) {
@@ -150,9 +151,9 @@ static inline int bivdrazo_next_heading(const uint8_t **at, const uint8_t *end,
 }
 
 /*
- * Reads the first id of the list of ids that ends at `end`, and moves `*at` past it; 0 where none
- * is left. That list is what bivdrazo_markdown_slugs_into() wrote after the headings. The id is
- * escaped, and no NUL ends it.
+ * Reads the first id of the list of ids that ends at `end`, and moves `*at` past it; returns 0 at
+ * the end of the list. bivdrazo_markdown_slugs_into() writes that list after the headings. The id
+ * is escaped, and has no NUL at its end.
  */
 static inline int bivdrazo_next_id(const uint8_t **at, const uint8_t *end, const char **id,
                                    size_t *id_length) {
@@ -168,7 +169,7 @@ static inline int bivdrazo_next_id(const uint8_t **at, const uint8_t *end, const
     return 1;
 }
 
-/* What a status means, in English. */
+/* The meaning of a status, in English. */
 static inline const char *bivdrazo_status_text(uint32_t status) {
     switch (status) {
     case BIVDRAZO_OK:
@@ -196,7 +197,7 @@ static inline const char *bivdrazo_status_text(uint32_t status) {
     case BIVDRAZO_TOO_MUCH:
         return "there is too much work";
     case BIVDRAZO_NESTED:
-        return "a link stands in a link";
+        return "a link is in a link";
     case BIVDRAZO_TOO_DEEP:
         return "the events nest too deep";
     default:

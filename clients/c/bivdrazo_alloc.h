@@ -1,4 +1,4 @@
-/* The calls with the text in memory of its own: bivdrazo.h includes this. */
+/* The calls that allocate the text: bivdrazo.h includes this. */
 #ifndef BIVDRAZO_ALLOC_H
 #define BIVDRAZO_ALLOC_H
 
@@ -10,20 +10,20 @@
 extern "C" {
 #endif
 
-/* An answer that says that there is no more memory. */
+/* The answer for a call that is out of memory. */
 static inline bivdrazo_answer bivdrazo_answer_memory(void) {
     bivdrazo_answer answer = {BIVDRAZO_MEMORY, 0, 0, 0};
     return answer;
 }
 
-/* Whether so many elements of that size are more than an object can have. */
+/* Whether this number of elements of that size exceeds the size of an object. */
 static inline int bivdrazo_is_too_long(size_t length, size_t size) {
     return length > (size_t)PTRDIFF_MAX / size;
 }
 
 /*
  * A first size for the text's buffer: most texts fit into two bytes for each byte of the document
- * and eight for each event. Where that is no size, the greatest one is told, which malloc refuses.
+ * and eight for each event. If that overflows, it is the greatest size, which malloc refuses.
  */
 static inline size_t bivdrazo_first_size(size_t events_length, size_t bytes_length) {
     if (events_length > (size_t)PTRDIFF_MAX / 32 || bytes_length > (size_t)PTRDIFF_MAX / 8)
@@ -31,9 +31,8 @@ static inline size_t bivdrazo_first_size(size_t events_length, size_t bytes_leng
     return 8 * events_length + 2 * bytes_length + 64;
 }
 
-/* Makes the buffer of a text as long as `answer` tells, and one byte more; where it is out of
-   memory the answer says so.
- */
+/* Makes the buffer of a text one byte longer than the length in `answer`, which becomes an error
+   if there is no memory. */
 static inline void bivdrazo_grow(bivdrazo_answer *answer, uint8_t **text) {
     uint8_t *grown =
         answer->length < (size_t)PTRDIFF_MAX ? (uint8_t *)realloc(*text, answer->length + 1) : NULL;
@@ -43,7 +42,7 @@ static inline void bivdrazo_grow(bivdrazo_answer *answer, uint8_t **text) {
         *text = grown;
 }
 
-/* Ends the text with a NUL, or frees it where there is none. */
+/* Ends the text with a NUL, or frees the buffer if the call failed. */
 static inline void bivdrazo_settle(const bivdrazo_answer *answer, uint8_t **text) {
     if (answer->status == BIVDRAZO_OK) {
         (*text)[answer->length] = 0;
@@ -54,10 +53,10 @@ static inline void bivdrazo_settle(const bivdrazo_answer *answer, uint8_t **text
 }
 
 /*
- * As bivdrazo_compile(), with the text in memory of its own: under BIVDRAZO_OK `*text` is the text,
- * `length` bytes and a NUL that isn't counted, for the caller to free(); else `*text` is null.
- * Where the first buffer is too short the events are compiled twice. A pointer may be null where
- * its length is 0; null options are the default ones.
+ * As bivdrazo_compile(), with an allocated text: with BIVDRAZO_OK `*text` is the text, `length`
+ * bytes and a NUL that isn't counted, for the caller to free(); otherwise `*text` is null. If the
+ * first buffer is too short, the events are compiled twice. A pointer may be null if its length is
+ * 0; null options are the default ones.
  */
 static inline bivdrazo_answer bivdrazo_compile_alloc(const bivdrazo_event *events,
                                                      size_t events_length, const uint8_t *bytes,
@@ -74,7 +73,7 @@ static inline bivdrazo_answer bivdrazo_compile_alloc(const bivdrazo_event *event
     if (bivdrazo_is_too_long(events_length, sizeof *events) ||
         bivdrazo_is_too_long(bytes_length, 1) || bivdrazo_is_too_long(names_length, sizeof *names))
         return bivdrazo_answer_memory();
-    for (int turn = 0; turn < 2 && answer.status == BIVDRAZO_TOO_SHORT; turn++) {
+    for (int tries = 0; tries < 2 && answer.status == BIVDRAZO_TOO_SHORT; tries++) {
         const size_t room = answer.length;
         bivdrazo_grow(&answer, text);
         if (answer.status == BIVDRAZO_TOO_SHORT)
@@ -88,8 +87,8 @@ static inline bivdrazo_answer bivdrazo_compile_alloc(const bivdrazo_event *event
 }
 
 /*
- * As bivdrazo_compile_within(), with the text in memory of its own, as bivdrazo_compile_alloc()
- * gives it. The buffer has no more than one byte more than the text may have. Null limits are none.
+ * As bivdrazo_compile_within(), with an allocated text as in bivdrazo_compile_alloc(). The buffer
+ * is at most one byte longer than the limit on the text. Null limits are no limits.
  */
 static inline bivdrazo_answer bivdrazo_compile_within_alloc(
     const bivdrazo_event *events, size_t events_length, const uint8_t *bytes, size_t bytes_length,
@@ -107,7 +106,7 @@ static inline bivdrazo_answer bivdrazo_compile_within_alloc(
         return bivdrazo_answer_memory();
     if (answer.length > within.text)
         answer.length = within.text;
-    for (int turn = 0; turn < 2 && answer.status == BIVDRAZO_TOO_SHORT; turn++) {
+    for (int tries = 0; tries < 2 && answer.status == BIVDRAZO_TOO_SHORT; tries++) {
         const size_t room = answer.length;
         bivdrazo_grow(&answer, text);
         if (answer.status == BIVDRAZO_TOO_SHORT)
@@ -122,9 +121,9 @@ static inline bivdrazo_answer bivdrazo_compile_within_alloc(
 }
 
 /*
- * As bivdrazo_compile_attributed(), with the text in memory of its own, as bivdrazo_compile_alloc()
- * gives it: after the text's `index` bytes stands a NUL, which begins the list or ends all. Null
- * attributes are none.
+ * As bivdrazo_compile_attributed(), with an allocated text as in bivdrazo_compile_alloc(): a NUL
+ * follows the text's `index` bytes, and begins the list or ends the buffer. Null attributes are
+ * no attributes.
  */
 static inline bivdrazo_answer bivdrazo_compile_attributed_alloc(
     const bivdrazo_event *events, size_t events_length, const uint8_t *bytes, size_t bytes_length,
@@ -140,7 +139,7 @@ static inline bivdrazo_answer bivdrazo_compile_attributed_alloc(
     if (bivdrazo_is_too_long(events_length, sizeof *events) ||
         bivdrazo_is_too_long(bytes_length, 1) || bivdrazo_is_too_long(names_length, sizeof *names))
         return bivdrazo_answer_memory();
-    for (int turn = 0; turn < 2 && answer.status == BIVDRAZO_TOO_SHORT; turn++) {
+    for (int tries = 0; tries < 2 && answer.status == BIVDRAZO_TOO_SHORT; tries++) {
         const size_t room = answer.length;
         bivdrazo_grow(&answer, text);
         if (answer.status == BIVDRAZO_TOO_SHORT)
@@ -154,8 +153,7 @@ static inline bivdrazo_answer bivdrazo_compile_attributed_alloc(
     return answer;
 }
 
-/* As bivdrazo_compile_unnested(), with the text in memory of its own, as bivdrazo_compile_alloc()
-   gives it. */
+/* As bivdrazo_compile_unnested(), with an allocated text as in bivdrazo_compile_alloc(). */
 static inline bivdrazo_answer bivdrazo_compile_unnested_alloc(
     const bivdrazo_event *events, size_t events_length, const uint8_t *bytes, size_t bytes_length,
     const bivdrazo_options *options, const bivdrazo_reference *names, size_t names_length,
@@ -169,7 +167,7 @@ static inline bivdrazo_answer bivdrazo_compile_unnested_alloc(
     if (bivdrazo_is_too_long(events_length, sizeof *events) ||
         bivdrazo_is_too_long(bytes_length, 1) || bivdrazo_is_too_long(names_length, sizeof *names))
         return bivdrazo_answer_memory();
-    for (int turn = 0; turn < 2 && answer.status == BIVDRAZO_TOO_SHORT; turn++) {
+    for (int tries = 0; tries < 2 && answer.status == BIVDRAZO_TOO_SHORT; tries++) {
         const size_t room = answer.length;
         bivdrazo_grow(&answer, text);
         if (answer.status == BIVDRAZO_TOO_SHORT)
@@ -183,14 +181,14 @@ static inline bivdrazo_answer bivdrazo_compile_unnested_alloc(
     return answer;
 }
 
-/* As bivdrazo_run(), with the text in memory of its own, as bivdrazo_compile_alloc() gives it. */
+/* As bivdrazo_run(), with an allocated text as in bivdrazo_compile_alloc(). */
 static inline bivdrazo_answer bivdrazo_run_alloc(const uint8_t *script, size_t script_length,
                                                  uint8_t **text) {
     bivdrazo_answer answer = {BIVDRAZO_TOO_SHORT, 0, 0, bivdrazo_first_size(0, script_length)};
     *text = NULL;
     if (bivdrazo_is_too_long(script_length, 1))
         return bivdrazo_answer_memory();
-    for (int turn = 0; turn < 2 && answer.status == BIVDRAZO_TOO_SHORT; turn++) {
+    for (int tries = 0; tries < 2 && answer.status == BIVDRAZO_TOO_SHORT; tries++) {
         const size_t room = answer.length;
         bivdrazo_grow(&answer, text);
         if (answer.status == BIVDRAZO_TOO_SHORT)

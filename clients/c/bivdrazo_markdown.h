@@ -1,5 +1,5 @@
 /*
- * Bivdrazo for C: Markdown in, safe HTML out.
+ * Bivdrazo for C: renders Markdown as safe HTML.
  *
  *     char *html;
  *     bivdrazo_answer answer = bivdrazo_markdown((const uint8_t *)"**a** <b>", 9, NULL, &html);
@@ -7,21 +7,21 @@
  *         fputs(html, stdout);          (prints <p><strong>a</strong> &lt;b&gt;</p>)
  *     bivdrazo_markdown_free(html);
  *
- * Link with libbivdrazo, which needs the C library alone. Markdown is CommonMark with tables,
- * strikethrough, tasks, footnotes and bare links, and math and front matter where they are asked
- * for. It is proved that the parser ends on each document and that the text is safe: it has one
- * reading as HTML, with links and images of permitted protocols alone, and the HTML Standard's tree
- * construction builds the tree of that reading, wherever flow content may be set. That the parser
- * finds what CommonMark says is tested.
+ * Link with libbivdrazo, which needs only the C library. Markdown is CommonMark with tables,
+ * strikethrough, tasks, footnotes and bare links, and optionally math and front matter. It is
+ * proved that the parser ends for every document and refuses none, and that the text is safe: it
+ * has one reading as HTML, in which links and images have no protocol or a permitted one, and the
+ * HTML Standard's tree construction builds the tree of that reading, wherever flow content is
+ * allowed. That the parser reads Markdown as CommonMark and GFM say is only tested.
  *
- * What a caller must keep to, since nothing checks it:
- *  - `text` points to `length` bytes. It may be null where `length` is 0, but for
+ * Nothing checks these requirements:
+ *  - `text` points to `length` bytes. It may be null if `length` is 0, except for
  *    bivdrazo_markdown_into() and bivdrazo_front_matter(), for which no pointer is null.
- *  - Begin with bivdrazo_markdown_options_default(), or hand in NULL. A text that is set points to
- *    as many bytes as its length says; the pointer of one that is unset isn't null either.
- *  - `html` and `headings` aren't null, and what is written there is given back once, by
+ *  - Begin with bivdrazo_markdown_options_default(), or pass NULL. A set text points to as many
+ *    bytes as its length says; the pointer of an unset text isn't null either.
+ *  - `html` and `headings` aren't null, and the texts that are stored there are freed once, by
  *    bivdrazo_markdown_free().
- *  - No length is past PTRDIFF_MAX, and nobody writes what is handed in during the call.
+ *  - No length exceeds PTRDIFF_MAX, and nobody writes to the arguments during the call.
  *
  * There is no state between calls: any number of threads may call at once.
  */
@@ -37,18 +37,19 @@
 extern "C" {
 #endif
 
-/* As max_work: a bound that goes by the length of the Markdown: 2^20, and 64 for each byte. */
+/* The default of max_work, which depends on the length of the Markdown: 2^20, and 64 for each
+   byte. */
 #define BIVDRAZO_MARKDOWN_WORK_BY_LENGTH (SIZE_MAX - 1)
 
 /*
- * The options. Whatever is chosen, the text is safe. Each text may be any UTF-8.
+ * The options. The text is safe under all of them. Each text may be any UTF-8.
  *
- * The ids of headings are distinct from one another, and from all others where no other begins with
- * heading_ids. Those of footnotes are `footnote-label`, and what footnote_prefix says and `fn`;
- * they are distinct from one another where number_ids is 1.
+ * The ids of headings are distinct from one another, and from all others if no other begins with
+ * heading_ids. The others are those of footnotes: `footnote-label`, and those that begin with
+ * footnote_prefix and `fn`; they are distinct from one another if number_ids is 1.
  *
- * Work is bounded by default; the lengths of the Markdown and of the text aren't. Whoever renders
- * what strangers write sets all three bounds.
+ * The work has a limit by default; the lengths of the Markdown and of the text have none. Set all
+ * three limits when you render untrusted documents.
  */
 typedef struct bivdrazo_markdown_options {
     uint32_t version;                  /* BIVDRAZO_MARKDOWN_VERSION */
@@ -56,50 +57,50 @@ typedef struct bivdrazo_markdown_options {
                                           ids are equal */
     uint8_t hard_breaks;               /* 1: a soft break is a <br /> */
     uint8_t bare_links;                /* 1, the default: bare URLs and addresses are links */
-    uint8_t html;                      /* what becomes of HTML in the document:
+    uint8_t html;                      /* how to treat HTML in the document:
                                           BIVDRAZO_MARKDOWN_HTML_TEXT, .. */
     uint8_t math;                      /* 1: `$a$`, and blocks between lines of `$$`, are math */
-    uint8_t front_matter;              /* 1: what stands between lines of `---` at the beginning
-                                          prints nothing; bivdrazo_front_matter() finds it */
+    uint8_t front_matter;              /* 1: text between lines of `---` at the beginning is left
+                                          out; bivdrazo_front_matter() finds it */
     uint8_t footnotes;                 /* 1, the default: footnotes are read */
     uint8_t tables;                    /* 1, the default: tables are read */
     uint8_t unused[4];                 /* 0 */
-    bivdrazo_text footnote_prefix;     /* what footnotes' ids begin with; unset: user-content- */
+    bivdrazo_text footnote_prefix;     /* the prefix of footnotes' ids; unset: user-content- */
     bivdrazo_text footnote_label;      /* the heading of the footnotes; unset: Footnotes */
-    bivdrazo_text footnote_back_label; /* aria-label of a way back; unset: Back to content */
-    bivdrazo_text base;                /* the URL against which those of links and images are
-                                          read; unset: none */
+    bivdrazo_text footnote_back_label; /* aria-label of the link back; unset: Back to content */
+    bivdrazo_text base;                /* the base URL of relative URLs in links and images;
+                                          unset: none */
     bivdrazo_text rel;                 /* the `rel` of each link whose URL isn't empty and
                                           doesn't begin with # */
-    bivdrazo_text heading_ids;         /* what the ids of headings begin with: their numbers follow;
+    bivdrazo_text heading_ids;         /* the prefix of the ids of headings; their numbers follow;
                                           unset: no ids */
-    size_t max_input;                  /* how many bytes the Markdown may have;
-                                          SIZE_MAX: any number */
-    size_t max_output;                 /* how many bytes the text may have; SIZE_MAX: any number */
-    size_t max_work;                   /* how much there may be to read and to print, as
-                                          bivdrazo_limits counts it; SIZE_MAX: any amount;
-                                          BIVDRAZO_MARKDOWN_WORK_BY_LENGTH, the default */
-    size_t max_depth;                  /* how many nodes may be open at once: a document in which
-                                          more would be is shown as it is written, as one
-                                          paragraph; 0, the default: as many as any document may */
+    size_t max_input;                  /* the limit on the Markdown's length in bytes; SIZE_MAX:
+                                          none */
+    size_t max_output;                 /* the limit on the text's length in bytes; SIZE_MAX: none */
+    size_t max_work;                   /* the limit on the work, as bivdrazo_limits counts it;
+                                          SIZE_MAX: none; the default is
+                                          BIVDRAZO_MARKDOWN_WORK_BY_LENGTH */
+    size_t max_depth;                  /* the limit on the number of open nodes: a document that
+                                          nests deeper is shown as it is written, as one
+                                          paragraph; 0, the default: none */
 } bivdrazo_markdown_options;
 
 BIVDRAZO_ASSERT(sizeof(bivdrazo_markdown_options) == 192, "the options' size");
-BIVDRAZO_ASSERT(offsetof(bivdrazo_markdown_options, html) == 7, "what becomes of HTML");
+BIVDRAZO_ASSERT(offsetof(bivdrazo_markdown_options, html) == 7, "how to treat HTML");
 BIVDRAZO_ASSERT(offsetof(bivdrazo_markdown_options, tables) == 11, "the last flag");
 BIVDRAZO_ASSERT(offsetof(bivdrazo_markdown_options, footnote_prefix) == 16, "the first text");
 BIVDRAZO_ASSERT(offsetof(bivdrazo_markdown_options, heading_ids) == 136, "the last text");
-BIVDRAZO_ASSERT(offsetof(bivdrazo_markdown_options, max_work) == 176, "the bound on work");
-BIVDRAZO_ASSERT(offsetof(bivdrazo_markdown_options, max_depth) == 184, "the last bound");
+BIVDRAZO_ASSERT(offsetof(bivdrazo_markdown_options, max_work) == 176, "the limit on work");
+BIVDRAZO_ASSERT(offsetof(bivdrazo_markdown_options, max_depth) == 184, "the last limit");
 
 /*
- * The HTML of a Markdown document, written into the buffer. Under BIVDRAZO_OK it is the buffer's
- * first `index` bytes, none of which is NUL, and those from there up to `length` are the list of
- * the headings that got an id, which bivdrazo_next_heading() reads. Under BIVDRAZO_TOO_SHORT
- * `length` is what both need, and `index` what the HTML has. Any status but BIVDRAZO_OK leaves the
- * buffer as it was; under BIVDRAZO_OK what lies after the list is as it was.
+ * Writes the HTML of a Markdown document into the buffer. With BIVDRAZO_OK it is the buffer's first
+ * `index` bytes, none of which is NUL. The bytes from there up to `length` are the list of the
+ * headings that got an id, which bivdrazo_next_heading() reads. With BIVDRAZO_TOO_SHORT `length` is
+ * the size that both need, and `index` the length of the HTML. Any status but BIVDRAZO_OK leaves
+ * the buffer unchanged; BIVDRAZO_OK leaves the rest of the buffer, after the list, unchanged.
  *
- * The other statuses, the first of them that is true in this order:
+ * The other statuses, of which the first applicable one in this order is returned:
  * BIVDRAZO_MARKDOWN_NO_VERSION, BIVDRAZO_NO_OPTION (`index` is BIVDRAZO_MARKDOWN_OPTION_..),
  * BIVDRAZO_MARKDOWN_INPUT_TOO_LONG, .._NOT_UTF8, .._TOO_MUCH_WORK, .._OUTPUT_TOO_LONG; and
  * BIVDRAZO_MEMORY.
@@ -109,25 +110,25 @@ bivdrazo_answer bivdrazo_markdown_into(const uint8_t *text, size_t text_length,
                                        size_t buffer_length);
 
 /*
- * As bivdrazo_markdown_into(), with an id on each heading that is made of the heading's text,
- * nearly as GitHub makes it: in lower case, a hyphen for each space, and without what is no letter,
- * mark, number, connector or hyphen. Where heading_ids is set, each begins with that text. Where an
- * id is there already, a hyphen and a number follow it, from 1 on: so no two ids are equal where no
- * two of the text without these are, as where number_ids is 1. After the list of headings the list
- * of their ids follows, which bivdrazo_next_id() reads.
+ * As bivdrazo_markdown_into(), and each heading has an id made from its text, nearly as GitHub
+ * makes it: in lower case, with a hyphen for each space, and only of letters, marks, numbers,
+ * connectors and hyphens. If heading_ids is set, each id begins with that text. An id that exists
+ * already gets a hyphen and a number, from 1: so no two ids are equal if no two of the text's other
+ * ids are, as with number_ids. The list of the headings' ids follows the list of headings;
+ * bivdrazo_next_id() reads it.
  */
 bivdrazo_answer bivdrazo_markdown_slugs_into(const uint8_t *text, size_t text_length,
                                              const bivdrazo_markdown_options *options,
                                              uint8_t *buffer, size_t buffer_length);
 
 /*
- * The front matter of a Markdown document: what stands between lines of `---` at its beginning,
- * without these. Under BIVDRAZO_OK it is `length` bytes from the byte `index` of the text on; where
- * there is none both are 0. The other status is BIVDRAZO_MARKDOWN_NOT_UTF8.
+ * Finds the front matter of a Markdown document: the text between lines of `---` at its beginning,
+ * without these lines. With BIVDRAZO_OK it is `length` bytes from the byte `index` of the text on;
+ * without front matter both are 0. The other status is BIVDRAZO_MARKDOWN_NOT_UTF8.
  */
 bivdrazo_answer bivdrazo_front_matter(const uint8_t *text, size_t text_length);
 
-/* The number of the interface that the library was built with: it is to be
+/* The number of the library's interface for Markdown, which must be
    BIVDRAZO_MARKDOWN_VERSION. */
 uint32_t bivdrazo_markdown_version(void);
 
@@ -162,15 +163,15 @@ static inline bivdrazo_markdown_options bivdrazo_markdown_options_default(void) 
     return options;
 }
 
-/* A first size for the buffer: most texts fit into as many bytes as the Markdown has, half as many
-   again and some. */
+/* A first size for the buffer: most texts fit into one and a half times the Markdown's length, and
+   some bytes. */
 static inline size_t bivdrazo_markdown_first_size(size_t length) {
     return length > (size_t)PTRDIFF_MAX / 2 ? (size_t)PTRDIFF_MAX : length + length / 2 + 256;
 }
 
-/* As bivdrazo_markdown_slugs_into() where `slugs` is 1, and else as bivdrazo_markdown_into(), with
-   the buffer in memory of its own: under BIVDRAZO_OK `*made` is what it wrote, and a NUL; else it
-   is null. */
+/* As bivdrazo_markdown_slugs_into() if `slugs` is 1, and otherwise as bivdrazo_markdown_into(),
+   with an allocated buffer: with BIVDRAZO_OK `*made` is the result, and a NUL; otherwise it is
+   null. */
 static inline bivdrazo_answer bivdrazo_markdown_alloc_by(int slugs, const uint8_t *text,
                                                          size_t length,
                                                          const bivdrazo_markdown_options *options,
@@ -178,7 +179,7 @@ static inline bivdrazo_answer bivdrazo_markdown_alloc_by(int slugs, const uint8_
     const bivdrazo_markdown_options defaults = bivdrazo_markdown_options_default();
     bivdrazo_answer answer = {BIVDRAZO_TOO_SHORT, 0, 0, bivdrazo_markdown_first_size(length)};
     *made = NULL;
-    for (int turn = 0; turn < 2 && answer.status == BIVDRAZO_TOO_SHORT; turn++) {
+    for (int tries = 0; tries < 2 && answer.status == BIVDRAZO_TOO_SHORT; tries++) {
         const size_t room = answer.length;
         bivdrazo_grow(&answer, made);
         if (answer.status == BIVDRAZO_TOO_SHORT)
@@ -190,7 +191,7 @@ static inline bivdrazo_answer bivdrazo_markdown_alloc_by(int slugs, const uint8_
     return answer;
 }
 
-/* As bivdrazo_markdown_into(), likewise. */
+/* The same as bivdrazo_markdown_into(). */
 static inline bivdrazo_answer bivdrazo_markdown_alloc(const uint8_t *text, size_t length,
                                                       const bivdrazo_markdown_options *options,
                                                       uint8_t **made) {
@@ -198,9 +199,9 @@ static inline bivdrazo_answer bivdrazo_markdown_alloc(const uint8_t *text, size_
 }
 
 /*
- * The HTML of a Markdown document. Under BIVDRAZO_OK `*html` is the text, `length` bytes of
- * which none is NUL, and a NUL that isn't counted; else `*html` is null. Null options are
- * the default ones. The statuses are those of bivdrazo_markdown_into() but BIVDRAZO_TOO_SHORT.
+ * Renders a Markdown document. With BIVDRAZO_OK `*html` is the HTML, `length` bytes of which none
+ * is NUL, and a NUL that isn't counted; otherwise `*html` is null. Null options are the default
+ * ones. The statuses are those of bivdrazo_markdown_into() without BIVDRAZO_TOO_SHORT.
  */
 static inline bivdrazo_answer bivdrazo_markdown(const uint8_t *text, size_t length,
                                                 const bivdrazo_markdown_options *options,
@@ -215,7 +216,7 @@ static inline bivdrazo_answer bivdrazo_markdown(const uint8_t *text, size_t leng
     return answer;
 }
 
-/* A list of headings as lines: null where it is out of memory. */
+/* A list of headings as lines; null if it runs out of memory. */
 static inline char *bivdrazo_markdown_lines(const uint8_t *list, size_t length) {
     char *lines = (char *)malloc(length + 1);
     if (lines == NULL)
@@ -228,7 +229,7 @@ static inline char *bivdrazo_markdown_lines(const uint8_t *list, size_t length) 
     return lines;
 }
 
-/* A text with its headings, by one call or the other. */
+/* A text with its headings, with ids from their texts if `slugs` is 1. */
 static inline bivdrazo_answer bivdrazo_markdown_texts(int slugs, const uint8_t *text, size_t length,
                                                       const bivdrazo_markdown_options *options,
                                                       char **html, char **headings) {
@@ -252,8 +253,8 @@ static inline bivdrazo_answer bivdrazo_markdown_texts(int slugs, const uint8_t *
 /*
  * As bivdrazo_markdown(), with the headings that got an id, for a table of contents. `*headings`
  * has a line for each: its level, a space, its number, a space, and its text, without tags and
- * escaped, in which a space stands for each line feed; each line ends with a line feed. It is to be
- * given back as `*html` is, and null where that is null.
+ * escaped, with a space for each line feed; each line ends with a line feed. Free it like `*html`;
+ * it is null if that is null.
  */
 static inline bivdrazo_answer bivdrazo_markdown_headings(const uint8_t *text, size_t length,
                                                          const bivdrazo_markdown_options *options,
@@ -262,9 +263,9 @@ static inline bivdrazo_answer bivdrazo_markdown_headings(const uint8_t *text, si
 }
 
 /*
- * The same with ids that are made of the headings' texts, as bivdrazo_markdown_slugs_into() has
- * them. After the lines of the headings `*headings` has a line for each of their ids, in the same
- * order: `#` and the id, escaped.
+ * The same with ids made from the headings' texts, as by bivdrazo_markdown_slugs_into(). After the
+ * lines of the headings `*headings` has a line for each of their ids, in the same order: `#` and
+ * the id, escaped.
  */
 static inline bivdrazo_answer bivdrazo_markdown_slugs(const uint8_t *text, size_t length,
                                                       const bivdrazo_markdown_options *options,
@@ -272,13 +273,13 @@ static inline bivdrazo_answer bivdrazo_markdown_slugs(const uint8_t *text, size_
     return bivdrazo_markdown_texts(1, text, length, options, html, headings);
 }
 
-/* Gives back a text that bivdrazo_markdown(), bivdrazo_markdown_headings() or
-   bivdrazo_markdown_slugs() made, or null. */
+/* Frees a text of bivdrazo_markdown(), bivdrazo_markdown_headings() or bivdrazo_markdown_slugs();
+   null is allowed. */
 static inline void bivdrazo_markdown_free(char *html) {
     free(html);
 }
 
-/* What a status means, in English. */
+/* The meaning of a status, in English. */
 static inline const char *bivdrazo_markdown_status_text(uint32_t status) {
     switch (status) {
     case BIVDRAZO_MARKDOWN_INPUT_TOO_LONG:

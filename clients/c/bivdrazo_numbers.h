@@ -7,57 +7,57 @@
 /* The number of this interface: it changes when a layout or a number changes. */
 #define BIVDRAZO_VERSION 3
 
-/* The version of the library and of what comes with it. */
+/* The version of the library and of its clients. */
 #define BIVDRAZO_VERSION_TEXT "2.0.0"
 
-/* What became of a call. */
+/* The status of a call. */
 enum {
-    /* The text stands in the buffer's first `length` bytes, with no NUL after it. */
+    /* The text is in the buffer's first `length` bytes, with no NUL after it. */
     BIVDRAZO_OK = 0,
-    /* The buffer is too short: `length` is what the text needs. */
+    /* The buffer is too short: the text needs `length` bytes. */
     BIVDRAZO_TOO_SHORT = 1,
     /* The events are refused, at the event `index` (the number of events where something is open
      * at the end), by `rule`. */
     BIVDRAZO_REFUSED = 2,
-    /* The event at `index` stands for none: its kind or its name has no such number. */
+    /* The event at `index` is invalid: its kind or its name has an unknown number. */
     BIVDRAZO_NO_EVENT = 3,
-    /* The character reference at `index` stands for none: its name or its text isn't UTF-8. */
+    /* The character reference at `index` is invalid: its name or its text isn't UTF-8. */
     BIVDRAZO_NO_NAME = 4,
-    /* The options stand for none: the one with the number `index` is no flag 0 or 1, no line
-     * ending, or a text that is set and isn't UTF-8. */
+    /* The option with the number `index` is invalid: a flag that isn't 0 or 1, an unknown line
+     * ending, or a set text that isn't UTF-8. */
     BIVDRAZO_NO_OPTION = 5,
     /* Scripts only: the line with the number `index`, from 1, can't be read. */
     BIVDRAZO_NO_LINE = 6,
-    /* There is no more memory. */
+    /* The library is out of memory. */
     BIVDRAZO_MEMORY = 7,
-    /* Attributes are asked for, and the options aren't safe. */
+    /* The call requires safe options, and these aren't safe. */
     BIVDRAZO_UNSAFE = 8,
-    /* The attributes stand for none: the one with the number `index` is neither set nor unset,
-     * or isn't UTF-8. */
+    /* The attribute with the number `index` is invalid: it is neither set nor unset, or isn't
+     * UTF-8. */
     BIVDRAZO_NO_ATTRIBUTE = 9,
-    /* The text has more bytes than it may have. */
+    /* The text exceeds the limit on its length. */
     BIVDRAZO_TOO_LONG = 10,
-    /* There is more to read and to print than there may be. */
+    /* The events exceed the limit on the work. */
     BIVDRAZO_TOO_MUCH = 11,
-    /* A link stands in a link. */
+    /* A link is in a link. */
     BIVDRAZO_NESTED = 12,
-    /* The events nest deeper than they may. */
+    /* The events exceed the limit on the nesting. */
     BIVDRAZO_TOO_DEEP = 13,
 };
 
 /* Why events are refused. */
 enum {
-    /* No tree's events begin so, or a node or a group is open at the end. */
+    /* No tree has events that begin so, or a node or a group is open at the end. */
     BIVDRAZO_RULE_ORDER = 1,
     /* A name of MDX. */
     BIVDRAZO_RULE_MDX = 2,
     /* A place that is read doesn't fit the bytes, or isn't UTF-8. */
     BIVDRAZO_RULE_PLACE = 3,
-    /* The text of a line ending is none. */
+    /* The text of a line ending isn't one. */
     BIVDRAZO_RULE_LINE_ENDING = 4,
-    /* The first mark of a heading has not a length of 1 to 6. */
+    /* The first mark of a heading doesn't have a length of 1 to 6. */
     BIVDRAZO_RULE_HEADING_MARK = 5,
-    /* The value of an ordered list's first item is no number under 2^32. */
+    /* The value of an ordered list's first item isn't a number under 2^32. */
     BIVDRAZO_RULE_LIST_NUMBER = 6,
     /* A character reference doesn't decode. */
     BIVDRAZO_RULE_CHARACTER_REFERENCE = 7,
@@ -65,7 +65,7 @@ enum {
     BIVDRAZO_RULE_DEFINITION = 8,
     /* A footnote call has an identifier that no footnote definition has. */
     BIVDRAZO_RULE_FOOTNOTE = 9,
-    /* A link or an image leads nowhere. */
+    /* A link or an image has no target. */
     BIVDRAZO_RULE_TARGET = 10,
 };
 
@@ -87,7 +87,7 @@ enum {
     BIVDRAZO_CARRIAGE_RETURN_LINE_FEED = 2,
 };
 
-/* The number of an option, as `index` tells it where options stand for none. */
+/* The numbers of options: `index`, if an option is invalid. */
 enum {
     /* Let images have any source. */
     BIVDRAZO_OPTION_ALLOW_ANY_IMG_SRC = 0,
@@ -99,11 +99,11 @@ enum {
     BIVDRAZO_OPTION_GFM_TASK_LIST_ITEM_CHECKABLE = 3,
     /* Disarm some tags of HTML that is left as it is. */
     BIVDRAZO_OPTION_GFM_TAGFILTER = 4,
-    /* How lines end where the document has no line ending. */
+    /* The line ending if the document has none. */
     BIVDRAZO_OPTION_DEFAULT_LINE_ENDING = 5,
-    /* The aria-label of a way back; unset: `Back to content`. */
+    /* The aria-label of the link back; unset: `Back to content`. */
     BIVDRAZO_OPTION_GFM_FOOTNOTE_BACK_LABEL = 6,
-    /* What footnotes' ids begin with; unset: `user-content-`. */
+    /* The prefix of footnotes' ids; unset: `user-content-`. */
     BIVDRAZO_OPTION_GFM_FOOTNOTE_CLOBBER_PREFIX = 7,
     /* The heading of the footnotes; unset: `Footnotes`. */
     BIVDRAZO_OPTION_GFM_FOOTNOTE_LABEL = 8,
@@ -111,19 +111,19 @@ enum {
     BIVDRAZO_OPTION_GFM_FOOTNOTE_LABEL_ATTRIBUTES = 9,
     /* That heading's tag name; unset: `h2`. */
     BIVDRAZO_OPTION_GFM_FOOTNOTE_LABEL_TAG_NAME = 10,
-    /* Make footnotes' ids of their numbers. */
+    /* Use numbers in footnotes' ids. */
     BIVDRAZO_OPTION_GFM_FOOTNOTE_NUMBER_IDS = 11,
 };
 
-/* The number of an attribute, as `index` tells it where attributes stand for none. */
+/* The numbers of attributes: `index`, if an attribute is invalid. */
 enum {
-    /* The `rel` of each link that leads away and has none. */
+    /* The `rel` of each link without one whose URL isn't empty and doesn't begin with `#`. */
     BIVDRAZO_ATTRIBUTE_REL = 0,
-    /* What the `id` of each heading without one begins with; its number follows. */
+    /* The prefix of the `id` of each heading without one; its number follows. */
     BIVDRAZO_ATTRIBUTE_HEADING_IDS = 1,
 };
 
-/* What an event enters or exits. */
+/* The node that an event enters or exits. */
 enum {
     /* Links that are written out as such: `<a@b.c>`, `<https://a.b>`, and the literal ones of
      * GFM. */
@@ -239,7 +239,7 @@ enum {
     BIVDRAZO_NAME_LABEL = 51,
     /* The same without its brackets. */
     BIVDRAZO_NAME_LABEL_TEXT = 52,
-    /* What a link or an image leads to, where it stands there itself. */
+    /* The destination and title of a link or an image, after its label. */
     BIVDRAZO_NAME_RESOURCE = 53,
     /* The URL of a resource. */
     BIVDRAZO_NAME_RESOURCE_DESTINATION_STRING = 54,
@@ -319,17 +319,17 @@ enum {
 static inline const char *bivdrazo_rule_text(uint32_t rule) {
     switch (rule) {
     case BIVDRAZO_RULE_ORDER:
-        return "no tree's events begin so, or a node or a group is open at the end";
+        return "no tree has events that begin so, or a node or a group is open at the end";
     case BIVDRAZO_RULE_MDX:
         return "a name of MDX";
     case BIVDRAZO_RULE_PLACE:
         return "a place that is read doesn't fit the bytes, or isn't UTF-8";
     case BIVDRAZO_RULE_LINE_ENDING:
-        return "the text of a line ending is none";
+        return "the text of a line ending isn't one";
     case BIVDRAZO_RULE_HEADING_MARK:
-        return "the first mark of a heading has not a length of 1 to 6";
+        return "the first mark of a heading doesn't have a length of 1 to 6";
     case BIVDRAZO_RULE_LIST_NUMBER:
-        return "the value of an ordered list's first item is no number under 2^32";
+        return "the value of an ordered list's first item isn't a number under 2^32";
     case BIVDRAZO_RULE_CHARACTER_REFERENCE:
         return "a character reference doesn't decode";
     case BIVDRAZO_RULE_DEFINITION:
@@ -337,14 +337,14 @@ static inline const char *bivdrazo_rule_text(uint32_t rule) {
     case BIVDRAZO_RULE_FOOTNOTE:
         return "a footnote call has an identifier that no footnote definition has";
     case BIVDRAZO_RULE_TARGET:
-        return "a link or an image leads nowhere";
+        return "a link or an image has no target";
     default:
         return "an unknown rule";
     }
 }
 
-/* A name as an event script spells it. NULL for Other, after which its own number stands, and
- * for none's. */
+/* The name in an event script. NULL for Other, which its own number follows, and for an unknown
+ * name. */
 static inline const char *bivdrazo_name_text(uint16_t name) {
     switch (name) {
     case BIVDRAZO_NAME_AUTOLINK_EMAIL:

@@ -1,4 +1,4 @@
-/* What crosses between C and the library: bivdrazo.h includes this. */
+/* The types of the interface: bivdrazo.h includes this. */
 #ifndef BIVDRAZO_TYPES_H
 #define BIVDRAZO_TYPES_H
 
@@ -13,36 +13,36 @@
 #define BIVDRAZO_ASSERT(condition, text) _Static_assert(condition, text)
 #endif
 
-/* What a call answers. A field of which the status says nothing is 0. */
+/* The result of a call. A field that the status doesn't use is 0. */
 typedef struct bivdrazo_answer {
     uint32_t status; /* BIVDRAZO_OK, .. */
-    uint32_t rule;   /* BIVDRAZO_RULE_.., where the status is BIVDRAZO_REFUSED */
+    uint32_t rule;   /* BIVDRAZO_RULE_.., if the status is BIVDRAZO_REFUSED */
     size_t index;    /* of an event or of a name, the number of an option, or a script's line, as
                         the status says */
-    size_t length;   /* of the text in bytes, where the status is BIVDRAZO_OK or
+    size_t length;   /* of the text in bytes, if the status is BIVDRAZO_OK or
                         BIVDRAZO_TOO_SHORT */
 } bivdrazo_answer;
 
 /* An event: at the byte `index` of the document the node `name` begins or ends. */
 typedef struct bivdrazo_event {
-    size_t index;    /* how many of the document's bytes stand before it */
+    size_t index;    /* the number of the document's bytes before it */
     uint16_t name;   /* BIVDRAZO_NAME_.. */
-    uint16_t other;  /* read where the name is BIVDRAZO_NAME_OTHER alone */
+    uint16_t other;  /* read only if the name is BIVDRAZO_NAME_OTHER */
     uint8_t kind;    /* BIVDRAZO_ENTER or BIVDRAZO_EXIT */
-    uint8_t columns; /* how many columns of a tab at `index`, 0 to 4, are already taken; 0 where
-                        there is no tab */
+    uint8_t columns; /* how many columns of a tab at `index`, 0 to 4, are already used; 0 without a
+                        tab */
 } bivdrazo_event;    /* two bytes that are never read follow */
 
-/* A text that may be unset. `bytes` isn't null, also where it is unset or empty; a text that is
-   set is UTF-8. */
+/* A text that may be unset. `bytes` isn't null, even if the text is unset or empty; a set text is
+   UTF-8. */
 typedef struct bivdrazo_text {
     const uint8_t *bytes;
     size_t length;
     uint8_t is_set; /* 0: the bytes aren't read; 1: they are */
 } bivdrazo_text;    /* seven bytes that are never read follow */
 
-/* A named character reference: `name` stands between `&` and `;`, `text` is what it stands for.
-   Both are UTF-8. */
+/* A named character reference: `name` is written between `&` and `;`, `text` is its meaning. Both
+   are UTF-8. */
 typedef struct bivdrazo_reference {
     const uint8_t *name;
     size_t name_length;
@@ -53,9 +53,9 @@ typedef struct bivdrazo_reference {
 /*
  * The options. Begin with bivdrazo_options_default(): a struct of zeros has null pointers.
  *
- * The text is safe where allow_any_img_src, allow_dangerous_html and allow_dangerous_protocol are
- * 0, and gfm_footnote_label_attributes and gfm_footnote_label_tag_name are unset, as in the
- * default; the others are free.
+ * The text is safe if allow_any_img_src, allow_dangerous_html and allow_dangerous_protocol are 0,
+ * and gfm_footnote_label_attributes and gfm_footnote_label_tag_name are unset, as in the default;
+ * the other options may have any value.
  */
 typedef struct bivdrazo_options {
     uint8_t allow_any_img_src;            /* 1: images may have any source */
@@ -64,13 +64,13 @@ typedef struct bivdrazo_options {
     uint8_t gfm_task_list_item_checkable; /* 1: tasks are printed without `disabled` */
     uint8_t gfm_tagfilter;                /* 1: some tags of HTML that is left as it
                                              is are disarmed */
-    uint8_t default_line_ending; /* how lines end where the document has no line ending:
+    uint8_t default_line_ending; /* the line ending if the document has none:
                                     BIVDRAZO_LINE_FEED, .. */
     uint8_t gfm_footnote_number_ids; /* 1: footnotes' ids have their numbers in place of their
                                         identifiers, and each call's ends in which one it is */
-    bivdrazo_text gfm_footnote_back_label;       /* aria-label of a way back; unset:
+    bivdrazo_text gfm_footnote_back_label;       /* aria-label of the link back; unset:
                                                     Back to content */
-    bivdrazo_text gfm_footnote_clobber_prefix;   /* what footnotes' ids begin with; unset:
+    bivdrazo_text gfm_footnote_clobber_prefix;   /* the prefix of footnotes' ids; unset:
                                                     user-content- */
     bivdrazo_text gfm_footnote_label;            /* the heading of the footnotes;
                                                     unset: Footnotes */
@@ -80,46 +80,49 @@ typedef struct bivdrazo_options {
 } bivdrazo_options;
 
 /*
- * What is added to the tags of a text; what is unset isn't. Begin with bivdrazo_attributes_none().
- * Each text may be any UTF-8: it is escaped.
+ * Attributes that are added to the tags of a text, unless they are unset. Begin with
+ * bivdrazo_attributes_none(). Each text may be any UTF-8: it is escaped.
  *
- * The ids of headings are distinct from one another, and from all others where no other begins with
- * this text: those of footnotes are `footnote-label`, and what gfm_footnote_clobber_prefix says and
- * `fn`; they are distinct from one another where gfm_footnote_number_ids is 1.
+ * The ids of headings are distinct from one another, and from all others if no other begins with
+ * this text. The others are those of footnotes: `footnote-label`, and those that begin with
+ * gfm_footnote_clobber_prefix and `fn`; they are distinct from one another if
+ * gfm_footnote_number_ids is 1.
  */
 typedef struct bivdrazo_attributes {
     bivdrazo_text rel;         /* the `rel` of each link whose URL isn't empty and
                                   doesn't begin with # */
-    bivdrazo_text heading_ids; /* what the `id` of each heading without one begins with: its number,
-                                  from 1, follows */
+    bivdrazo_text heading_ids; /* the prefix of the `id` of each heading without one; its
+                                  number, from 1, follows */
 } bivdrazo_attributes;
 
 /*
- * How long a text may be, how much work it may take, and how deep its events may nest; SIZE_MAX is
- * no limit, and of `depth` 0 is none either. What a call costs goes by the first two, the number of
- * events, the document's length and that of options' texts and of names, though nothing proves it.
+ * Limits on the length of a text, on the work for it, and on the nesting of its events; SIZE_MAX is
+ * no limit, and for `depth` 0 is none either. The cost of a call depends on the first two, the
+ * number of events, and the lengths of the document, of options' texts and of names; that isn't
+ * proved.
  *
- * `work` limits two sums, each by itself. What there is to read and to print is counted from the
- * events alone, before anything of the document is read: the lengths of texts and labels, by the
- * places of the events (of a parser's events the document's length at most, and that of its labels
- * once more), and for each row of a table's body five for each of its columns. What is used again
- * is counted before anything is printed: for each link and image that leads to a definition what is
- * read in that one, and one for each of its events; for each footnote call five times its length,
- * four times that of the prefix of ids, and that of the label of the way back.
+ * `work` limits two sums, each by itself. The first is how much there is to read and to print,
+ * which is counted from the events alone, before the document is read: the lengths of texts and
+ * labels, by the places of the events (with a parser's events at most the document's length, and
+ * that of its labels once more), and for each row of a table's body five for each of its columns.
+ * The second is how much is used again, which is counted before anything is printed: for each link
+ * and image that refers to a definition, the length of what is read in the definition, and one for
+ * each of its events; for each footnote call, five times its length, four times that of the prefix
+ * of ids, and that of the label of the link back.
  *
- * `depth` limits how many nodes are open at once; it is looked at first.
+ * `depth` limits the number of open nodes; it is checked first.
  */
 typedef struct bivdrazo_limits {
-    size_t text;  /* how many bytes the text may have */
-    size_t work;  /* how much there may be to read and to print, and to use again */
-    size_t depth; /* how many nodes may be open at once; 0: any number */
+    size_t text;  /* the limit on the text's length in bytes */
+    size_t work;  /* the limit on what is read and printed, and on what is used again */
+    size_t depth; /* the limit on the number of open nodes; 0: none */
 } bivdrazo_limits;
 
-/* A heading that got an id. Its text has no tags and is escaped: it may be set into
-   HTML as it is. */
+/* A heading that got an id. Its text has no tags and is escaped: it can be inserted into HTML as it
+   is. */
 typedef struct bivdrazo_heading {
-    size_t number;      /* from 1: its id is what was asked for, and this number */
-    const char *text;   /* where it stands in what was read */
+    size_t number;      /* from 1: its id is the prefix and this number */
+    const char *text;   /* in the list that was read */
     size_t text_length;
     uint8_t level; /* from 1 to 6 */
 } bivdrazo_heading;
@@ -148,13 +151,13 @@ BIVDRAZO_ASSERT(offsetof(bivdrazo_options, gfm_footnote_label_tag_name) == 104, 
 BIVDRAZO_ASSERT(offsetof(bivdrazo_attributes, heading_ids) == 24, "the last attribute");
 BIVDRAZO_ASSERT(offsetof(bivdrazo_limits, depth) == 16, "the last limit");
 
-/* A text that is set: `bytes` isn't null. */
+/* A set text: `bytes` isn't null. */
 static inline bivdrazo_text bivdrazo_text_of(const uint8_t *bytes, size_t length) {
     bivdrazo_text text = {bytes, length, 1};
     return text;
 }
 
-/* A text that is unset. */
+/* An unset text. */
 static inline bivdrazo_text bivdrazo_text_unset(void) {
     bivdrazo_text text = {(const uint8_t *)"", 0, 0};
     return text;

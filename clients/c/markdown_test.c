@@ -110,7 +110,7 @@ static void test_readings(void) {
     check(renders(note, &options, "<p>a<a href=\"c\">^b</a></p>\n"), "no footnotes");
 }
 
-/* Where front matter stands. */
+/* The place of front matter. */
 static void test_front_matter(void) {
     const struct {
         const char *text;
@@ -253,9 +253,9 @@ static void test_bounds(void) {
 /* Bounds on work: one that is given, none, and the default one. */
 static void test_work(void) {
     bivdrazo_markdown_options options = bivdrazo_markdown_options_default();
-    check(options.max_work == BIVDRAZO_MARKDOWN_WORK_BY_LENGTH, "the default bound on work");
+    check(options.max_work == BIVDRAZO_MARKDOWN_WORK_BY_LENGTH, "the default limit on work");
     options.max_work = 4;
-    check(renders("abc", &options, "<p>abc</p>\n"), "work within its bound");
+    check(renders("abc", &options, "<p>abc</p>\n"), "work within its limit");
     for (size_t work = 0; work < 4; work++) {
         options.max_work = work;
         check(fails("abc", 3, &options, BIVDRAZO_MARKDOWN_TOO_MUCH_WORK, 0), "too much work");
@@ -266,7 +266,8 @@ static void test_work(void) {
     check(renders("abc", &options, "<p>abc</p>\n"), "any amount of work");
 }
 
-/* The default bound on work goes by the length: a long destination that is used often passes it. */
+/* The default limit on work depends on the length: a long destination that is used often exceeds
+   it. */
 static void test_default_work(void) {
     enum { LONG = 10000, USES = 1000, LENGTH = 5 + LONG + 2 + 4 * USES };
     static char text[LENGTH + 1] = "[a]: ";
@@ -304,13 +305,13 @@ static void test_depth(void) {
         check(renders(quotes, &options, shown), "deeper nesting");
     }
     options.max_output = sizeof shown - 1;
-    check(renders(quotes, &options, shown), "deeper nesting, in a bound on the text");
+    check(renders(quotes, &options, shown), "deeper nesting, within a limit on the text");
     options.max_output--;
     check(fails(quotes, sizeof quotes - 1, &options, BIVDRAZO_MARKDOWN_OUTPUT_TOO_LONG, 0),
           "deeper nesting, with a text that is too long");
 }
 
-/* Each flag is 0 or 1, and told under its own number. */
+/* Each flag is 0 or 1; another value is reported with the flag's number. */
 static void test_flags(void) {
     const struct {
         size_t offset, number;

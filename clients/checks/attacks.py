@@ -1,4 +1,4 @@
-"""What renderers leave unsafe, told by html5lib in a page around the text."""
+"""Finds unsafe HTML in a text, by html5lib in a page around the text."""
 
 import html5lib
 
@@ -8,7 +8,7 @@ HARMFUL = {"script", "iframe", "object", "embed", "style", "form", "svg", "math"
 SCHEMES = ("javascript:", "vbscript:", "data:")
 LINKS = ("href", "src", "action", "formaction", "data")
 
-# What it is, and the Markdown.
+# The name of each attack, and its Markdown.
 ATTACKS = (
     ("a script", "<script>alert(1)</script>"),
     ("a script in an attribute", '<img src="a" onerror="alert(1)">'),
@@ -71,9 +71,7 @@ MORE = (
 
 
 def is_unsafe(text):
-    """Whether a text holds what runs scripts, loads or hides, or isn't what stands
-    where it was put.
-    """
+    """Whether a text runs scripts, loads or hides something, or changes the page around it."""
     page = html5lib.parse(f'<!doctype html><body><div id="around">{text}</div><p id="after">a</p>')
     body = page.find(f"{XHTML}body")
     outside = [(child.tag, child.get("id")) for child in body]

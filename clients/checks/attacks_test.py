@@ -2,9 +2,9 @@
 
     attacks_test.py OUT
 
-OUT is the folder where clients/build put what it made, with bivdrazo-checks in target/release and
+OUT is the folder that clients/build wrote, with bivdrazo-checks in target/release and
 markdown_file. All ways with the library's parser must make the same text, and no text may hold what
-isn't permitted. Wants html5lib.
+isn't permitted. Requires html5lib.
 """
 
 import pathlib
@@ -26,7 +26,7 @@ def rendered(command, path):
 
 
 def main():
-    """Tries all attacks; the status to end with."""
+    """Tries all attacks; returns the exit status."""
     out = pathlib.Path(sys.argv[1])
     own = ways(out)
     cmark = out / "bivdrazo-render-cmark"
@@ -38,12 +38,12 @@ def main():
         for attack in attacks:
             path.write_bytes(attack.encode("utf-8"))
             texts = {name: rendered(command, path) for name, command in (own | others).items()}
-            told = [f"{name}: {fault}" for name, text in texts.items() for fault in faults(text)]
-            told += [f"{name}: unsafe" for name, text in texts.items()
+            found = [f"{name}: {fault}" for name, text in texts.items() for fault in faults(text)]
+            found += [f"{name}: unsafe" for name, text in texts.items()
                      if is_unsafe(text.decode("utf-8"))]
             if len({texts[name] for name in own}) != 1:
-                told.append("the texts differ")
-            for fault in told:
+                found.append("the texts differ")
+            for fault in found:
                 wrong += 1
                 print(f"{attack!r}: {fault}")
     print(f"attacks: {len(attacks)} by {len(own | others)} ways, {wrong} faults")

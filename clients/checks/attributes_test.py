@@ -5,7 +5,7 @@
 Goes over the examples of the GFM specification, where they are there, documents of our own, attacks
 and mutated documents. Beside a text without attributes the one with them must have the same
 elements and texts, and exactly these attributes more; its ids must be distinct, and the headings
-those that are handed out. Where the bytes of the id of the footnotes' heading are taken out of the
+those that are returned. Where the bytes of the id of the footnotes' heading are taken out of the
 text, that id is gone, and nothing else. Then a hundred thousand links, and as many headings. Wants
 html5lib, and the module for Python.
 """
@@ -62,8 +62,8 @@ def fault_of(before, after, rel, number):
             else f"{after.tag}: {dict(after.attrib)}, not {wanted}")
 
 
-def told(heading):
-    """A heading as it is handed out: its level, and its text."""
+def listing(heading):
+    """A heading as it is returned: its level, and its text."""
     return int(heading.tag[1]), " ".join("".join(heading.itertext()).split("\n"))
 
 
@@ -81,10 +81,10 @@ def faults(markdown, rel):
             numbered.append(after)
     ids = [element.attrib["id"] for element in made if "id" in element.attrib]
     if len(set(ids)) != len(ids):
-        found.append("an id stands twice")
+        found.append("an id is there twice")
     listed = [(heading.level, html.unescape(heading.text)) for heading in headings]
-    if listed != [told(heading) for heading in numbered]:
-        found.append(f"the headings are told as {listed}")
+    if listed != [listing(heading) for heading in numbered]:
+        found.append(f"the headings are listed as {listed}")
     if [heading.number for heading in headings] != list(range(1, len(headings) + 1)):
         found.append("the headings have other numbers")
     if not is_without_label(made, elements(text.replace(LABEL, ""))):
@@ -125,7 +125,7 @@ def many_faults():
 
 
 def main():
-    """Tries all documents; the status to end with."""
+    """Tries all documents; returns the exit status."""
     given = documents()
     found = [(text, fault) for at, text in enumerate(given)
              for fault in faults(text, RELS[at % len(RELS)])]

@@ -1,16 +1,16 @@
 /*
- * Renders many documents in one process, and feeds the library with event lists that
- * no parser makes.
+ * Renders many documents in one process, and tests the library with event lists that no parser
+ * makes.
  *
- * Reads frames from standard input, each a line with a length in decimal and then so many bytes of
- * Markdown. Answers each by a frame `STATUS LENGTH`, a newline, and the text, with
- * bivdrazo-render-cmark's own functions.
+ * Reads frames from standard input, each a line with a length in decimal and then that many bytes
+ * of Markdown. Writes a frame for each, `STATUS LENGTH`, a newline, and the text, with the
+ * functions of bivdrazo-render-cmark.
  *
- *     batch              the documents alone
- *     batch SEED TIMES   then, for each document, so many lists that come of its events by random
+ *     batch              only the documents
+ *     batch SEED TIMES   then, for each document, TIMES lists made from its events by random
  *                        changes, under random options that are safe: a frame for each
  *
- * Ends with status 1 where an answer isn't what bivdrazo.h says.
+ * Ends with status 1 if an answer contradicts bivdrazo.h.
  */
 #include "markdown.h"
 
@@ -38,7 +38,7 @@ static void stop(const char *why) {
     exit(1);
 }
 
-/* Memory for so many bytes, one at least. */
+/* Memory for this number of bytes, at least one. */
 static void *memory(size_t length) {
     void *made = malloc(length + 1);
     if (made == NULL)
@@ -96,7 +96,7 @@ static bivdrazo_text random_text(const struct document *document, uint64_t *stat
     return text;
 }
 
-/* Options that are safe, some of which now and then stand for none. */
+/* Safe options, of which some are invalid now and then. */
 static bivdrazo_options random_options(const struct document *document, uint64_t *state) {
     bivdrazo_options options = bivdrazo_options_default();
     options.gfm_task_list_item_checkable = (uint8_t)next_under(state, 2);

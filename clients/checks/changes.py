@@ -1,4 +1,4 @@
-"""The changes of a tree and of a text that are permitted, but for footnotes."""
+"""The permitted changes of a tree and of a text, except those of footnotes."""
 
 import codecs
 import re
@@ -68,7 +68,7 @@ def with_tasks(text):
 
 
 def one_for_each_byte(error):
-    """What stands for bytes that aren't UTF-8: U+FFFD for each."""
+    """The replacement for bytes that aren't UTF-8: U+FFFD for each."""
     return "\ufffd" * (error.end - error.start), error.end
 
 

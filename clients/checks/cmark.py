@@ -12,7 +12,7 @@ HTML_BLOCK, CUSTOM_BLOCK, FOOTNOTE_DEFINITION = 0x8006, 0x8007, 0x800B
 
 
 def load():
-    """cmark-gfm's library, with the types of the calls that are made."""
+    """cmark-gfm's library, with the types of its calls."""
     library = ctypes.CDLL("libcmark-gfm.so")
     extensions = ctypes.CDLL("libcmark-gfm-extensions.so")
     extensions.cmark_gfm_core_extensions_ensure_registered()

@@ -1,5 +1,5 @@
 #!/usr/bin/env python3
-"""Compares bivdrazo-render-cmark with cmark-gfm, and reads what it writes with an HTML5 parser.
+"""Compares bivdrazo-render-cmark with cmark-gfm, and reads its output with an HTML5 parser.
 
     compare.py OUT          OUT has the programs bivdrazo-render-cmark and batch
     compare.py OUT --write  writes the counts that were found into differences.txt
@@ -35,7 +35,7 @@ OK = 0
 
 
 def cmark_gfm(document):
-    """What the program cmark-gfm writes of a document."""
+    """The output of the program cmark-gfm for a document."""
     extensions = [argument for name in (*cmark.EXTENSIONS, b"footnotes")
                   for argument in ("-e", name.decode())]
     command = ["cmark-gfm", "--validate-utf8", *extensions]
@@ -43,12 +43,12 @@ def cmark_gfm(document):
 
 
 def rendered(program, document):
-    """What the program bivdrazo-render-cmark writes of a document."""
+    """The output of the program bivdrazo-render-cmark for a document."""
     return subprocess.run([program], input=document, capture_output=True, check=True).stdout
 
 
 def unlike(number, document, text, judged):
-    """Tells of a text that isn't the one that is wanted; how many there are: 0 or 1."""
+    """Prints a text that differs from the expected one; returns 1 then, otherwise 0."""
     if text == judged.wanted:
         return 0
     print(f"document {number}: {document!r}\n  wanted {judged.wanted!r}\n  is     {text!r}")
@@ -117,13 +117,13 @@ def compare_mutated(out, mutated):
 
 
 def left_out(what, packages):
-    """Tells what is left out, and has it counted."""
+    """Reports what is left out, and has it counted."""
     subprocess.run([pathlib.Path(__file__).resolve().parent.parent / "left_out", what, packages],
                    check=True)
 
 
 def check_reading(texts):
-    """How many of the texts hold what isn't permitted."""
+    """The number of texts with HTML that isn't permitted."""
     if importlib.util.find_spec("html5lib") is None:
         left_out("the reading by an HTML5 parser", "python3-html5lib")
         return 0
@@ -141,8 +141,8 @@ def check_reading(texts):
 
 
 def check_memory(out, mutated):
-    """Renders the documents under valgrind, each with a list of changed events; ends where
-    it finds an error.
+    """Renders the documents under valgrind, each with a list of changed events; exits if it finds
+    an error.
     """
     valgrind = ("valgrind -q --error-exitcode=9 --leak-check=full "
                 "--errors-for-leak-kinds=definite,indirect,possible")
@@ -164,7 +164,7 @@ def listed():
 
 
 def write_list(examples, mutated):
-    """Puts counts into the list."""
+    """Writes counts into the list."""
     comments = [line for line in LIST.read_text().splitlines() if line.startswith("#")]
     lines = [f"{name:<11} {examples[name]} {mutated[name]} {reason}"
              for name, (_, _, reason) in listed().items()]
@@ -172,7 +172,7 @@ def write_list(examples, mutated):
 
 
 def check_counts(examples, mutated):
-    """How many classes have other counts than the list says."""
+    """The number of classes whose counts differ from the list."""
     wrong = 0
     for name, (in_examples, in_mutated, reason) in listed().items():
         print(f"  {name:<11}{examples[name]:>5}{mutated[name]:>7}  {reason}")
@@ -183,7 +183,7 @@ def check_counts(examples, mutated):
 
 
 def main(arguments):
-    """Runs each part; the status to end with."""
+    """Runs each part; returns the exit status."""
     out = pathlib.Path(arguments[0])
     start = time.monotonic()
     mutated = documents.mutated(MUTATED, SEED)

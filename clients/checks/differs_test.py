@@ -3,9 +3,9 @@
 
     differs_test.py [--own]
 
-A case reads "`INPUT` gives `TEXT`, and GFM `TEXT`", or "as GFM", where it is the same; `\\n`, `\\r`
-and `\\x01` stand for control characters, and `..` for any text. With --own nothing is asked of cmark-gfm. Ends with status 1
-where a text is another one.
+A case reads "`INPUT` gives `TEXT`, and GFM `TEXT`", or "as GFM" if it is the same; `\\n`, `\\r` and
+`\\x01` are control characters, and `..` is any text. With --own cmark-gfm isn't run. Ends with
+status 1 if a text differs.
 """
 
 import functools
@@ -18,7 +18,7 @@ CLIENTS = pathlib.Path(__file__).resolve().parent.parent
 sys.path.insert(0, str(CLIENTS / "python"))
 sys.dont_write_bytecode = True
 
-from bivdrazo import markdown_to_html  # noqa: E402  (where the module is was just told)
+from bivdrazo import markdown_to_html  # noqa: E402  (after the path of the module is set)
 
 CASE = re.compile(r"`([^`]+)`\s+gives\s+`([^`]+)`,(?:\s+and\s+GFM\s+`([^`]+)`|\s+as\s+GFM)")
 EXTENSIONS = ("footnotes", "table", "strikethrough", "autolink", "tasklist")
@@ -27,25 +27,26 @@ CONTROLS = (("\\n", "\n"), ("\\r", "\r"), ("\\x01", "\x01"))
 
 
 def meant(written):
-    """A text that is written in a case."""
+    """The text that a case writes with escapes."""
     return functools.reduce(lambda text, each: text.replace(*each), CONTROLS, written)
 
 
 def gfm(text):
-    """What cmark-gfm makes of a text."""
+    """The HTML of cmark-gfm for a text."""
     words = [word for name in EXTENSIONS for word in ("-e", name)]
     return subprocess.run(["cmark-gfm", "--unsafe", *words], input=text.encode("utf-8"),
                           capture_output=True, check=True).stdout.decode("utf-8")
 
 
 def is_like(pattern, text):
-    """Whether a text is as a case has it."""
+    """Whether a text matches that of a case."""
     parts = meant(pattern).split("..")
-    return re.fullmatch(".*".join(map(re.escape, parts)), text.rstrip("\r\n"), re.DOTALL) is not None
+    pattern = ".*".join(map(re.escape, parts))
+    return re.fullmatch(pattern, text.rstrip("\r\n"), re.DOTALL) is not None
 
 
 def main(arguments):
-    """Runs the cases; the status to end with."""
+    """Runs the cases; returns the exit status."""
     page = (CLIENTS.parent / "docs" / "use" / "GFM.md").read_text("utf-8")
     cases = CASE.findall(page)
     wrong = 0

@@ -1,7 +1,7 @@
 """Documents to render: the examples of the GFM specification, and mutations of these and of our
 own.
 
-    documents.py COUNT SEED    writes the examples and so many mutated documents, each after its
+    documents.py COUNT SEED    writes the examples and COUNT mutated documents, each after its
                                length and a line feed
 """
 
@@ -12,9 +12,9 @@ import sys
 
 SPECIFICATION = pathlib.Path("/usr/share/doc/cmark-gfm/spec.txt.gz")
 FENCE = "`" * 32
-ARROW = "\u2192"  # stands for a tab in the specification
+ARROW = "\u2192"  # a tab in the specification
 
-# What the specification has little of: footnotes, tasks, tables, nests.
+# Syntax that is rare in the specification: footnotes, tasks, tables, nesting.
 OWN = (
     "a[^b] c[^d] e[^b]\n\n[^b]: one\n\n    two\n\n[^d]: > three[^b]\n",
     "- [ ] a\n- [x] b\n  - [x] c\n\n    d\n- e\n",
@@ -34,7 +34,8 @@ OWN = (
     "a\r- b\r- c\r\r  ```\r  d\r\n  ```\r\n<i>\rj\r\r| k |\r|---|\r",
 )
 
-# What is put into a document: marks of the syntax, and what parsers mind.
+# Pieces to insert into a document: marks of the syntax, and characters that parsers treat
+# specially.
 PIECES = (
     "*", "_", "**", "`", "```\n", "~~", "[", "]", "(", ")", "![", "<", ">", "> ", "- ", "1. ", "\n",
     "\n\n",
@@ -61,8 +62,8 @@ def examples():
 
 
 def mutate_once(text, other, generator):
-    """A text with one change: a piece is put in, a part goes, or is said twice, or comes
-    from the other text.
+    """A text with one change: a piece is inserted, or a part is removed, repeated, or taken from
+    the other text.
     """
     start = generator.randrange(len(text) + 1)
     end = min(len(text), start + generator.randrange(1, 12))

@@ -1,8 +1,8 @@
 #!/usr/bin/env python3
-"""Runs the examples of docs/use/EVENTS.md: each script must have the HTML that stands below it.
+"""Runs the examples of docs/use/EVENTS.md: each script must have the HTML below it.
 
-    events_test.py            tells which one hasn't
-    events_test.py --write    puts the HTML there that each has
+    events_test.py            prints the examples that don't
+    events_test.py --write    writes the HTML of each
 """
 
 import pathlib
@@ -18,30 +18,31 @@ from bivdrazo import run  # noqa: E402
 EXAMPLE = re.compile(r"(```\n(?P<script>.*?)\n```\n\n```html\n)(?P<html>.*?)(```\n)", re.DOTALL)
 
 
-def told(match):
-    """An example with the HTML that it has."""
+def corrected(match):
+    """An example with its actual HTML."""
     return f"{match[1]}{run(match['script'].encode('utf-8'))}\n{match[4]}"
 
 
 def is_right(page):
-    """Tells which examples of a page haven't the HTML below them; whether all have."""
+    """Prints the examples of a page with other HTML below them; returns whether there are none."""
     text = page.read_text(encoding="utf-8")
     examples = list(EXAMPLE.finditer(text))
-    wrong = [match for match in examples if told(match) != match[0]]
+    wrong = [match for match in examples if corrected(match) != match[0]]
     for match in wrong:
         print(f"{page.name}: {match['script']!r}\n  has {run(match['script'].encode('utf-8'))!r}")
     if len(examples) != text.count("```html\n"):
-        print(f"{page.name}: HTML that no script stands before")
+        print(f"{page.name}: HTML without a script before it")
         return False
     print(f"{page.name}: {len(examples)} examples" if not wrong else f"{page.name}: failed")
     return not wrong
 
 
 def main(arguments):
-    """Runs each example; the status to end with."""
+    """Runs each example; returns the exit status."""
     if arguments == ["--write"]:
         for page in PAGES:
-            page.write_text(EXAMPLE.sub(told, page.read_text(encoding="utf-8")), encoding="utf-8")
+            text = page.read_text(encoding="utf-8")
+            page.write_text(EXAMPLE.sub(corrected, text), encoding="utf-8")
         return 0
     return 0 if all([is_right(page) for page in PAGES]) else 1
 

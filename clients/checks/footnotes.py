@@ -33,7 +33,7 @@ class Calls(NamedTuple):
     keeps footnotes that are called from there alone, ways back to there, and their numbers.
     """
 
-    # The footnote's number, and the how manieth call of it this is.
+    # The footnote's number, and the number of this call of it.
     pairs: tuple[tuple[int, int], ...]
 
     def numbers(self):
@@ -92,7 +92,7 @@ SECTION_HERE = (
 
 
 def with_item(item, calls):
-    """A footnote, as it is written here, with so many calls."""
+    """A footnote, as it is written here, with this number of calls."""
     label, rest = item.split(b'"', 1)
     rest = BACK.sub(lambda match: with_way_back(match, calls), rest)
     return b'<li id="user-content-fn-' + footnote_id(label) + b'"' + rest
@@ -109,13 +109,13 @@ def with_footnotes(text, calls):
     return CALL.sub(lambda match: with_call(match, calls), text) if section else text
 
 
-# Where a node of cmark-gfm 0.29.0.gfm.6 keeps the how manieth call of its footnote it is.
+# The offset of the number of a call of its footnote in a node of cmark-gfm 0.29.0.gfm.6.
 FOOTNOTE_FIELD = 112
 
 
 def calls_of(root):
-    """The calls of footnotes in a tree; cmark-gfm puts definitions at its end, and forgets some
-    lines before tables.
+    """The calls of footnotes in a tree; cmark-gfm moves definitions to its end, and loses some line
+    numbers before tables.
     """
     found = []
     line = 0

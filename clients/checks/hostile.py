@@ -1,16 +1,15 @@
-"""Renders each shape of Markdown that makes parsers slow or large by every way in, and measures
+"""Renders each shape of Markdown that makes parsers slow or large with every client, and measures
 time and memory.
 
     hostile.py OUT [--size BYTES] [--table]
 
-OUT is the folder where clients/build put what it made, with bivdrazo-checks in target/release and
-markdown_file. Each shape, of about a megabyte, is rendered by the crate for Rust, by C, by Python
-and by bivdrazo-render, as a process each, within the default bounds. All four must make the same
-text, within SECONDS of a processor. The memory beyond input and text, which counts the program
-itself, must stay within MEGABYTES, or within what hostile.txt has for that shape. Of one that
-hostile.txt says to be too much work all four must tell that. Ends with status 1 where that isn't
-so.
---table prints all of it, and what pulldown-cmark's own renderer takes.
+OUT is the folder that clients/build wrote, with bivdrazo-checks in target/release and
+markdown_file. The crate for Rust, C, Python and bivdrazo-render render each shape, of about a
+megabyte, in a process each, within the default limits. All four must make the same text, within
+SECONDS of processor time. The memory beyond input and text, with that of the program, must stay
+within MEGABYTES, or within the limit in hostile.txt for that shape. All four must report too much
+work for a shape if hostile.txt says so. Otherwise the status is 1. --table prints all measurements,
+and those of pulldown-cmark's own renderer.
 """
 
 import argparse
@@ -27,7 +26,7 @@ HERE = pathlib.Path(__file__).resolve().parent
 MEGA = 1 << 20
 SECONDS = 5
 MEGABYTES = 64
-MOST_MEMORY = 4 << 30  # of address space: past it a program fails, and not the machine
+MOST_MEMORY = 4 << 30  # of address space: so that only the program runs out of memory
 
 PYTHON = """
 import sys
@@ -110,7 +109,7 @@ def faults(path, runs, most):
         memory = beyond(path, found)
         if most == WORK:
             if found.status != TOO_MUCH[name] or found.length != 0:
-                yield f"{name} ends with status {found.status}, and it is to be too much work"
+                yield f"{name} ends with status {found.status}, but must report too much work"
         elif found.status != 0:
             yield f"{name} ends with status {found.status}"
         elif found.digest != first.digest:
@@ -122,15 +121,16 @@ def faults(path, runs, most):
 def row(path, runs, plain):
     """A row of the table."""
     text = next(iter(runs.values())).length
-    told = " | ".join(f"{found.seconds:.2f} | {beyond(path, found):.0f}" for found in runs.values())
+    cells = " | ".join(f"{found.seconds:.2f} | {beyond(path, found):.0f}"
+                       for found in runs.values())
     own = f"{plain.seconds:.2f} | {beyond(path, plain):.0f}" if plain.status == 0 else "– | –"
     return (f"| {path.stem} | {os.path.getsize(path) / MEGA:.2f} | {text / MEGA:.2f} "
-            f"| {told} | {own} |")
+            f"| {cells} | {own} |")
 
 
 def measured(out, path, is_table):
-    """The runs of a shape by every way, and where a table is wanted that of
-    pulldown-cmark's own renderer.
+    """The runs of a shape with every client, and for a table that of pulldown-cmark's own
+    renderer.
     """
     runs = {name: run(command, path) for name, command in ways(out).items()}
     checks = out / "target" / "release" / "bivdrazo-checks"
@@ -138,7 +138,7 @@ def measured(out, path, is_table):
 
 
 def main():
-    """Measures all shapes; the status to end with."""
+    """Measures all shapes; returns the exit status."""
     parser = argparse.ArgumentParser()
     parser.add_argument("out", type=pathlib.Path)
     parser.add_argument("--size", default=str(MEGA))

@@ -1,9 +1,8 @@
-"""What cmark-gfm makes of a document, and what it would make of it with the differences
-that are permitted.
+"""The HTML of cmark-gfm for a document, and the same with the permitted differences.
 
-The judge is cmark-gfm's own parser and its own renderer. It changes the tree between the two as the
-permitted differences ask, one class after another, and then the text. A class counts where it
-changes the text. So each difference is told exactly: what is left must be equal byte for byte.
+The judge is cmark-gfm's own parser and its own renderer. Between the two it changes the tree by the
+permitted differences, one class after another, and then the text. A class counts if it changes the
+text. So each difference is defined exactly: the result must be equal byte for byte.
 """
 
 import itertools
@@ -16,8 +15,7 @@ from footnotes import calls_of, with_footnotes
 
 
 class Judged(NamedTuple):
-    """What cmark-gfm renders, what is wanted here, and the classes of differences between the two.
-    """
+    """The HTML of cmark-gfm, the expected HTML, and the classes of differences between the two."""
 
     plain: bytes
     wanted: bytes
@@ -32,7 +30,7 @@ TREE_CLASSES = (
 
 
 def judge(document):
-    """What cmark-gfm renders of a document, and what is wanted here."""
+    """The HTML of cmark-gfm for a document, and the expected one."""
     root = parse(document)
     texts = [("", render(root))]
     for name, change in TREE_CLASSES:

@@ -61,7 +61,7 @@ def tables(crates):
 
 
 def main(arguments):
-    """Compares each group; the status to end with."""
+    """Compares each group; returns the exit status."""
     found = tables(pathlib.Path(arguments[0]))
     wrong = [group for group, pairs in found.items() if pairs != listed(group) or not pairs]
     for group in wrong:

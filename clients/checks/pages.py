@@ -1,10 +1,11 @@
 #!/usr/bin/env python3
-"""The examples of the pages, each with the mark that says how it is run.
+"""Finds the examples of the pages, and the marks that say how to run them.
 
     pages.py FOLDER
 
-Writes each example that is run into FOLDER, as NUMBER.c, NUMBER.rs or NUMBER.py, and what it prints
-as NUMBER.txt. Prints a line for each: its number, its language, and where it stands. Ends with status 1 where a block of C, Rust or Python has no mark.
+Writes each example that is run into FOLDER, as NUMBER.c, NUMBER.rs or NUMBER.py, and its output as
+NUMBER.txt. Prints a line for each: its number, its language, and its place. Ends with status 1 if a
+block of C, Rust or Python has no mark.
 
 A mark is the line before a block, a comment of HTML:
 
@@ -26,9 +27,7 @@ NOT_RUN = re.compile(r"<!-- not run: .+ -->")
 
 
 class Example(NamedTuple):
-    """An example: where it stands, its language, what it prints but for a line feed at the end, and
-    itself.
-    """
+    """An example: its place, its language, its output without the last line feed, and its code."""
 
     place: str
     language: str
@@ -48,7 +47,7 @@ def pages():
 
 
 def example_of(place, mark, language, code):
-    """The example under a mark, or nothing where the mark says that it isn't run."""
+    """The example under a mark, or None if the mark says that it isn't run."""
     found = MARK.fullmatch(mark)
     if found is None or found[1] != language:
         if NOT_RUN.fullmatch(mark):
@@ -83,7 +82,7 @@ def examples():
 
 
 def main(arguments):
-    """Writes the examples; the status to end with."""
+    """Writes the examples; returns the exit status."""
     folder = pathlib.Path(arguments[0])
     try:
         found = examples()

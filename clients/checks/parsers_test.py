@@ -23,12 +23,12 @@ LEAST_EQUAL = 800
 
 
 def rendered(program, document):
-    """What a program writes of a document."""
+    """The output of a program for a document."""
     return subprocess.run([program], input=document, capture_output=True, check=True).stdout
 
 
 def same(programs, found):
-    """Of each document, whether both programs write the same."""
+    """For each document, whether both programs write the same."""
     with concurrent.futures.ThreadPoolExecutor(os.cpu_count()) as pool:
         texts = [list(pool.map(lambda each: rendered(program, each), found))
                  for program in programs]
@@ -36,7 +36,7 @@ def same(programs, found):
 
 
 def main(arguments):
-    """Compares each document; the status to end with."""
+    """Compares each document; returns the exit status."""
     out = pathlib.Path(arguments[0])
     programs = (out / "bivdrazo-render", out / "bivdrazo-render-cmark")
     examples = documents.examples()

@@ -1,4 +1,4 @@
-"""Reads HTML with a parser as browsers have it, and tells what isn't permitted in it."""
+"""Reads HTML with a parser like that of browsers, and lists what isn't permitted in it."""
 
 import re
 
@@ -27,7 +27,7 @@ PROTOCOLS = {
     "href": {"http", "https", "irc", "ircs", "mailto", "xmpp"},
     "src": {"http", "https"},
 }
-# A browser passes over control characters and spaces before a URL, and over tabs and
+# A browser skips control characters and spaces before a URL, and over tabs and
 # line ends in it.
 BEFORE_URL = "".join(map(chr, range(33)))
 PROTOCOL = re.compile(r"([A-Za-z][A-Za-z0-9+.-]*):")
@@ -52,7 +52,7 @@ def fault_of(element):
 
 
 def faults(text):
-    """What isn't permitted in a text: bytes of HTML that stand in a page's body."""
+    """The faults of a text: HTML in a page's body that isn't permitted."""
     tree = html5lib.parseFragment(text.decode("utf-8"), treebuilder="etree",
                                   namespaceHTMLElements=False)
     elements = list(tree.iter())[1:]  # the first is the fragment itself

@@ -1,4 +1,4 @@
-"""The reader finds what it is there to find."""
+"""Tests that the reader finds the faults."""
 
 import unittest
 

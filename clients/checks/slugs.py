@@ -1,6 +1,6 @@
 #!/usr/bin/env python3
-"""Ids that the library makes of headings' texts, beside an implementation of GitHub's rule by the
-tables of Unicode that Python has: of each character, and of many texts with equal slugs.
+"""Compares the ids that the library makes from headings' texts with an implementation of GitHub's
+rule by Python's tables of Unicode: for each character, and for many texts with equal slugs.
 
     BIVDRAZO_LIBRARY=.. PYTHONPATH=clients/python slugs.py
 """
@@ -17,7 +17,7 @@ KEPT = {"L", "M", "N"}
 
 
 def slug(text):
-    """In lower case, without what is no letter, mark, number, connector, space or hyphen."""
+    """A text in lower case, with only letters, marks, numbers, connectors, spaces and hyphens."""
     lower = "".join(each.lower() for each in text)
     kept = (each for each in lower if each in " -" or unicodedata.category(each) == "Pc"
             or unicodedata.category(each)[0] in KEPT)

@@ -1,10 +1,10 @@
 #!/usr/bin/env python3
-"""Whether each status in numbers.txt has words of its own in C, and Python has the same.
+"""Checks that each status in numbers.txt has its own text in C, and the same in Python.
 
     statuses_test.py OUT
 
-Compiles a program in the folder OUT, with CC, that prints what bivdrazo_markdown_status_text says
-of each number. Ends with status 1 where a status has none.
+Compiles a program in the folder OUT, with CC, that prints bivdrazo_markdown_status_text of each
+number. Ends with status 1 if a status has no text.
 """
 
 import os
@@ -17,7 +17,7 @@ CLIENTS = pathlib.Path(__file__).resolve().parent.parent
 sys.path.insert(0, str(CLIENTS / "python"))
 sys.dont_write_bytecode = True
 
-from bivdrazo.errors import TEXTS  # noqa: E402  (where the module is was just told)
+from bivdrazo.errors import TEXTS  # noqa: E402  (after the path of the module is set)
 
 PROGRAM = """
 #include "bivdrazo_markdown.h"
@@ -31,7 +31,7 @@ int main(int count, char **numbers) {
 """
 
 
-def told(out, numbers):
+def texts_of(out, numbers):
     """What C says of each of these numbers."""
     program = out / "statuses"
     subprocess.run([*os.environ.get("CC", "cc").split(), "-std=c11", "-I", CLIENTS / "c", "-x", "c",
@@ -41,11 +41,11 @@ def told(out, numbers):
 
 
 def main(arguments):
-    """Compares the texts; the status to end with."""
+    """Compares the texts; returns the exit status."""
     listed = (CLIENTS / "numbers" / "numbers.txt").read_text()
     numbers = [int(number)
                for number in re.findall(r"(?m)^(?:markdown_)?status (\d+) ", listed)]
-    texts = told(pathlib.Path(arguments[0]), [*numbers, 999])
+    texts = texts_of(pathlib.Path(arguments[0]), [*numbers, 999])
     unknown = texts.pop()
     wrong = [number for number, text in zip(numbers, texts)
              if text == unknown or text != TEXTS.get(number)]

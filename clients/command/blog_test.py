@@ -1,10 +1,10 @@
 #!/usr/bin/env python3
 """A blog of ten pages with front matter, footnotes, tables, images and folders, made by
-bivdrazo-render: each relative link of each page leads to a file of the site, and to an id in it.
+bivdrazo-render: each relative link of each page points to a file of the site, and to an id in it.
 
     blog_test.py RENDER FOLDER
 
-FOLDER isn't there before.
+FOLDER must not exist.
 """
 
 import html.parser
@@ -72,7 +72,7 @@ def write(folder):
 
 
 def check_links(site, pages):
-    """Whether each link leads to a file of the site, and to an id in it."""
+    """Checks that each link points to a file of the site, and to an id in it."""
     for path, page in pages.items():
         for url in page.urls:
             parts = urllib.parse.urlsplit(url)

@@ -1,12 +1,13 @@
 #!/usr/bin/env python3
-"""A page with the comments of people who aren't trusted.
+"""Makes a page with the comments of untrusted users.
 
     comments.py < COMMENTS > PAGE
 
-COMMENTS is JSON, a list of objects with the texts `author` and `text`. Each comment has bounds, and
-prefixes of its own, so that no two of them share an id of a footnote or of a heading; no search
+COMMENTS is JSON, a list of objects with the texts `author` and `text`. Each comment has limits, and
+its own prefixes, so that no two comments share an id of a footnote or of a heading; no search
 engine follows its links. The heading of the footnotes has the id `footnote-label` in each comment
-that has some: it stays in the first alone. A comment that passes a bound is told and left out.
+with footnotes; only the first one keeps it. A comment that exceeds a limit is reported and left
+out.
 """
 
 import html
@@ -15,8 +16,8 @@ import sys
 
 from bivdrazo import TooLong, TooMuchWork, markdown_to_html
 
-# How the id stands in a text, and nothing else: a quotation mark is escaped but in tags, where it
-# is around values.
+# Only the id is written like this in a text: quotation marks are escaped, except in tags, where
+# they delimit values.
 LABEL = ' id="footnote-label"'
 
 
@@ -42,7 +43,7 @@ def comment(number, author, text):
 
 
 def main():
-    """Writes the page."""
+    """Prints the page."""
     comments = json.load(sys.stdin)
     print('<!doctype html>\n<html lang="en"><head><meta charset="utf-8" />'
           '<title>Comments</title></head><body>')

@@ -1,20 +1,30 @@
 #!/usr/bin/env python3
-"""Renders a folder of very many small comments by two workers, and stops on nothing.
+"""Renders a folder of very many small comments with two workers, and doesn't stop for a failure.
 
-    corpus_dask.py FOLDER SITE REPORT
+    corpus_dask.py [--together FILES] FOLDER SITE REPORT
 
-Each file `NAME.md` of FOLDER becomes `NAME.html` in SITE, written beside and renamed. A file that
-can't be rendered is a line of REPORT, in JSON: `{"file": "NAME.md", "cause": "..."}`; the others
-are rendered. Ends with status 0 if all were, and 1 if the report has a line. Wants Debian's
-python3-dask and python3-distributed.
+Each file `NAME.md` of FOLDER becomes `NAME.html` in SITE. A page is written to a new file that is
+then renamed, so no page is ever written by half. A page that is newer than its file stays, so a
+second run renders only what is missing or changed.
+
+Standard error shows the progress. REPORT has a line in JSON for each file that fails,
+`{"file": "NAME.md", "cause": "..."}`, and after each task a line with the counts so far,
+`{"rendered": 2990, "unchanged": 0, "failed": 10, "left": 7000}`. It is written as the run goes on:
+if the program is killed, REPORT says what was done, and another run does the rest.
+
+The exit status is 0 if no file failed, 1 if one did. Requires Debian's python3-dask and
+python3-distributed.
 """
 
+import argparse
 import json
 import os
 import pathlib
+import signal
 import stat
 import sys
 import tempfile
+import time
 
 import dask.bag
 from distributed import Client, LocalCluster, as_completed
@@ -24,12 +34,13 @@ from bivdrazo import TooLong, markdown_to_html
 MAX_INPUT = 10_000
 MAX_OUTPUT = 100_000
 MAX_WORK = 50_000
-TOGETHER = 1000  # so many files are one task
+TOGETHER = 1000  # the number of files in a task
 WORKERS = 2
+PAUSE = 1  # the least number of seconds between two lines of progress
 
 
 def read(source):
-    """The text of a file, of which no more is read than its bound."""
+    """The text of a file; reads at most one byte more than the limit."""
     if not stat.S_ISREG(os.stat(source).st_mode):
         raise OSError("not a regular file")
     with open(source, "rb") as file:
@@ -40,9 +51,7 @@ def read(source):
 
 
 def write(target, text):
-    """Writes a file beside and renames it, so that it is never there by half. A worker
-    writes one at a time.
-    """
+    """Writes a new file in the same folder and renames it. A worker writes one at a time."""
     beside = target.with_name(f"{os.getpid()}.part")
     try:
         beside.write_text(text, encoding="utf-8", newline="")
@@ -52,71 +61,128 @@ def write(target, text):
 
 
 def cause_of(error):
-    """A cause as the report has it."""
+    """The text of an error in the report."""
     if isinstance(error, OSError) and error.strerror:
         return error.strerror
     return str(error) or type(error).__name__
 
 
+def page_of(name, site):
+    """The path of a file's page."""
+    return site / f"{name[:-3]}.html"
+
+
+def is_done(name, folder, site):
+    """Whether a page is newer than its file."""
+    try:
+        return os.stat(page_of(name, site)).st_mtime_ns > os.stat(folder / name).st_mtime_ns
+    except OSError:
+        return False
+
+
 def render(name, folder, site):
-    """Renders one file; nothing, or what the report says of it."""
+    """Renders one file; returns None, or its line of the report if it fails."""
     try:
         text = read(folder / name)
         html = markdown_to_html(text, number_ids=True, max_input=MAX_INPUT, max_output=MAX_OUTPUT,
                                 max_work=MAX_WORK)
-        write(site / f"{name[:-3]}.html", html)
-    except Exception as error:  # whatever it is, the others are rendered
+        write(page_of(name, site), html)
+    except Exception as error:  # with any error, the other files are rendered
         return {"file": name, "cause": cause_of(error)}
     return None
 
 
 def render_all(names, folder, site):
-    """Renders some files; the lines of the report."""
+    """Renders some files; returns the lines of the report."""
     lines = [render(name, folder, site) for name in names]
     return [line for line in lines if line is not None]
 
 
-def lines_of(client, names, folder, site):
-    """The lines of the report, each as soon as it is known; one for each file of a task whose
-    worker always ended.
+def results(client, names, folder, site, together):
+    """For each task, as soon as it ends: its number of files, and its lines of the report. If the
+    task's worker ended each time, each of its files has a line.
     """
-    bag = dask.bag.from_sequence(names, partition_size=TOGETHER)
+    bag = dask.bag.from_sequence(names, partition_size=together)
     tasks = client.compute(bag.map_partitions(render_all, folder, site).to_delayed())
-    parts = {task.key: names[at * TOGETHER : (at + 1) * TOGETHER] for at, task in enumerate(tasks)}
+    parts = {task.key: names[at * together : (at + 1) * together] for at, task in enumerate(tasks)}
     for task in as_completed(tasks):
         error = task.exception()
+        part = parts[task.key]
         if error is None:
-            yield from task.result()
+            yield len(part), task.result()
         else:
-            yield from ({"file": name, "cause": f"the worker: {cause_of(error)}"}
-                        for name in parts[task.key])
+            cause = f"the worker: {cause_of(error)}"
+            yield len(part), [{"file": name, "cause": cause} for name in part]
         task.release()
 
 
-def main(arguments):
-    """Renders the folder; the status to end with."""
-    if len(arguments) != 3:
-        print(__doc__, file=sys.stderr)
-        return 64
-    folder, site, report = map(pathlib.Path, arguments)
+class Report:
+    """The report, and the progress on standard error."""
+
+    def __init__(self, lines, unchanged, left):
+        self.lines = lines
+        self.counts = {"rendered": 0, "unchanged": unchanged, "failed": 0, "left": left}
+        self.total = left
+        self.shown = 0.0
+        self.write([])
+
+    def write(self, failures):
+        """Writes the lines of failures, and one with the counts."""
+        for line in [*failures, self.counts]:
+            print(json.dumps(line), file=self.lines)
+        self.lines.flush()
+
+    def add(self, files, failures):
+        """Adds the result of a task."""
+        self.counts["left"] -= files
+        self.counts["failed"] += len(failures)
+        self.counts["rendered"] += files - len(failures)
+        self.write(failures)
+        if time.monotonic() - self.shown >= PAUSE or self.counts["left"] == 0:
+            self.shown = time.monotonic()
+            print(f"{self.total - self.counts['left']} of {self.total} files, "
+                  f"{self.counts['failed']} failed", file=sys.stderr, flush=True)
+
+
+def render_folder(folder, site, report, together):
+    """Renders the folder; returns the report."""
     names = sorted(name for name in os.listdir(folder) if name.endswith(".md"))
     site.mkdir(parents=True, exist_ok=True)
-    count = 0
-    beside = report.with_name(f"{report.name}.part")
-    with tempfile.TemporaryDirectory() as space, open(beside, "w", encoding="utf-8") as lines:
-        cluster = LocalCluster(n_workers=WORKERS, threads_per_worker=1, dashboard_address=None,
-                               local_directory=space)
-        with cluster, Client(cluster) as client:
-            for line in lines_of(client, names, folder.resolve(), site.resolve()):
-                print(json.dumps(line), file=lines)
-                count += 1
-    beside.replace(report)
-    print(f"{len(names) - count} files rendered, {count} told in {report}")
-    return 1 if count else 0
+    for part in site.glob("*.part"):  # left by a worker that was killed
+        part.unlink()
+    left = [name for name in names if not is_done(name, folder, site)]
+    with open(report, "w", encoding="utf-8") as lines:
+        made = Report(lines, len(names) - len(left), len(left))
+        if not left:
+            return made
+        with tempfile.TemporaryDirectory() as space:
+            cluster = LocalCluster(n_workers=WORKERS, threads_per_worker=1, dashboard_address=None,
+                                   local_directory=space)
+            with cluster, Client(cluster) as client:
+                for files, failures in results(client, left, folder.resolve(), site.resolve(),
+                                               together):
+                    made.add(files, failures)
+    return made
+
+
+def main():
+    """Renders the folder; returns the exit status."""
+    parser = argparse.ArgumentParser(description=__doc__.split("\n", 1)[0])
+    parser.add_argument("folder", type=pathlib.Path)
+    parser.add_argument("site", type=pathlib.Path)
+    parser.add_argument("report", type=pathlib.Path)
+    parser.add_argument("--together", type=int, default=TOGETHER, metavar="FILES",
+                        help="the number of files in a task (default: %(default)s)")
+    given = parser.parse_args()
+    signal.signal(signal.SIGTERM, lambda *_: sys.exit(128 + signal.SIGTERM))
+    counts = render_folder(given.folder, given.site, given.report, given.together).counts
+    print(f"{counts['rendered']} files rendered, {counts['unchanged']} unchanged, "
+          f"{counts['failed']} failed: {given.report}")
+    return 1 if counts["failed"] else 0
 
 
 if __name__ == "__main__":
-    ended = main(sys.argv[1:])
+    ended = main()
     sys.stdout.flush()
     # All is written; a run over a million files crashed after this line was reached.
     os._exit(ended)

@@ -1,3 +1,3 @@
 #!/bin/sh
-# Makes a site of a folder of Markdown: site.sh FOLDER SITE. BIVDRAZO_RENDER names the program.
+# Makes a site from a folder of Markdown: site.sh FOLDER SITE. BIVDRAZO_RENDER is the program.
 exec "${BIVDRAZO_RENDER:-bivdrazo-render}" --number-ids --heading-ids slug --out-dir "$2" "$1"

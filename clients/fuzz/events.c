@@ -1,11 +1,10 @@
 /*
- * Event scripts by bivdrazo_run(), and their events by bivdrazo_compile() and
- * bivdrazo_compile_within(), for libFuzzer. The first byte of an input says how large the
- * first buffer is, the rest is the script. What is handed in and the buffer end at the end of
- * a page before one that can't be read or written. A call that gives no text leaves the buffer
- * as it was, and one that does leaves what lies after the text; where the script sets no
- * option all calls answer the same, and the text is of the HTML grammar. Where it may have a
- * byte less it is too long.
+ * Calls bivdrazo_run() with event scripts, and bivdrazo_compile() and bivdrazo_compile_within()
+ * with their events, for libFuzzer. The first byte of an input is the size of the first buffer,
+ * the rest is the script. The arguments and the buffer end at a page that can't be read or
+ * written. A call without a text must leave the buffer unchanged, and one with a text the bytes
+ * after it. If the script sets no option, all calls must return the same, and the text must be in
+ * the HTML grammar. With a limit of one byte less it must be too long.
  */
 #include "bivdrazo.h"
 #include "guard.h"
@@ -52,7 +51,7 @@ static bivdrazo_answer call(const struct job *job, uint8_t *buffer, size_t room)
 /* Calls with a buffer of that size, and again where it was too short; the buffer is for the
    caller to unguard. */
 static bivdrazo_answer answer_of(const struct job *job, size_t room, struct guarded *buffer) {
-    for (int turn = 0;; turn++) {
+    for (int tries = 0;; tries++) {
         *buffer = guard_room(room, UNTOUCHED);
         const bivdrazo_answer answer = call(job, buffer->bytes, room);
         const size_t written = answer.status == BIVDRAZO_OK ? answer.length : 0;
@@ -63,7 +62,7 @@ static bivdrazo_answer answer_of(const struct job *job, size_t room, struct guar
                 fail("a byte that was written to", at);
         if (answer.status != BIVDRAZO_TOO_SHORT)
             return answer;
-        if (turn > 0 || answer.length <= room)
+        if (tries > 0 || answer.length <= room)
             fail("a buffer that is said to be too short", room);
         room = answer.length;
         unguard(*buffer);

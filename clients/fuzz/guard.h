@@ -1,4 +1,4 @@
-/* Bytes that end at the end of a page before one that can't be read or written. */
+/* Bytes that end at a page that can't be read or written. */
 #ifndef BIVDRAZO_FUZZ_GUARD_H
 #define BIVDRAZO_FUZZ_GUARD_H
 
@@ -15,7 +15,7 @@ struct guarded {
     uint8_t *bytes;
 };
 
-/* So many bytes there, each with this value. */
+/* This number of bytes, each with this value. */
 static inline struct guarded guard_room(size_t length, uint8_t value) {
     const size_t page = (size_t)sysconf(_SC_PAGESIZE);
     const size_t room = (length + page) / page * page;

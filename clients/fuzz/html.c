@@ -53,7 +53,7 @@ static const char *const REFERENCES[] = {"&amp;", "&quot;", "&lt;", "&gt;"};
 static const char *const LINKS[] = {"http", "https", "irc", "ircs", "mailto", "xmpp", NULL};
 static const char *const IMAGES[] = {"http", "https", NULL};
 
-/* What is read: where it stands, and the elements that are open. */
+/* The reader: its place in the text, and the open elements. */
 struct reader {
     const char *text;
     size_t length;
@@ -75,7 +75,7 @@ static bool skip(struct reader *reader, const char *with) {
     return found;
 }
 
-/* Passes over one character of a text or a value that is escaped; whether it is one. */
+/* Skips one character of a text or a value that is escaped; whether it is one. */
 static bool skip_escaped(struct reader *reader) {
     for (size_t at = 0; at < sizeof REFERENCES / sizeof *REFERENCES; at++) {
         if (skip(reader, REFERENCES[at]))
@@ -144,7 +144,7 @@ static const char *read_attributes(struct reader *reader, const struct element *
         if (element->attributes[at] == NULL)
             return "an attribute that isn't permitted";
         if (seen >> at & 1)
-            return "an attribute that stands twice";
+            return "a duplicate attribute";
         seen |= 1u << at;
         reader->at += length;
         if (!skip(reader, "=\""))

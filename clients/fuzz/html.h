@@ -5,8 +5,7 @@
 
 #include <stddef.h>
 
-/* What is wrong with a text, where that is; NULL where it has a reading with safe
-   links and images. */
+/* The fault of a text, and its place; NULL if the text has a reading with safe links and images. */
 const char *html_fault(const char *text, size_t length, size_t *where);
 
 #endif

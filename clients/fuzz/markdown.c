@@ -1,8 +1,8 @@
 /*
- * Markdown by bivdrazo_markdown() under options, for libFuzzer. The first two bytes of an input are
- * the options, the rest is the document, which ends at the end of a page before one that can't be
- * read. There is a text, unless the document isn't UTF-8 or a bound is passed, and the text is of
- * the HTML grammar.
+ * Calls bivdrazo_markdown() under options, for libFuzzer. The first two bytes of an input are the
+ * options, the rest is the document, which ends at a page that can't be read. The call must return
+ * a text, unless the document isn't UTF-8 or exceeds a limit, and the text must be in the HTML
+ * grammar.
  */
 #include "bivdrazo_markdown.h"
 #include "guard.h"
@@ -10,7 +10,7 @@
 
 int LLVMFuzzerTestOneInput(const uint8_t *data, size_t size);
 
-/* The options that two bytes stand for. */
+/* The options in two bytes. */
 static bivdrazo_markdown_options options_of(uint8_t flags, uint8_t bounds) {
     bivdrazo_markdown_options options = bivdrazo_markdown_options_default();
     options.number_ids = flags & 1;

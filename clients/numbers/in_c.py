@@ -1,7 +1,7 @@
 """The numbers of the C interface for C."""
 
 from listed import (MARKDOWN_TITLES, NOTICE, RELEASE, RELEASE_COMMENT, TITLES, commented, of_group,
-                    told, upper)
+                    meaning, upper)
 
 PREFIXES = {
     "status": "",
@@ -32,14 +32,15 @@ def rule_text():
     text = "/* What a rule means, in English. */\n"
     text += "static inline const char *bivdrazo_rule_text(uint32_t rule) {\n    switch (rule) {\n"
     for entry in of_group("rule"):
-        text += f"    case BIVDRAZO_RULE_{upper(entry.name)}:\n        return \"{told(entry)}\";\n"
+        text += (f"    case BIVDRAZO_RULE_{upper(entry.name)}:\n"
+                 f"        return \"{meaning(entry)}\";\n")
     return text + "    default:\n        return \"an unknown rule\";\n    }\n}\n"
 
 
 def name_text():
     """How an event script spells each name, as a function of C."""
-    text = commented("A name as an event script spells it. NULL for Other, after which its own"
-                     " number stands, and for none's.", "", "/* ", " * ", " */")
+    text = commented("The name in an event script. NULL for Other, which its own number follows,"
+                     " and for an unknown name.", "", "/* ", " * ", " */")
     text += "static inline const char *bivdrazo_name_text(uint16_t name) {\n    switch (name) {\n"
     for entry in of_group("name"):
         if entry.name != "Other":

@@ -1,6 +1,6 @@
-"""The numbers of the C interface for Rust, and the options as Rust hands them in."""
+"""The numbers of the C interface for Rust, and the options in the layout of C."""
 
-from listed import (NOTICE, RELEASE, RELEASE_COMMENT, TITLES, WIDTH, commented, of_group, told,
+from listed import (NOTICE, RELEASE, RELEASE_COMMENT, TITLES, WIDTH, commented, of_group, meaning,
                     upper)
 
 
@@ -36,7 +36,7 @@ def enumeration(group, name):
 
 
 def arm_of_text(entry):
-    """The arm that tells a name by its text, as the formatter lays it out."""
+    """The arm with a name's text, as the formatter lays it out."""
     line = f"            \"{entry.name}\" => Some(Name::{entry.name}),\n"
     if len(line) > WIDTH + 1:
         line = line.replace(" => ", " => {\n" + 16 * " ").replace(",\n", "\n" + 12 * " " + "}\n")
@@ -48,11 +48,11 @@ def names():
     plain = [entry for entry in of_group("name") if entry.name != "Other"]
     other = [entry for entry in of_group("name") if entry.name == "Other"][0]
     text = "impl Name {\n"
-    text += "    /// The number of the name, and the number that an other name has of its own.\n"
+    text += "    /// The number of the name, and the own number of `Other`.\n"
     text += "    pub(crate) fn numbers(self) -> (u16, u16) {\n        match self {\n"
     text += "".join(f"            Name::{entry.name} => ({entry.number}, 0),\n" for entry in plain)
     text += f"            Name::Other(own) => ({other.number}, own),\n        }}\n    }}\n\n"
-    text += "    /// The name that an event script spells so.\n"
+    text += "    /// The name with this text in an event script.\n"
     text += "    pub fn from_text(text: &str) -> Option<Name> {\n        match text {\n"
     text += "".join(map(arm_of_text, plain))
     text += "            _ => match text.strip_prefix(\"Other\") {\n"
@@ -60,15 +60,15 @@ def names():
              "own.bytes().all(|byte| byte.is_ascii_digit()) => {\n")
     text += "                    own.parse().ok().map(Name::Other)\n                }\n"
     text += "                _ => None,\n            },\n        }\n    }\n}\n\n"
-    text += "/// Every name but the others, by its number.\n"
+    text += "/// All names but `Other`, by their numbers.\n"
     text += "#[cfg(test)]\npub(crate) const NAMES: &[Name] = &[\n"
     by_number = sorted(plain, key=lambda entry: entry.number)
     return text + "".join(f"    Name::{entry.name},\n" for entry in by_number) + "];\n"
 
 
 def arm_of_rule(entry):
-    """The arm that tells what a rule means, as the formatter lays it out."""
-    line = f"            Rule::{entry.name} => \"{told(entry)}\",\n"
+    """The arm with a rule's meaning, as the formatter lays it out."""
+    line = f"            Rule::{entry.name} => \"{meaning(entry)}\",\n"
     if len(line) > WIDTH + 1:
         line = line.replace(" => ", " => {\n" + 16 * " ")
         line = line.replace("\",\n", "\"\n" + 12 * " " + "}\n")
@@ -76,12 +76,12 @@ def arm_of_rule(entry):
 
 
 def rules():
-    """The rules by their numbers, and what they mean."""
-    text = "impl Rule {\n    /// The number of the rule, as C has it.\n"
+    """The rules by their numbers, and their meanings."""
+    text = "impl Rule {\n    /// The number of the rule in C.\n"
     text += "    pub fn number(self) -> u32 {\n        match self {\n"
     text += "".join(f"            Rule::{entry.name} => {entry.number},\n"
                     for entry in of_group("rule"))
-    text += "        }\n    }\n\n    /// What the rule means, in English.\n"
+    text += "        }\n    }\n\n    /// The meaning of the rule, in English.\n"
     text += "    pub fn text(self) -> &'static str {\n        match self {\n"
     text += "".join(map(arm_of_rule, of_group("rule")))
     text += "        }\n    }\n\n    /// The rule with that number.\n"
@@ -113,7 +113,7 @@ def numbers():
 
 
 def options():
-    """The options as the library takes them, for Rust: the numbers, and then the texts."""
+    """The options for the library, in Rust: the numbers, and then the texts."""
     found = sorted(of_group("option"), key=lambda entry: entry.type == "text")
     types = {"flag": "u8", "line_ending": "u8", "text": "CText"}
     ways = {"flag": "u8::from({})", "line_ending": "c_line_ending({})", "text": "c_text(&{})"}
@@ -121,7 +121,7 @@ def options():
     text += "use crate::layouts::{c_line_ending, c_text, CText};\nuse crate::Options;\n\n"
     text += "#[repr(C)]\npub(crate) struct COptions {\n"
     text += "".join(f"    {entry.name}: {types[entry.type]},\n" for entry in found) + "}\n\n"
-    text += "/// The options as C has them; they refer to the texts of `options`.\n"
+    text += "/// The options in C; they refer to the texts of `options`.\n"
     text += "pub(crate) fn c_options(options: &Options) -> COptions {\n    COptions {\n"
     for entry in found:
         text += f"        {entry.name}: {ways[entry.type].format(f'options.{entry.name}')},\n"

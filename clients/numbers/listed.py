@@ -1,4 +1,4 @@
-"""What numbers.txt lists, and comments of what it says."""
+"""Reads numbers.txt, and makes comments of it."""
 
 import pathlib
 import re
@@ -8,30 +8,30 @@ from typing import NamedTuple
 
 HERE = pathlib.Path(__file__).resolve().parent
 RELEASE = (HERE.parents[1] / "VERSION").read_text().strip()
-RELEASE_COMMENT = "The version of the library and of what comes with it."
+RELEASE_COMMENT = "The version of the library and of its clients."
 WIDTH = 100
 NOTICE = "Written by clients/numbers/generate from numbers.txt. Don't edit it."
-# A line that begins so goes on the one before.
+# A line that begins so continues the previous one.
 CONTINUED = "\n    "
 LINE = re.compile(r"(\w+) (\d+) (\w+)(?: (flag|line_ending|text|html))?(?:: (.*))?")
 TITLES = {
-    "status": "What became of a call.",
+    "status": "The status of a call.",
     "rule": "Why events are refused.",
     "kind": "Whether an event begins a node or ends it.",
     "line_ending": "How a line ends.",
-    "option": "The number of an option, as `index` tells it where options stand for none.",
-    "attribute": "The number of an attribute, as `index` tells it where attributes stand for none.",
-    "name": "What an event enters or exits.",
+    "option": "The numbers of options: `index`, if an option is invalid.",
+    "attribute": "The numbers of attributes: `index`, if an attribute is invalid.",
+    "name": "The node that an event enters or exits.",
 }
 MARKDOWN_TITLES = {
-    "markdown_status": "What became of a call, beside the statuses of the library.",
-    "markdown_html": "What becomes of HTML in a document.",
-    "markdown_option": "The number of an option, as `index` tells it where options stand for none.",
+    "markdown_status": "Further statuses of calls for Markdown.",
+    "markdown_html": "How to treat HTML in a document.",
+    "markdown_option": "The numbers of options: `index`, if an option is invalid.",
 }
 
 
 class Entry(NamedTuple):
-    """A line of the list; `part` is the comment that stands before it, or empty."""
+    """A line of the list; `part` is the comment before it, or empty."""
 
     group: str
     number: int
@@ -64,18 +64,18 @@ def of_group(group):
 
 
 def upper(name):
-    """A name in capitals, its words parted by `_`."""
+    """A name in capitals, with `_` between its words."""
     return re.sub(r"(?<=[a-z])(?=[A-Z])", "_", name).upper()
 
 
-def told(entry):
-    """What an entry means, as a part of a sentence in a string."""
+def meaning(entry):
+    """The meaning of an entry, as a part of a sentence in a string."""
     text = (entry.comment[0].lower() + entry.comment[1:]).rstrip(".")
     return text.replace('"', '\\"')
 
 
 def commented(text, indent, first, next_, last=""):
-    """A comment over as many lines as it needs."""
+    """A comment of as many lines as it needs."""
     room = WIDTH - len(indent) - len(next_) - len(last)
     lines = textwrap.wrap(text, room) or [""]
     lines = [indent + (next_ if at else first) + line for at, line in enumerate(lines)]

@@ -1,7 +1,6 @@
-"""The wheel holds the shared object, so its tag says for what that is: Linux on
-x86-64, any Python 3.
+"""Makes a wheel for Linux on x86-64 and any Python 3, since it has the shared object.
 
-It isn't a `manylinux` tag, since auditwheel hasn't looked at it.
+Its tag isn't a `manylinux` tag, since auditwheel wasn't run.
 """
 
 import pathlib
@@ -20,21 +19,21 @@ class Wheel(bdist_wheel):
     """A wheel with the shared object."""
 
     def get_tag(self):
-        """Python, its ABI, the machine."""
+        """Python, its ABI, the platform."""
         return "py3", "none", "linux_x86_64"
 
     def run(self):
-        """Makes the wheel, where the object is there."""
+        """Makes the wheel; fails without the shared object."""
         if not OBJECT.exists():
-            raise SystemExit(f"{OBJECT} isn't there: clients/build makes it")
+            raise SystemExit(f"{OBJECT} is missing: clients/build makes it")
         super().run()
 
 
 class Binary(Distribution):
-    """What is installed is for one machine."""
+    """A package for one platform."""
 
     def has_ext_modules(self):
-        """So that it goes where such things go."""
+        """So that the package is installed where platform packages are."""
         return True
 
 

@@ -6,7 +6,7 @@
 #include <stdio.h>
 #include <string.h>
 
-/* Whether a paragraph stands in an item of a tight list, where it prints no tags. */
+/* Whether a paragraph is in an item of a tight list, where it prints no tags. */
 static bool is_tight(cmark_node *paragraph) {
     cmark_node *parent = cmark_node_parent(paragraph);
     cmark_node *list = parent == NULL ? NULL : cmark_node_parent(parent);
@@ -35,7 +35,7 @@ uint16_t list_name(cmark_node *list) {
     return is_ordered ? BIVDRAZO_NAME_LIST_ORDERED : BIVDRAZO_NAME_LIST_UNORDERED;
 }
 
-/* The number of an ordered list stands in its first item. */
+/* The number of an ordered list is in its first item. */
 static void add_list_value(struct walk *walk, cmark_node *list) {
     char digits[16];
     snprintf(digits, sizeof digits, "%d", cmark_node_get_list_start(list));
@@ -43,9 +43,8 @@ static void add_list_value(struct walk *walk, cmark_node *list) {
 }
 
 /*
- * The box of a task, and a space after it. They stand in a quote's prefix, which prints nothing
- * itself and isn't part of what an item holds: so an item that holds no more than its box ends
- * on the same line.
+ * The box of a task, and a space after it. They are in a quote's prefix, which prints nothing
+ * itself and isn't part of an item's content: so an item with only its box ends on the same line.
  */
 static void add_task(struct walk *walk, cmark_node *item) {
     document_enter(&walk->document, BIVDRAZO_NAME_BLOCK_QUOTE_PREFIX);
@@ -87,7 +86,7 @@ void enter_heading(struct walk *walk, cmark_node *node) {
     document_enter(&walk->document, BIVDRAZO_NAME_HEADING_ATX_TEXT);
 }
 
-/* A block of code has two fences here, however it was written; the language is the
+/* A block of code becomes fenced, however it was written; the language is the
    info's first word. */
 void add_code_block(struct walk *walk, cmark_node *node) {
     const char *info = text_or_empty(cmark_node_get_fence_info(node));

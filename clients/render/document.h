@@ -1,4 +1,4 @@
-/* A document as the library takes it: bytes, and events over them. */
+/* A document for the library: bytes, and events over them. */
 #ifndef BIVDRAZO_RENDER_DOCUMENT_H
 #define BIVDRAZO_RENDER_DOCUMENT_H
 
@@ -21,10 +21,10 @@ struct document {
 /* An empty document. */
 struct document document_new(void);
 
-/* Gives back what the document holds. */
+/* Frees the document. */
 void document_free(struct document *document);
 
-/* Adds so many bytes. */
+/* Adds bytes. */
 void document_bytes(struct document *document, const void *bytes, size_t length);
 
 /* Adds a text of so many bytes: each byte that isn't part of a character of UTF-8

@@ -1,4 +1,4 @@
-/* bivdrazo-render-cmark: Markdown in, safe HTML out. */
+/* bivdrazo-render-cmark: renders Markdown as safe HTML with cmark-gfm's parser. */
 #include "markdown.h"
 
 #include <stdio.h>
@@ -7,23 +7,21 @@
 static const char USAGE[] =
     "Usage: bivdrazo-render-cmark [--page TITLE | --events] [FILE]\n"
     "\n"
-    "Renders Markdown, from FILE or from standard input, as safe HTML on standard output: with "
-    "tables,\n"
-    "strikethrough, tasks, autolinks and footnotes as in GFM. HTML in the document is printed as "
-    "text, and a link or\n"
-    "an image whose protocol isn't permitted leads nowhere.\n"
+    "Reads Markdown from FILE or from standard input, and writes safe HTML to standard output.\n"
+    "Tables, strikethrough, tasks, autolinks and footnotes are on, as in GFM. HTML in the\n"
+    "document is printed as text, and a link or an image whose protocol isn't permitted gets an\n"
+    "empty URL.\n"
     "\n"
-    "  --page TITLE   a whole page with that title, in place of the document's HTML alone\n"
-    "  --events       the parser's events, as an event script, in place of HTML; the library isn't "
-    "called\n"
-    "  --help         this text\n"
+    "  --page TITLE   write a complete page with this title\n"
+    "  --events       write the parser's events, as an event script, instead of HTML; the library\n"
+    "                 isn't called\n"
+    "  --help         print this text\n"
     "\n"
-    "Ends with status 0 where the HTML was written, 1 where the library refused the events or a "
-    "title (one\n"
-    "that isn't UTF-8), 3 for out of memory, 4 where reading or writing failed, and 64 for other "
-    "arguments.\n";
+    "The exit status is 0 if the HTML was written, 1 if the library refused the events or the\n"
+    "title (one that isn't UTF-8), 3 if memory ran out, 4 if reading or writing failed, and 64\n"
+    "for invalid arguments.\n";
 
-/* The statuses that the program ends with. */
+/* The exit statuses. */
 enum status {
     DONE = 0,
     REFUSED = 1,
@@ -32,7 +30,7 @@ enum status {
     NO_SUCH_USAGE = 64,
 };
 
-/* What the arguments ask for. */
+/* The arguments. */
 struct request {
     const char *title; /* of the page, or NULL */
     const char *path;  /* of the file, or NULL for standard input */
@@ -92,7 +90,7 @@ static enum status read_document(const char *path, struct document *document) {
     return status;
 }
 
-/* The HTML of a document, in memory of its own. */
+/* The HTML of a document, in allocated memory. */
 static enum status compile(const struct document *document, uint8_t **text, size_t *length) {
     const bivdrazo_answer answer =
         bivdrazo_compile_alloc(document->events, document->events_length, document->bytes,
@@ -126,7 +124,7 @@ static enum status compile_title(const char *title, struct text *text) {
     return status;
 }
 
-/* Ends what is written to standard output. */
+/* Ends the output. */
 static enum status end_output(void) {
     return fflush(stdout) != 0 || ferror(stdout) ? NO_INPUT_OUTPUT : DONE;
 }

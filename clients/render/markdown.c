@@ -31,17 +31,17 @@ static int compare_places(const void *left, const void *right) {
                       : cmark_node_get_start_column(one) - cmark_node_get_start_column(other);
 }
 
-/* A tree that is walked: its turn is the one that isn't added yet. */
+/* A tree that is walked: its step is the next one to add. */
 struct tree {
     cmark_iter *walker;
-    cmark_event_type turn;
+    cmark_event_type step;
 };
 
 /*
- * The parser moves the definitions of footnotes to the end of the tree. Here they go back before
+ * The parser moves the definitions of footnotes to the end of the tree. This moves them back before
  * the block that followed them, since footnotes are numbered in the order of the document: so a
- * definition is walked in the midst of another tree. `trees` are those that are being walked, the
- * last one first; each definition is walked once.
+ * definition is walked during the walk of another tree. `trees` are those that are being walked,
+ * the last one first; each definition is walked once.
  */
 struct places {
     cmark_node **definitions; /* by their lines */
@@ -51,7 +51,7 @@ struct places {
     size_t trees_length;
 };
 
-/* How many definitions there are. */
+/* The number of definitions. */
 static size_t count_definitions(cmark_node *root) {
     size_t count = 0;
     for (cmark_node *node = cmark_node_first_child(root); node != NULL;
@@ -80,46 +80,47 @@ static struct places find_places(cmark_node *root) {
     return places;
 }
 
-/* Begins to walk a tree: there is room, since the document and each definition are walked once. */
+/* Begins the walk of a tree: there is room, since the document and each definition are walked
+   once. */
 static void begin_tree(struct places *places, cmark_node *node) {
     struct tree *tree = &places->trees[places->trees_length++];
     tree->walker = cmark_iter_new(node);
-    tree->turn = cmark_iter_next(tree->walker);
+    tree->step = cmark_iter_next(tree->walker);
 }
 
-/* Whether the next definition stood before this turn: before a block that begins on a later line,
-   or in the document.
+/* Whether the next definition was before this step: before a block that begins on a later line, or
+   in the document.
  */
-static bool is_after_definition(const struct places *places, cmark_event_type turn,
+static bool is_after_definition(const struct places *places, cmark_event_type step,
                                 cmark_node *node) {
     cmark_node *parent = cmark_node_parent(node);
     if (places->definitions_done == places->definitions_length)
         return false;
     if (parent == NULL)
-        return turn == CMARK_EVENT_EXIT;
+        return step == CMARK_EVENT_EXIT;
     const cmark_node_type type = cmark_node_get_type(parent);
     const bool is_flow = type == CMARK_NODE_DOCUMENT || type == CMARK_NODE_BLOCK_QUOTE ||
                          type == CMARK_NODE_ITEM || type == CMARK_NODE_FOOTNOTE_DEFINITION;
     cmark_node *definition = places->definitions[places->definitions_done];
-    return turn == CMARK_EVENT_ENTER && is_flow && !is_definition(node) &&
+    return step == CMARK_EVENT_ENTER && is_flow && !is_definition(node) &&
            cmark_node_get_start_line(definition) < cmark_node_get_start_line(node);
 }
 
-/* Adds the next turn of the last tree, or of a definition that stood before it. */
+/* Adds the next step of the last tree, or begins a definition that was before it. */
 static void add_next(struct walk *walk, struct places *places) {
     struct tree *tree = &places->trees[places->trees_length - 1];
     cmark_node *node = cmark_iter_get_node(tree->walker);
-    if (tree->turn == CMARK_EVENT_DONE) {
+    if (tree->step == CMARK_EVENT_DONE) {
         cmark_iter_free(tree->walker);
         places->trees_length--;
-    } else if (is_after_definition(places, tree->turn, node)) {
+    } else if (is_after_definition(places, tree->step, node)) {
         begin_tree(places, places->definitions[places->definitions_done++]);
     } else if (places->trees_length == 1 && is_definition(node)) {
         cmark_iter_reset(tree->walker, node, CMARK_EVENT_EXIT);
-        tree->turn = cmark_iter_next(tree->walker);
+        tree->step = cmark_iter_next(tree->walker);
     } else {
-        add_turn(walk, tree->turn, node);
-        tree->turn = cmark_iter_next(tree->walker);
+        add_step(walk, tree->step, node);
+        tree->step = cmark_iter_next(tree->walker);
     }
 }
 

@@ -1,4 +1,4 @@
-/* Markdown in, events out, with cmark-gfm as the parser. */
+/* Converts Markdown into events, with cmark-gfm's parser. */
 #ifndef BIVDRAZO_RENDER_MARKDOWN_H
 #define BIVDRAZO_RENDER_MARKDOWN_H
 

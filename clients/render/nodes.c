@@ -160,12 +160,12 @@ static void exit_node(struct walk *walk, cmark_node *node) {
         exit_extension(walk, node);
 }
 
-void add_turn(struct walk *walk, cmark_event_type turn, cmark_node *node) {
+void add_step(struct walk *walk, cmark_event_type step, cmark_node *node) {
     const bool is_image = cmark_node_get_type(node) == CMARK_NODE_IMAGE;
-    if (turn == CMARK_EVENT_ENTER && !add_leaf(walk, node))
+    if (step == CMARK_EVENT_ENTER && !add_leaf(walk, node))
         enter_node(walk, node);
-    else if (turn == CMARK_EVENT_EXIT)
+    else if (step == CMARK_EVENT_EXIT)
         exit_node(walk, node);
     if (is_image)
-        walk->images += turn == CMARK_EVENT_ENTER ? 1 : (size_t)-1;
+        walk->images += step == CMARK_EVENT_ENTER ? 1 : (size_t)-1;
 }

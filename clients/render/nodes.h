@@ -1,4 +1,4 @@
-/* What the nodes of cmark-gfm's tree are in events. */
+/* Converts the nodes of cmark-gfm's tree into events. */
 #ifndef BIVDRAZO_RENDER_NODES_H
 #define BIVDRAZO_RENDER_NODES_H
 
@@ -7,30 +7,30 @@
 #include <cmark-gfm.h>
 
 /*
- * What the walk over a tree knows: the document so far, and what is around the node.
+ * The state of the walk over a tree: the document so far, and the surroundings of the node.
  *
- * The parser's texts are UTF-8 but for some that it cuts in the midst of a character (in brackets
- * that begin with a caret); so each text is looked at as it is added.
+ * The parser's texts are UTF-8, except some that it cuts in the middle of a character (in brackets
+ * that begin with a caret); so each text is checked when it is added.
  */
 struct walk {
     struct document document;
-    size_t images; /* how many images are around the node */
-    size_t tables; /* how many tables are around the node */
+    size_t images; /* the number of images around the node */
+    size_t tables; /* the number of tables around the node */
 };
 
-/* Adds one turn of the walk over a tree. */
-void add_turn(struct walk *walk, cmark_event_type turn, cmark_node *node);
+/* Adds a step of the walk over a tree. */
+void add_step(struct walk *walk, cmark_event_type step, cmark_node *node);
 
-/* Whether the parser's own name of a node is that one: extensions tell theirs so. */
+/* Whether the parser has this name for a node, as for the nodes of extensions. */
 bool is_called(cmark_node *node, const char *name);
 
-/* A text of the tree; the empty one where there is none. */
+/* A text of the tree; the empty one for a null pointer. */
 const char *text_or_empty(const char *text);
 
 /* Adds a node over a text. */
 void add_text(struct walk *walk, uint16_t name, const char *text);
 
-/* A node with one text in it, under names of their own. */
+/* Adds a node with one text in it, each with its name. */
 void add_text_in(struct walk *walk, uint16_t outer, uint16_t inner, const char *text,
                  size_t length);
 

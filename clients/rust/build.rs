@@ -1,7 +1,6 @@
-//! Finds the archive `libbivdrazo.a`, which clients/build makes: in the folder that
-//! `BIVDRAZO_FOLDER` names, or else in `lib`, where the crate's package has it, or else in
-//! `../out`. Where there is none, the crate can be documented, checked, built and packed, and no
-//! program can be linked with it.
+//! Finds the archive `libbivdrazo.a`, which clients/build makes: in the folder in
+//! `BIVDRAZO_FOLDER`, or in `lib`, where the packed crate has it, or in `../out`. Without it the
+//! crate can be documented, checked, built and packed, but no program can be linked.
 
 use std::env;
 use std::path::PathBuf;
@@ -20,7 +19,7 @@ fn main() {
     println!("cargo:rerun-if-changed={}", archive.display());
     if !archive.exists() {
         println!(
-            "cargo:warning={} isn't there: clients/build makes it",
+            "cargo:warning={} is missing: clients/build makes it",
             archive.display()
         );
         return;

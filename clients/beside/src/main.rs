@@ -16,7 +16,7 @@ fn main() -> Result<(), Box<dyn Error>> {
     let options = MarkdownOptions::default();
     let render = |document: &str| -> Result<String, Box<dyn Error>> {
         match &way[..] {
-            "bivdrazo" => Ok(markdown_to_html(document, &options)?),
+            "bivdrazo" => Ok(markdown_to_html(document, &options)?.into_string()),
             "pulldown-cmark" => Ok(plain(document)),
             "ammonia" => Ok(ammonia::clean(&plain(document))),
             _ => Err("usage: bivdrazo-beside bivdrazo|pulldown-cmark|ammonia".into()),

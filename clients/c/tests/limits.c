@@ -2,11 +2,11 @@
 #include "test.h"
 
 /*
- * Whether a paragraph of `Hi <b>` within limits is answered so, in a buffer of so many bytes, and
- * in memory of its own in so many turns.
+ * Whether a paragraph of `Hi <b>` within limits has this answer, in a buffer of `room` bytes, and
+ * with an allocated text after this number of calls.
  */
 static int answers_within(size_t text_limit, size_t work_limit, size_t room, bivdrazo_answer wanted,
-                          size_t wanted_turns) {
+                          size_t wanted_calls) {
     const bivdrazo_limits limits = {text_limit, work_limit, 2};
     const uint8_t *bytes = (const uint8_t *)"Hi <b>";
     const bivdrazo_options options = bivdrazo_options_default();
@@ -22,9 +22,9 @@ static int answers_within(size_t text_limit, size_t work_limit, size_t room, biv
     int is_right = memcmp(&answer, &wanted, sizeof answer) == 0 &&
                    memcmp(buffer, "<p>Hi &lt;b&gt;</p>", done) == 0 && buffer[done] == 7 &&
                    memcmp(buffer + done, buffer + done + 1, sizeof buffer - done - 1) == 0;
-    turns = 0;
+    calls = 0;
     answer = bivdrazo_compile_within_alloc(events, 4, bytes, 6, NULL, NULL, 0, &limits, &made);
-    is_right = is_right && turns == wanted_turns &&
+    is_right = is_right && calls == wanted_calls &&
                (answer.status == BIVDRAZO_OK
                     ? answer.length == 19 && strcmp((char *)made, "<p>Hi &lt;b&gt;</p>") == 0
                     : answer.status == wanted.status && made == NULL);
@@ -48,7 +48,7 @@ static void test_met_limits(void) {
     CHECK(answers_within(19, 6, 18, (bivdrazo_answer){BIVDRAZO_TOO_SHORT, 0, 0, 19}, 1));
 }
 
-/* Limits over nothing, over what is refused, over what stands for none, and null. */
+/* Limits for no events, for refused ones, for invalid ones, and null limits. */
 static void test_limits_refused(void) {
     const bivdrazo_limits least = {0, 0, 1};
     const bivdrazo_limits few = {SIZE_MAX, 5, 2};
@@ -76,7 +76,7 @@ static void test_limits_refused(void) {
     CHECK(answer.status == BIVDRAZO_NO_EVENT && answer.index == 3 && !text);
 }
 
-/* Adds the events of a node over no bytes to a list, around those that stand there from `start`. */
+/* Adds the events of a node over no bytes to a list, around its events from `start` on. */
 static void wrap(bivdrazo_event *events, size_t *length, size_t start, uint16_t name) {
     memmove(events + start + 1, events + start, (*length - start) * sizeof *events);
     events[start] = event(BIVDRAZO_ENTER, name, 0);

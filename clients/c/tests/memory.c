@@ -1,10 +1,10 @@
-/* Tests of calls for memory: in how many turns a text is made, and each call refused. */
+/* Tests of calls for memory: the number of calls for a text, and each request refused. */
 #include "test.h"
 
 #include "bivdrazo_markdown.h"
 
-/* A text that fits into the first size is made in one turn. */
-static void test_first_turn(void) {
+/* A text that fits into the first size takes one call. */
+static void test_first_size(void) {
     bivdrazo_event events[4];
     const char letters[] = "abcdefghijklmnopqrstuvwxyzabcdefghijklmnopqrstuvwxyzabcdefghijkl";
     const char script[] = "+ThematicBreak 0\n-ThematicBreak 3\n--\n***";
@@ -12,37 +12,37 @@ static void test_first_turn(void) {
     CHECK(bivdrazo_first_size(0, 0) == 64 && bivdrazo_first_size(0, 100) == 264 &&
           bivdrazo_first_size(10, 0) == 144);
     paragraph(events, 64);
-    turns = 0;
+    calls = 0;
     bivdrazo_answer answer =
         bivdrazo_compile_alloc(events, 4, (const uint8_t *)letters, 64, NULL, NULL, 0, &text);
-    CHECK(answer.status == BIVDRAZO_OK && answer.length == 71 && turns == 1);
+    CHECK(answer.status == BIVDRAZO_OK && answer.length == 71 && calls == 1);
     free(text);
-    turns = 0;
+    calls = 0;
     answer = bivdrazo_run_alloc((const uint8_t *)script, strlen(script), &text);
-    CHECK(answer.status == BIVDRAZO_OK && answer.length == 6 && turns == 1);
+    CHECK(answer.status == BIVDRAZO_OK && answer.length == 6 && calls == 1);
     free(text);
 }
 
-/* A text that needs more than the first size. */
-static void test_second_turn(void) {
+/* A text that needs more than the first size takes two. */
+static void test_second_size(void) {
     bivdrazo_event events[4];
     const char quotes[] =
         "\"\"\"\"\"\"\"\"\"\"\"\"\"\"\"\"\"\"\"\"\"\"\"\"\"\"\"\"\"\"\"\"\"\"\"\"\"\"\"\"";
     uint8_t *text;
     paragraph(events, 40);
-    turns = 0;
+    calls = 0;
     bivdrazo_answer answer =
         bivdrazo_compile_alloc(events, 4, (const uint8_t *)quotes, 40, NULL, NULL, 0, &text);
     CHECK(answer.status == BIVDRAZO_OK && answer.length == 247 &&
           answer.length > bivdrazo_first_size(4, 40));
-    CHECK(turns == 2);
+    CHECK(calls == 2);
     CHECK(text != NULL && strncmp((char *)text, "<p>&quot;", 9) == 0 &&
           strcmp((char *)text + 237, "&quot;</p>") == 0);
     free(text);
 }
 
-/* Each call for memory is refused in turn: the answer says so, and the buffer is untouched; at last
-   there is a text.
+/* Each request for memory is refused, one per run: the answer reports it, and the buffer is
+   unchanged; the last run returns a text.
  */
 static void test_refused_memory(void) {
     static const char script[] =
@@ -114,8 +114,8 @@ static void test_memory_of_wrappers(void) {
 }
 
 void test_memory(void) {
-    test_first_turn();
-    test_second_turn();
+    test_first_size();
+    test_second_size();
     test_refused_memory();
     test_refused_memory_of_slugs();
     test_memory_of_wrappers();

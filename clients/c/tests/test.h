@@ -10,7 +10,7 @@
 #include <stdio.h>
 #include <string.h>
 
-/* Counts a check that fails, and prints where it stands. */
+/* Counts a failed check, and prints its place. */
 #define CHECK(condition) check((condition), #condition, __FILE__, __LINE__)
 void check(int holds, const char *condition, const char *file, int line);
 
@@ -21,12 +21,12 @@ extern int failures;
 extern size_t calls_left;
 
 /* How often the library was asked for a text. */
-extern _Atomic size_t turns;
+extern _Atomic size_t calls;
 
 /* An event at an index. */
 bivdrazo_event event(uint8_t kind, uint16_t name, size_t index);
 
-/* The events of a paragraph over so many bytes. */
+/* The events of a paragraph over this number of bytes. */
 void paragraph(bivdrazo_event events[4], size_t length);
 
 /*

@@ -15,7 +15,7 @@ static uint32_t status_of(const bivdrazo_event *events, size_t events_length, co
     return answer.status;
 }
 
-/* Of events in which an automatic link stands in a link. */
+/* Events with an automatic link in a link. */
 static void test_has_nested_link(bivdrazo_event *events) {
     bivdrazo_answer answer = bivdrazo_has_nested_link(events, 14);
     CHECK(answer.status == BIVDRAZO_NESTED && answer.index == 0 && answer.length == 0);

@@ -19,7 +19,7 @@ static void test_status_texts(void) {
                  {BIVDRAZO_NO_ATTRIBUTE, "an attribute has no such value"},
                  {BIVDRAZO_TOO_LONG, "the text is too long"},
                  {BIVDRAZO_TOO_MUCH, "there is too much work"},
-                 {BIVDRAZO_NESTED, "a link stands in a link"},
+                 {BIVDRAZO_NESTED, "a link is in a link"},
                  {BIVDRAZO_TOO_DEEP, "the events nest too deep"},
                  {BIVDRAZO_TOO_DEEP + 1, "an unknown status"},
                  {UINT32_MAX, "an unknown status"}};
@@ -29,7 +29,7 @@ static void test_status_texts(void) {
 
 static void test_rule_and_name_texts(void) {
     CHECK(strcmp(bivdrazo_rule_text(BIVDRAZO_RULE_MDX), "a name of MDX") == 0);
-    CHECK(strcmp(bivdrazo_rule_text(BIVDRAZO_RULE_TARGET), "a link or an image leads nowhere") ==
+    CHECK(strcmp(bivdrazo_rule_text(BIVDRAZO_RULE_TARGET), "a link or an image has no target") ==
           0);
     for (uint32_t rule = BIVDRAZO_RULE_ORDER; rule <= BIVDRAZO_RULE_TARGET; rule++)
         CHECK(strcmp(bivdrazo_rule_text(rule), "an unknown rule") != 0);
@@ -38,7 +38,7 @@ static void test_rule_and_name_texts(void) {
     CHECK(bivdrazo_name_text(0) == NULL && bivdrazo_name_text(BIVDRAZO_NAME_OTHER) == NULL);
 }
 
-/* Some of HTML's names, each in a document of its own. */
+/* Some of HTML's names, each in its own document. */
 static void test_references(void) {
     for (size_t at = 0; at < BIVDRAZO_REFERENCES_LENGTH; at += 17) {
         const bivdrazo_reference *reference = &BIVDRAZO_REFERENCES[at];

@@ -1,8 +1,8 @@
-/* The calls that the linker leads here (--wrap): for memory, and for texts. */
+/* The calls that the linker redirects to this file (--wrap): for memory, and for texts. */
 #include "test.h"
 
-/* How many more calls for memory are met before one is refused. The linker leads the library's
-   calls here (--wrap).
+/* The number of further requests for memory before one is refused. The linker redirects the
+   library's requests to this file (--wrap).
  */
 size_t calls_left = SIZE_MAX;
 
@@ -17,9 +17,8 @@ void *__wrap_realloc(void *old, size_t size) {
     return calls_left != SIZE_MAX && calls_left-- == 0 ? NULL : __real_realloc(old, size);
 }
 
-/* How often the library was asked for a text: the linker leads the calls of these files here too.
- */
-_Atomic size_t turns = 0;
+/* The number of calls for a text: the linker redirects the calls of these files too. */
+_Atomic size_t calls = 0;
 
 bivdrazo_answer __real_bivdrazo_compile(const bivdrazo_event *events, size_t events_length,
                                         const uint8_t *bytes, size_t bytes_length,
@@ -40,7 +39,7 @@ bivdrazo_answer __wrap_bivdrazo_compile(const bivdrazo_event *events, size_t eve
                                         const bivdrazo_options *options,
                                         const bivdrazo_reference *names, size_t names_length,
                                         uint8_t *buffer, size_t buffer_length) {
-    turns++;
+    calls++;
     return __real_bivdrazo_compile(events, events_length, bytes, bytes_length, options, names,
                                    names_length, buffer, buffer_length);
 }
@@ -51,13 +50,13 @@ bivdrazo_answer __wrap_bivdrazo_compile_within(const bivdrazo_event *events, siz
                                                const bivdrazo_reference *names, size_t names_length,
                                                const bivdrazo_limits *limits, uint8_t *buffer,
                                                size_t buffer_length) {
-    turns++;
+    calls++;
     return __real_bivdrazo_compile_within(events, events_length, bytes, bytes_length, options,
                                           names, names_length, limits, buffer, buffer_length);
 }
 
 bivdrazo_answer __wrap_bivdrazo_run(const uint8_t *script, size_t script_length, uint8_t *buffer,
                                     size_t buffer_length) {
-    turns++;
+    calls++;
     return __real_bivdrazo_run(script, script_length, buffer, buffer_length);
 }

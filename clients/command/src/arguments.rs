@@ -1,4 +1,4 @@
-//! What the arguments ask for.
+//! The arguments of the command.
 
 use crate::files;
 use crate::parser::ParserLimits;
@@ -9,24 +9,25 @@ use clap_complete::Shell;
 use std::path::{Path, PathBuf};
 use std::process;
 
-/// What asks for ids of headings that are made of their texts.
+/// The value of `--heading-ids` for ids that are made of the headings' texts.
 const SLUG: &str = "slug";
 
-/// How deep the events of cmark-gfm's parser may nest, if nothing else is asked for: elements nest
-/// at most 485 deep then, and browsers flatten what is deeper than 512.
+/// The default limit on the nesting of events of cmark-gfm's parser: elements then nest at most 485
+/// deep, and browsers flatten elements that nest deeper than 512.
 const MOST_DEPTH: usize = 240;
 
 /// Renders Markdown as safe HTML.
 ///
-/// Tables, strikethrough, tasks, footnotes and bare links are read, and math with --math. Links and images whose protocol
-/// isn't permitted lead nowhere. Ends with status 0 if all was rendered, 1 if a file couldn't be
-/// (the others are written), 2 for other arguments; 5 if that is for --max-output alone, 6 for
-/// --max-work alone.
+/// Reads tables, strikethrough, tasks, footnotes and bare links, and math with --math. Links and
+/// images whose protocol isn't permitted get an empty URL. The exit status is 0 if every file was
+/// rendered; 1 if a file failed (the others are written); 2 for invalid arguments; 5 if files
+/// failed only because of --max-output, 6 if only because of --max-work.
 #[derive(Debug, Parser)]
 #[command(name = "bivdrazo-render", version = bivdrazo::VERSION_TEXT)]
 pub struct Arguments {
-    /// The files to render; - or none: standard input. Several ones need --out-dir, and so does a
-    /// folder, of which a site is made: its *.md as pages, and the files that these lead to.
+    /// The files to render; standard input if there is none or it is -. Several files need
+    /// --out-dir. A single folder, with --out-dir, is made into a site: each *.md becomes a page,
+    /// and the files that pages link to are copied.
     #[arg(value_name = "FILE", value_hint = ValueHint::FilePath)]
     pub files: Vec<PathBuf>,
 
@@ -35,135 +36,135 @@ pub struct Arguments {
         conflicts_with = "out_dir")]
     pub output: Option<PathBuf>,
 
-    /// Write each FILE to this folder, with the ending .html, on all processors.
+    /// Write each page to this folder, with the ending .html; uses all processors.
     #[arg(long, value_name = "DIR", value_hint = ValueHint::DirPath, requires = "files")]
     pub out_dir: Option<PathBuf>,
 
-    /// Of a folder, render what isn't newer than its page too.
+    /// For a folder: write all pages and copies, also those that are up to date.
     #[arg(long, requires = "out_dir")]
     pub all: bool,
 
-    /// Of a folder, render what changes in it, until the program is ended (by Ctrl-C).
+    /// For a folder: keep running and write the pages of files that change, until Ctrl-C.
     #[arg(long, requires = "out_dir")]
     pub watch: bool,
 
-    /// Write a whole page with this title, where its front matter has none.
+    /// Write a complete page, with this title if the front matter has none.
     #[arg(long, value_name = "TITLE")]
     pub page: Option<String>,
 
-    /// Write a whole page like this one, with {{title}}, {{content}}, {{toc}}, {{lang}} and
-    /// {{style}}.
+    /// Write a complete page from this template, with the places {{content}}, {{title}}, {{toc}},
+    /// {{lang}} and {{style}}.
     #[arg(long, value_name = "FILE", value_hint = ValueHint::FilePath)]
     pub page_template: Option<PathBuf>,
 
-    /// Leave out front matter, and take its title, as of the files of a folder.
+    /// Leave out front matter and use its title; always on for a folder.
     #[arg(long)]
     pub front_matter: bool,
 
-    /// The page's language, such as en.
+    /// The language of the page, such as en.
     #[arg(long, value_name = "LANG")]
     pub lang: Option<String>,
 
-    /// The page's style: a file, or none; else a small one of its own.
+    /// The style of the page: a CSS file, or none; by default a small style.
     #[arg(long, value_name = "FILE|none", value_hint = ValueHint::FilePath)]
     pub css: Option<PathBuf>,
 
-    /// What the ids of footnotes begin with, instead of user-content-.
+    /// The prefix of the ids of footnotes; by default user-content-.
     #[arg(long, value_name = "TEXT")]
     pub footnote_prefix: Option<String>,
 
-    /// The heading of the footnotes, instead of Footnotes.
+    /// The heading of the footnotes; by default Footnotes.
     #[arg(long, value_name = "TEXT")]
     pub footnote_label: Option<String>,
 
-    /// The label of a way back from a footnote, instead of Back to content.
+    /// The label of the link back from a footnote; by default Back to content.
     #[arg(long, value_name = "TEXT")]
     pub footnote_back_label: Option<String>,
 
-    /// Make the ids of footnotes of their numbers.
+    /// Use numbers in the ids of footnotes, so that no two ids are equal.
     #[arg(long)]
     pub number_ids: bool,
 
-    /// The rel of each link that leads away from the page.
+    /// The rel of each link to another page.
     #[arg(long, value_name = "TEXT")]
     pub rel: Option<String>,
 
-    /// Give each heading an id: slug for one that is made of its text, as GitHub does; else this
-    /// text and the heading's number.
+    /// Give each heading an id: with slug, an id made from its text, nearly as GitHub makes it;
+    /// otherwise this prefix and the number of the heading.
     #[arg(long, value_name = "slug|PREFIX")]
     pub heading_ids: Option<String>,
 
-    /// Write a table of contents before the text, or at {{toc}} in a --page-template. Headings get
-    /// ids that are made of their texts, where no other ones are asked for.
+    /// Write a table of contents before the text, or at {{toc}} in a --page-template. Without
+    /// --heading-ids, headings get ids made from their texts.
     #[arg(long)]
     pub toc: bool,
 
-    /// Begin a new line where the document does.
+    /// Write a line break for each line ending in a paragraph.
     #[arg(long)]
     pub hard_breaks: bool,
 
-    /// Make no links of bare URLs and addresses.
+    /// Don't make links of bare URLs and addresses.
     #[arg(long)]
     pub no_bare_links: bool,
 
-    /// Read math between $ or $$: it stays as it is, in code with the class language-math.
+    /// Read math between $ or $$; it is written unchanged, as code with the class language-math.
     #[arg(long)]
     pub math: bool,
 
-    /// Read no footnotes.
+    /// Don't read footnotes.
     #[arg(long)]
     pub no_footnotes: bool,
 
-    /// Read no tables.
+    /// Don't read tables.
     #[arg(long)]
     pub no_tables: bool,
 
-    /// What becomes of HTML in the document.
+    /// How to treat HTML in the document.
     #[arg(long, value_enum, default_value_t = Html::Text)]
     pub html: Html,
 
-    /// The URL against which those of links and images are read.
+    /// The base URL of relative URLs in links and images.
     #[arg(long, value_name = "URL")]
     pub base: Option<String>,
 
-    /// The parser. The one of cmark-gfm, which is written in C, runs in a process of its
-    /// own with limits.
+    /// The parser. That of cmark-gfm, which is written in C, runs as a separate process with
+    /// limits.
     #[arg(long, value_enum, default_value_t = ParserName::Bivdrazo)]
     pub parser: ParserName,
 
-    /// How many seconds of processor time cmark-gfm's parser may take, and three times as many
-    /// by the clock; 10.
+    /// The limit on the processor time of cmark-gfm's parser, by default 10; the limit on elapsed
+    /// time is three times as long.
     #[arg(long, value_name = "SECONDS", value_parser = value_parser!(u32).range(1..))]
     pub parser_seconds: Option<u32>,
 
-    /// How much memory cmark-gfm's parser may take, and its events here as much once more; 512.
+    /// The limit on the memory of cmark-gfm's parser, and on that of its events; by default 512.
     #[arg(long, value_name = "MEGABYTES", value_parser = value_parser!(u32).range(1..))]
     pub parser_memory: Option<u32>,
 
-    /// How many bytes a document may have.
+    /// The limit on the length of a document.
     #[arg(long, value_name = "BYTES")]
     pub max_input: Option<usize>,
 
-    /// How many bytes the HTML of a document may have; 5 is the status where one would have more.
+    /// The limit on the length of a document's HTML; the exit status is 5 if it is exceeded.
     #[arg(long, value_name = "BYTES")]
     pub max_output: Option<usize>,
 
-    /// How much there may be to read and to print in what the parser makes of a document, in bytes,
-    /// instead of 2^20 and 64 for each of its bytes; 6 is the status where there is more.
+    /// The limit on the work for a document: the bytes to read and to print in the parser's events;
+    /// by default 2^20, and 64 for each byte of the document. The exit status is 6 if it is
+    /// exceeded.
     #[arg(long, value_name = "BYTES")]
     pub max_work: Option<usize>,
 
-    /// How many nodes of a document may be open at once: one in which more would be is shown as it
-    /// is written. With cmark-gfm's parser it fails, and the bound is 240, if none is given. 0: no
-    /// bound.
+    /// The limit on open nodes: a document that nests deeper is shown as it is written. With
+    /// cmark-gfm's parser it fails instead, and the default is 240. 0: no limit.
     #[arg(long, value_name = "NODES")]
     pub max_depth: Option<usize>,
 
-    /// Print what makes this shell complete these options, and render nothing.
+    /// Print a completion script for this shell, and render nothing.
     #[arg(long, value_name = "SHELL", value_enum, exclusive = true)]
     pub completions: Option<Shell>,
 
-    /// Whether the only file is a folder of which a site is made.
+    /// Whether the only file is a folder, which is made into a site.
     #[arg(skip)]
     is_site: bool,
 }
@@ -171,26 +172,25 @@ pub struct Arguments {
 /// A parser of Markdown.
 #[derive(Clone, Copy, Debug, Eq, PartialEq, ValueEnum)]
 pub enum ParserName {
-    /// Bivdrazo's own, which is proved.
+    /// Bivdrazo's own, which is proved to end for every document.
     Bivdrazo,
-    /// cmark-gfm, for GFM to the byte.
+    /// That of cmark-gfm, whose GFM is exact.
     CmarkGfm,
 }
 
-/// What becomes of HTML in the document.
+/// How to treat HTML in the document.
 #[derive(Clone, Copy, Debug, Eq, PartialEq, ValueEnum)]
 pub enum Html {
-    /// It is printed as text.
+    /// Print it as text.
     Text,
-    /// It is left out.
+    /// Leave it out.
     LeftOut,
-    /// Comments are left out, the rest is printed as text.
+    /// Leave out comments, and print the rest as text.
     WithoutComments,
 }
 
 impl Arguments {
-    /// What the program was called with; ends it where that can't be read, or only help or the
-    /// version is wanted.
+    /// Reads the arguments. Exits if they are invalid, or only ask for help or the version.
     pub fn read() -> Arguments {
         let mut arguments = Arguments::try_parse().unwrap_or_else(|error| end(&error));
         arguments.is_site = match (&arguments.files[..], &arguments.out_dir) {
@@ -198,34 +198,34 @@ impl Arguments {
             _ => false,
         };
         if arguments.files.len() > 1 && arguments.out_dir.is_none() {
-            let told = "several files need --out-dir <DIR>";
-            end(&Arguments::command().error(ErrorKind::MissingRequiredArgument, told));
+            let message = "several files need --out-dir <DIR>";
+            end(&Arguments::command().error(ErrorKind::MissingRequiredArgument, message));
         }
         if (arguments.lang.is_some() || arguments.css.is_some()) && !arguments.wants_page() {
-            let told = "--lang and --css need --page, --page-template or a folder";
-            end(&Arguments::command().error(ErrorKind::MissingRequiredArgument, told));
+            let message = "--lang and --css need --page, --page-template or a folder";
+            end(&Arguments::command().error(ErrorKind::MissingRequiredArgument, message));
         }
         if arguments.watch && !arguments.is_site {
-            let told = "--watch needs a folder";
-            end(&Arguments::command().error(ErrorKind::MissingRequiredArgument, told));
+            let message = "--watch needs a folder";
+            end(&Arguments::command().error(ErrorKind::MissingRequiredArgument, message));
         }
         if let Some(option) = arguments.of_another_parser() {
-            let told = format!("{option} isn't there with this --parser");
-            end(&Arguments::command().error(ErrorKind::ArgumentConflict, told));
+            let message = format!("{option} can't be used with this --parser");
+            end(&Arguments::command().error(ErrorKind::ArgumentConflict, message));
         }
         if arguments.base.is_some() && arguments.is_site {
-            let told = "--base isn't there with a folder, whose links lead to its own pages";
-            end(&Arguments::command().error(ErrorKind::ArgumentConflict, told));
+            let message = "--base can't be used with a folder, whose links point to its pages";
+            end(&Arguments::command().error(ErrorKind::ArgumentConflict, message));
         }
         arguments
     }
 
-    /// The folder of which a site is made, where that is wanted.
+    /// The folder that is made into a site, if there is one.
     pub fn folder(&self) -> Option<&Path> {
         self.is_site.then(|| self.source())
     }
 
-    /// Whether a text is written in a page.
+    /// Whether a complete page is written.
     pub fn wants_page(&self) -> bool {
         self.page.is_some() || self.page_template.is_some() || self.is_site
     }
@@ -235,7 +235,7 @@ impl Arguments {
         self.front_matter || self.is_site
     }
 
-    /// What makes a shell complete the arguments.
+    /// The completion script for a shell.
     pub fn completions(shell: Shell) -> String {
         let mut script = Vec::new();
         let name = env!("CARGO_PKG_NAME");
@@ -243,7 +243,7 @@ impl Arguments {
         String::from_utf8_lossy(&script).into_owned()
     }
 
-    /// An option that the parser doesn't have.
+    /// An option that the chosen parser doesn't support.
     fn of_another_parser(&self) -> Option<&'static str> {
         let options = match self.parser {
             ParserName::Bivdrazo => vec![
@@ -266,7 +266,7 @@ impl Arguments {
         given.map(|(option, _)| option)
     }
 
-    /// What cmark-gfm's parser may take.
+    /// The limits of cmark-gfm's parser.
     pub fn parser_limits(&self) -> ParserLimits {
         ParserLimits {
             seconds: self.parser_seconds.unwrap_or(10),
@@ -274,7 +274,7 @@ impl Arguments {
         }
     }
 
-    /// The library's options for a parser's events; they are safe.
+    /// The library's options for the events of a parser; they are safe.
     pub fn library_options(&self) -> Options {
         let mut options = Options::default().with_gfm_footnote_number_ids(self.number_ids);
         options.gfm_footnote_clobber_prefix = self.footnote_prefix.clone();
@@ -283,7 +283,7 @@ impl Arguments {
         options
     }
 
-    /// Whether the ids of headings are made of their texts.
+    /// Whether the ids of headings are made from their texts.
     pub fn has_slugs(&self) -> bool {
         match self.heading_ids.as_deref() {
             None => self.toc,
@@ -296,7 +296,7 @@ impl Arguments {
         self.heading_ids.is_some() || self.toc
     }
 
-    /// What is added to the tags of a text.
+    /// The attributes to add to the tags of a text.
     pub fn attributes(&self) -> Attributes {
         let mut attributes = Attributes::default();
         attributes.rel = self.rel.clone();
@@ -304,8 +304,8 @@ impl Arguments {
         attributes
     }
 
-    /// The limits of the text, of the work and of the nesting of a parser's events, for a document
-    /// of so many bytes.
+    /// The limits on the text, on the work and on the nesting of a parser's events, for a document
+    /// of this length.
     pub fn limits(&self, length: usize) -> Limits {
         Limits::default()
             .with_text(self.max_output.unwrap_or(usize::MAX))
@@ -313,12 +313,12 @@ impl Arguments {
             .with_depth(self.max_depth.unwrap_or(MOST_DEPTH))
     }
 
-    /// The file to render, where there is one.
+    /// The file to render; `-` is standard input.
     pub fn source(&self) -> &Path {
         self.files.first().map_or(Path::new("-"), PathBuf::as_path)
     }
 
-    /// The options for reading by the library's own parser.
+    /// The options of the library's own parser.
     pub fn options(&self) -> MarkdownOptions {
         let mut options = MarkdownOptions::default()
             .with_hard_breaks(self.hard_breaks)
@@ -347,15 +347,14 @@ impl Arguments {
     }
 }
 
-/// Ends the program with what its arguments have wrong, or with the help or the version
-/// that they ask for.
-fn end(told: &clap::Error) -> ! {
-    let printed = told.print();
+/// Prints an error of the arguments, the help or the version, and exits.
+fn end(message: &clap::Error) -> ! {
+    let printed = message.print();
     process::exit(match printed {
-        _ if told.use_stderr() => 2,
+        _ if message.use_stderr() => 2,
         Ok(()) => 0,
         Err(error) => {
-            files::tell(&format!("standard output: {error}"));
+            files::report(&format!("standard output: {error}"));
             1
         }
     })

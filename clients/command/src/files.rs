@@ -8,10 +8,10 @@ use std::path::{Path, PathBuf};
 use std::process;
 use std::sync::atomic::{AtomicUsize, Ordering};
 
-/// How much of a text is written at once, in bytes.
+/// The most bytes of a text that are written at once.
 const BUFFER: usize = 1 << 16;
 
-/// The text of a file, or of standard input, which may have so many bytes.
+/// Reads a file, or standard input, which may have at most `limit` bytes.
 pub fn read(path: &Path, limit: Option<usize>) -> Result<String, Failure> {
     let input: Box<dyn Read> = match path.to_str() {
         Some("-") => Box::new(io::stdin()),
@@ -43,9 +43,9 @@ pub fn print(texts: &[&str]) -> io::Result<()> {
     output.flush()
 }
 
-/// Tells what failed on standard error; where that fails too, the status alone says so.
-pub fn tell(what: &str) {
-    let line = format!("bivdrazo-render: {what}\n");
+/// Prints a message on standard error; if that fails too, only the status reports it.
+pub fn report(message: &str) {
+    let line = format!("bivdrazo-render: {message}\n");
     let _ = io::stderr().write_all(line.as_bytes());
 }
 
@@ -54,7 +54,7 @@ fn write_all(output: &mut impl Write, texts: &[&str]) -> io::Result<()> {
     texts.try_for_each(|text| output.write_all(text.as_bytes()))
 }
 
-/// Where each file goes in a folder, which is made where it isn't there.
+/// The path of each file's page in a folder, which is made if it doesn't exist.
 pub fn targets(sources: &[PathBuf], folder: &Path) -> Result<Vec<PathBuf>, Failure> {
     let mut taken: HashMap<PathBuf, &Path> = HashMap::new();
     let mut targets = Vec::new();
@@ -80,7 +80,7 @@ pub fn targets(sources: &[PathBuf], folder: &Path) -> Result<Vec<PathBuf>, Failu
     Ok(targets)
 }
 
-/// Whether both are one file, which is there.
+/// Whether both paths are those of one existing file.
 pub fn is_same(source: &Path, target: &Path) -> bool {
     match (fs::canonicalize(source), fs::canonicalize(target)) {
         (Ok(source), Ok(target)) => source == target && source.is_file(),
@@ -88,12 +88,13 @@ pub fn is_same(source: &Path, target: &Path) -> bool {
     }
 }
 
-/// Writes texts to a file: beside it, and then under its name, so that it is never there by half.
-/// What is there and is no file, such as a device, is written to as it is. Where it is asked for,
-/// the text is on the disk before it has its name.
+/// Writes texts to a new file in the same folder and renames it, so that no file is ever written by
+/// half. A path that isn't a file, such as a device, is opened and written to. With `is_synced` the
+/// text is on the disk before the file gets its name.
 pub fn write(path: &Path, texts: &[&str], is_synced: bool) -> io::Result<()> {
     fill(path, |file| {
-        let mut output = BufWriter::with_capacity(BUFFER, &*file);
+        let length = texts.iter().map(|text| text.len()).sum();
+        let mut output = BufWriter::with_capacity(BUFFER.min(length), &*file);
         write_all(&mut output, texts)?;
         output.flush()?;
         drop(output);
@@ -110,7 +111,7 @@ pub fn copy(source: &Path, target: &Path) -> io::Result<()> {
     fill(target, |file| io::copy(&mut source, file).map(drop))
 }
 
-fn fill(path: &Path, put: impl FnOnce(&mut File) -> io::Result<()>) -> io::Result<()> {
+fn fill(path: &Path, write: impl FnOnce(&mut File) -> io::Result<()>) -> io::Result<()> {
     let mut path = path.to_path_buf();
     let mut found = fs::symlink_metadata(&path);
     if matches!(&found, Ok(found) if found.is_symlink()) {
@@ -118,10 +119,10 @@ fn fill(path: &Path, put: impl FnOnce(&mut File) -> io::Result<()>) -> io::Resul
         found = fs::metadata(&path);
     }
     if matches!(&found, Ok(found) if !found.is_file()) {
-        return put(&mut OpenOptions::new().write(true).open(&path)?);
+        return write(&mut OpenOptions::new().write(true).open(&path)?);
     }
     let (beside, mut file) = new_beside(&path)?;
-    let written = put(&mut file)
+    let written = write(&mut file)
         .and_then(|()| {
             found.map_or(Ok(()), |found| {
                 fs::set_permissions(&beside, found.permissions())
@@ -134,7 +135,7 @@ fn fill(path: &Path, put: impl FnOnce(&mut File) -> io::Result<()>) -> io::Resul
     written
 }
 
-/// A new file in the same folder. Its name is short, however long that of the other one is.
+/// Makes a new file in the same folder, with a short name.
 fn new_beside(path: &Path) -> io::Result<(PathBuf, File)> {
     static NUMBER: AtomicUsize = AtomicUsize::new(0);
     path.file_name().ok_or(io::ErrorKind::InvalidInput)?;

@@ -1,4 +1,4 @@
-//! What the links of a page lead to.
+//! The targets of a page's links.
 
 use crate::links::{self, Target};
 use crate::tree::Tree;
@@ -9,23 +9,29 @@ use std::hash::{Hash, Hasher};
 use std::mem;
 use std::path::{Path, PathBuf};
 
-/// How many characters of a URL are told.
-const MOST_TOLD: usize = 200;
+/// The most characters of a URL that a warning shows.
+const MOST_SHOWN: usize = 200;
 
-/// What the links of a page lead to: files, nothing, and ids in pages, by their URLs. It is kept
-/// for each page until all are read, so it is small: of ids it has hashes.
+/// Warnings about links.
+const NO_TARGET: &str = "a link has no target";
+const NO_INDEX: &str = "a link points to a folder without index.md";
+const NO_ID: &str = "a link points to a missing id";
+
+/// The targets of a page's links: files, and URLs without a target. It is kept for each page until
+/// all are read, so it is small: it has hashes of ids.
 #[derive(Default)]
 pub struct Found {
     files: Vec<PathBuf>,
-    lost: Vec<String>,
+    /// URLs without a target, each with its warning.
+    lost: Vec<(String, &'static str)>,
     anchors: Vec<Anchor>,
     /// The ids of the page itself.
     ids: Vec<u64>,
-    /// What is wrong with its front matter.
-    fault: Option<&'static str>,
+    /// The error in its front matter.
+    fault: Option<String>,
 }
 
-/// A URL that leads to an id in the page of a source.
+/// A URL with a fragment, and the id in the page of a source that it refers to.
 struct Anchor {
     url: String,
     page: PathBuf,
@@ -33,31 +39,33 @@ struct Anchor {
 }
 
 impl Found {
-    /// Nothing yet, of a document with that fault in its front matter.
-    pub fn with_fault(fault: Option<&'static str>) -> Found {
+    /// No targets, for a document with that error in its front matter.
+    pub fn with_fault(fault: Option<String>) -> Found {
         Found {
             fault,
             ..Found::default()
         }
     }
 
-    /// The files that aren't rendered, which are forgotten here.
+    /// Takes out the files that aren't rendered.
     pub fn take_files(&mut self) -> Vec<PathBuf> {
         mem::take(&mut self.files)
     }
 
-    /// Adds what a URL leads to, from the page of that source; what it becomes, where it changes.
+    /// Adds the target of a URL in the page of that source. Returns the URL's replacement, if it
+    /// has one.
     pub fn add(&mut self, url: &str, source: &Path, tree: &Tree) -> Option<String> {
         match links::target(url, source, tree) {
             Target::Page(url) => return Some(url),
             Target::File(path) => self.files.push(path),
-            Target::Nowhere => self.lost.push(url.to_string()),
+            Target::Folder => self.lost.push((url.to_string(), NO_INDEX)),
+            Target::Nothing => self.lost.push((url.to_string(), NO_TARGET)),
             Target::Other => {}
         }
         None
     }
 
-    /// Adds the id that a URL leads to, where it does.
+    /// Adds the id that a URL refers to, if any.
     pub fn add_anchor(&mut self, url: &str, source: &Path, tree: &Tree) {
         if let Some((page, id)) = links::anchor(url, source, tree) {
             self.anchors.push(Anchor {
@@ -68,7 +76,7 @@ impl Found {
         }
     }
 
-    /// Adds the ids of the page of that source. Its own links to them needn't be kept.
+    /// Adds the ids of the page of that source, and drops its links to its own ids.
     pub fn add_ids<'a>(&mut self, ids: impl Iterator<Item = Cow<'a, str>>, source: &Path) {
         self.ids = ids.map(|id| hash(&id)).collect();
         self.ids.sort_unstable();
@@ -77,7 +85,7 @@ impl Found {
         self.anchors = anchors;
     }
 
-    /// The same in order, each once, and in no more memory than that takes.
+    /// Sorts the targets, removes duplicates, and frees unused memory.
     pub fn in_order(mut self) -> Found {
         self.files.sort_unstable();
         self.files.dedup();
@@ -91,15 +99,15 @@ impl Found {
         self
     }
 
-    /// What is told of the page of that name, where these pages were read.
-    pub fn told(&self, name: &str, read: &HashMap<&Path, &Found>) -> Vec<String> {
+    /// The warnings about the page of that name, after these pages were read.
+    pub fn warnings(&self, name: &str, read: &HashMap<&Path, &Found>) -> Vec<String> {
         let fault = self.fault.iter().map(|fault| format!("{name}: {fault}"));
-        let lost = self.lost.iter().map(|url| (url, "a link leads nowhere"));
+        let lost = self.lost.iter().map(|(url, what)| (url, *what));
         let without = self.anchors.iter().filter(|anchor| {
             let page = read.get(&*anchor.page);
             page.map_or(false, |page| !page.has(anchor.id))
         });
-        let without = without.map(|anchor| (&anchor.url, "a link leads to no such id"));
+        let without = without.map(|anchor| (&anchor.url, NO_ID));
         let lost = lost.chain(without);
         let lost = lost.map(|(url, what)| format!("{name}: {what}: {}", short(url)));
         fault.chain(lost).collect()
@@ -117,8 +125,8 @@ fn hash(id: &str) -> u64 {
     hasher.finish()
 }
 
-/// A URL as it is told: in one line, and not all of a long one.
+/// A URL in a warning: in one line, and cut if it is long.
 fn short(url: &str) -> String {
-    let url: String = url.chars().take(MOST_TOLD).collect();
+    let url: String = url.chars().take(MOST_SHOWN).collect();
     url.replace(char::is_control, "\u{fffd}")
 }

@@ -1,8 +1,13 @@
-//! Front matter: what stands before a document between two lines of marks.
+//! Front matter: the text between two lines of marks at the beginning of a document.
 //!
-//! What stands between two lines of `---` is what the library says. Read here is what it doesn't:
-//! YAML that ends with a line of `...`, and TOML.
+//! The library finds the text between two lines of `---`. This module also finds YAML that ends
+//! with a line `...`, and TOML between two lines `+++`. The title is read by a library for YAML and
+//! one for TOML. A title that can't be read is a fault, and so is front matter that isn't valid.
 
+mod toml;
+mod yaml;
+
+use crate::quiet::quietly;
 use bivdrazo::front_matter_of;
 
 /// The first line of front matter in YAML, another one that ends it, and the lines around TOML.
@@ -10,19 +15,28 @@ const YAML: &str = "---";
 const YAML_END: &str = "...";
 const TOML: &str = "+++";
 
-/// What is told of front matter that can't be read.
+/// The most bytes of front matter that are read. The libraries are fast up to there.
+const MOST_BYTES: usize = 1 << 16;
+
+/// The most collections in one another, which bounds the stack.
+const MOST_DEPTH: usize = 64;
+
+/// The most characters of a library's message that a fault shows.
+const MOST_SHOWN: usize = 200;
+
+/// Faults.
 const NO_END: &str = "the front matter has no end";
-const NO_TITLE: &str = "the title in the front matter can't be read";
+const EMPTY_TITLE: &str = "the title in the front matter is empty";
 
 /// The front matter of a document.
 #[derive(Debug, Default, PartialEq)]
 pub struct Front {
-    /// Its title, where it has one that can be read.
+    /// Its title, if it has one that can be read.
     pub title: Option<String>,
-    /// How many bytes it takes: none, where there is none or it has no end.
+    /// Its length in bytes; 0 for a document without front matter, or if it has no end.
     pub end: usize,
-    /// What is wrong with it.
-    pub fault: Option<&'static str>,
+    /// The error in it.
+    pub fault: Option<String>,
 }
 
 /// The front matter that a document begins with.
@@ -39,39 +53,79 @@ pub fn front_matter(document: &str) -> Front {
     };
     match inner {
         Some(inner) => {
-            let title = title_of(inner, is_yaml);
-            let has_none = title.is_none() && names_title(inner, is_yaml);
+            let (title, fault) = match title_of(inner, is_yaml) {
+                Ok(title) => (title, None),
+                Err(fault) => (None, Some(fault)),
+            };
             Front {
                 title,
                 end: end_after(inner, document),
-                fault: has_none.then_some(NO_TITLE),
+                fault,
             }
         }
         // A line of marks with no key below it is a thematic break.
         None => Front {
-            fault: is_key(cut_line(rest).0, is_yaml).then_some(NO_END),
+            fault: is_key(cut_line(rest).0, is_yaml).then(|| NO_END.to_string()),
             ..Front::default()
         },
     }
+}
+
+/// The title in front matter, if there is one; or the error in the front matter.
+fn title_of(inner: &str, is_yaml: bool) -> Result<Option<String>, String> {
+    if inner.len() > MOST_BYTES {
+        return Err(format!("the front matter has more than {MOST_BYTES} bytes"));
+    }
+    // The libraries count lines by line feeds.
+    let inner = inner.replace("\r\n", "\n").replace('\r', "\n");
+    let read = match is_yaml {
+        true => quietly(|| yaml::title(&inner)),
+        false => quietly(|| toml::title(&inner)),
+    };
+    let name = if is_yaml { "YAML" } else { "TOML" };
+    let title =
+        read.unwrap_or_else(|| Err(format!("the reader of {name} failed: please report it")));
+    title?.map_or(Ok(None), |title| in_one_line(&title).map(Some))
+}
+
+/// A title with a space for each run of spaces and line endings.
+fn in_one_line(title: &str) -> Result<String, String> {
+    let title = title.split_ascii_whitespace().collect::<Vec<_>>().join(" ");
+    match title.is_empty() {
+        true => Err(EMPTY_TITLE.to_string()),
+        false => Ok(title),
+    }
+}
+
+/// The fault of a title that is something else than a text.
+fn no_text(what: &str) -> String {
+    format!("the title in the front matter is {what}")
+}
+
+/// The fault of front matter that isn't valid at a line, which counts from 1 in the front matter
+/// without the line of marks.
+fn invalid_at(language: &str, text: &str, line: usize, why: &str) -> String {
+    let line = line.clamp(1, text.lines().count().max(1)) + 1;
+    invalid(language, &format!("line {line}: {why}"))
+}
+
+/// The fault of front matter that isn't valid.
+fn invalid(language: &str, why: &str) -> String {
+    let why: String = why.chars().take(MOST_SHOWN).collect();
+    let why = why.replace(char::is_control, "\u{fffd}");
+    format!("the front matter isn't valid {language}: {why}")
+}
+
+fn too_deep() -> String {
+    format!("the front matter nests deeper than {MOST_DEPTH}")
 }
 
 /// Whether a line begins with a key.
 fn is_key(line: &str, is_yaml: bool) -> bool {
     let mark = if is_yaml { ':' } else { '=' };
     let key = line.split_once(mark).map_or("", |(key, _)| key.trim_end());
-    let is_part = |each: char| each.is_alphanumeric() || each == '_' || each == '-';
+    let is_part = |each: char| each.is_alphanumeric() || "_-\"'".contains(each);
     !key.is_empty() && key.chars().all(is_part)
-}
-
-/// Whether front matter has a line for the title with something in it.
-fn names_title(text: &str, is_yaml: bool) -> bool {
-    let mark = if is_yaml { ':' } else { '=' };
-    let lines = text.split(['\n', '\r']);
-    let mut lines = lines.take_while(|line| is_yaml || !line.starts_with('['));
-    lines.any(|line| match line.split_once(mark) {
-        Some((key, value)) => key.trim_end() == "title" && !value.trim().is_empty(),
-        None => false,
-    })
 }
 
 /// A text's first line, and what follows it.
@@ -84,7 +138,7 @@ fn cut_line(text: &str) -> (&str, &str) {
     text.split_at(end)
 }
 
-/// What stands before the first line that is a mark; nothing where another mark comes first.
+/// The text before the first line that is `mark`; nothing if a line `other` comes first.
 fn before<'a>(text: &'a str, mark: &str, other: &str) -> Option<&'a str> {
     let mut rest = text;
     while !rest.is_empty() {
@@ -98,163 +152,11 @@ fn before<'a>(text: &'a str, mark: &str, other: &str) -> Option<&'a str> {
     None
 }
 
-/// Where the line ends that follows a part of a document.
+/// The end of the line after a part of a document.
 fn end_after(part: &str, document: &str) -> usize {
     let start = part.as_ptr() as usize - document.as_ptr() as usize + part.len();
     start + cut_line(&document[start..]).0.len()
 }
 
-/// The title that front matter says: in TOML before any table.
-fn title_of(text: &str, is_yaml: bool) -> Option<String> {
-    let lines = text.split(['\n', '\r']);
-    lines
-        .take_while(|line| is_yaml || !line.starts_with('['))
-        .find_map(|line| title_in(line, is_yaml))
-}
-
-/// The title that a line says.
-fn title_in(line: &str, is_yaml: bool) -> Option<String> {
-    let rest = line.strip_prefix("title")?;
-    let value = match is_yaml {
-        true => rest
-            .strip_prefix(':')
-            .filter(|value| value.starts_with(char::is_whitespace))?,
-        false => rest.trim_start().strip_prefix('=')?,
-    };
-    let value = value.trim();
-    let title = match value.chars().next()? {
-        '"' => in_double_quotes(&value[1..])?,
-        '\'' => in_single_quotes(&value[1..])?,
-        '>' | '|' | '[' | '{' | '&' | '*' | '!' | '#' => return None,
-        _ => value.split(" #").next()?.to_string(),
-    };
-    let title = title.split_whitespace().collect::<Vec<_>>().join(" ");
-    (!title.is_empty()).then_some(title)
-}
-
-/// What stands before the quotation mark; a backslash before that or before another backslash goes.
-fn in_double_quotes(text: &str) -> Option<String> {
-    let mut found = String::new();
-    let mut rest = text.chars();
-    loop {
-        match rest.next()? {
-            '"' => return Some(found),
-            '\\' => match rest.next()? {
-                each @ ('"' | '\\' | '/') => found.push(each),
-                'n' | 't' => found.push(' '),
-                each => found.extend(['\\', each]),
-            },
-            each => found.push(each),
-        }
-    }
-}
-
-/// What stands before the apostrophe; two stand for one.
-fn in_single_quotes(text: &str) -> Option<String> {
-    let mut found = String::new();
-    let mut rest = text.chars().peekable();
-    loop {
-        match rest.next()? {
-            '\'' if rest.peek() != Some(&'\'') => return Some(found),
-            '\'' => found.extend(rest.next()),
-            each => found.push(each),
-        }
-    }
-}
-
 #[cfg(test)]
-mod tests {
-    use super::*;
-
-    /// The title, and what is left of the document.
-    fn of(document: &str) -> (Option<String>, &str) {
-        let front = front_matter(document);
-        (front.title, &document[front.end..])
-    }
-
-    #[test]
-    fn languages() {
-        let title = Some("A".to_string());
-        for document in [
-            "---\ntitle: A\n---\nb\n",
-            "---\ntitle: A\n...\nb\n",
-            "--- \r\ntitle: A\r\n---\r\nb\n",
-            "\u{feff}---\ntitle: A\n---\nb\n",
-            "---\n\ndate: c\ntitle: A # d\ntitle: e\n---\nb\n",
-            "---\ntitle: A\r---\rb\n",
-            "---\rtitle: A\r\n...\r\nb\n",
-            "+++\ntitle = \"A\"\n+++\nb\n",
-            "+++\ntitle='A'\n[c]\ntitle = \"d\"\n+++\nb\n",
-        ] {
-            assert_eq!(of(document), (title.clone(), "b\n"), "{document:?}");
-        }
-        assert_eq!(of("---\n---\nb"), (None, "b"));
-        assert_eq!(of("+++\n[c]\ntitle = \"d\"\n---\n...\n+++\nb"), (None, "b"));
-        assert_eq!(of("---\ntitle: A\n---"), (title, ""));
-    }
-
-    #[test]
-    fn none() {
-        for document in [
-            "",
-            "---",
-            "---\ntitle: A\n",
-            "---\ntitle: A\n+++\nb\n",
-            "+++\ntitle = \"A\"\n---\nb\n",
-            "\n---\ntitle: A\n---\n",
-            "----\ntitle: A\n---\n",
-            " ---\ntitle: A\n---\n",
-        ] {
-            assert_eq!(of(document), (None, document));
-        }
-    }
-
-    #[test]
-    fn faults() {
-        for (document, fault) in [
-            ("---\ntitle: A\n", Some(NO_END)),
-            ("+++\ntitle = \"A\"\n", Some(NO_END)),
-            ("---\ntitle: \"A\n---\n", Some(NO_TITLE)),
-            ("---\ntitle: [A]\n---\n", Some(NO_TITLE)),
-            ("+++\ntitle = 'A\n+++\n", Some(NO_TITLE)),
-            ("---\n\nA: b\n", None),
-            ("---\nA b: c\n", None),
-            ("---\n", None),
-            ("---\ntitle:\n---\n", None),
-            ("---\nb: c\n---\n", None),
-            ("+++\n[b]\ntitle = 'A\n+++\n", None),
-            ("A: b\n", None),
-        ] {
-            assert_eq!(front_matter(document).fault, fault, "{document:?}");
-        }
-    }
-
-    #[test]
-    fn titles() {
-        for (line, title) in [
-            ("title: a: \"b\"", "a: \"b\""),
-            ("title:   a   b ", "a b"),
-            ("title: \"a \\\"b\\\" \\\\ \\x\" # c", "a \"b\" \\ \\x"),
-            ("title: 'it''s' # c", "it's"),
-            ("title: c#", "c#"),
-        ] {
-            assert_eq!(title_in(line, true).as_deref(), Some(title), "{line}");
-        }
-        for line in [
-            "title:",
-            "title: ",
-            "title:a",
-            "title: \"a",
-            "title: 'a",
-            "title: >",
-            "title: ''",
-            " title: a",
-            "titles: a",
-            "title = a",
-            "Title: a",
-            "title: # a",
-        ] {
-            assert_eq!(title_in(&format!("{line}\n"), true), None, "{line}");
-        }
-    }
-}
+mod tests;

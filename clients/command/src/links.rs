@@ -5,20 +5,22 @@ use std::ffi::OsStr;
 use std::os::unix::ffi::OsStrExt;
 use std::path::{Path, PathBuf};
 
-/// What a URL of a page leads to.
+/// The target of a URL in a page.
 #[derive(Clone, Debug, Eq, PartialEq)]
 pub enum Target {
-    /// What isn't in the folder anyway, a page by its own name, or a folder that has one.
+    /// A URL out of the site, a page by its own name, or a folder with an index.md.
     Other,
-    /// The source of a page; the URL of the page.
+    /// The source of a page; this is the page's URL.
     Page(String),
     /// A file that isn't rendered.
     File(PathBuf),
+    /// A folder without index.md.
+    Folder,
     /// Nothing.
-    Nowhere,
+    Nothing,
 }
 
-/// What a URL leads to from the page of that source.
+/// The target of a URL in the page of that source.
 pub fn target(url: &str, source: &Path, tree: &Tree) -> Target {
     let end = url.find(&['?', '#'][..]).unwrap_or(url.len());
     let (path, rest) = url.split_at(end);
@@ -27,7 +29,7 @@ pub fn target(url: &str, source: &Path, tree: &Tree) -> Target {
     }
     let found = match read_from(source.parent().unwrap_or_else(|| Path::new("")), path) {
         Some(found) => found,
-        None => return Target::Nowhere,
+        None => return Target::Nothing,
     };
     let last = path.rsplit('/').next().unwrap_or("");
     let is_folder = matches!(last, "" | "." | "..");
@@ -40,13 +42,14 @@ pub fn target(url: &str, source: &Path, tree: &Tree) -> Target {
     let is_page = !is_folder
         && found.extension() == Some(OsStr::new(PAGE_ENDING))
         && tree.pages.contains(&found.with_extension(SOURCE_ENDING));
-    match is_page || tree.pages.contains(&found.join("index.md")) {
-        true => Target::Other,
-        false => Target::Nowhere,
+    match tree.folders.contains(&found) {
+        _ if is_page || tree.pages.contains(&found.join("index.md")) => Target::Other,
+        true => Target::Folder,
+        false => Target::Nothing,
     }
 }
 
-/// The page that a URL leads to, by its source, and the id in it, where it has both.
+/// The page that a URL refers to, as its source, and the id in it, if the URL has both.
 pub fn anchor(url: &str, source: &Path, tree: &Tree) -> Option<(PathBuf, String)> {
     let (before, fragment) = url.split_once('#')?;
     let path = before.split('?').next().unwrap_or("");
@@ -79,7 +82,7 @@ fn has_scheme(path: &str) -> bool {
     })
 }
 
-/// The path of a URL, read from a folder; nothing where it leads out of the tree.
+/// The path of a URL relative to a folder; none if it points out of the tree.
 fn read_from(folder: &Path, path: &str) -> Option<PathBuf> {
     let mut found = folder.to_path_buf();
     for part in path.split('/') {
@@ -98,7 +101,7 @@ fn read_from(folder: &Path, path: &str) -> Option<PathBuf> {
     Some(found)
 }
 
-/// The bytes of a part of a path, where `%` and two digits stand for one.
+/// The bytes of a part of a path, with percent escapes decoded.
 fn decoded(part: &str) -> Vec<u8> {
     let digit = |byte: Option<&u8>| byte.and_then(|&byte| char::from(byte).to_digit(16));
     let bytes = part.as_bytes();
@@ -123,7 +126,7 @@ fn decoded(part: &str) -> Vec<u8> {
     found
 }
 
-/// The path of a source, without `.md`; an ending that isn't written as it is goes with its name.
+/// The path of a source without `.md`. If the ending is escaped, the whole name is escaped anew.
 fn without_ending(path: &str) -> String {
     if let Some(stem) = path.strip_suffix(".md") {
         return stem.to_string();

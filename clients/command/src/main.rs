@@ -19,7 +19,7 @@ mod tree;
 mod watch;
 
 use arguments::Arguments;
-use failures::{status_of, told, Failed, Failure, FAILED};
+use failures::{process, status_of, Failed, Failure, FAILED};
 use page::Page;
 use rayon::prelude::*;
 use std::path::Path;
@@ -29,18 +29,21 @@ use summary::{Done, Outcome};
 fn main() -> ExitCode {
     let arguments = Arguments::read();
     let outcome = run(&arguments).unwrap_or_else(|error| {
-        let told = error.to_string();
+        let message = error.to_string();
         let status = FAILED;
-        Outcome::of(vec![Failed { told, status }])
+        Outcome::of(vec![Failed { message, status }])
     });
-    outcome.lost.iter().for_each(|each| files::tell(each));
     let failed = &outcome.failed;
-    failed.iter().for_each(|each| files::tell(&each.told));
-    outcome.summary().iter().for_each(|line| files::tell(line));
+    outcome.warnings.iter().for_each(|each| files::report(each));
+    failed.iter().for_each(|each| files::report(&each.message));
+    outcome
+        .summary()
+        .iter()
+        .for_each(|line| files::report(line));
     ExitCode::from(status_of(failed))
 }
 
-/// Does what the arguments ask for; what became of the files.
+/// Does what the arguments say, and returns the result for each file.
 fn run(arguments: &Arguments) -> Result<Outcome, Failure> {
     if let Some(shell) = arguments.completions {
         render::print(&[&Arguments::completions(shell)])?;
@@ -61,7 +64,7 @@ fn run(arguments: &Arguments) -> Result<Outcome, Failure> {
             let jobs = arguments.files.par_iter().zip(&targets);
             let done = jobs.map(|(source, target)| {
                 let work = || render(arguments, &page, source, Some(target));
-                let done = told(&source.display().to_string(), work);
+                let done = process(&source.display().to_string(), work);
                 bar.inc(1);
                 done
             });
@@ -77,13 +80,13 @@ fn run(arguments: &Arguments) -> Result<Outcome, Failure> {
                 _ => source.display().to_string(),
             };
             let work = || render(arguments, &page, source, arguments.output.as_deref());
-            outcome.add(told(&name, work));
+            outcome.add(process(&name, work));
         }
     }
     Ok(outcome)
 }
 
-/// Renders one file; to standard output where there is no target.
+/// Renders one file, to standard output if it has no target.
 fn render(
     arguments: &Arguments,
     page: &Page,
@@ -94,8 +97,8 @@ fn render(
         return Err(format!("{}: is the document itself", target.display()).into());
     }
     let read = render::read(arguments, source)?;
-    if let Some(fault) = read.fault {
-        files::tell(&format!("{}: {fault}", source.display()));
+    if let Some(fault) = &read.fault {
+        files::report(&format!("{}: {fault}", source.display()));
     }
     read.write(arguments, page, source, target)?;
     Ok(Done::Written)

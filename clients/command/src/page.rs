@@ -6,8 +6,7 @@ use bivdrazo::{compile, Event, Name, Options};
 use std::fs;
 use std::path::Path;
 
-/// What a page has where no other style is asked for. Its colours are the reader's own, light or
-/// dark.
+/// The default style. Its colours are those of the reader's browser, light or dark.
 const STYLE: &str = "\
 :root { color-scheme: light dark; }
 body { max-width: 45em; margin: 2em auto; padding: 0 1em; font-family: sans-serif; \
@@ -20,33 +19,35 @@ th, td { padding: 0.2em 0.5em; border: 1px solid #8888; }
 .footnotes { margin-top: 2em; border-top: 1px solid #8888; }
 ";
 
-/// A page, piece by piece.
+/// A page as a list of pieces.
 pub struct Page {
     pieces: Vec<Piece>,
-    /// Whether it has a title.
+    /// Whether it has a place for the title.
     pub has_title: bool,
-    /// Whether it has a table of contents.
+    /// Whether it has a place for the table of contents.
     pub has_toc: bool,
 }
 
-/// What a page has of one document; all of it is HTML.
+/// The parts of a page that depend on the document; all are HTML.
 pub struct Parts<'a> {
     pub title: &'a str,
     pub toc: &'a str,
     pub content: &'a str,
 }
 
-/// A piece of a page: a text that each page has, or what is a document's own.
+/// A piece of a page: a text that each page has, or the place of a part.
 #[derive(Clone, Debug, Eq, PartialEq)]
 enum Piece {
     Text(String),
     Title,
     Toc,
+    /// The table of contents in an element `nav`, without that if there are no headings.
+    Nav,
     Content,
 }
 
 impl Page {
-    /// The page that the arguments ask for; nothing around the text, where they ask for none.
+    /// The page that the arguments ask for: without a page, only the text.
     pub fn of(arguments: &Arguments) -> Result<Page, Failure> {
         let lang = escaped(arguments.lang.as_deref().unwrap_or(""))?;
         let pieces = match &arguments.page_template {
@@ -56,8 +57,8 @@ impl Page {
                     .map_err(|error| format!("{}: {error}", path.display()))?
             }
             None if arguments.wants_page() => {
-                let own = own(&lang, arguments.toc);
-                pieces_of(&own, &lang, &style_of(arguments)?)?
+                let pieces = pieces_of(&own(&lang), &lang, &style_of(arguments)?)?;
+                with_nav(pieces, arguments.toc)
             }
             None if arguments.toc => vec![Piece::Toc, Piece::Content],
             None => vec![Piece::Content],
@@ -65,9 +66,10 @@ impl Page {
         Page::made_of(pieces, arguments)
     }
 
-    /// A page of these pieces, which has a place for each part that is asked for.
+    /// A page of these pieces. It fails if `--toc` and the place for it don't come together.
     fn made_of(pieces: Vec<Piece>, arguments: &Arguments) -> Result<Page, Failure> {
-        let (has_title, has_toc) = (pieces.contains(&Piece::Title), pieces.contains(&Piece::Toc));
+        let has = |piece| pieces.contains(piece);
+        let (has_title, has_toc) = (has(&Piece::Title), has(&Piece::Toc) || has(&Piece::Nav));
         match (has_toc, arguments.toc) {
             (true, false) => Err("the place {{toc}} needs --toc".into()),
             (false, true) => Err("--toc needs the place {{toc}}".into()),
@@ -79,24 +81,25 @@ impl Page {
         }
     }
 
-    /// A page with these parts: what is to be written, one after another.
+    /// The page with these parts, as texts to write one after another.
     pub fn around<'a>(&'a self, parts: &Parts<'a>) -> Vec<&'a str> {
-        let texts = self.pieces.iter().map(|piece| match piece {
-            Piece::Text(text) => text,
-            Piece::Title => parts.title,
-            Piece::Toc => parts.toc,
-            Piece::Content => parts.content,
-        });
-        texts.collect()
+        let mut texts = Vec::with_capacity(self.pieces.len() + 2);
+        for piece in &self.pieces {
+            match piece {
+                Piece::Text(text) => texts.push(&**text),
+                Piece::Title => texts.push(parts.title),
+                Piece::Nav if parts.toc.is_empty() => {}
+                Piece::Nav => texts.extend(["<nav>", parts.toc, "</nav>"]),
+                Piece::Toc => texts.push(parts.toc),
+                Piece::Content => texts.push(parts.content),
+            }
+        }
+        texts
     }
 }
 
-/// The template where none is given.
-fn own(lang: &str, has_toc: bool) -> String {
-    let toc = match has_toc {
-        true => "<nav>{{toc}}</nav>",
-        false => "",
-    };
+/// The default template.
+fn own(lang: &str) -> String {
     let lang = match lang {
         "" => "",
         _ => " lang=\"{{lang}}\"",
@@ -104,8 +107,17 @@ fn own(lang: &str, has_toc: bool) -> String {
     format!(
         "<!doctype html>\n<html{lang}><head><meta charset=\"utf-8\" />\
          <meta name=\"viewport\" content=\"width=device-width, initial-scale=1\" />\
-         <title>{{{{title}}}}</title>{{{{style}}}}</head><body>{toc}{{{{content}}}}</body></html>\n"
+         <title>{{{{title}}}}</title>{{{{style}}}}</head><body>{{{{content}}}}</body></html>\n"
     )
+}
+
+/// The same pieces, with the table of contents before the content if that is asked for.
+fn with_nav(mut pieces: Vec<Piece>, has_toc: bool) -> Vec<Piece> {
+    let content = pieces.iter().position(|piece| *piece == Piece::Content);
+    if let (Some(at), true) = (content, has_toc) {
+        pieces.insert(at, Piece::Nav);
+    }
+    pieces
 }
 
 /// The pieces of a template, with this language and style.
@@ -187,7 +199,7 @@ mod tests {
         };
         let text = page.around(&parts).concat();
         assert_eq!(text, "la{{content}}{{title}} {{none}}s{{content}}{{t}}");
-        for (template, told) in [
+        for (template, error) in [
             ("", "the place {{content}} is missing"),
             ("{{title}} {content}", "the place {{content}} is missing"),
             ("{{content}} {{a\nb}}", "there is no place {{a\u{fffd}b}}"),
@@ -195,7 +207,28 @@ mod tests {
             ("{{content}} {{{title}}}", "there is no place {{{title}}"),
             ("{{content}} {{title}", "after the last {{ there is no }}"),
         ] {
-            assert_eq!(pieces_of(template, "", "").unwrap_err(), told, "{template}");
+            assert_eq!(
+                pieces_of(template, "", "").unwrap_err(),
+                error,
+                "{template}"
+            );
         }
+    }
+
+    #[test]
+    fn navs() {
+        let page = |has_toc| Page {
+            pieces: with_nav(pieces_of("a{{content}}", "", "").unwrap(), has_toc),
+            has_title: false,
+            has_toc,
+        };
+        let with = |toc| Parts {
+            title: "",
+            toc,
+            content: "c",
+        };
+        assert_eq!(page(true).around(&with("t")).concat(), "a<nav>t</nav>c");
+        assert_eq!(page(true).around(&with("")).concat(), "ac");
+        assert_eq!(page(false).around(&with("")).concat(), "ac");
     }
 }

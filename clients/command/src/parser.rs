@@ -1,7 +1,7 @@
-//! cmark-gfm's parser, in a process of its own.
+//! cmark-gfm's parser, in a separate process.
 //!
-//! It is in C: memory that it spoils is neither the library's nor the text's. It has limits of time
-//! and memory, and its events are judged like any others.
+//! It is written in C: an error in it can't corrupt the memory of the library. It has limits of
+//! time and memory, and its events are checked like any others.
 
 use crate::script::{self, ScriptError};
 use bivdrazo::Document;
@@ -16,67 +16,67 @@ use std::sync::mpsc::{self, Receiver};
 use std::thread;
 use std::time::{Duration, Instant};
 
-/// The program, which stands beside this one.
+/// The program, in the same folder as this one.
 const PROGRAM: &str = "bivdrazo-render-cmark";
 
 /// A shell sets the limits and becomes the parser, so that no code of ours runs between fork and
-/// exec, which would be unsafe. The first limit of processor time tells the parser that it is over,
-/// and the second kills it.
+/// exec, which would be unsafe. The first limit of processor time sends the parser a signal, and
+/// the second kills it.
 const LIMITED: &str = concat!(
     r#"ulimit -c 0 && ulimit -v "$1" && ulimit -S -t "$2" && ulimit -H -t "$3" && "#,
     r#"exec "$0" --events"#
 );
 
-/// The signals of Linux that say more than their number, and the parser's status for want of
+/// The signals of Linux that are reported by their cause, and the parser's status when it is out of
 /// memory.
 const ABORTED: i32 = 6;
 const BROKEN_PIPE: i32 = 13;
 const PROCESSOR_TIME: i32 = 24;
 const NO_MEMORY: i32 = 3;
 
-/// How long a parser may take to end whose events aren't wanted any more, and to say why it ended.
+/// How long a parser may take to end after its events are rejected, and to print its error.
 const GRACE: Duration = Duration::from_secs(1);
 
-/// How much of what the parser says of an error is told.
-const MOST_TOLD: u64 = 500;
+/// The most bytes of the parser's error message that are reported.
+const MOST_SHOWN: u64 = 500;
 
-/// What the parser may take.
+/// The limits of the parser.
 #[derive(Clone, Copy, Debug)]
 pub struct ParserLimits {
-    /// Seconds of processor time; by the clock it is three times as many.
+    /// Seconds of processor time; the limit of elapsed time is three times as long.
     pub seconds: u32,
-    /// Megabytes of address space; its events may take as many in this process.
+    /// Megabytes of address space; its events may take as much memory in this process.
     pub megabytes: u32,
 }
 
 impl ParserLimits {
-    /// By the clock.
+    /// The limit of elapsed time.
     fn time(self) -> Duration {
         Duration::from_secs(3 * u64::from(self.seconds))
     }
 
-    /// For the events.
+    /// The limit of memory for the events.
     fn room(self) -> usize {
         (self.megabytes as usize) << 20
     }
 }
 
-/// Why the parser has no events.
+/// Why there are no events.
 #[derive(Debug)]
 pub enum ParserError {
-    /// It isn't there.
+    /// The parser is missing.
     Missing(PathBuf, io::Error),
     /// Starting it or waiting for it failed.
     Failed(io::Error),
-    /// It had more time by the clock.
+    /// It exceeded the limit of elapsed time.
     Time(Duration),
-    /// It had more processor time.
+    /// It exceeded the limit of processor time.
     ProcessorTime(u32),
-    /// It wanted more memory.
+    /// It exceeded the limit of memory.
     Memory(u32),
-    /// It ended otherwise, and said this.
+    /// It failed, with this message.
     Ended(ExitStatus, String),
-    /// What it wrote are no events.
+    /// Its output isn't an event script.
     Script(ScriptError),
     /// The library refuses its events.
     Refused(bivdrazo::Error),
@@ -91,7 +91,7 @@ impl fmt::Display for ParserError {
             ParserError::Time(time) => {
                 write!(
                     formatter,
-                    "over its limit: {} s by the clock",
+                    "over its limit: {} s of elapsed time",
                     time.as_secs()
                 )
             }
@@ -101,10 +101,12 @@ impl fmt::Display for ParserError {
             ParserError::Memory(megabytes) => {
                 write!(formatter, "over its limit: {megabytes} megabytes of memory")
             }
-            ParserError::Ended(status, told) if told.is_empty() => {
+            ParserError::Ended(status, message) if message.is_empty() => {
                 write!(formatter, "ended with {status}")
             }
-            ParserError::Ended(status, told) => write!(formatter, "ended with {status}: {told}"),
+            ParserError::Ended(status, message) => {
+                write!(formatter, "ended with {status}: {message}")
+            }
             ParserError::Script(error) => write!(formatter, "{error}"),
             ParserError::Refused(error) => write!(formatter, "its events are refused: {error}"),
         }
@@ -127,7 +129,7 @@ pub fn events_of(text: String, limits: ParserLimits) -> Result<Document, ParserE
     let output = BufReader::new(pipe(child.stdout.take())?);
     let errors = pipe(child.stderr.take())?;
     in_background(move || input.write_all(text.as_bytes()));
-    let told = in_background(move || first_line(errors));
+    let message = in_background(move || first_line(errors));
     let read = in_background(move || script::read(output, limits.room()));
     let read = read.recv_timeout(limits.time()).ok();
     let end = match &read {
@@ -143,7 +145,7 @@ pub fn events_of(text: String, limits: ParserLimits) -> Result<Document, ParserE
         (None, _) | (_, None) => Err(ParserError::Time(limits.time())),
         (_, Some(status)) => Err(cause_of(
             status,
-            told.recv_timeout(GRACE).unwrap_or_default(),
+            message.recv_timeout(GRACE).unwrap_or_default(),
             limits,
         )),
     }
@@ -173,24 +175,24 @@ fn pipe<T>(pipe: Option<T>) -> io::Result<T> {
     pipe.ok_or_else(|| io::ErrorKind::BrokenPipe.into())
 }
 
-/// Where the answer of a piece of work comes. Nobody waits for its thread to end: it is at a pipe,
-/// which a process that the parser started could hold open.
+/// Starts work in a thread, and returns a receiver of its result. Nobody waits for the thread to
+/// end: it reads or writes a pipe, which a child of the parser could keep open.
 fn in_background<T: Send + 'static>(work: impl FnOnce() -> T + Send + 'static) -> Receiver<T> {
     let (sender, receiver) = mpsc::channel();
     thread::spawn(move || sender.send(work()));
     receiver
 }
 
-/// The first line of what the parser says of an error, without characters that a terminal minds.
+/// The first line of the parser's error message, without control characters.
 fn first_line(errors: impl Read) -> String {
-    let mut told = Vec::new();
-    let _ = errors.take(MOST_TOLD).read_to_end(&mut told);
-    let told = String::from_utf8_lossy(&told);
-    let line = told.lines().next().unwrap_or_default();
+    let mut message = Vec::new();
+    let _ = errors.take(MOST_SHOWN).read_to_end(&mut message);
+    let message = String::from_utf8_lossy(&message);
+    let line = message.lines().next().unwrap_or_default();
     line.replace(char::is_control, "\u{fffd}")
 }
 
-/// How the parser ended by itself; nothing, where it was there still and was killed.
+/// The status of the parser; none if it was still running at the end and was killed.
 fn wait_until(child: &mut Child, end: Instant) -> io::Result<Option<ExitStatus>> {
     loop {
         if let Some(status) = child.try_wait()? {
@@ -205,20 +207,19 @@ fn wait_until(child: &mut Child, end: Instant) -> io::Result<Option<ExitStatus>>
     }
 }
 
-/// Whether a parser that ended so has no fault of its own: it was done, or its events were
-/// read no further.
+/// Whether a parser with this status didn't fail: it was done, or its output was no longer read.
 fn is_plain(status: ExitStatus) -> bool {
     status.success() || status.signal() == Some(BROKEN_PIPE)
 }
 
-/// Why the parser ended so, where it said this.
-fn cause_of(status: ExitStatus, told: String, limits: ParserLimits) -> ParserError {
+/// The cause of a status, with the parser's message.
+fn cause_of(status: ExitStatus, message: String, limits: ParserLimits) -> ParserError {
     match (status.code(), status.signal()) {
         (_, Some(PROCESSOR_TIME)) => ParserError::ProcessorTime(limits.seconds),
         (Some(NO_MEMORY), _) => ParserError::Memory(limits.megabytes),
-        (_, Some(ABORTED)) if told.contains("returned null pointer") => {
+        (_, Some(ABORTED)) if message.contains("returned null pointer") => {
             ParserError::Memory(limits.megabytes)
         }
-        _ => ParserError::Ended(status, told),
+        _ => ParserError::Ended(status, message),
     }
 }

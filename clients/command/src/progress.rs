@@ -1,10 +1,10 @@
-//! How far many files are, on a terminal.
+//! A progress bar for many files, on a terminal.
 
 use indicatif::{ProgressBar, ProgressStyle};
 use std::env;
 
-/// A bar on standard error for so many files. It is drawn for several files only, and only where
-/// standard error is a terminal that can take a line back.
+/// A bar on standard error for this number of files. It is drawn only for several files, and only
+/// if standard error is a terminal that can rewrite a line.
 pub fn bar(files: usize) -> ProgressBar {
     let is_plain = env::var_os("TERM").map_or(true, |term| term.is_empty() || term == "dumb");
     if files < 2 || is_plain {

@@ -6,16 +6,16 @@ use std::sync::Once;
 use std::thread;
 
 thread_local! {
-    /// Whether this thread is at work whose panic is caught.
+    /// Whether this thread does work whose panic is caught.
     static IS_QUIET: Cell<bool> = Cell::new(false);
 }
 
 static HOOK: Once = Once::new();
 
-/// What work answers, or nothing where it panics; then nothing is printed.
+/// Returns the result of work, or nothing if it panics; then nothing is printed.
 ///
-/// The first call sets a hook for panics, which calls the one that was there for each panic outside
-/// of such work. A hook that the program sets later is called for all of them.
+/// The first call sets a hook for panics, which calls the previous one for each panic outside of
+/// such work. A hook that the program sets later is called for all panics.
 pub fn quietly<T>(work: impl FnOnce() -> T) -> Option<T> {
     if !thread::panicking() {
         HOOK.call_once(set_hook);
@@ -27,11 +27,11 @@ pub fn quietly<T>(work: impl FnOnce() -> T) -> Option<T> {
 }
 
 fn set_hook() {
-    let told = panic::take_hook();
+    let previous = panic::take_hook();
     panic::set_hook(Box::new(move |panic| {
         let is_quiet = IS_QUIET.try_with(Cell::get).unwrap_or(false);
         if !is_quiet {
-            told(panic);
+            previous(panic);
         }
     }));
 }

@@ -1,4 +1,4 @@
-//! A document on its way from a file to a page.
+//! Rendering a document: from a file to a page.
 
 use crate::arguments::{Arguments, ParserName};
 use crate::failures::Failure;
@@ -14,28 +14,28 @@ use std::path::Path;
 pub struct Read {
     /// Its HTML.
     html: String,
-    /// Its headings that got an id.
+    /// Its headings with an id.
     headings: Vec<Heading>,
-    /// Its title, where its front matter has one.
+    /// The title in its front matter, if there is one.
     title: Option<String>,
-    /// What is wrong with its front matter.
-    pub fault: Option<&'static str>,
+    /// The error in its front matter.
+    pub fault: Option<String>,
 }
 
-/// Reads a document, by the parser that is asked for.
+/// Reads and compiles a document, with the chosen parser.
 pub fn read(arguments: &Arguments, source: &Path) -> Result<Read, Failure> {
-    let mut text = files::read(source, arguments.max_input)?;
-    let mut front = Front::default();
-    if arguments.has_front_matter() {
-        front = front_matter(&text);
-        text.replace_range(..front.end, "");
-    }
+    let text = files::read(source, arguments.max_input)?;
+    let front = match arguments.has_front_matter() {
+        true => front_matter(&text),
+        false => Front::default(),
+    };
+    let rest = &text[front.end..];
     let (html, headings) = match arguments.parser {
         ParserName::Bivdrazo => {
-            let made = markdown_with_headings(&text, &arguments.options())?;
-            (made.html, made.headings)
+            let made = markdown_with_headings(rest, &arguments.options())?;
+            (made.html.into_string(), made.headings)
         }
-        ParserName::CmarkGfm => (by_cmark_gfm(arguments, text)?, Vec::new()),
+        ParserName::CmarkGfm => (by_cmark_gfm(arguments, rest.to_string())?, Vec::new()),
     };
     Ok(Read {
         html,
@@ -45,7 +45,7 @@ pub fn read(arguments: &Arguments, source: &Path) -> Result<Read, Failure> {
     })
 }
 
-/// The HTML of what cmark-gfm's parser makes of a document.
+/// The HTML of a document that cmark-gfm's parser reads.
 fn by_cmark_gfm(arguments: &Arguments, text: String) -> Result<String, Failure> {
     let limits = arguments.limits(text.len());
     let document = parser::events_of(text, arguments.parser_limits())?;
@@ -54,7 +54,7 @@ fn by_cmark_gfm(arguments: &Arguments, text: String) -> Result<String, Failure> 
         true => document.compile_within(&options, limits),
         false => document
             .compile_attributed(&options, &attributes, limits)
-            .map(|made| made.html),
+            .map(|made| made.html.into_string()),
     };
     made.map_err(|error| match error {
         Error::Refused { .. } => ParserError::Refused(error).into(),
@@ -63,7 +63,7 @@ fn by_cmark_gfm(arguments: &Arguments, text: String) -> Result<String, Failure> 
 }
 
 impl Read {
-    /// The same with other URLs of links and images, where `made` answers one for a URL.
+    /// Replaces the URLs of links and images for which `made` returns another one.
     pub fn with_urls(
         self,
         arguments: &Arguments,
@@ -79,7 +79,7 @@ impl Read {
         }
     }
 
-    /// Writes the document's page; to standard output where there is no target.
+    /// Writes the document's page, to standard output without a target.
     pub fn write(
         &self,
         arguments: &Arguments,
@@ -92,7 +92,7 @@ impl Read {
             false => String::new(),
         };
         let toc = match page.has_toc {
-            true => contents(&self.headings)?,
+            true => contents(&self.headings)?.into_string(),
             false => String::new(),
         };
         let texts = page.around(&Parts {
@@ -107,7 +107,7 @@ impl Read {
         }
     }
 
-    /// The ids of the text: what a fragment of a URL can lead to.
+    /// The ids of the text, to which a fragment of a URL can refer.
     pub fn ids(&self) -> impl Iterator<Item = Cow<'_, str>> {
         text::ids(&self.html)
     }

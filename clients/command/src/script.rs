@@ -1,7 +1,7 @@
-//! Events as a parser in another process writes them: an event script without options.
+//! The events that a parser in another process writes: an event script without options.
 //!
-//! A line is `+` (enter) or `-` (exit), a name, a space and a place in decimal digits. After the
-//! line `--` come the bytes.
+//! A line is `+` (enter) or `-` (exit), a name, a space and an offset in decimal digits. The bytes
+//! follow the line `--`.
 
 use bivdrazo::{Document, Event, Name};
 use std::fmt;
@@ -9,17 +9,17 @@ use std::io::{self, BufRead, Read};
 use std::mem::size_of;
 use std::str;
 
-/// No line is longer than this.
+/// The most bytes of a line.
 const LONGEST_LINE: u64 = 128;
 
-/// Why a script isn't read.
+/// Why a script can't be read.
 #[derive(Debug)]
 pub enum ScriptError {
     /// Reading failed.
     Read(io::Error),
-    /// The line with this number, from 1, isn't one.
+    /// The line with this number, from 1, isn't valid.
     Line(usize),
-    /// The events and the bytes take more than so many bytes of memory.
+    /// The events and the bytes take more than this number of bytes of memory.
     TooLong(usize),
 }
 
@@ -43,7 +43,7 @@ impl From<io::Error> for ScriptError {
     }
 }
 
-/// The document that a script stands for, which may take so many bytes of memory.
+/// Reads the document in a script, which may take `room` bytes of memory.
 pub fn read(mut script: impl BufRead, room: usize) -> Result<Document, ScriptError> {
     let mut document = Document::default();
     let mut line = Vec::new();
@@ -145,7 +145,7 @@ mod tests {
         assert!(of(script, least).is_ok());
         for room in [0, size_of::<Event>(), least - 1] {
             let answer = read(script.as_bytes(), room);
-            assert!(matches!(answer, Err(ScriptError::TooLong(told)) if told == room));
+            assert!(matches!(answer, Err(ScriptError::TooLong(limit)) if limit == room));
         }
     }
 }

@@ -1,7 +1,7 @@
-//! A folder's pages, and the files that they lead to.
+//! The pages of a folder, and the files that they link to.
 
 use crate::arguments::Arguments;
-use crate::failures::{told, Failed, Failure, FAILED};
+use crate::failures::{process, Failed, Failure, FAILED};
 use crate::files;
 use crate::found::Found;
 use crate::page::Page;
@@ -17,36 +17,35 @@ use std::path::{Path, PathBuf};
 use std::sync::{Mutex, PoisonError};
 use std::time::SystemTime;
 
-/// A folder, and where its pages go.
+/// A folder, and the one that its pages are written to.
 struct Site<'a> {
     arguments: &'a Arguments,
     page: &'a Page,
     folder: &'a Path,
     site: &'a Path,
     tree: Tree,
-    /// When what all pages are made of was written.
+    /// When the newest input of all pages was written.
     newest: Option<SystemTime>,
     /// The folders that were made.
     made: Mutex<HashSet<PathBuf>>,
-    /// What changed since all was rendered.
+    /// The files that changed since all pages were rendered.
     changed: Option<&'a HashSet<PathBuf>>,
     bar: ProgressBar,
 }
 
-/// A document that was read, and what became of its page, where that was to be written.
+/// A document that was read, and the result of writing its page, if that was asked for.
 struct Looked<'a> {
     source: &'a Path,
     found: Found,
     done: Option<Result<Done, Failed>>,
 }
 
-/// Makes the pages of a folder. Nothing is written before it is clear what goes where. Where no two
-/// files could be written to one, whichever are copied, that is so at once, and each document is
-/// read and its page written; else all are read first, which says what is copied.
+/// Makes the pages of a folder. Nothing is written before it is known that no two files have the
+/// same target. If that holds even when every file is copied, each document is read and its page
+/// written at once; otherwise all documents are read first, to find the files to copy.
 ///
-/// Where that was done before, `changed` has the files that may have changed since, by their paths
-/// from the folder. Their pages are written however new they are, and each page that is written is
-/// told.
+/// In a later run `changed` has the files that may have changed since, by their paths from the
+/// folder. Their pages are written even if they are new, and each written page is reported.
 pub fn make(
     arguments: &Arguments,
     page: &Page,
@@ -54,8 +53,9 @@ pub fn make(
     site: &Path,
     changed: Option<&HashSet<PathBuf>>,
 ) -> Result<Outcome, Failure> {
-    let told_of = |error| -> Failure { format!("{}: {error}", folder.display()).into() };
-    let (tree, failed) = Tree::of(folder, site).map_err(told_of)?;
+    let named = |error| -> Failure { format!("{}: {error}", folder.display()).into() };
+    let (tree, failed) = Tree::of(folder, site).map_err(named)?;
+    let count = tree.pages.len() + failed.len();
     let mut site = Site::of(arguments, page, folder, site, tree);
     site.changed = changed;
     let mut outcome = Outcome::of(failed);
@@ -73,16 +73,16 @@ pub fn make(
         let sources: Vec<&Path> = read.iter().map(|one| one.source).collect();
         read = site.look(&sources, true, &mut outcome);
     }
-    site.tell(&read, &mut outcome);
+    site.warn(&read, &mut outcome);
     let done = read.into_iter().filter_map(|one| one.done);
     done.for_each(|one| outcome.add(one));
     site.copy_all(&copied, &mut outcome);
     site.bar.finish_and_clear();
-    outcome.several = site.tree.pages.len() + copied.len() != 1;
+    outcome.several = count + copied.len() != 1;
     Ok(outcome)
 }
 
-/// When a file was written, where one is there.
+/// When a file was written, if it exists.
 fn written(path: &Path) -> Option<SystemTime> {
     found(path).and_then(|found| found.modified().ok())
 }
@@ -116,8 +116,8 @@ impl<'a> Site<'a> {
         }
     }
 
-    /// Reads these documents, and writes their pages where that is asked for, on all processors;
-    /// those that can be read.
+    /// Reads these documents, and writes their pages if `is_written`, on all processors. Returns
+    /// the documents that could be read.
     fn look<'b>(
         &self,
         sources: &[&'b Path],
@@ -126,9 +126,9 @@ impl<'a> Site<'a> {
     ) -> Vec<Looked<'b>> {
         let work = |&source: &&'b Path| {
             let name = self.name(source);
-            let looked = told(&name, || {
+            let looked = process(&name, || {
                 let (read, found) = self.read(source)?;
-                let done = is_written.then(|| told(&name, || self.write(source, &read)));
+                let done = is_written.then(|| process(&name, || self.write(source, &read)));
                 Ok(Looked {
                     source,
                     found,
@@ -143,24 +143,23 @@ impl<'a> Site<'a> {
         all.into_iter().filter_map(|one| add(one).ok()).collect()
     }
 
-    /// Tells what links lead to nothing.
-    fn tell(&self, read: &[Looked], outcome: &mut Outcome) {
+    /// Adds the warnings about pages.
+    fn warn(&self, read: &[Looked], outcome: &mut Outcome) {
         let pages: HashMap<&Path, &Found> =
             read.iter().map(|one| (one.source, &one.found)).collect();
         for one in read {
             let name = self.name(one.source);
-            outcome.lost.extend(one.found.told(&name, &pages));
+            let warnings = one.found.warnings(&name, &pages);
+            outcome.warnings.extend(warnings);
         }
     }
 
-    /// Reads a document; its links to other documents lead to their pages.
+    /// Reads a document, and changes its links to other documents into links to their pages.
     fn read(&self, source: &Path) -> Result<(Read, Found), Failure> {
-        if self.tree.leads_out(source)? {
-            return Err("a link that leads to no file of the folder".into());
-        }
-        let read = render::read(self.arguments, &self.folder.join(source))?;
+        self.tree.check_link(source)?;
+        let mut read = render::read(self.arguments, &self.folder.join(source))?;
         let is_asked = self.arguments.has_heading_ids();
-        let mut found = Found::with_fault(read.fault);
+        let mut found = Found::with_fault(read.fault.take());
         let read = read.with_urls(self.arguments, |url| {
             if is_asked {
                 found.add_anchor(url, source, &self.tree);
@@ -173,8 +172,8 @@ impl<'a> Site<'a> {
         Ok((read, found.in_order()))
     }
 
-    /// What can't be written, where these files are copied: where two files would be, where a file
-    /// and a folder would be, and where a file of the folder itself is.
+    /// The conflicts if these files are copied: two files with one target, a file where a folder is
+    /// needed, and a target that is a file of the folder itself.
     fn collisions<'b>(&'b self, copied: impl IntoIterator<Item = &'b PathBuf>) -> Vec<Failed> {
         let mut collisions = Vec::new();
         let mut taken: HashMap<PathBuf, &Path> = HashMap::new();
@@ -199,8 +198,8 @@ impl<'a> Site<'a> {
             }
         }
         collisions.sort();
-        let failed = collisions.into_iter().map(|told| Failed {
-            told,
+        let failed = collisions.into_iter().map(|message| Failed {
+            message,
             status: FAILED,
         });
         failed.collect()
@@ -212,26 +211,28 @@ impl<'a> Site<'a> {
         format!("{one} and {other} would both be written to {place}")
     }
 
-    /// Writes a page, where it isn't newer than all that it is made of. An empty one may be what a
-    /// power cut left.
+    /// Writes a page, unless it is newer than all its inputs. An empty one is written again: a
+    /// power cut may have left it.
     fn write(&self, source: &Path, read: &Read) -> Result<Done, Failure> {
         let target = self.site.join(page_of(source));
         if !self.is_asked_for(source) {
-            let newest = written(&self.folder.join(source)).max(self.newest);
-            let there = found(&target).filter(|page| page.len() > 0);
-            if there.and_then(|page| page.modified().ok()) > newest {
-                return Ok(Done::Unchanged);
+            let page = found(&target).filter(|page| page.len() > 0);
+            if let Some(made) = page.and_then(|page| page.modified().ok()) {
+                let newest = written(&self.folder.join(source)).max(self.newest);
+                if Some(made) > newest {
+                    return Ok(Done::Unchanged);
+                }
             }
         }
         self.make_folder_of(&target)?;
         read.write(self.arguments, self.page, source, Some(&target))?;
         if self.changed.is_some() {
-            files::tell(&format!("{}: written", target.display()));
+            files::report(&format!("{}: written", target.display()));
         }
         Ok(Done::Written)
     }
 
-    /// Whether a file is rendered or copied however new what is made of it is.
+    /// Whether a file is rendered or copied even if its target is newer.
     fn is_asked_for(&self, file: &Path) -> bool {
         match self.changed {
             Some(changed) => changed.contains(file),
@@ -243,7 +244,7 @@ impl<'a> Site<'a> {
     fn copy_all(&self, copied: &BTreeSet<PathBuf>, outcome: &mut Outcome) {
         self.bar.inc_length(copied.len() as u64);
         let copies = copied.par_iter().map(|file| {
-            let done = told(&self.name(file), || self.copy(file));
+            let done = process(&self.name(file), || self.copy(file));
             self.bar.inc(1);
             done
         });
@@ -251,7 +252,7 @@ impl<'a> Site<'a> {
         done.into_iter().for_each(|one| outcome.add(one));
     }
 
-    /// Copies a file, where its copy isn't newer and as long.
+    /// Copies a file, unless its copy is newer and has the same length.
     fn copy(&self, file: &Path) -> Result<Done, Failure> {
         let (source, target) = (self.folder.join(file), self.site.join(file));
         let length = |path| found(path).map(|found| found.len());
@@ -264,7 +265,7 @@ impl<'a> Site<'a> {
         Ok(Done::Copied)
     }
 
-    /// Makes the folder of a file, where that wasn't done before.
+    /// Makes the folder of a file, once.
     fn make_folder_of(&self, target: &Path) -> Result<(), Failure> {
         let folder = target.parent().unwrap_or_else(|| Path::new("."));
         let made = || self.made.lock().unwrap_or_else(PoisonError::into_inner);
@@ -275,13 +276,13 @@ impl<'a> Site<'a> {
         Ok(())
     }
 
-    /// How a file of the folder is told.
+    /// The name of a file of the folder in messages.
     fn name(&self, path: &Path) -> String {
         self.folder.join(path).display().to_string()
     }
 }
 
-/// Where the page of a source goes.
+/// The path of a source's page.
 fn page_of(source: &Path) -> PathBuf {
     source.with_extension(PAGE_ENDING)
 }

@@ -1,13 +1,13 @@
-//! What was done, in one line.
+//! The result for each file, and the summary of all in one line.
 
 use crate::failures::Failed;
 
-/// What was done with a file that didn't fail.
+/// The result for a file that didn't fail.
 #[derive(Clone, Copy, Debug, Eq, PartialEq)]
 pub enum Done {
     /// A page was written.
     Written,
-    /// A page was newer than what it is made of.
+    /// A page was newer than its inputs.
     Unchanged,
     /// A file was copied.
     Copied,
@@ -15,20 +15,20 @@ pub enum Done {
     Kept,
 }
 
-/// What became of all files.
+/// The results for all files.
 #[derive(Debug, Default)]
 pub struct Outcome {
     done: Vec<Done>,
-    /// What failed.
+    /// The files that failed.
     pub failed: Vec<Failed>,
-    /// What is told of files that were written: links that lead nowhere, faults of front matter.
-    pub lost: Vec<String>,
-    /// Whether there are several files, or none.
+    /// Warnings about pages that were written: links without a target, errors in front matter.
+    pub warnings: Vec<String>,
+    /// Whether the number of files isn't 1.
     pub several: bool,
 }
 
 impl Outcome {
-    /// What became of files of which these failed.
+    /// An outcome with these failures.
     pub fn of(failed: Vec<Failed>) -> Outcome {
         Outcome {
             failed,
@@ -36,7 +36,7 @@ impl Outcome {
         }
     }
 
-    /// Adds what became of a file.
+    /// Adds the result for a file.
     pub fn add(&mut self, one: Result<Done, Failed>) {
         match one {
             Ok(done) => self.done.push(done),
@@ -44,7 +44,7 @@ impl Outcome {
         }
     }
 
-    /// The line; none where there is one file.
+    /// The summary; none for a single file.
     pub fn summary(&self) -> Option<String> {
         if !self.several {
             return None;
@@ -85,16 +85,16 @@ mod tests {
         outcome.add(Ok(Done::Kept));
         outcome.add(Ok(Done::Copied));
         outcome.add(Ok(Done::Written));
-        let told = "1 page written, 1 file copied";
-        assert_eq!(outcome.summary().as_deref(), Some(told));
+        let line = "1 page written, 1 file copied";
+        assert_eq!(outcome.summary().as_deref(), Some(line));
         outcome.add(Ok(Done::Unchanged));
         outcome.add(Ok(Done::Copied));
         outcome.add(Ok(Done::Written));
         outcome.add(Err(Failed {
-            told: String::new(),
+            message: String::new(),
             status: 1,
         }));
-        let told = "2 pages written, 1 unchanged, 2 files copied, 1 failed";
-        assert_eq!(outcome.summary().as_deref(), Some(told));
+        let line = "2 pages written, 1 unchanged, 2 files copied, 1 failed";
+        assert_eq!(outcome.summary().as_deref(), Some(line));
     }
 }

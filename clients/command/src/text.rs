@@ -1,20 +1,20 @@
 //! The library's text: its URLs and its first heading.
 //!
-//! It has one reading as HTML, in which `<` begins a tag, and no value holds a quotation mark. So
-//! what is looked for here is found where it stands, and nowhere else.
+//! The text has one reading as HTML, in which `<` begins a tag, and no value contains a quotation
+//! mark. So a search for a tag or a value finds these and nothing else.
 
 use std::borrow::Cow;
 use std::iter;
 
-/// How a link and an image begin, whose URL follows.
+/// The beginnings of a link and of an image; the URL follows.
 const BEFORE_URLS: [&str; 2] = ["<a href=\"", "<img src=\""];
 
-/// The beginnings of the sections of footnotes and of their calls, and how a call ends.
+/// The beginning of the section of footnotes, and the beginning and end of a footnote call.
 const FOOTNOTES: &str = "<section data-footnotes";
 const CALL: &str = "<sup><a href=\"#";
 const CALL_END: &str = "</sup>";
 
-/// The characters that are escaped, each with what stands for it; the first one is in the others.
+/// The characters that are escaped, with their escapes; `&` is first, since all escapes have it.
 const ESCAPED: [(&str, &str); 4] = [
     ("&", "&amp;"),
     ("<", "&lt;"),
@@ -22,11 +22,11 @@ const ESCAPED: [(&str, &str); 4] = [
     ("\"", "&quot;"),
 ];
 
-/// A text in which each URL of a link or an image is what `made` answers for it, and stays as it is
-/// where that is nothing.
+/// Replaces the URL of each link and image by the one that `made` returns; a URL for which it
+/// returns none stays.
 pub fn with_urls(html: &str, mut made: impl FnMut(&str) -> Option<String>) -> Cow<'_, str> {
     let mut changed = String::new();
-    // What is before `kept` is in `changed`, and what is before `at` was looked at.
+    // The text before `kept` is in `changed`, and the text before `at` was searched.
     let (mut kept, mut at) = (0, 0);
     while let Some(tag) = find(html, at, b'<') {
         at = tag + 1;
@@ -49,7 +49,7 @@ pub fn with_urls(html: &str, mut made: impl FnMut(&str) -> Option<String>) -> Co
     changed.into()
 }
 
-/// Where a byte is found from a place on. These are near, so that they are found one by one.
+/// The position of the next such byte. It is near, so a plain loop is fast enough.
 fn find(html: &str, from: usize, wanted: u8) -> Option<usize> {
     let mut bytes = html.as_bytes()[from..].iter();
     bytes.position(|&byte| byte == wanted).map(|at| from + at)
@@ -57,7 +57,7 @@ fn find(html: &str, from: usize, wanted: u8) -> Option<usize> {
 
 /// The ids of a text.
 pub fn ids(html: &str) -> impl Iterator<Item = Cow<'_, str>> {
-    // Where no quotation mark stands in a text, what is between two of them is a value.
+    // Quotation marks are only around values.
     let mut at = 0;
     let values = iter::from_fn(move || {
         let start = find(html, at, b'"')? + 1;
@@ -71,8 +71,8 @@ pub fn ids(html: &str) -> impl Iterator<Item = Cow<'_, str>> {
         .map(|(_, value)| unescaped(value))
 }
 
-/// The text of the first heading without tags and footnotes' calls, escaped; where the document has
-/// one, and it isn't empty.
+/// The text of the first heading, escaped, without tags and footnote calls; none if the document
+/// has no heading or that is empty.
 pub fn heading(html: &str) -> Option<String> {
     let start = html
         .match_indices("<h")
@@ -87,12 +87,12 @@ pub fn heading(html: &str) -> Option<String> {
     (!text.is_empty()).then_some(text)
 }
 
-/// Whether a tag that begins with `<h` is that of a heading.
+/// Whether a tag that begins with `<h` is the tag of a heading.
 fn is_heading(tag: &str) -> bool {
     matches!(tag.as_bytes(), [_, _, b'1'..=b'6', b' ' | b'>', ..])
 }
 
-/// A text without the calls of footnotes.
+/// A text without footnote calls.
 fn without_calls(html: &str) -> String {
     let mut kept = String::new();
     let mut rest = html;
@@ -114,7 +114,7 @@ fn without_tags(html: &str) -> String {
     kept + rest
 }
 
-/// A value as it is read.
+/// A value without escapes.
 fn unescaped(value: &str) -> Cow<'_, str> {
     if !value.contains('&') {
         return value.into();
@@ -126,7 +126,7 @@ fn unescaped(value: &str) -> Cow<'_, str> {
     value.into()
 }
 
-/// A text as a value has it.
+/// A text escaped for a value.
 fn escaped(text: &str) -> String {
     if !text.contains(['&', '<', '>', '"']) {
         return text.to_string();
@@ -143,7 +143,9 @@ mod tests {
     use bivdrazo::{markdown_to_html, MarkdownOptions};
 
     fn html(text: &str) -> String {
-        markdown_to_html(text, &MarkdownOptions::default()).unwrap()
+        markdown_to_html(text, &MarkdownOptions::default())
+            .unwrap()
+            .into_string()
     }
 
     #[test]

@@ -1,33 +1,40 @@
-//! What a folder holds.
+//! The files of a folder.
 
 use crate::failures::{Failed, Failure, FAILED};
 use std::collections::HashSet;
 use std::ffi::OsStr;
+use std::fmt::Display;
 use std::fs::{self, DirEntry};
-use std::io;
 use std::os::unix::ffi::OsStrExt;
 use std::path::{Path, PathBuf};
 
-/// The ending of what is rendered, and that of a page.
+/// The ending of a source, and that of a page.
 pub const SOURCE_ENDING: &str = "md";
 pub const PAGE_ENDING: &str = "html";
 
-/// The files of a folder and of those in it, by their paths from it. What is hidden isn't there,
-/// nor what a link to a folder leads to.
+/// The error of a source that is a symbolic link out of the folder, to a hidden file, or to
+/// something else than a file.
+pub const OUTSIDE: &str = "a symbolic link to no file of the folder";
+
+/// The files of a folder and of its subfolders, by their paths from it. Hidden files aren't in it,
+/// nor is the target of a symbolic link to a folder.
 #[derive(Debug, Default)]
 pub struct Tree {
-    /// What is rendered.
+    /// The sources, which are rendered.
     pub pages: HashSet<PathBuf>,
     /// The other files.
     pub files: HashSet<PathBuf>,
-    /// What is rendered and is a link.
+    /// The folders; the path of the outermost one is empty.
+    pub folders: HashSet<PathBuf>,
+    /// The sources that are symbolic links.
     linked: HashSet<PathBuf>,
-    /// The folder, without links in its path.
+    /// The canonical path of the folder.
     root: PathBuf,
 }
 
 impl Tree {
-    /// What a folder holds, but for the site if that is in it, and which parts of it can't be read.
+    /// Lists a folder, without the site if that is in it. Returns also what can't be read, and the
+    /// sources that are symbolic links to no file of the folder.
     pub fn of(folder: &Path, site: &Path) -> Result<(Tree, Vec<Failed>), Failure> {
         let root = fs::canonicalize(folder)?;
         let site = fs::canonicalize(site).ok();
@@ -39,6 +46,12 @@ impl Tree {
             ..Tree::default()
         };
         let mut failed = Vec::new();
+        let mut fail = |path: &Path, error: &dyn Display| {
+            failed.push(Failed {
+                message: format!("{}: {error}", folder.join(path).display()),
+                status: FAILED,
+            });
+        };
         let mut left = vec![PathBuf::new()];
         while let Some(at) = left.pop() {
             let is_site = site
@@ -47,28 +60,32 @@ impl Tree {
             if is_site {
                 continue;
             }
-            let added = fs::read_dir(tree.root.join(&at)).and_then(|mut entries| {
-                entries.try_for_each(|entry| tree.add(&at, &entry?, &mut left))
+            let listed = fs::read_dir(tree.root.join(&at)).and_then(|mut entries| {
+                entries.try_for_each(|entry| {
+                    let entry = entry?;
+                    if let Err(error) = tree.add(&at, &entry, &mut left) {
+                        fail(&at.join(entry.file_name()), &error);
+                    }
+                    Ok(())
+                })
             });
-            if let Err(error) = added {
-                failed.push(Failed {
-                    told: format!("{}: {error}", folder.join(&at).display()),
-                    status: FAILED,
-                });
+            if let Err(error) = listed {
+                fail(&at, &error);
             }
+            tree.folders.insert(at);
         }
         Ok((tree, failed))
     }
 
-    /// What is rendered, in order.
+    /// The sources, in order.
     pub fn sources(&self) -> Vec<&Path> {
         let mut sources: Vec<&Path> = self.pages.iter().map(|path| &**path).collect();
         sources.sort_unstable();
         sources
     }
 
-    /// Adds what stands in a folder of the tree; a folder is one more that is left.
-    fn add(&mut self, at: &Path, entry: &DirEntry, left: &mut Vec<PathBuf>) -> io::Result<()> {
+    /// Adds an entry of a folder; pushes a subfolder to `left`.
+    fn add(&mut self, at: &Path, entry: &DirEntry, left: &mut Vec<PathBuf>) -> Result<(), Failure> {
         let name = entry.file_name();
         if name.as_bytes().starts_with(b".") {
             return Ok(());
@@ -80,39 +97,49 @@ impl Tree {
             return Ok(());
         }
         let is_source = path.extension() == Some(OsStr::new(SOURCE_ENDING));
-        let is_file = kind.is_file() || (kind.is_symlink() && self.leads_to_file(&path, is_source));
-        if is_file && is_source {
-            if kind.is_symlink() {
-                self.linked.insert(path.clone());
+        let is_file = match kind.is_symlink() {
+            true => self.is_linked_file(&path, is_source)?,
+            false => kind.is_file(),
+        };
+        match is_source {
+            _ if !is_file => {}
+            true => {
+                if kind.is_symlink() {
+                    self.linked.insert(path.clone());
+                }
+                self.pages.insert(path);
             }
-            self.pages.insert(path);
-        } else if is_file {
-            self.files.insert(path);
+            false => {
+                self.files.insert(path);
+            }
         }
         Ok(())
     }
 
-    /// Whether a link leads to a file of the folder. One that should be rendered and leads to
-    /// nothing, or elsewhere, counts too: it can't be read, which is told.
-    fn leads_to_file(&self, path: &Path, is_source: bool) -> bool {
+    /// Whether a symbolic link points to a file of the folder. For a source anything else is an
+    /// error, unless it is a folder.
+    fn is_linked_file(&self, path: &Path, is_source: bool) -> Result<bool, Failure> {
         match fs::canonicalize(self.root.join(path)) {
-            Ok(end) if end.is_dir() => false,
-            Ok(end) => is_source || self.may_be_read(&end),
-            Err(_) => is_source,
+            Ok(end) if end.is_dir() => Ok(false),
+            Ok(end) if self.may_be_read(&end) => Ok(true),
+            Ok(_) if is_source => Err(OUTSIDE.into()),
+            Err(error) if is_source => Err(error.into()),
+            _ => Ok(false),
         }
     }
 
-    /// Whether that source is a link which leads out of the folder, or to what is hidden or no
-    /// file.
-    pub fn leads_out(&self, source: &Path) -> io::Result<bool> {
-        if !self.linked.contains(source) {
-            return Ok(false);
+    /// Fails if a source is by now a symbolic link to no file of the folder.
+    pub fn check_link(&self, source: &Path) -> Result<(), Failure> {
+        if self.linked.contains(source) {
+            let end = fs::canonicalize(self.root.join(source))?;
+            if !self.may_be_read(&end) {
+                return Err(OUTSIDE.into());
+            }
         }
-        let end = fs::canonicalize(self.root.join(source))?;
-        Ok(!self.may_be_read(&end))
+        Ok(())
     }
 
-    /// Whether a path without links is that of a file in the folder, and nothing in it is hidden.
+    /// Whether a canonical path is that of a file in the folder, and no part of it is hidden.
     fn may_be_read(&self, end: &Path) -> bool {
         let is_inside = end.strip_prefix(&self.root).map_or(false, |path| {
             path.iter().all(|name| !name.as_bytes().starts_with(b"."))
@@ -120,7 +147,7 @@ impl Tree {
         is_inside && end.is_file()
     }
 
-    /// Whether a path is that of a file of the tree, which is there.
+    /// Whether a path is that of an existing file of the tree.
     pub fn holds(&self, path: &Path) -> bool {
         if fs::symlink_metadata(path).is_err() {
             return false;

@@ -1,12 +1,13 @@
-"""Markdown to safe HTML, by a parser and a compiler that are proved.
+"""Markdown to safe HTML. It is proved that the HTML is safe, and that the parser ends for every
+document and refuses none. That it reads Markdown as GFM says is only tested.
 
 >>> from bivdrazo import markdown_to_html
 >>> markdown_to_html("**a** <b>")
 '<p><strong>a</strong> &lt;b&gt;</p>\\n'
 
-The compiler takes the events of a parser, and can be called with those of any other one. A parser
-says what it found in a document as a list of events: a paragraph begins at byte 0, a text runs from
-there to byte 6, the paragraph ends. `compile` makes HTML of such a list:
+The compiler also takes the events of any other parser, which reports a document as a list of
+them: a paragraph begins at byte 0, a text runs from there to byte 6, the paragraph ends. `compile`
+makes HTML from such a list:
 
 >>> from bivdrazo import Event, Name, compile
 >>> events = [
@@ -18,15 +19,15 @@ there to byte 6, the paragraph ends. `compile` makes HTML of such a list:
 >>> compile(events, b"Hi <b>")
 '<p>Hi &lt;b&gt;</p>'
 
-Nothing is assumed of the events: whatever a parser hands in is refused or gives a text that, under
-the default options, has one reading as HTML, with links and images of permitted protocols alone.
+Nothing is assumed about the events: they are refused, or give a text that, under the default
+options, has one reading as HTML, in which links and images have no protocol or a permitted one.
 
 >>> compile(events[:3], b"Hi <b>")
 Traceback (most recent call last):
     ...
 bivdrazo.errors.Refused: event 3: ORDER
 
-Calls may be made from any number of threads, and run side by side.
+Any number of threads can call at the same time; the calls run in parallel.
 """
 
 from .calls import Event, compile, compile_unnested, compile_within, has_nested_link, run

@@ -1,4 +1,4 @@
-"""The calls of the library, over Python's own values."""
+"""The calls that take events."""
 
 from __future__ import annotations
 
@@ -20,22 +20,22 @@ UNSET = CText(b"", 0, False)
 
 
 class Event(NamedTuple):
-    """At the byte `index` of the document the node `name` begins or ends."""
+    """An event: the node `name` begins or ends at the byte `index` of the document."""
 
     kind: int
     name: int
     index: int
-    columns: int = 0  # how many columns of a tab at `index`, 0 to 4, are already taken
+    columns: int = 0  # how many columns of a tab at `index`, 0 to 4, are already used
     other: int = 0  # the own number of a name that is Name.OTHER
 
     @classmethod
     def enter(cls, name: int, index: int) -> Event:
-        """The node begins before the byte `index`."""
+        """An event: the node begins before the byte `index`."""
         return cls(Kind.ENTER, name, index)
 
     @classmethod
     def exit(cls, name: int, index: int) -> Event:
-        """The node ends before the byte `index`."""
+        """An event: the node ends before the byte `index`."""
         return cls(Kind.EXIT, name, index)
 
 
@@ -57,16 +57,16 @@ def compile(
     gfm_footnote_label_tag_name: str | None = None,
     gfm_footnote_number_ids: bool = False,
 ) -> str:
-    """The HTML of a list of events over a document's bytes.
+    """Compiles a list of events over a document's bytes to HTML.
 
-    `names` are the character references by name that a document may use, as `{"amp": "&"}`; of two
-    with one name the first counts. HTML's are REFERENCES. The text is safe where allow_any_img_src,
-    allow_dangerous_html and allow_dangerous_protocol are off, and gfm_footnote_label_attributes and
-    gfm_footnote_label_tag_name unset, as by default: it is a SafeHtml then, which templates don't
-    escape, and else a plain str.
+    `names` are the named character references that a document may use, as `{"amp": "&"}`; of two
+    with the same name the first counts. HTML's are REFERENCES. The text is safe if
+    allow_any_img_src, allow_dangerous_html and allow_dangerous_protocol are off, and
+    gfm_footnote_label_attributes and gfm_footnote_label_tag_name unset, as by default: then it is a
+    SafeHtml, which templates don't escape, and otherwise a plain str.
 
-    Raises Refused where the events are refused, Invalid where an event or an option stands for
-    none, MemoryError.
+    Raises Refused if the events are refused, Invalid for an invalid event or option, and
+    MemoryError.
     """
     options = options_of(
         allow_any_img_src=allow_any_img_src,
@@ -105,7 +105,7 @@ def compile_within(
     names: Mapping[str, str] | Iterable[tuple[str, str]] = (),
     **options: Any,
 ) -> str:
-    """As compile, whose other options it takes, where text, work and nesting are within bounds.
+    """Compiles events as compile does, whose other options it takes, within limits.
 
     >>> from bivdrazo import Event, Name, compile_within
     >>> events = [Event.enter(Name.DATA, 0), Event.exit(Name.DATA, 6)]
@@ -116,18 +116,18 @@ def compile_within(
         ...
     bivdrazo.errors.TooLong: the output has more than 11 bytes
 
-    max_output: how many bytes of UTF-8 the text may have.
-    max_work: a limit on two sums, each by itself: how much there is to read and to print (the
-    lengths of texts and labels, by the places of the events, and for each row of a table's body
-    five for each of its columns), and how much is used again (for each link and image that leads to
-    a definition what is read in that one, and one for each of its events; for each footnote call
-    five times its length, four times that of the prefix of ids, and that of the label of the way
-    back).
-    max_depth: how many nodes may be open at once; None or 0: any number.
+    max_output: the limit on the length of the text, in bytes of UTF-8.
+    max_work: a limit on two sums, each by itself. The first is how much there is to read and to
+    print: the lengths of texts and labels, by the places of the events, and for each row of a
+    table's body five for each of its columns. The second is how much is used again: for each link
+    and image that refers to a definition, the length of what is read in the definition, and one for
+    each of its events; for each footnote call, five times its length, four times that of the prefix
+    of ids, and that of the label of the link back.
+    max_depth: the limit on the number of open nodes; None or 0: no limit.
 
-    Raises, beside what compile does, TooDeep where the events nest deeper and else TooMuchWork
-    where there is more work, whether or not they are a document, or where a document uses more
-    again; TooLong where the text is longer.
+    Raises the same errors as compile. It raises TooDeep if the events nest too deep, and otherwise
+    TooMuchWork if there is too much work; both even if the events aren't a document. For a document
+    it raises TooMuchWork also if too much is used again, and TooLong if the text is too long.
     """
     given = options_of(**options)
     limits = CLimits(bound_of("max_output", max_output), bound_of("max_work", max_work, "work"),
@@ -153,18 +153,18 @@ def compile_unnested(
     names: Mapping[str, str] | Iterable[tuple[str, str]] = (),
     **options: Any,
 ) -> SafeHtml:
-    """As compile, whose other options it takes if they are safe, where no link stands in a link: a
-    browser builds the tree that the text is read as.
+    """Compiles events as compile does, whose other options it takes if they are safe, without a
+    link in a link: then a browser builds the tree of the text's reading.
 
     >>> from bivdrazo import Event, Name, compile_unnested
     >>> compile_unnested([Event.enter(Name.DATA, 0), Event.exit(Name.DATA, 6)], b"Hi <b>")
     'Hi &lt;b&gt;'
 
-    Links are also automatic ones that are none by letters alone, and calls of footnotes; a link in
-    an image counts as none.
+    Links are also automatic ones that are none by letters alone, and footnote calls; a link in an
+    image doesn't count.
 
-    Raises, beside what compile does, Nested where a link stands in a link, and ValueError where the
-    options aren't safe.
+    Raises the same errors as compile, Nested for a link in a link, and ValueError if the options
+    aren't safe.
     """
     given = options_of(**options)
     if not are_safe(given):
@@ -182,14 +182,14 @@ def compile_unnested(
 
 
 def has_nested_link(events: Iterable[Event]) -> bool:
-    """Whether a link stands in a link, of events that are a document's; nothing is compiled. What
-    counts as a link is as of compile_unnested.
+    """Whether the events of a document have a link in a link; nothing is compiled. Links are those
+    that compile_unnested counts.
 
     >>> from bivdrazo import Event, Name, has_nested_link
     >>> has_nested_link([Event.enter(Name.LINK, 0), Event.exit(Name.LINK, 0)])
     False
 
-    Raises Invalid where an event stands for none, MemoryError.
+    Raises Invalid for an invalid event, and MemoryError.
     """
     made, length = events_of(events)
     answer = LIBRARY.bivdrazo_has_nested_link(made, length)
@@ -199,10 +199,10 @@ def has_nested_link(events: Iterable[Event]) -> bool:
 
 
 def run(script: Bytes) -> str:
-    """The HTML of an event script: lines of options and events, a line `--`, the document. It is a
-    plain str, since a script may set options that aren't safe.
+    """Compiles an event script: lines of options and events, a line `--`, the document. The HTML is
+    a plain str, since a script may set options that aren't safe.
 
-    Raises Unreadable where a line can't be read, Refused where the events are refused, MemoryError.
+    Raises Unreadable if a line can't be read, Refused if the events are refused, and MemoryError.
     """
     given = bytes_of("script", script)
     return answered(
@@ -220,7 +220,7 @@ def answered(
     room: int, call: Callable[[ctypes.Array[ctypes.c_char], int], CAnswer],
     limits: CLimits | None = None
 ) -> str:
-    """The text that a call writes into a buffer, which is made longer where it is too short."""
+    """The text that a call writes into a buffer; a longer one if the first is too short."""
     buffer = ctypes.create_string_buffer(max(room, 1))
     answer = call(buffer, room)
     if answer.status == Status.TOO_SHORT:
@@ -253,7 +253,7 @@ def options_of(
     gfm_footnote_label_tag_name: str | None = None,
     gfm_footnote_number_ids: bool = False,
 ) -> COptions:
-    """The options as C has them."""
+    """The options in C."""
     return COptions(
         bool(allow_any_img_src),
         bool(allow_dangerous_html),
@@ -279,7 +279,7 @@ def are_safe(options: COptions) -> bool:
 
 
 def events_of(events: Iterable[Event]) -> tuple[ctypes.Array[CEvent], int]:
-    """The events as C has them, with one more after them, and how many they are."""
+    """The events in C, with one more after them, and their number."""
     packed = bytearray()
     for at, event in enumerate(events):
         try:
@@ -292,19 +292,19 @@ def events_of(events: Iterable[Event]) -> tuple[ctypes.Array[CEvent], int]:
 
 
 def references_of(names: Mapping[str, str] | Iterable[tuple[str, str]]) -> ctypes.Array[CReference]:
-    """The character references as C has them, with one more after them."""
+    """The character references in C, with one more after them."""
     return html_references() if names is REFERENCES else made_references(names)
 
 
 @functools.lru_cache(maxsize=None)
 def html_references() -> ctypes.Array[CReference]:
-    """HTML's names, made once."""
+    """HTML's names in C, made once."""
     return made_references(REFERENCES)
 
 
 def made_references(names: Mapping[str, str]
                     | Iterable[tuple[str, str]]) -> ctypes.Array[CReference]:
-    """The character references as C has them, with one more after them."""
+    """The character references in C, with one more after them."""
     pairs = [*(names.items() if isinstance(names, Mapping) else names), ("", "")]
     made = [(coded("names", name), coded("names", text)) for name, text in pairs]
     return (CReference * len(made))(*[CReference(name, len(name), text, len(text))
@@ -317,7 +317,7 @@ def line_ending_of(ending: LineEnding) -> int:
 
 
 def text_of(name: str, text: str | None) -> CText:
-    """A text as C has it, set or unset; all that are unset are one."""
+    """A text in C, set or unset; all unset texts are the same object."""
     if text is None:
         return UNSET
     made = coded(name, text)

@@ -1,10 +1,10 @@
-"""Why a call has no text. Out of memory is Python's own MemoryError."""
+"""The exceptions of calls. Out of memory is Python's own MemoryError."""
 
 from __future__ import annotations
 
 from .numbers import OPTIONS, MarkdownStatus, Rule, Status
 
-# What each status means, as C's functions tell it.
+# The meaning of each status, as C's functions return it.
 TEXTS = {
     Status.OK: "there is a text",
     Status.TOO_SHORT: "the buffer is too short",
@@ -18,7 +18,7 @@ TEXTS = {
     Status.NO_ATTRIBUTE: "an attribute has no such value",
     Status.TOO_LONG: "the text is too long",
     Status.TOO_MUCH: "there is too much work",
-    Status.NESTED: "a link stands in a link",
+    Status.NESTED: "a link is in a link",
     Status.TOO_DEEP: "the events nest too deep",
     MarkdownStatus.INPUT_TOO_LONG: "the Markdown is too long",
     MarkdownStatus.OUTPUT_TOO_LONG: "the text is too long",
@@ -29,12 +29,12 @@ TEXTS = {
 
 
 class Error(ValueError):
-    """What was handed in has no text."""
+    """The arguments of a call have no HTML."""
 
 
 class Refused(Error):
-    """The events are refused: at `index` (the number of events where something is open at the
-    end), by `rule`.
+    """The events are refused, by `rule`, at `index` (the number of events if a node is open at the
+    end).
     """
 
     def __init__(self, index: int, rule: Rule) -> None:
@@ -48,12 +48,11 @@ class Refused(Error):
 
 
 class Invalid(Error):
-    """An event, a name or an option stands for none; `what` says which of the three, `index` where.
-    """
+    """An event, a name or an option is invalid: `what` says which of these, `index` which one."""
 
     def __init__(self, what: str, index: int) -> None:
-        told = OPTIONS[index][0] if what == "option" else str(index)
-        super().__init__(f"{what} {told}: no such value")
+        name = OPTIONS[index][0] if what == "option" else str(index)
+        super().__init__(f"{what} {name}: no such value")
         self.what = what
         self.index = index
 
@@ -63,7 +62,7 @@ class Invalid(Error):
 
 
 class Unreadable(Error):
-    """The line with the number `line`, from 1, of a script can't be read."""
+    """The line of a script with the number `line`, from 1, can't be read."""
 
     def __init__(self, line: int) -> None:
         super().__init__(f"line {line}: unreadable")
@@ -75,9 +74,7 @@ class Unreadable(Error):
 
 
 class TooLong(Error):
-    """The Markdown or its text passes a bound: `what` is "input" or "output", `limit` how many
-    bytes it may have.
-    """
+    """The Markdown or its HTML exceeds a limit of `limit` bytes; `what` is "input" or "output"."""
 
     def __init__(self, what: str, limit: int) -> None:
         super().__init__(f"the {what} has more than {limit} bytes")
@@ -90,9 +87,7 @@ class TooLong(Error):
 
 
 class TooMuchWork(Error):
-    """There is more to read and to print than `limit`: that of a call, or what goes by the length
-    of the Markdown.
-    """
+    """The work exceeds `limit`: that of the call, or the default one."""
 
     def __init__(self, limit: int) -> None:
         super().__init__(f"there is more work than {limit}")
@@ -116,10 +111,10 @@ class TooDeep(Error):
 
 
 class Nested(Error):
-    """In the events' document a link stands in a link."""
+    """The events' document has a link in a link."""
 
     def __init__(self) -> None:
-        super().__init__("a link stands in a link")
+        super().__init__("a link is in a link")
 
     def __reduce__(self) -> tuple[type, tuple[()]]:
         """How it is pickled."""
@@ -127,7 +122,7 @@ class Nested(Error):
 
 
 def error_of(status: int, index: int, rule: int) -> Exception:
-    """The error that an answer without a text stands for."""
+    """The error for an answer."""
     if status == Status.REFUSED:
         return Refused(index, Rule(rule))
     if status == Status.NO_EVENT:
@@ -146,5 +141,5 @@ def error_of(status: int, index: int, rule: int) -> Exception:
 
 
 def text_of_status(status: int) -> str:
-    """What a status means, in English."""
-    return TEXTS.get(status, f"the library answered the unknown status {status}")
+    """The meaning of a status, in English."""
+    return TEXTS.get(status, f"the library returned the unknown status {status}")

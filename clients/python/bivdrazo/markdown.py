@@ -1,4 +1,4 @@
-"""Markdown in."""
+"""The calls that read Markdown."""
 
 from __future__ import annotations
 
@@ -16,7 +16,7 @@ from .numbers import MARKDOWN_OPTIONS, MARKDOWN_VERSION, DocumentHtml, MarkdownS
 from .safe import SafeHtml
 from .values import MOST, bound_of, coded, text_at, typed
 
-# As `max_work` C's name for the bound that goes by the document's length.
+# The value of `max_work` in C for a limit that depends on the document's length.
 WORK_BY_LENGTH = MOST - 1
 LEAST_WORK = 1 << 20
 WORK_OF_A_BYTE = 64
@@ -26,7 +26,7 @@ HTML = {"text": DocumentHtml.TEXT, "left-out": DocumentHtml.LEFT_OUT,
 
 TEXTS = "footnote_prefix", "footnote_label", "footnote_back_label", "base", "rel", "heading_ids"
 
-# Of these types values that say that they are equal are so; those of a subclass may say anything.
+# Equal values of these types are the same; a subclass may define equality differently.
 PLAIN = frozenset({bool, int, str, type(None)})
 OK = int(Status.OK)
 TOO_SHORT = int(Status.TOO_SHORT)
@@ -44,7 +44,7 @@ class Heading(NamedTuple):
 
 
 class Kept(threading.local):
-    """A buffer that a thread keeps between its calls; none while one of them uses it."""
+    """A buffer that a thread keeps between its calls; none while a call uses it."""
 
     buffer: ctypes.Array[ctypes.c_char] | None = None
 
@@ -76,45 +76,52 @@ def markdown_to_html(
     max_work: int | None = None,
     max_depth: int | None = None,
 ) -> SafeHtml:
-    """The HTML of a Markdown document, with tables, strikethrough, tasks, footnotes and bare links.
+    """Renders a Markdown document, with tables, strikethrough, tasks, footnotes and bare links.
 
     >>> from bivdrazo import markdown_to_html
     >>> markdown_to_html("**a** <b> [c](javascript:d)")
     '<p><strong>a</strong> &lt;b&gt; <a href="">c</a></p>\\n'
 
-    The text is safe, whatever is chosen. It is a SafeHtml: a str that Jinja and Django set into a
-    page as it is.
+    The HTML is safe with all options. It is a SafeHtml: a str that Jinja and Django insert into a
+    page without escaping it.
 
-    footnote_prefix: what the ids of footnotes begin with, else `user-content-`; each document of a
-    page needs another. number_ids: ids of footnotes are made of their numbers; then no two ids of
-    the text are equal. footnote_label, footnote_back_label: the footnotes' heading, and the label
-    of a way back. hard_breaks: a soft break is a `<br />`.
-    bare_links: bare URLs and addresses are links.
-    html: what becomes of HTML in the document: "text", "left-out", or "without-comments", the rest
-    being text. math: `$a$`, and blocks between lines of `$$`, are math. front_matter: what stands
-    between lines of `---` at the beginning prints nothing; front_matter_of gives it. footnotes,
-    tables: these are read. base: the URL against which those of links and images are read.
-    rel: the `rel` of each link whose URL isn't empty and doesn't begin with `#`. heading_ids:
-    what the ids of headings begin with, their numbers follow; they are distinct from one
-    another, and from all others where no other begins so: those of footnotes are
-    `footnote-label`, and the prefix and `fn`. On a page with several documents let it end with a
-    separator that is no digit. heading_slugs: the id of each heading is made of its text, nearly as
-    GitHub does it, behind heading_ids where that is set; these ids are distinct from one another
-    and from all others, where the others are distinct, as with number_ids.
+    footnote_prefix: the prefix of the ids of footnotes, by default `user-content-`; each document
+    of a page needs a different one.
+    number_ids: use numbers in the ids of footnotes; then no two ids of the HTML are equal.
+    footnote_label, footnote_back_label: the heading of the footnotes, and the label of the link
+    back.
+    hard_breaks: write `<br />` for a soft break.
+    bare_links: make links of bare URLs and addresses.
+    html: how to treat HTML in the document: "text" prints it as text, "left-out" leaves it out, and
+    "without-comments" leaves out comments and prints the rest as text.
+    math: read `$a$`, and blocks between lines of `$$`, as math.
+    front_matter: leave out text between lines of `---` at the beginning; front_matter_of returns
+    it.
+    footnotes, tables: read these.
+    base: the base URL of relative URLs in links and images.
+    rel: the `rel` of each link whose URL isn't empty and doesn't begin with `#`.
+    heading_ids: the prefix of the ids of headings; their numbers follow. These ids are distinct
+    from one another, and from all others if no other begins with this prefix. The others are those
+    of footnotes: `footnote-label`, and those that begin with the prefix of footnotes and `fn`. On a
+    page with several documents let it end with a separator that isn't a digit.
+    heading_slugs: make the id of each heading from its text, nearly as GitHub does, after
+    heading_ids if that is set; these ids are distinct from one another and from all others, if the
+    others are distinct, as with number_ids.
 
-    max_input, max_output: how many bytes of UTF-8 the document and the text may have; else any
-    number. max_work: how much there may be to read and to print in what the parser makes of the
-    document, as compile_within counts it; else 2^20, and 64 for each byte of the document. A number
-    of 2^64 or more is no bound. Whoever renders what strangers write sets all three.
-    max_depth: how many nodes may be open at once: a document in which more would be is shown as it
-    is written, as one paragraph; None or 0: as many as any document may.
+    max_input, max_output: the limits on the length of the document and of the HTML, in bytes of
+    UTF-8; by default none.
+    max_work: the limit on how much there is to read and to print in the parser's events, as
+    compile_within counts it; by default 2^20, and 64 for each byte of the document. A number of
+    2^64 or more is no limit. Set these three limits when you render untrusted documents.
+    max_depth: the limit on the number of open nodes: a document that nests deeper is shown as it is
+    written, as one paragraph; None or 0 is no limit.
 
     >>> markdown_to_html("a <b>c</b>\\nd", html="left-out", hard_breaks=True)
     '<p>a c<br />\\nd</p>\\n'
 
-    Raises TooLong where a bound on bytes is passed, TooMuchWork where that on work is, the default
-    one too, MemoryError where the library finds no memory, UnicodeEncodeError for a surrogate that
-    is alone, and TypeError for a value of another type. Other threads run during the call.
+    Raises TooLong if a length exceeds its limit, TooMuchWork if the work exceeds its limit, also
+    the default one, MemoryError if the library runs out of memory, UnicodeEncodeError for a lone
+    surrogate, and TypeError for a value of another type. Other threads run during the call.
     """
     document = coded("text", text)
     given = options_of(number_ids, hard_breaks, bare_links, html, math, front_matter, footnotes,
@@ -126,8 +133,8 @@ def markdown_to_html(
 def markdown_with_headings(
     text: str, heading_ids: str = "", *, heading_slugs: bool = False, **options: Any,
 ) -> tuple[SafeHtml, list[Heading]]:
-    """As markdown_to_html, whose other options it takes, with the headings that got an id, for a
-    table of contents.
+    """Renders a document as markdown_to_html does, whose other options it takes, and returns also
+    the headings that got an id, for a table of contents.
 
     >>> from bivdrazo import markdown_with_headings
     >>> markdown_with_headings("## a *b*", "part-")
@@ -135,7 +142,7 @@ def markdown_with_headings(
     >>> markdown_with_headings("# A\\n# a", heading_slugs=True)[1][1].id
     'a-1'
 
-    In a heading's text a space stands for each line feed.
+    A heading's text has a space for each line feed.
     """
     document = coded("text", text)
     html, listed = rendered(
@@ -149,8 +156,8 @@ def markdown_with_headings(
 
 
 def contents(headings: Iterable[Heading]) -> SafeHtml:
-    """The headings of a text as a list of links to them, nested by their levels. It is as safe as
-    what markdown_to_html makes, by which it is made; empty where there are none.
+    """A table of contents: a list of links to headings, nested by their levels. It is made by
+    markdown_to_html, so it is as safe. Without headings it is empty.
 
     >>> from bivdrazo import contents, markdown_with_headings
     >>> contents(markdown_with_headings("# a", heading_slugs=True)[1])
@@ -168,26 +175,26 @@ def contents(headings: Iterable[Heading]) -> SafeHtml:
 
 
 def quoted(text: str) -> str:
-    """A text in Markdown: what may be a mark has a backslash, and a line ending is a space."""
+    """A text as Markdown: punctuation is escaped, and a line ending becomes a space."""
     marks = {ord(mark): "\\" + mark for mark in string.punctuation}
     return text.translate(marks | {10: " ", 13: " "})
 
 
 def heading_of(line: str, name: str) -> Heading:
-    """A heading: its level, a space, its number, a space, and its text; and its id."""
+    """The heading of a line (level, space, number, space, text), with its id."""
     level, number, text = line.split(" ", 2)
     return Heading(int(level), int(number), SafeHtml(text.replace("\n", " ")), name)
 
 
 def unescaped(text: str) -> str:
-    """A text that the library escaped, as it was."""
+    """A text without the library's escapes."""
     text = text.replace("&lt;", "<").replace("&gt;", ">")
     return text.replace("&quot;", '"').replace("&amp;", "&")
 
 
 def front_matter_of(text: str) -> str | None:
-    """What stands between the lines of `---` at the beginning of a document, without these, or
-    None where no front matter is there.
+    """The text between lines of `---` at the beginning of a document, without these lines; None if
+    the document has no front matter.
 
     >>> from bivdrazo import front_matter_of
     >>> front_matter_of("---\\ntitle: a\\n---\\n# b\\n")
@@ -223,7 +230,7 @@ def options_of(
     max_work: int | None = None,
     max_depth: int | None = None,
 ) -> CMarkdownOptions:
-    """The options as C has them, which only reads them: the texts are set in a copy."""
+    """The options in C, which are shared between calls: texts are set in a copy."""
     choices = (number_ids, hard_breaks, bare_links, html, math, front_matter, footnotes, tables,
                max_input, max_output, max_work, max_depth)
     made = (known_choices if PLAIN.issuperset(map(type, choices)) else made_choices)(*choices)
@@ -252,7 +259,7 @@ def made_choices(
     max_work: int | None,
     max_depth: int | None,
 ) -> CMarkdownOptions:
-    """The options as C has them, with no text set."""
+    """The options in C, with no text set."""
     return CMarkdownOptions(
         MARKDOWN_VERSION,
         typed("number_ids", number_ids, bool),
@@ -272,12 +279,12 @@ def made_choices(
     )
 
 
-# These of the latest calls, made once for equal ones of the same types.
+# The options of the latest calls, made once for equal values of the same types.
 known_choices = functools.lru_cache(maxsize=16, typed=True)(made_choices)
 
 
 def rendered(document: bytes, options: CMarkdownOptions, slugs: bool = False) -> tuple[str, str]:
-    """The text of a document, and the list of its headings that got an id."""
+    """The HTML of a document, and the list of its headings that got an id."""
     buffer = taken(len(document) + len(document) // 2 + 256)
     try:
         return rendered_into(buffer, document, options, slugs)
@@ -288,7 +295,7 @@ def rendered(document: bytes, options: CMarkdownOptions, slugs: bool = False) ->
 
 def rendered_into(buffer: ctypes.Array[ctypes.c_char], document: bytes, options: CMarkdownOptions,
                   slugs: bool) -> tuple[str, str]:
-    """The same by a buffer, where it is long enough, and else by another one."""
+    """The same with a buffer, or with a longer one if that is too short."""
     into = LIBRARY.bivdrazo_markdown_slugs_into if slugs else LIBRARY.bivdrazo_markdown_into
     answer = into(document, len(document), options, buffer, len(buffer))
     if answer.status == TOO_SHORT:
@@ -302,8 +309,8 @@ def rendered_into(buffer: ctypes.Array[ctypes.c_char], document: bytes, options:
 
 
 def taken(room: int) -> ctypes.Array[ctypes.c_char]:
-    """A buffer of that size at least: the one that this thread keeps, where it is there and long
-    enough. A call that comes in between, as from a handler of signals, finds none.
+    """A buffer of at least that size: the one that this thread keeps, if that is long enough and
+    not in use, as it is for a call from a signal handler.
     """
     if room > KEPT_SIZE:
         return ctypes.create_string_buffer(room)
@@ -312,15 +319,15 @@ def taken(room: int) -> ctypes.Array[ctypes.c_char]:
 
 
 def html_of(html: str) -> int:
-    """The number of what becomes of HTML."""
+    """The number of a choice of HTML."""
     number = HTML.get(typed("html", html, str))
     if number is None:
-        raise ValueError(f"html: one of {', '.join(HTML)} is wanted, not {html!r}")
+        raise ValueError(f"html: expected one of {', '.join(HTML)}, not {html!r}")
     return number
 
 
 def markdown_error_of(answer: CAnswer, options: CMarkdownOptions, length: int) -> Exception:
-    """The error that an answer about a document of so many bytes without a text stands for."""
+    """The error for an answer, for a document of this length."""
     if answer.status == MarkdownStatus.INPUT_TOO_LONG:
         return TooLong("input", options.max_input)
     if answer.status == MarkdownStatus.OUTPUT_TOO_LONG:

@@ -8,7 +8,7 @@ import enum
 # The number of this interface: it changes when a layout or a number changes.
 VERSION = 3
 
-# The version of the library and of what comes with it.
+# The version of the library and of its clients.
 VERSION_TEXT = "2.0.0"
 
 # The options, by their numbers, each with its type.
@@ -50,55 +50,54 @@ MARKDOWN_OPTIONS = (
 
 
 class Status(enum.IntEnum):
-    """What became of a call."""
+    """The status of a call."""
 
-    # The text stands in the buffer's first `length` bytes, with no NUL after it.
+    # The text is in the buffer's first `length` bytes, with no NUL after it.
     OK = 0
-    # The buffer is too short: `length` is what the text needs.
+    # The buffer is too short: the text needs `length` bytes.
     TOO_SHORT = 1
     # The events are refused, at the event `index` (the number of events where something is open at
     # the end), by `rule`.
     REFUSED = 2
-    # The event at `index` stands for none: its kind or its name has no such number.
+    # The event at `index` is invalid: its kind or its name has an unknown number.
     NO_EVENT = 3
-    # The character reference at `index` stands for none: its name or its text isn't UTF-8.
+    # The character reference at `index` is invalid: its name or its text isn't UTF-8.
     NO_NAME = 4
-    # The options stand for none: the one with the number `index` is no flag 0 or 1, no line ending,
-    # or a text that is set and isn't UTF-8.
+    # The option with the number `index` is invalid: a flag that isn't 0 or 1, an unknown line
+    # ending, or a set text that isn't UTF-8.
     NO_OPTION = 5
     # Scripts only: the line with the number `index`, from 1, can't be read.
     NO_LINE = 6
-    # There is no more memory.
+    # The library is out of memory.
     MEMORY = 7
-    # Attributes are asked for, and the options aren't safe.
+    # The call requires safe options, and these aren't safe.
     UNSAFE = 8
-    # The attributes stand for none: the one with the number `index` is neither set nor unset, or
-    # isn't UTF-8.
+    # The attribute with the number `index` is invalid: it is neither set nor unset, or isn't UTF-8.
     NO_ATTRIBUTE = 9
-    # The text has more bytes than it may have.
+    # The text exceeds the limit on its length.
     TOO_LONG = 10
-    # There is more to read and to print than there may be.
+    # The events exceed the limit on the work.
     TOO_MUCH = 11
-    # A link stands in a link.
+    # A link is in a link.
     NESTED = 12
-    # The events nest deeper than they may.
+    # The events exceed the limit on the nesting.
     TOO_DEEP = 13
 
 
 class Rule(enum.IntEnum):
     """Why events are refused."""
 
-    # No tree's events begin so, or a node or a group is open at the end.
+    # No tree has events that begin so, or a node or a group is open at the end.
     ORDER = 1
     # A name of MDX.
     MDX = 2
     # A place that is read doesn't fit the bytes, or isn't UTF-8.
     PLACE = 3
-    # The text of a line ending is none.
+    # The text of a line ending isn't one.
     LINE_ENDING = 4
-    # The first mark of a heading has not a length of 1 to 6.
+    # The first mark of a heading doesn't have a length of 1 to 6.
     HEADING_MARK = 5
-    # The value of an ordered list's first item is no number under 2^32.
+    # The value of an ordered list's first item isn't a number under 2^32.
     LIST_NUMBER = 6
     # A character reference doesn't decode.
     CHARACTER_REFERENCE = 7
@@ -106,7 +105,7 @@ class Rule(enum.IntEnum):
     DEFINITION = 8
     # A footnote call has an identifier that no footnote definition has.
     FOOTNOTE = 9
-    # A link or an image leads nowhere.
+    # A link or an image has no target.
     TARGET = 10
 
 
@@ -131,7 +130,7 @@ class LineEnding(enum.IntEnum):
 
 
 class Name(enum.IntEnum):
-    """What an event enters or exits."""
+    """The node that an event enters or exits."""
 
     # Links that are written out as such: `<a@b.c>`, `<https://a.b>`, and the literal ones of GFM.
     # An address between angle brackets, without these: a link to it.
@@ -246,7 +245,7 @@ class Name(enum.IntEnum):
     LABEL = 51
     # The same without its brackets.
     LABEL_TEXT = 52
-    # What a link or an image leads to, where it stands there itself.
+    # The destination and title of a link or an image, after its label.
     RESOURCE = 53
     # The URL of a resource.
     RESOURCE_DESTINATION_STRING = 54
@@ -323,26 +322,26 @@ class Name(enum.IntEnum):
 
 
 class MarkdownStatus(enum.IntEnum):
-    """What became of a call, beside the statuses of the library."""
+    """Further statuses of calls for Markdown."""
 
-    # The Markdown has more bytes than `max_input`: `length` tells how many.
+    # The Markdown exceeds `max_input`; it has `length` bytes.
     INPUT_TOO_LONG = 32
-    # The text has more bytes than `max_output`.
+    # The text exceeds `max_output`.
     OUTPUT_TOO_LONG = 33
     # The Markdown isn't UTF-8, from the byte `index` on.
     NOT_UTF8 = 34
-    # The options have a version that the library doesn't know.
+    # The options have an unknown version.
     NO_VERSION = 35
-    # There is more to read and to print than there may be.
+    # The document exceeds `max_work`.
     TOO_MUCH_WORK = 37
 
 
 class DocumentHtml(enum.IntEnum):
-    """What becomes of HTML in a document."""
+    """How to treat HTML in a document."""
 
-    # It is printed as text.
+    # Print it as text.
     TEXT = 0
-    # It is left out. What stands between two tags stays.
+    # Leave it out. The text between two tags stays.
     LEFT_OUT = 1
-    # Comments are left out, and all else is printed as text.
+    # Leave out comments, and print the rest as text.
     WITHOUT_COMMENTS = 2

@@ -30,7 +30,7 @@ from bivdrazo.library import CAnswer, CEvent, CLimits, COptions, CReference, CTe
 
 
 def paragraph(length):
-    """The events of a paragraph over so many bytes."""
+    """The events of a paragraph over this number of bytes."""
     return [
         Event.enter(Name.PARAGRAPH, 0),
         Event.enter(Name.DATA, 0),
@@ -141,7 +141,7 @@ class Texts(unittest.TestCase):
 
 
 class Limits(unittest.TestCase):
-    """A text within bounds, and what is told where it isn't."""
+    """A text within limits, and the errors of one that exceeds them."""
 
     TEXT = "<p>Hi &lt;b&gt;</p>"
 
@@ -228,7 +228,7 @@ class Limits(unittest.TestCase):
 
 
 class Unnested(unittest.TestCase):
-    """No link stands in a link."""
+    """No link is in a link."""
 
     @staticmethod
     def link(name):
@@ -314,9 +314,9 @@ class Errors(unittest.TestCase):
         self.assertEqual(str(error_of(2, 6, 3)), "event 6: PLACE")
         self.assertEqual(str(error_of(6, 7, 0)), "line 7: unreadable")
         self.assertEqual(repr(error_of(7, 0, 0)), "MemoryError('out of memory')")
-        self.assertEqual(repr(error_of(12, 0, 0)), "Nested('a link stands in a link')")
+        self.assertEqual(repr(error_of(12, 0, 0)), "Nested('a link is in a link')")
         self.assertEqual(repr(error_of(99, 0, 0)),
-                         "RuntimeError('the library answered the unknown status 99')")
+                         "RuntimeError('the library returned the unknown status 99')")
 
 
 class Interface(unittest.TestCase):

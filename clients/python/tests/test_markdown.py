@@ -190,7 +190,7 @@ class Texts(unittest.TestCase):
 
 
 class Errors(unittest.TestCase):
-    """What is handed in has another type or value."""
+    """What is passed has another type or value."""
 
     def test_types(self):
         values = {
@@ -205,7 +205,7 @@ class Errors(unittest.TestCase):
                 markdown_to_html("a", **{name: value})
         for text in (b"a", None, 1):
             with self.subTest(text=text), self.assertRaisesRegex(TypeError,
-                                                                 "^text: str is wanted, not "):
+                                                                 "^text: expected str, not "):
                 markdown_to_html(text)
 
     def test_values(self):

@@ -1,4 +1,4 @@
-"""Tests of SafeHtml: what has it, that templates don't escape it, and what is made of it."""
+"""Tests of SafeHtml: the calls that return it, templates, and texts made from it."""
 
 import contextlib
 import copy
@@ -19,7 +19,7 @@ try:
     import jinja2
     WHY_NO_JINJA = None
 except ImportError:
-    WHY_NO_JINJA = "Jinja isn't there"
+    WHY_NO_JINJA = "Jinja is missing"
 PAGE = pathlib.Path(__file__).resolve().parents[3] / "docs" / "use" / "PYTHON.md"
 EVENTS = (Event.enter(Name.DATA, 0), Event.exit(Name.DATA, 6))
 UNSAFE = ({"allow_any_img_src": True}, {"allow_dangerous_html": True},
@@ -32,12 +32,12 @@ SAFE = ({}, {"gfm_task_list_item_checkable": True}, {"gfm_tagfilter": True},
 
 
 def escaped(value):
-    """What Django's and MarkupSafe's escaping make of a value that is put into a page."""
+    """A value after Django's or MarkupSafe's escaping."""
     return value.__html__() if hasattr(value, "__html__") else html.escape(value)
 
 
 class Answers(unittest.TestCase):
-    """Which calls answer it: those whose text is safe."""
+    """The calls that return it are those whose text is safe."""
 
     def test_compile(self):
         for call in (compile, compile_within):
@@ -68,7 +68,7 @@ class Answers(unittest.TestCase):
 
 
 class Values(unittest.TestCase):
-    """It is a str, and what is made of it is a plain one."""
+    """It is a str, and texts made from it are plain ones."""
 
     MADE = SafeHtml("<p>a</p>\n")
 
@@ -100,13 +100,13 @@ class Values(unittest.TestCase):
                      made.casefold(), made.partition("<")[2], SafeHtml("{}").format("<"),
                      SafeHtml("%s") % "<"):
             self.assertIs(type(each), str, each)
-        # These may answer the text itself, where nothing in it changes.
+        # These may return the text itself if nothing in it changes.
         for each in (made.format(), made % (), made.partition("!")[0]):
             self.assertTrue(each is made or type(each) is str)
 
 
 class Templates(unittest.TestCase):
-    """Templates set it into a page as it is."""
+    """Templates insert it without escaping it."""
 
     @unittest.skipIf(WHY_NO_JINJA, WHY_NO_JINJA)
     def test_jinja(self):

@@ -76,13 +76,14 @@ class Lies(unittest.TestCase):
 
     def test_no_buffers(self):
         for data in ("a", 5, [1, 2], None):
-            with self.subTest(data=data), self.assertRaisesRegex(TypeError, "^data: bytes are "):
+            with self.subTest(data=data), \
+                    self.assertRaisesRegex(TypeError, "^data: expected bytes, not "):
                 compile(self.EVENTS, data)
-        with self.assertRaisesRegex(TypeError, "^script: bytes are wanted, not str$"):
+        with self.assertRaisesRegex(TypeError, "^script: expected bytes, not str$"):
             run("--")
-        with self.assertRaisesRegex(TypeError, "^names: str is wanted, not bytes$"):
+        with self.assertRaisesRegex(TypeError, "^names: expected str, not bytes$"):
             compile([], b"", names={b"x": "y"})
-        with self.assertRaisesRegex(TypeError, "^gfm_footnote_label: str is wanted, not int$"):
+        with self.assertRaisesRegex(TypeError, "^gfm_footnote_label: expected str, not int$"):
             compile([], b"", gfm_footnote_label=1)
 
     def test_markdown(self):
@@ -180,7 +181,7 @@ class Statuses(unittest.TestCase):
 
     def test_texts(self):
         self.assertEqual(set(TEXTS), {*Status, *MarkdownStatus})
-        self.assertEqual(text_of_status(99), "the library answered the unknown status 99")
+        self.assertEqual(text_of_status(99), "the library returned the unknown status 99")
 
     def test_errors(self):
         for status in [*Status, *MarkdownStatus]:

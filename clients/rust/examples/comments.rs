@@ -1,9 +1,9 @@
-//! Comments of people who aren't trusted, as HTML for one page: each file is one.
+//! Renders comments of untrusted users for one page: each file is a comment.
 //!
 //!     cargo run --example comments FILE..
 //!
-//! Each comment has bounds, and prefixes of its own, so that no two of them share an id of a
-//! footnote or of a heading but `footnote-label`; no search engine follows its links.
+//! Each comment has limits, and its own prefixes, so that no two comments share an id of a footnote
+//! or of a heading, except `footnote-label`; no search engine follows its links.
 
 use bivdrazo::{markdown_to_html, DocumentHtml, MarkdownOptions};
 use std::{env, error, fs};

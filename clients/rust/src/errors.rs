@@ -1,4 +1,4 @@
-//! Why there is no text.
+//! Errors.
 
 use crate::layouts::CAnswer;
 use crate::numbers::{
@@ -10,57 +10,57 @@ use crate::values::Limits;
 use std::error;
 use std::fmt;
 
-/// Why there is no text.
+/// Why a call returns no text.
 #[derive(Clone, Copy, Debug, Eq, PartialEq)]
 #[non_exhaustive]
 pub enum Error {
-    /// The events are refused: at `index` (the number of events where something is open at the
-    /// end), by `rule`.
+    /// The events are refused, by `rule`, at `index` (the number of events if a node is open at the
+    /// end).
     Refused {
         /// The index of the event.
         index: usize,
-        /// What it breaks.
+        /// The rule that it breaks.
         rule: Rule,
     },
-    /// The event at this index stands for none; this crate hands in none such.
+    /// The event at this index is invalid; this crate passes no such event.
     Event(usize),
-    /// The character reference at this index isn't UTF-8; this crate hands in none such.
+    /// The character reference at this index isn't UTF-8; this crate passes no such one.
     Name(usize),
-    /// The option with this number stands for none; this crate hands in none such.
+    /// The option with this number is invalid; this crate passes no such option.
     Option(usize),
     /// The line with this number, from 1, of a script can't be read.
     Line(usize),
-    /// There is no more memory.
+    /// The library is out of memory.
     Memory,
-    /// What is asked for wants safe options, and these aren't.
+    /// The call requires safe options, and these aren't safe.
     Unsafe,
-    /// A link stands in a link.
+    /// A link is in a link.
     Nested,
-    /// The attribute with this number stands for none; this crate hands in none such.
+    /// The attribute with this number is invalid; this crate passes no such attribute.
     Attribute(usize),
-    /// The Markdown has more bytes than a bound permits.
+    /// The Markdown exceeds the limit on its length.
     InputTooLong {
-        /// How many it has.
+        /// Its length in bytes.
         length: usize,
-        /// How many it may have.
+        /// The limit in bytes.
         limit: usize,
     },
-    /// The text would have more bytes than a bound permits.
+    /// The text would exceed the limit on its length.
     OutputTooLong {
-        /// How many it may have.
+        /// The limit in bytes.
         limit: usize,
     },
-    /// There is more to read and to print than a limit permits.
+    /// The document or the events exceed the limit on the work.
     TooMuchWork {
-        /// How much there may be.
+        /// The limit.
         limit: usize,
     },
-    /// The events nest deeper than a limit permits.
+    /// The events exceed the limit on the nesting.
     TooDeep {
-        /// How many nodes may be open at once.
+        /// The limit on the number of open nodes.
         limit: usize,
     },
-    /// The library answered what this crate doesn't know: it is of another version.
+    /// The library returned an unknown status: it has another version.
     Unknown,
 }
 
@@ -101,7 +101,7 @@ impl fmt::Display for Error {
 
 impl error::Error for Error {}
 
-/// The error that an answer without a text within limits stands for.
+/// The error for an answer of a call within limits.
 pub(crate) fn error_within(answer: &CAnswer, limits: Limits) -> Error {
     match answer.status {
         STATUS_TOO_LONG => Error::OutputTooLong { limit: limits.text },
@@ -113,7 +113,7 @@ pub(crate) fn error_within(answer: &CAnswer, limits: Limits) -> Error {
     }
 }
 
-/// The error that another answer without a text stands for.
+/// The error for an answer of another call.
 pub(crate) fn error_of(answer: &CAnswer) -> Error {
     match answer.status {
         STATUS_REFUSED => match Rule::from_number(answer.rule) {

@@ -1,4 +1,4 @@
-//! The library's calls, as C has them.
+//! The calls of the library's C functions.
 
 use crate::errors::{error_of, error_within};
 use crate::layouts::{
@@ -9,7 +9,7 @@ use crate::layouts::{
 use crate::markdown::unescaped;
 use crate::numbers::{STATUS_NESTED, STATUS_OK, STATUS_TOO_SHORT};
 use crate::options::c_options;
-use crate::{Attributes, Error, Event, Heading, Limits, Options, Rendered};
+use crate::{Attributes, Error, Event, Heading, Limits, Options, Rendered, SafeHtml};
 use std::str;
 
 /// As `crate::compile`.
@@ -25,8 +25,8 @@ pub(crate) fn compile(
     let room = first_size(events.len(), bytes.len());
     into_text(room, Limits::default(), |buffer| {
         // SAFETY: the pointers are those of slices, of a struct that refers to strings of the
-        // caller's, and of a buffer that nothing else refers to; each goes with its own
-        // length and isn't null.
+        // caller, and of a buffer that nothing else refers to; each has its own length and isn't
+        // null.
         unsafe {
             bivdrazo_compile(
                 events.as_ptr(),
@@ -122,8 +122,8 @@ pub(crate) fn compile_within(
     })
 }
 
-/// As `crate::compile_attributed`, within limits. Where there are some, the text without attributes
-/// is made first: it alone is made within them, and no text with attributes is shorter.
+/// As `crate::compile_attributed`, within limits. If there are any, the text without attributes is
+/// made first, within them; a text with attributes is never shorter.
 pub(crate) fn compile_attributed(
     events: &[Event],
     bytes: &[u8],
@@ -167,8 +167,8 @@ pub(crate) fn compile_attributed(
     rendered_of(whole, start, prefix).ok_or(Error::Unknown)
 }
 
-/// A text up to that byte, and after it the list of its headings: before each stands a NUL. Their
-/// ids follow, with a NUL and `#` before each; where they don't, they are that prefix and a number.
+/// A text up to that byte, followed by the list of its headings, with a NUL before each. Their ids
+/// follow, with a NUL and `#` before each; otherwise the ids are that prefix and a number.
 pub(crate) fn rendered_of(mut whole: Vec<u8>, start: usize, prefix: &str) -> Option<Rendered> {
     let list = str::from_utf8(whole.get(start..)?).ok()?;
     let (ids, lines): (Vec<&str>, Vec<&str>) = list
@@ -181,7 +181,7 @@ pub(crate) fn rendered_of(mut whole: Vec<u8>, start: usize, prefix: &str) -> Opt
     });
     let headings = headings.collect::<Option<_>>()?;
     whole.truncate(start);
-    let html = String::from_utf8(whole).ok()?;
+    let html = SafeHtml::made(String::from_utf8(whole).ok()?);
     Some(Rendered { html, headings })
 }
 
@@ -192,7 +192,7 @@ fn heading_of(line: &str, id: Option<String>, prefix: &str) -> Option<Heading> {
     Some(Heading {
         level: level.parse().ok()?,
         number: number.parse().ok()?,
-        text: text.to_string(),
+        text: SafeHtml::made(text.to_string()),
         id: id.unwrap_or_else(|| format!("{prefix}{number}")),
     })
 }
@@ -227,7 +227,7 @@ pub(crate) fn first_size(events: usize, bytes: usize) -> usize {
         .saturating_add(64)
 }
 
-/// The text that a call writes into a buffer, which isn't longer than the limits permit.
+/// The text that a call writes into a buffer, within the limit on its length.
 fn into_text(
     room: usize,
     limits: Limits,
@@ -237,8 +237,8 @@ fn into_text(
     String::from_utf8(text).map_err(|_| Error::Unknown)
 }
 
-/// What a call writes into a buffer, with a second call where the first buffer is too short, and
-/// what is measured of the answer, which isn't more than the text may have.
+/// The bytes that a call writes into a buffer, with a second call if the first buffer is too short;
+/// and the length that `measure` returns for the answer, which is within the limit.
 fn into_bytes(
     room: usize,
     limits: Limits,
@@ -263,14 +263,14 @@ fn into_bytes(
     Ok((buffer, measure(&answer)))
 }
 
-/// An empty buffer with room for so many bytes.
+/// An empty buffer with room for this number of bytes.
 pub(crate) fn buffer_of(room: usize) -> Result<Vec<u8>, Error> {
     let mut buffer = Vec::new();
     buffer.try_reserve_exact(room).map_err(|_| Error::Memory)?;
     Ok(buffer)
 }
 
-/// The elements, where memory is found for them.
+/// The elements in a vector, unless memory runs out.
 fn collect<T>(elements: impl ExactSizeIterator<Item = T>) -> Result<Vec<T>, Error> {
     let mut collected = Vec::new();
     collected

@@ -1,4 +1,4 @@
-//! What crosses to the library, as C has it, and its calls.
+//! The types and functions of the C interface.
 
 use crate::numbers::{
     KIND_ENTER, KIND_EXIT, LINE_ENDING_CARRIAGE_RETURN, LINE_ENDING_CARRIAGE_RETURN_LINE_FEED,

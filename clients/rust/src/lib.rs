@@ -1,4 +1,5 @@
-//! Markdown to safe HTML, by a parser and a compiler that are proved.
+//! Markdown to safe HTML: it is proved that the HTML is safe, and that the parser ends for every
+//! document and refuses none. That it reads Markdown as GFM says is only tested.
 //!
 //! ```
 //! use bivdrazo::{markdown_to_html, MarkdownOptions};
@@ -8,12 +9,11 @@
 //! # Ok::<(), bivdrazo::Error>(())
 //! ```
 //!
-//! The library can also be called with the events of any other parser, which says what it found in
-//! a document as a list of them: a paragraph begins at byte 0, a text runs from there to byte 6,
-//! the paragraph ends. [`compile`] makes HTML of such a list.
-//! Nothing is assumed of the events: whatever a parser hands in is refused or gives a text that,
-//! under the default options, has one reading as HTML, with links and images of permitted
-//! protocols alone.
+//! The library also takes the events of any other parser, which reports a document as a list of
+//! them: a paragraph begins at byte 0, a text runs from there to byte 6, the paragraph ends.
+//! [`compile`] makes HTML from such a list. Nothing is assumed about the events: they are refused,
+//! or give a text that, under the default options, has one reading as HTML, in which links and
+//! images have no protocol or a permitted one.
 //!
 //! ```
 //! use bivdrazo::{compile, Event, Name, Options};
@@ -44,12 +44,13 @@ mod options;
 #[cfg(feature = "pulldown-cmark")]
 mod pulldown;
 mod references;
+mod safe;
 mod setters;
 mod values;
 
 #[cfg(feature = "pulldown-cmark")]
 pub use pulldown::events_of;
-/// pulldown-cmark, of the version that [`events_of`] takes the events of.
+/// The version of pulldown-cmark whose events [`events_of`] takes.
 #[cfg(feature = "pulldown-cmark")]
 pub use pulldown_cmark;
 
@@ -57,21 +58,22 @@ pub use document::Document;
 pub use errors::Error;
 pub use markdown::{
     contents, default_work, front_matter_of, markdown_to_html, markdown_with_headings,
-    DocumentHtml, MarkdownOptions,
+    DocumentHtml, MarkdownOptions, ParseDocumentHtmlError,
 };
 pub use numbers::{Name, Rule, VERSION, VERSION_TEXT};
 pub use references::REFERENCES;
+pub use safe::SafeHtml;
 pub use values::{Attributes, Event, Heading, Kind, Limits, LineEnding, Options, Rendered};
 
-/// The HTML of a list of events over a document's bytes.
+/// Compiles a list of events over a document's bytes to HTML.
 ///
-/// `names` are the character references by name that a document may use, each with what it stands
-/// for; of two with one name the first counts. HTML's are [`REFERENCES`]. The bytes need not be
-/// UTF-8 but where events read them as text.
+/// `names` are the named character references that a document may use, each with its text; of two
+/// with the same name the first counts. HTML's are [`REFERENCES`]. The bytes must be UTF-8 only
+/// where events refer to them as text.
 ///
 /// # Errors
 ///
-/// [`Error::Refused`] where the events are refused, and [`Error::Memory`].
+/// [`Error::Refused`] if the events are refused, and [`Error::Memory`].
 ///
 /// ```
 /// use bivdrazo::{compile, Error, Event, Name, Options, Rule};
@@ -89,16 +91,16 @@ pub fn compile(
     ffi::compile(events, bytes, options, names)
 }
 
-/// As [`compile`] under safe options, where no link stands in a link: the HTML Standard's tree
-/// construction builds the tree that the text is read as.
+/// Compiles events as [`compile`] does, under safe options and without a link in a link: then the
+/// HTML Standard's tree construction builds the tree of the text's reading.
 ///
-/// Links are also automatic ones that are none by letters alone, and calls of footnotes; a link in
-/// an image counts as none.
+/// Links are also automatic ones that are none by letters alone, and footnote calls; a link in an
+/// image doesn't count.
 ///
 /// # Errors
 ///
-/// Those of [`compile`], [`Error::Nested`] where a link stands in a link, and [`Error::Unsafe`]
-/// where the options aren't safe.
+/// Those of [`compile`], [`Error::Nested`] for a link in a link, and [`Error::Unsafe`] if the
+/// options aren't safe.
 ///
 /// ```
 /// use bivdrazo::{compile_unnested, Error, Event, Name, Options};
@@ -115,13 +117,13 @@ pub fn compile_unnested(
     bytes: &[u8],
     options: &Options,
     names: &[(&str, &str)],
-) -> Result<String, Error> {
-    ffi::compile_unnested(events, bytes, options, names)
+) -> Result<SafeHtml, Error> {
+    ffi::compile_unnested(events, bytes, options, names).map(SafeHtml::made)
 }
 
-/// Whether a link stands in a link, of events that are a document's. Nothing is compiled.
+/// Whether the events of a document have a link in a link. Nothing is compiled.
 ///
-/// What counts as a link is as of [`compile_unnested`].
+/// Links are those that [`compile_unnested`] counts.
 ///
 /// # Errors
 ///
@@ -137,14 +139,14 @@ pub fn has_nested_link(events: &[Event]) -> Result<bool, Error> {
     ffi::has_nested_link(events)
 }
 
-/// As [`compile`], where the text has at most as many bytes as it may have, there is at most as
-/// much work, and the events nest no deeper than they may.
+/// Compiles events as [`compile`] does, within limits on the text, the work and the nesting.
 ///
 /// # Errors
 ///
-/// Those of [`compile`]; [`Error::TooDeep`] where the events nest deeper and else
-/// [`Error::TooMuchWork`] where there is more work, whether or not they are a document's, but for
-/// want of memory; [`Error::OutputTooLong`] where they are one's whose text is longer.
+/// Those of [`compile`]. Unless the library runs out of memory: [`Error::TooDeep`] if the events
+/// nest too deep, and otherwise [`Error::TooMuchWork`] if there is too much work; both even if the
+/// events aren't a document's. For a document's events [`Error::OutputTooLong`] if the text is too
+/// long.
 ///
 /// ```
 /// use bivdrazo::{compile_within, Error, Event, Limits, Name, Options};
@@ -176,12 +178,12 @@ pub fn compile_within(
     ffi::compile_within(events, bytes, options, names, limits)
 }
 
-/// As [`compile`], with attributes that are added to the tags of the text, and the headings
-/// that got an `id`.
+/// Compiles events as [`compile`] does, adds attributes to the tags of the text, and returns also
+/// the headings that got an `id`.
 ///
 /// # Errors
 ///
-/// Those of [`compile`], and [`Error::Unsafe`] where the options aren't safe.
+/// Those of [`compile`], and [`Error::Unsafe`] if the options aren't safe.
 ///
 /// ```
 /// use bivdrazo::{compile_attributed, Attributes, Event, Name, Options};
@@ -213,11 +215,12 @@ pub fn compile_attributed(
     ffi::compile_attributed(events, bytes, options, names, attributes, limits)
 }
 
-/// The HTML of an event script: lines of options and events, a line `--`, the document.
+/// Compiles an event script: lines of options and events, a line `--`, the document. The script
+/// sets its own options, so the HTML may be unsafe.
 ///
 /// # Errors
 ///
-/// [`Error::Line`] where a line can't be read, [`Error::Refused`] where the events are refused, and
+/// [`Error::Line`] if a line can't be read, [`Error::Refused`] if the events are refused, and
 /// [`Error::Memory`].
 ///
 /// ```
@@ -229,7 +232,7 @@ pub fn run(script: &[u8]) -> Result<String, Error> {
     ffi::run(script)
 }
 
-/// The number of the interface that the library was built with: it is to be [`VERSION`].
+/// The number of the library's interface, which must be [`VERSION`].
 ///
 /// ```
 /// assert_eq!(bivdrazo::library_version(), bivdrazo::VERSION);
@@ -238,7 +241,7 @@ pub fn library_version() -> u32 {
     ffi::version()
 }
 
-/// So that the example of the page is run.
+/// So that the page's example is run.
 #[cfg(doctest)]
 #[doc = include_str!("../README.md")]
 struct Readme;

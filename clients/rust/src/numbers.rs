@@ -1,6 +1,6 @@
 // Written by clients/numbers/generate from numbers.txt. Don't edit it.
 
-/// What an event enters or exits.
+/// The node that an event enters or exits.
 #[derive(Clone, Copy, Debug, Eq, Hash, PartialEq)]
 #[non_exhaustive]
 pub enum Name {
@@ -108,7 +108,7 @@ pub enum Name {
     Label,
     /// The same without its brackets.
     LabelText,
-    /// What a link or an image leads to, where it stands there itself.
+    /// The destination and title of a link or an image, after its label.
     Resource,
     /// The URL of a resource.
     ResourceDestinationString,
@@ -181,7 +181,7 @@ pub enum Name {
 }
 
 impl Name {
-    /// The number of the name, and the number that an other name has of its own.
+    /// The number of the name, and the own number of `Other`.
     pub(crate) fn numbers(self) -> (u16, u16) {
         match self {
             Name::AutolinkEmail => (1, 0),
@@ -274,7 +274,7 @@ impl Name {
         }
     }
 
-    /// The name that an event script spells so.
+    /// The name with this text in an event script.
     pub fn from_text(text: &str) -> Option<Name> {
         match text {
             "AutolinkEmail" => Some(Name::AutolinkEmail),
@@ -375,7 +375,7 @@ impl Name {
     }
 }
 
-/// Every name but the others, by its number.
+/// All names but `Other`, by their numbers.
 #[cfg(test)]
 pub(crate) const NAMES: &[Name] = &[
     Name::AutolinkEmail,
@@ -470,17 +470,17 @@ pub(crate) const NAMES: &[Name] = &[
 #[derive(Clone, Copy, Debug, Eq, Hash, PartialEq)]
 #[non_exhaustive]
 pub enum Rule {
-    /// No tree's events begin so, or a node or a group is open at the end.
+    /// No tree has events that begin so, or a node or a group is open at the end.
     Order,
     /// A name of MDX.
     Mdx,
     /// A place that is read doesn't fit the bytes, or isn't UTF-8.
     Place,
-    /// The text of a line ending is none.
+    /// The text of a line ending isn't one.
     LineEnding,
-    /// The first mark of a heading has not a length of 1 to 6.
+    /// The first mark of a heading doesn't have a length of 1 to 6.
     HeadingMark,
-    /// The value of an ordered list's first item is no number under 2^32.
+    /// The value of an ordered list's first item isn't a number under 2^32.
     ListNumber,
     /// A character reference doesn't decode.
     CharacterReference,
@@ -488,12 +488,12 @@ pub enum Rule {
     Definition,
     /// A footnote call has an identifier that no footnote definition has.
     Footnote,
-    /// A link or an image leads nowhere.
+    /// A link or an image has no target.
     Target,
 }
 
 impl Rule {
-    /// The number of the rule, as C has it.
+    /// The number of the rule in C.
     pub fn number(self) -> u32 {
         match self {
             Rule::Order => 1,
@@ -509,19 +509,23 @@ impl Rule {
         }
     }
 
-    /// What the rule means, in English.
+    /// The meaning of the rule, in English.
     pub fn text(self) -> &'static str {
         match self {
-            Rule::Order => "no tree's events begin so, or a node or a group is open at the end",
+            Rule::Order => {
+                "no tree has events that begin so, or a node or a group is open at the end"
+            }
             Rule::Mdx => "a name of MDX",
             Rule::Place => "a place that is read doesn't fit the bytes, or isn't UTF-8",
-            Rule::LineEnding => "the text of a line ending is none",
-            Rule::HeadingMark => "the first mark of a heading has not a length of 1 to 6",
-            Rule::ListNumber => "the value of an ordered list's first item is no number under 2^32",
+            Rule::LineEnding => "the text of a line ending isn't one",
+            Rule::HeadingMark => "the first mark of a heading doesn't have a length of 1 to 6",
+            Rule::ListNumber => {
+                "the value of an ordered list's first item isn't a number under 2^32"
+            }
             Rule::CharacterReference => "a character reference doesn't decode",
             Rule::Definition => "a link or an image has an identifier that no definition has",
             Rule::Footnote => "a footnote call has an identifier that no footnote definition has",
-            Rule::Target => "a link or an image leads nowhere",
+            Rule::Target => "a link or an image has no target",
         }
     }
 
@@ -546,7 +550,7 @@ impl Rule {
 /// The number of this interface: it changes when a layout or a number changes.
 pub const VERSION: u32 = 3;
 
-/// The version of the library and of what comes with it.
+/// The version of the library and of its clients.
 pub const VERSION_TEXT: &str = "2.0.0";
 
 pub(crate) const STATUS_OK: u32 = 0;

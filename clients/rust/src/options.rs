@@ -19,7 +19,7 @@ pub(crate) struct COptions {
     gfm_footnote_label_tag_name: CText,
 }
 
-/// The options as C has them; they refer to the texts of `options`.
+/// The options in C; they refer to the texts of `options`.
 pub(crate) fn c_options(options: &Options) -> COptions {
     COptions {
         allow_any_img_src: u8::from(options.allow_any_img_src),

@@ -1,16 +1,16 @@
-//! Options, attributes and limits in one expression: each setter takes the value and answers it
-//! with that field set.
+//! Setters of options, attributes and limits, for use in one expression: each takes the value and
+//! returns it with one field set.
 
 use crate::{Attributes, Limits, LineEnding, Options};
 
-/// Setters of a type: the name of each, the field and what is taken for it, and what the field is.
+/// Setters of a type: the name of each, the field, the type of the argument, and the new value.
 macro_rules! setters {
     ($type:ident: $($setter:ident($field:ident: $taken:ty) = $made:expr;)*) => {
         impl $type {
             $(
                 #[doc = concat!(
-                    "The same with [`", stringify!($field), "`](",
-                    stringify!($type), "::", stringify!($field), ") set."
+                    "Sets [`", stringify!($field), "`](",
+                    stringify!($type), "::", stringify!($field), ")."
                 )]
                 #[must_use]
                 pub fn $setter(mut self, $field: $taken) -> $type {

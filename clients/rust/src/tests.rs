@@ -11,9 +11,10 @@ use std::thread;
 mod errors;
 mod limits;
 mod names;
+mod safe;
 pub(crate) mod setters;
 
-/// The events of a node over some bytes, with others in it.
+/// The events of a node over some bytes, with other events in it.
 fn node(name: Name, start: usize, end: usize, children: &[Event]) -> Vec<Event> {
     let mut events = vec![Event::enter(name, start)];
     events.extend_from_slice(children);
@@ -21,7 +22,7 @@ fn node(name: Name, start: usize, end: usize, children: &[Event]) -> Vec<Event> 
     events
 }
 
-/// The events of a paragraph over so many bytes.
+/// The events of a paragraph over this number of bytes.
 fn paragraph(length: usize) -> Vec<Event> {
     node(
         Name::Paragraph,

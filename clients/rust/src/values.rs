@@ -1,31 +1,32 @@
-//! What is handed in and returned: events, options, attributes, limits and headings.
+//! The types of arguments and results: events, options, attributes, limits and headings.
 
 use crate::numbers::Name;
+use crate::SafeHtml;
 
 /// Whether an event begins a node or ends it.
 #[derive(Clone, Copy, Debug, Eq, Hash, PartialEq)]
 pub enum Kind {
-    /// The node begins here.
+    /// The node begins.
     Enter,
-    /// The node ends here.
+    /// The node ends.
     Exit,
 }
 
-/// At the byte `index` of the document a node begins or ends.
+/// An event: a node begins or ends at the byte `index` of the document.
 #[derive(Clone, Copy, Debug, Eq, Hash, PartialEq)]
 pub struct Event {
     /// Whether it begins or ends.
     pub kind: Kind,
-    /// What it is.
+    /// The name of the node.
     pub name: Name,
-    /// How many of the document's bytes stand before the event.
+    /// The number of the document's bytes before the event.
     pub index: usize,
-    /// How many columns of a tab at `index`, 0 to 4, are already taken; 0 where there is no tab.
+    /// How many columns of a tab at `index`, 0 to 4, are already used; 0 without a tab.
     pub columns: u8,
 }
 
 impl Event {
-    /// The node begins before the byte `index`.
+    /// An event: the node begins before the byte `index`.
     pub fn enter(name: Name, index: usize) -> Event {
         Event {
             kind: Kind::Enter,
@@ -35,7 +36,7 @@ impl Event {
         }
     }
 
-    /// The node ends before the byte `index`.
+    /// An event: the node ends before the byte `index`.
     pub fn exit(name: Name, index: usize) -> Event {
         Event {
             kind: Kind::Exit,
@@ -46,7 +47,7 @@ impl Event {
     }
 }
 
-/// How a line ends.
+/// A line ending.
 #[derive(Clone, Copy, Debug, Default, Eq, Hash, PartialEq)]
 pub enum LineEnding {
     /// `\n`.
@@ -58,11 +59,11 @@ pub enum LineEnding {
     CarriageReturnLineFeed,
 }
 
-/// What may be chosen. The default is safe.
+/// The options of [`compile`](crate::compile). The default is safe.
 ///
-/// The text is safe where `allow_any_img_src`, `allow_dangerous_html` and
-/// `allow_dangerous_protocol` are off, and `gfm_footnote_label_attributes` and
-/// `gfm_footnote_label_tag_name` are `None`; the others are free.
+/// The text is safe if `allow_any_img_src`, `allow_dangerous_html` and `allow_dangerous_protocol`
+/// are off, and `gfm_footnote_label_attributes` and `gfm_footnote_label_tag_name` are `None`; the
+/// other options may have any value.
 ///
 /// ```
 /// use bivdrazo::{LineEnding, Options};
@@ -83,57 +84,59 @@ pub struct Options {
     pub gfm_task_list_item_checkable: bool,
     /// Disarm some tags of HTML that is left as it is.
     pub gfm_tagfilter: bool,
-    /// How lines end where the document has no line ending.
+    /// The line ending if the document has none.
     pub default_line_ending: LineEnding,
-    /// Make footnotes' ids of their numbers instead of their identifiers.
+    /// Use numbers in footnotes' ids instead of identifiers.
     pub gfm_footnote_number_ids: bool,
-    /// The `aria-label` of a way back; else `Back to content`.
+    /// The `aria-label` of the link back; by default `Back to content`.
     pub gfm_footnote_back_label: Option<String>,
-    /// What footnotes' ids begin with; else `user-content-`.
+    /// The prefix of footnotes' ids; by default `user-content-`.
     pub gfm_footnote_clobber_prefix: Option<String>,
-    /// The heading of the footnotes; else `Footnotes`.
+    /// The heading of the footnotes; by default `Footnotes`.
     pub gfm_footnote_label: Option<String>,
-    /// That heading's attributes, not escaped; else `class="sr-only"`.
+    /// The attributes of that heading, not escaped; by default `class="sr-only"`.
     pub gfm_footnote_label_attributes: Option<String>,
-    /// That heading's tag name; else `h2`.
+    /// The tag name of that heading; by default `h2`.
     pub gfm_footnote_label_tag_name: Option<String>,
 }
 
-/// What is added to the tags of a text. Each text is escaped.
+/// Attributes that are added to the tags of a text. Each value is escaped.
 ///
-/// The ids of headings are distinct from one another, and from all others where no other begins
-/// with `heading_ids`. Those of footnotes are `footnote-label`, and what
-/// `gfm_footnote_clobber_prefix` says and `fn`; they are distinct from one another under
+/// The ids of headings are distinct from one another, and from all others if no other begins with
+/// `heading_ids`. The others are those of footnotes: `footnote-label`, and those that begin with
+/// `gfm_footnote_clobber_prefix` and `fn`; they are distinct from one another with
 /// `gfm_footnote_number_ids`.
 #[derive(Clone, Debug, Default, Eq, PartialEq)]
 #[non_exhaustive]
 pub struct Attributes {
     /// The `rel` of each link whose URL isn't empty and doesn't begin with `#`.
     pub rel: Option<String>,
-    /// What the `id` of each heading without one begins with: its number, from 1, follows.
+    /// The prefix of the `id` of each heading without one; its number, from 1, follows.
     pub heading_ids: Option<String>,
 }
 
-/// How long a text may be, how much work it may take, and how deep its events may nest. The default
-/// has no limits.
+/// Limits on the length of a text, on the work for it, and on the nesting of its events. The
+/// default has no limits.
 ///
-/// What a call costs goes by the first two, the number of events, the document's length and that of
-/// options' texts and of names, though nothing proves it. `work`
-/// limits two sums, each by itself. What there is to read and to print is counted from the events
-/// alone, before anything of the document is read: the lengths of texts and labels, by the places
-/// of the events (of a parser's events the document's length at most, and that of its labels once
-/// more), and for each row of a table's body five for each of its columns. What is used again is
-/// counted before anything is printed: for each link and image that leads to a definition what is
-/// read in that one, and one for each of its events; for each footnote call five times its length,
-/// four times that of the prefix of ids, and that of the label of the way back.
+/// The cost of a call depends on the first two, the number of events, and the lengths of the
+/// document, of options' texts and of names; that isn't proved.
+///
+/// `work` limits two sums, each by itself. The first is how much there is to read and to print,
+/// which is counted from the events alone, before the document is read: the lengths of texts and
+/// labels, by the places of the events (with a parser's events at most the document's length, and
+/// that of its labels once more), and for each row of a table's body five for each of its columns.
+/// The second is how much is used again, which is counted before anything is printed: for each link
+/// and image that refers to a definition, the length of what is read in the definition, and one for
+/// each of its events; for each footnote call, five times its length, four times that of the prefix
+/// of ids, and that of the label of the link back.
 #[derive(Clone, Copy, Debug, Eq, Hash, PartialEq)]
 #[non_exhaustive]
 pub struct Limits {
-    /// How many bytes the text may have.
+    /// The limit on the text's length in bytes.
     pub text: usize,
-    /// How much there may be to read and to print, and to use again.
+    /// The limit on what is read and printed, and on what is used again.
     pub work: usize,
-    /// How many nodes may be open at once; 0: any number.
+    /// The limit on the number of open nodes; 0: none.
     pub depth: usize,
 }
 
@@ -155,18 +158,18 @@ pub struct Heading {
     pub level: u8,
     /// Its number, from 1.
     pub number: usize,
-    /// Its text without tags, escaped: it may be set into HTML as it is.
-    pub text: String,
+    /// Its text without tags, escaped: it can be inserted into HTML as it is.
+    pub text: SafeHtml,
     /// Its `id`, not escaped.
     pub id: String,
 }
 
-/// A text, and its headings that got an `id`.
+/// A text, and the headings that got an `id`.
 #[derive(Clone, Debug, Default, Eq, PartialEq)]
 #[non_exhaustive]
 pub struct Rendered {
     /// The text.
-    pub html: String,
-    /// These headings, in their order.
+    pub html: SafeHtml,
+    /// The headings, in order.
     pub headings: Vec<Heading>,
 }

@@ -124,7 +124,7 @@ pub enum Name {
     Label,
     /// The same without its brackets.
     LabelText,
-    /// What a link or an image leads to, where it stands there itself.
+    /// The destination and title of a link or an image, after its label.
     Resource,
     /// The URL of a resource.
     ResourceDestinationString,

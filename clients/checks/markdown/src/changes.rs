@@ -1,4 +1,4 @@
-//! The other changes of the events of pulldown-cmark that are permitted, but for footnotes.
+//! The other permitted changes of the events of pulldown-cmark, except those of footnotes.
 
 use crate::judge::{Events, NEEDED};
 use pulldown_cmark::{Alignment, CodeBlockKind, CowStr, Event, LinkType, Tag};

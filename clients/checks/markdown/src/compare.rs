@@ -8,14 +8,14 @@ use std::error::Error;
 use std::fs;
 use std::io::{self, BufRead};
 
-/// How many faults are told in full.
-const TOLD: usize = 10;
+/// The number of faults that are printed in full.
+const SHOWN: usize = 10;
 
 /// How many documents have each class.
 type Counts = BTreeMap<String, usize>;
 
-/// Compares the documents of standard input, and their counts with a list's, or writes these there;
-/// whether nothing else differs.
+/// Compares the documents of standard input, and their counts with a list, or writes the counts
+/// into it. Returns whether there is no other difference.
 pub fn run(list: &str, is_write: bool) -> Result<bool, Box<dyn Error>> {
     let documents = read_documents(&mut io::stdin().lock())?;
     let mut counts = Counts::new();
@@ -30,7 +30,7 @@ pub fn run(list: &str, is_write: bool) -> Result<bool, Box<dyn Error>> {
     }
     faults
         .iter()
-        .take(TOLD)
+        .take(SHOWN)
         .for_each(|fault| println!("{fault}"));
     if is_write {
         fs::write(list, with_counts(&fs::read_to_string(list)?, &counts))?;
@@ -64,7 +64,7 @@ fn read_documents(input: &mut impl BufRead) -> Result<Vec<Vec<u8>>, Box<dyn Erro
     Ok(documents)
 }
 
-/// The classes of a document, and what is wrong with its text.
+/// The classes of a document, and the fault of its text.
 fn compare(text: &str) -> (Vec<&'static str>, Option<String>) {
     let judged = judge(text);
     let events = Parser::new_ext(text, options()).into_offset_iter();
@@ -76,11 +76,11 @@ fn compare(text: &str) -> (Vec<&'static str>, Option<String>) {
     if html == judged.plain {
         classes.push("equal");
     }
-    (classes, told(&judged.wanted, &html))
+    (classes, difference(&judged.wanted, &html))
 }
 
-/// How a text is another one than is wanted.
-fn told(wanted: &str, text: &str) -> Option<String> {
+/// The difference of a text from the expected one.
+fn difference(wanted: &str, text: &str) -> Option<String> {
     (wanted != text).then(|| format!("  wanted {wanted:?}\n  is     {text:?}"))
 }
 

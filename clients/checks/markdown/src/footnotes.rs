@@ -18,7 +18,7 @@ struct Calls {
 }
 
 impl Calls {
-    /// One more call: the footnote's number, and the how manieth call of it this is.
+    /// Counts a call: the footnote's number, and the number of this call of it.
     fn add(&mut self, label: &str) -> (usize, usize) {
         let count = self.counts.entry(label.to_string()).or_insert(0);
         *count += 1;

@@ -4,7 +4,7 @@ use std::error::Error;
 use std::fs;
 use std::path::Path;
 
-/// Writes a document of each shape, of about so many bytes, to a folder that is there: `NAME.md`.
+/// Writes a document of each shape, of about this size, to an existing folder, as `NAME.md`.
 pub fn write(folder: &str, size: &str) -> Result<(), Box<dyn Error>> {
     let size = size.parse()?;
     for shape in SHAPES {
@@ -14,14 +14,14 @@ pub fn write(folder: &str, size: &str) -> Result<(), Box<dyn Error>> {
     Ok(())
 }
 
-/// A shape: its name, and a document of it with about so many bytes.
+/// A shape: its name, and a document of about this size.
 struct Shape {
     name: &'static str,
     make: fn(usize) -> String,
 }
 
 impl Shape {
-    /// The document of about so many bytes.
+    /// The document of about this size.
     fn document(&self, size: usize) -> String {
         (self.make)(size)
     }

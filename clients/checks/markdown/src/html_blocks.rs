@@ -63,7 +63,7 @@ fn keep_open(open: &mut Vec<Open>, event: &Event) {
     }
 }
 
-/// Whether what follows an event is no text of a paragraph that isn't told.
+/// Whether the text after an event isn't that of a paragraph without events.
 fn is_between_blocks(before: Option<&Event>) -> bool {
     match before {
         None | Some(Event::Rule | Event::TaskListMarker(_)) => true,
@@ -76,7 +76,7 @@ fn is_between_blocks(before: Option<&Event>) -> bool {
     }
 }
 
-/// Whether a text is what the parser tells of a tab before a block of HTML.
+/// Whether a text is the rest of a tab before a block of HTML.
 fn is_left_of_tab(text: &str, next: Option<&Event>) -> bool {
     text.bytes().all(|byte| byte == b' ') && matches!(next, Some(Event::Html(_)))
 }

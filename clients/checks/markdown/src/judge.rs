@@ -1,9 +1,9 @@
-//! What pulldown-cmark's own renderer makes of a document, and what it would make of it with the
-//! differences that are permitted.
+//! The HTML of pulldown-cmark's own renderer for a document, and the same with the permitted
+//! differences.
 //!
-//! The judge is that renderer. Between the parser and it the events are changed as the permitted
-//! differences ask, one class after another, and at the end the text. A class counts where it
-//! changes the text. So each difference is told exactly: what is left must be equal byte for byte.
+//! The judge is that renderer. Before it runs, the events are changed by the permitted differences,
+//! one class after another, and at the end the text. A class counts if it changes the text. So each
+//! difference is defined exactly: the result must be equal byte for byte.
 
 use crate::changes::{
     normalized, with_code_ends, with_infos, with_pipes, with_tables, with_tasks, with_urls,
@@ -13,8 +13,7 @@ use crate::footnotes::with_footnotes;
 use crate::html_blocks::{changed_html, with_ended_spans};
 use pulldown_cmark::{html, Event, Options, Parser};
 
-/// What pulldown-cmark renders, what is wanted here, and the classes of differences
-/// between the two.
+/// The HTML of pulldown-cmark, the expected HTML, and the classes of differences between the two.
 pub struct Judged {
     pub plain: String,
     pub wanted: String,
@@ -58,10 +57,10 @@ pub fn options() -> Options {
         | Options::ENABLE_TASKLISTS
 }
 
-/// Stands for a line ending that is needed: none, where a line begins.
+/// A line ending that is needed: none at the beginning of a line.
 pub const NEEDED: char = '\u{f8ff}';
 
-/// What pulldown-cmark's renderer makes of events.
+/// The HTML of pulldown-cmark's renderer for events.
 pub fn rendered(events: &[Event]) -> String {
     let mut text = String::new();
     html::push_html(&mut text, events.iter().cloned());
@@ -70,13 +69,13 @@ pub fn rendered(events: &[Event]) -> String {
     text.replace(NEEDED, "\n")
 }
 
-/// What pulldown-cmark renders of a document, and what is wanted here.
+/// The HTML of pulldown-cmark for a document, and the expected one.
 pub fn judge(document: &str) -> Judged {
     let mut events: Events = Parser::new_ext(document, options()).collect();
     let plain = rendered(&events);
     let mut wanted = plain.clone();
     let mut classes = Vec::new();
-    let mut tell = |name, text: String, wanted: &mut String| {
+    let mut add = |name, text: String, wanted: &mut String| {
         if text != *wanted {
             classes.push(name);
             *wanted = text;
@@ -84,10 +83,10 @@ pub fn judge(document: &str) -> Judged {
     };
     for (name, change) in CHANGES {
         events = change(events);
-        tell(name, rendered(&events), &mut wanted);
+        add(name, rendered(&events), &mut wanted);
     }
     for (name, change) in TEXT_CHANGES {
-        tell(name, change(&wanted), &mut wanted);
+        add(name, change(&wanted), &mut wanted);
     }
     Judged {
         plain,

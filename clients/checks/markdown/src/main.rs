@@ -5,11 +5,11 @@
 //!     bivdrazo-checks shapes FOLDER [SIZE]
 //!         writes shapes of Markdown that make parsers slow or large
 //!     bivdrazo-checks render < MARKDOWN
-//!         writes what `markdown_to_html` makes of a document
+//!         writes the HTML of `markdown_to_html` for a document
 //!     bivdrazo-checks plain < MARKDOWN
-//!         writes what pulldown-cmark's own renderer makes of it
+//!         writes the HTML of pulldown-cmark's own renderer for it
 //!     bivdrazo-checks work < FILES
-//!         tells which of these files is the most work, by the default limit
+//!         prints the file with the most work, by the default limit
 //!
 //! DOCUMENTS are frames: a count of bytes in decimal digits, a line feed, the document. The
 //! comparison ends with status 1 for a difference that isn't permitted, another count than LIST

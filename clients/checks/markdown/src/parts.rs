@@ -1,4 +1,4 @@
-//! One document, as a program of its own whose time and memory can be measured.
+//! Renders one document, as a separate program whose time and memory can be measured.
 
 use crate::judge;
 use bivdrazo::{markdown_to_html, MarkdownOptions};
@@ -6,12 +6,12 @@ use pulldown_cmark::{html, Parser};
 use std::error::Error;
 use std::io::{self, Read, Write};
 
-/// Writes what `markdown_to_html` makes of the document on standard input.
+/// Writes the HTML of `markdown_to_html` for the document on standard input.
 pub fn render() -> Result<(), Box<dyn Error>> {
     write(&markdown_to_html(&read()?, &MarkdownOptions::default())?)
 }
 
-/// Writes what pulldown-cmark's own renderer makes of the document on standard input.
+/// Writes the HTML of pulldown-cmark's own renderer for the document on standard input.
 pub fn plain() -> Result<(), Box<dyn Error>> {
     let document = read()?;
     let mut text = String::new();

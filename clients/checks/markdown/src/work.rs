@@ -1,12 +1,12 @@
-//! How much work documents are, beside what one may be where no limit is set.
+//! Compares the work of documents with the default limit.
 
 use bivdrazo::{default_work, markdown_to_html, Error, MarkdownOptions};
 use std::fs;
 use std::io::{self, BufRead};
 
-/// Prints how many files were measured of those that standard input names, one a line; the one
-/// whose work is the greatest part of the default limit; and the one with most work for each byte.
-/// What can't be read or is no UTF-8 is passed over.
+/// Measures the files that standard input names, one a line. Prints their number, the one whose
+/// work is the greatest part of the default limit, and the one with most work for each byte.
+/// Ignores files that can't be read or aren't UTF-8.
 pub fn measure() -> Result<(), Box<dyn std::error::Error>> {
     let (mut count, mut bytes) = (0, 0);
     let (mut of_limit, mut of_bytes) = Default::default();
@@ -34,7 +34,7 @@ fn keep(most: &mut (f64, String), work: usize, whole: usize, path: &str) {
     }
 }
 
-/// The least limit of work under which a document has a text.
+/// The least limit on the work with which a document has a text.
 fn work_of(text: &str) -> Result<usize, Error> {
     let (mut low, mut high) = (0, default_work(text.len()));
     while low < high {

@@ -1,4 +1,4 @@
-//! What URLs lead to.
+//! Targets of URLs.
 
 use super::*;
 
@@ -18,11 +18,12 @@ fn tree() -> Tree {
     tree.pages.insert(PathBuf::from(odd));
     let files = ["i.png", "c/i.png", "g.html"];
     tree.files.extend(files.map(PathBuf::from));
+    tree.folders.extend(["", "c", "e"].map(PathBuf::from));
     tree
 }
 
-/// What URLs of a source lead to.
-fn lead_to(source: &str, wanted: &[(&str, Target)]) {
+/// Checks the targets of URLs in a source.
+fn check(source: &str, wanted: &[(&str, Target)]) {
     for (url, target) in wanted {
         let found = super::target(url, Path::new(source), &tree());
         assert_eq!(found, *target, "{source}: {url}");
@@ -39,7 +40,7 @@ fn file(path: &str) -> Target {
 
 #[test]
 fn pages() {
-    lead_to(
+    check(
         "a.md",
         &[
             ("a.md", page("a.html")),
@@ -56,14 +57,14 @@ fn pages() {
             ("c/%2e%2e/a.md", page("c/%2e%2e/a.html")),
         ],
     );
-    lead_to(
+    check(
         "c/d.md",
         &[
             ("../a.md", page("../a.html")),
             ("../e/f.md#g", page("../e/f.html#g")),
             ("d.md", page("d.html")),
-            ("../../a.md", Target::Nowhere),
-            ("a.md", Target::Nowhere),
+            ("../../a.md", Target::Nothing),
+            ("a.md", Target::Nothing),
         ],
     );
 }
@@ -88,12 +89,12 @@ fn others() {
         "c/d.html?b",
         "c/..",
     ] {
-        lead_to("a.md", &[(url, Target::Other)]);
+        check("a.md", &[(url, Target::Other)]);
     }
 }
 
 #[test]
-fn nowhere() {
+fn nothing() {
     for url in [
         "b.md",
         "A.md",
@@ -103,8 +104,6 @@ fn nowhere() {
         "../a.md",
         "c%2Fd.md",
         "%2Fa.md",
-        "e",
-        "e/",
         "g.md",
         "x.png",
         "i.png/",
@@ -116,17 +115,25 @@ fn nowhere() {
         "-:a.md",
         "a%3A",
     ] {
-        lead_to("a.md", &[(url, Target::Nowhere)]);
+        check("a.md", &[(url, Target::Nothing)]);
     }
 }
 
 #[test]
+fn folders() {
+    for url in ["e", "e/", "./e/?a#b", "c/../e/.", "%65"] {
+        check("a.md", &[(url, Target::Folder)]);
+    }
+    check("e/f.md", &[(".", Target::Folder), ("../e", Target::Folder)]);
+}
+
+#[test]
 fn files() {
-    lead_to(
+    check(
         "a.md",
         &[("i.png", file("i.png")), ("g.html#a", file("g.html"))],
     );
-    lead_to(
+    check(
         "c/d.md",
         &[("i.png?b", file("c/i.png")), ("../i.png", file("i.png"))],
     );

@@ -1,4 +1,4 @@
-//! The library's call for Markdown, as C has it.
+//! The library's C functions for Markdown.
 
 use super::{default_work, MarkdownOptions};
 use crate::errors::error_of;
@@ -11,16 +11,17 @@ use crate::markdown_numbers::{
     MARKDOWN_VERSION, STATUS_INPUT_TOO_LONG, STATUS_OUTPUT_TOO_LONG, STATUS_TOO_MUCH_WORK,
 };
 use crate::numbers::{STATUS_NO_OPTION, STATUS_OK, STATUS_TOO_SHORT};
-use crate::{Error, Rendered};
+use crate::{Error, Rendered, SafeHtml};
 
-/// As `max_work` in C: a bound that goes by the length of the Markdown.
+/// The value of `max_work` in C for a limit that depends on the length of the Markdown.
 const WORK_BY_LENGTH: usize = usize::MAX - 1;
 
 /// As `crate::markdown_to_html`.
-pub(super) fn html(text: &str, options: &MarkdownOptions) -> Result<String, Error> {
+pub(super) fn html(text: &str, options: &MarkdownOptions) -> Result<SafeHtml, Error> {
     let (mut whole, end) = whole_of(text, options)?;
     whole.truncate(end);
-    String::from_utf8(whole).map_err(|_| Error::Unknown)
+    let html = String::from_utf8(whole).map_err(|_| Error::Unknown)?;
+    Ok(SafeHtml::made(html))
 }
 
 /// As `crate::markdown_with_headings`.
@@ -30,9 +31,9 @@ pub(super) fn rendered(text: &str, options: &MarkdownOptions) -> Result<Rendered
     rendered_of(whole, end, prefix).ok_or(Error::Unknown)
 }
 
-/// The front matter of a document: what stands between a line of `---` at its beginning and the
-/// next one, without these two lines. With [`front_matter`](MarkdownOptions::front_matter) none of
-/// it is printed.
+/// The front matter of a document: the text between a line of `---` at its beginning and the next
+/// one, without these two lines. With [`front_matter`](MarkdownOptions::front_matter) it isn't
+/// printed.
 ///
 /// ```
 /// use bivdrazo::front_matter_of;
@@ -41,15 +42,15 @@ pub(super) fn rendered(text: &str, options: &MarkdownOptions) -> Result<Rendered
 /// assert_eq!(front_matter_of("# c\n"), None);
 /// ```
 pub fn front_matter_of(text: &str) -> Option<&str> {
-    // SAFETY: the pointer is that of a string, and goes with its length.
+    // SAFETY: the pointer and the length are those of a string.
     let answer = unsafe { bivdrazo_front_matter(text.as_ptr(), text.len()) };
-    // Where there is some its first byte isn't the document's, since a line stands before it.
+    // Front matter begins after a line, so never at the document's first byte.
     let start = Some(answer.index).filter(|&start| answer.status == STATUS_OK && start > 0)?;
     text.get(start..start.checked_add(answer.length)?)
 }
 
-/// What the library writes: the HTML, which ends at the byte that is answered, and behind it the
-/// list of headings. Where the first buffer is too short it is asked once more.
+/// Calls the library. Returns the HTML, followed by the list of headings, and where the HTML ends.
+/// If the first buffer is too short, there is a second call.
 fn whole_of(text: &str, options: &MarkdownOptions) -> Result<(Vec<u8>, usize), Error> {
     let given = c_options(options);
     let into = match options.heading_slugs {
@@ -58,8 +59,8 @@ fn whole_of(text: &str, options: &MarkdownOptions) -> Result<(Vec<u8>, usize), E
     };
     let call = |buffer: &mut Vec<u8>| {
         // SAFETY: the pointers are those of a string, of a struct that refers to strings of the
-        // caller's, and of a buffer that nothing else refers to; each goes with its own length and
-        // isn't null.
+        // caller, and of a buffer that nothing else refers to; each has its own length and isn't
+        // null.
         unsafe {
             into(
                 text.as_ptr(),
@@ -84,12 +85,13 @@ fn whole_of(text: &str, options: &MarkdownOptions) -> Result<(Vec<u8>, usize), E
     Ok((buffer, answer.index))
 }
 
-/// A first size of the buffer for a document of so many bytes. Of 20,000 comments 9 don't fit.
+/// A first size of the buffer for a document of this length. For 9 of 20,000 comments it is too
+/// short.
 fn first_size(bytes: usize) -> usize {
     bytes.saturating_mul(3).saturating_add(256)
 }
 
-/// The error that an answer without a text stands for, of a document of so many bytes.
+/// The error for an answer, for a document of this length.
 fn error_under(answer: &CAnswer, length: usize, options: &MarkdownOptions) -> Error {
     match answer.status {
         STATUS_INPUT_TOO_LONG => Error::InputTooLong {
@@ -107,7 +109,7 @@ fn error_under(answer: &CAnswer, length: usize, options: &MarkdownOptions) -> Er
     }
 }
 
-/// The options as C has them; they refer to the texts of `options`.
+/// The options in C; they refer to the texts of `options`.
 fn c_options(options: &MarkdownOptions) -> CMarkdownOptions {
     CMarkdownOptions {
         version: MARKDOWN_VERSION,

@@ -1,14 +1,14 @@
-//! A table of contents, made by the library of a document that is written for it.
+//! A table of contents, rendered from a Markdown document that has it.
 
 use super::{call, MarkdownOptions};
-use crate::{Error, Heading};
+use crate::{Error, Heading, SafeHtml};
 
-/// The headings of a text as a list of links to them, nested by their levels: safe HTML, as that of
-/// [`markdown_to_html`](crate::markdown_to_html), by which it is made; empty where there are none.
+/// A table of contents: a list of links to headings, nested by their levels. It is made by
+/// [`markdown_to_html`](crate::markdown_to_html), so it is as safe. Without headings it is empty.
 ///
 /// # Errors
 ///
-/// [`Error::Memory`] where the library finds no memory.
+/// [`Error::Memory`] if the library runs out of memory.
 ///
 /// ```
 /// use bivdrazo::{contents, markdown_with_headings, MarkdownOptions};
@@ -20,7 +20,7 @@ use crate::{Error, Heading};
 /// assert_eq!(contents(&made.headings)?, wanted);
 /// # Ok::<(), bivdrazo::Error>(())
 /// ```
-pub fn contents(headings: &[Heading]) -> Result<String, Error> {
+pub fn contents(headings: &[Heading]) -> Result<SafeHtml, Error> {
     let mut options = MarkdownOptions::default()
         .with_bare_links(false)
         .with_footnotes(false)
@@ -50,7 +50,7 @@ fn document_of(headings: &[Heading]) -> String {
     document
 }
 
-/// A text that the library escaped, as it was.
+/// A text without the library's escapes.
 pub(crate) fn unescaped(text: &str) -> String {
     if !text.contains('&') {
         return text.to_string();
@@ -80,7 +80,7 @@ mod tests {
         Heading {
             level,
             number: 1,
-            text: text.to_string(),
+            text: SafeHtml::made(text.to_string()),
             id: id.to_string(),
         }
     }

@@ -1,4 +1,4 @@
-//! Markdown in: the library's own parser reads it.
+//! The calls that read Markdown by the library's own parser.
 
 mod call;
 mod contents;
@@ -9,27 +9,46 @@ pub use contents::contents;
 pub(crate) use contents::unescaped;
 
 use crate::markdown_numbers::{HTML_LEFT_OUT, HTML_TEXT, HTML_WITHOUT_COMMENTS};
-use crate::{Error, Rendered};
+use crate::{Error, Rendered, SafeHtml};
+use std::error;
+use std::fmt;
+use std::str::FromStr;
 
-/// The work that any document may be, and how much more for each of its bytes.
+/// The default limit on the work: a constant, and an addend for each byte of the document.
 const LEAST_WORK: usize = 1 << 20;
 const WORK_OF_A_BYTE: usize = 64;
 
-/// What becomes of HTML in a document. Whatever is chosen, none of it is HTML in the text.
+/// How to treat HTML in a document. With each choice, none of it is HTML in the text.
+///
+/// It is parsed from `text`, `left-out` or `without-comments`, and printed as that.
+///
+/// ```
+/// use bivdrazo::DocumentHtml;
+///
+/// assert_eq!("left-out".parse(), Ok(DocumentHtml::LeftOut));
+/// assert!("other".parse::<DocumentHtml>().is_err());
+/// ```
 #[derive(Clone, Copy, Debug, Default, Eq, Hash, PartialEq)]
 #[non_exhaustive]
 pub enum DocumentHtml {
-    /// It is printed as text: `<b>` as `&lt;b&gt;`.
+    /// Print it as text: `<b>` as `&lt;b&gt;`.
     #[default]
     Text,
-    /// It is left out. What stands between two tags stays.
+    /// Leave it out. The text between two tags stays.
     LeftOut,
-    /// Comments are left out, and all else is printed as text.
+    /// Leave out comments, and print the rest as text.
     WithoutComments,
 }
 
 impl DocumentHtml {
-    /// Its number, as C has it.
+    /// All choices.
+    const ALL: [DocumentHtml; 3] = [
+        DocumentHtml::Text,
+        DocumentHtml::LeftOut,
+        DocumentHtml::WithoutComments,
+    ];
+
+    /// Its number in C.
     fn number(self) -> u8 {
         match self {
             DocumentHtml::Text => HTML_TEXT,
@@ -39,7 +58,39 @@ impl DocumentHtml {
     }
 }
 
-/// How [`markdown_to_html`] renders. Whatever is chosen, the text is safe.
+impl fmt::Display for DocumentHtml {
+    fn fmt(&self, formatter: &mut fmt::Formatter) -> fmt::Result {
+        formatter.pad(match self {
+            DocumentHtml::Text => "text",
+            DocumentHtml::LeftOut => "left-out",
+            DocumentHtml::WithoutComments => "without-comments",
+        })
+    }
+}
+
+impl FromStr for DocumentHtml {
+    type Err = ParseDocumentHtmlError;
+
+    fn from_str(text: &str) -> Result<DocumentHtml, ParseDocumentHtmlError> {
+        let found = DocumentHtml::ALL.into_iter();
+        let mut found = found.filter(|choice| choice.to_string() == text);
+        found.next().ok_or(ParseDocumentHtmlError(()))
+    }
+}
+
+/// The error of a text that is no [`DocumentHtml`].
+#[derive(Clone, Copy, Debug, Eq, PartialEq)]
+pub struct ParseDocumentHtmlError(());
+
+impl fmt::Display for ParseDocumentHtmlError {
+    fn fmt(&self, formatter: &mut fmt::Formatter) -> fmt::Result {
+        formatter.write_str("expected text, left-out or without-comments")
+    }
+}
+
+impl error::Error for ParseDocumentHtmlError {}
+
+/// The options of [`markdown_to_html`]. The text is safe under all of them.
 ///
 /// ```
 /// use bivdrazo::{markdown_to_html, MarkdownOptions};
@@ -51,56 +102,54 @@ impl DocumentHtml {
 #[derive(Clone, Debug, Eq, PartialEq)]
 #[non_exhaustive]
 pub struct MarkdownOptions {
-    /// Read math: `$a$`, `$$a$$`, and blocks between lines of `$$`. It stays as it is written, in
+    /// Read math: `$a$`, `$$a$$`, and blocks between lines of `$$`. It is written unchanged, as
     /// code with the class `language-math`.
     pub math: bool,
-    /// Read front matter between lines of `---`, which prints nothing. [`front_matter_of`] hands it
-    /// out.
+    /// Leave out front matter between lines of `---`. [`front_matter_of`] returns it.
     pub front_matter: bool,
     /// Read footnotes: `[^a]`, and `[^a]: text`. This is on by default.
     pub footnotes: bool,
     /// Read tables. This is on by default.
     pub tables: bool,
-    /// What the ids of footnotes begin with; else `user-content-`. Each document of a page
-    /// needs another one.
+    /// The prefix of the ids of footnotes; by default `user-content-`. Each document of a page
+    /// needs a different one.
     pub footnote_prefix: Option<String>,
-    /// Make the ids of footnotes of their numbers: then no two ids of the text are equal.
+    /// Use numbers in the ids of footnotes: then no two ids of the text are equal.
     pub number_ids: bool,
-    /// The heading of the footnotes; else `Footnotes`.
+    /// The heading of the footnotes; by default `Footnotes`.
     pub footnote_label: Option<String>,
-    /// The `aria-label` of a way back from a footnote; else `Back to content`.
+    /// The `aria-label` of the link back from a footnote; by default `Back to content`.
     pub footnote_back_label: Option<String>,
-    /// Begin a new line where the document does: `<br />` for its soft breaks.
+    /// Write a line break, `<br />`, for each soft break of the document.
     pub hard_breaks: bool,
     /// Make links of bare URLs (`https://..`, `www...`) and of addresses. This is on by default.
     pub bare_links: bool,
-    /// What becomes of HTML in the document.
+    /// How to treat HTML in the document.
     pub html: DocumentHtml,
-    /// The URL against which those of links and images are read, as RFC 3986 has it. An empty URL
-    /// stays as it is, and so does one that begins with `#`.
+    /// The base URL of relative URLs in links and images (RFC 3986). An empty URL stays as it is,
+    /// and so does one that begins with `#`.
     pub base: Option<String>,
     /// The `rel` of each link whose URL isn't empty and doesn't begin with `#`: any text.
     pub rel: Option<String>,
-    /// What the `id` of each heading begins with: its number, from 1, follows. These ids are
-    /// distinct from one another, and from all others where no other begins so: those of footnotes
-    /// are `footnote-label`, and what `footnote_prefix` says and `fn`.
+    /// The prefix of the `id` of each heading; its number, from 1, follows. These ids are distinct
+    /// from one another, and from all others if no other begins with this prefix. The others are
+    /// those of footnotes: `footnote-label`, and those that begin with `footnote_prefix` and `fn`.
     pub heading_ids: Option<String>,
-    /// Make the `id` of each heading of its text, nearly as GitHub does: in lower case, with a
-    /// hyphen for each space, and without what is no letter, mark, number, connector or hyphen.
-    /// Where `heading_ids` is set each begins with that. Where an id is there already, a hyphen and
-    /// a number follow it: these ids are distinct from one another and from all others, where the
-    /// others are distinct, as with `number_ids`.
+    /// Make the `id` of each heading from its text, nearly as GitHub does: in lower case, with a
+    /// hyphen for each space, and only of letters, marks, numbers, connectors and hyphens. If
+    /// `heading_ids` is set, each id begins with that. An id that exists already gets a hyphen and
+    /// a number: these ids are distinct from one another and from all others, if the others are
+    /// distinct, as with `number_ids`.
     pub heading_slugs: bool,
-    /// How many bytes the document may have; else any number.
+    /// The limit on the length of the document in bytes; by default none.
     pub max_input: Option<usize>,
-    /// How many bytes the text may have; else any number.
+    /// The limit on the length of the text in bytes; by default none.
     pub max_output: Option<usize>,
-    /// How much there may be to read and to print in what the parser makes of the document, as
-    /// [`Limits`](crate::Limits) counts it; else what [`default_work`] says. `usize::MAX` is no
-    /// limit.
+    /// The limit on the work: how much there is to read and to print in the parser's events, as
+    /// [`Limits`](crate::Limits) counts it; by default [`default_work`]. `usize::MAX` is no limit.
     pub max_work: Option<usize>,
-    /// How many nodes may be open at once: a document in which more would be is shown as it is
-    /// written, as one paragraph. Else, and where it is 0, as many as any document may.
+    /// The limit on the number of open nodes: a document that nests deeper is shown as it is
+    /// written, as one paragraph. By default, and with 0, there is no limit.
     pub max_depth: Option<usize>,
 }
 
@@ -130,8 +179,8 @@ impl Default for MarkdownOptions {
     }
 }
 
-/// How much there may be to read and to print in a document of so many bytes, as
-/// [`Limits`](crate::Limits) counts it, where no other limit is set: 2^20, and 64 for each byte.
+/// The default of [`max_work`](MarkdownOptions::max_work) for a document of this length: 2^20, and
+/// 64 for each byte.
 ///
 /// ```
 /// assert_eq!(bivdrazo::default_work(1000), 1_112_576);
@@ -142,14 +191,14 @@ pub fn default_work(input_len: usize) -> usize {
         .saturating_add(LEAST_WORK)
 }
 
-/// The HTML of a Markdown document, with tables, strikethrough, tasks, footnotes and bare links. A
-/// byte order mark before it is passed over.
+/// Renders a Markdown document, with tables, strikethrough, tasks, footnotes and bare links. A byte
+/// order mark at its beginning is ignored.
 ///
 /// # Errors
 ///
-/// [`Error::InputTooLong`], [`Error::OutputTooLong`] and [`Error::TooMuchWork`] where a bound of
-/// the options is passed, [`Error::Memory`] where the library finds no memory. No document is
-/// refused.
+/// [`Error::InputTooLong`], [`Error::OutputTooLong`] and [`Error::TooMuchWork`] if the document
+/// exceeds a limit of the options, and [`Error::Memory`] if the library runs out of memory. No
+/// document is refused.
 ///
 /// ```
 /// use bivdrazo::{markdown_to_html, MarkdownOptions};
@@ -158,17 +207,17 @@ pub fn default_work(input_len: usize) -> usize {
 /// assert_eq!(html, "<p><strong>a</strong> &lt;b&gt;</p>\n");
 /// # Ok::<(), bivdrazo::Error>(())
 /// ```
-pub fn markdown_to_html(text: &str, options: &MarkdownOptions) -> Result<String, Error> {
+pub fn markdown_to_html(text: &str, options: &MarkdownOptions) -> Result<SafeHtml, Error> {
     call::html(text, options)
 }
 
-/// As [`markdown_to_html`], with the headings that got an `id`, for a table of contents: none
-/// without [`heading_ids`](MarkdownOptions::heading_ids) or
+/// Renders a document as [`markdown_to_html`] does, and returns also the headings that got an `id`,
+/// for a table of contents. There are none without [`heading_ids`](MarkdownOptions::heading_ids) or
 /// [`heading_slugs`](MarkdownOptions::heading_slugs).
 ///
 /// # Errors
 ///
-/// Those of [`markdown_to_html`].
+/// The same as for [`markdown_to_html`].
 ///
 /// ```
 /// use bivdrazo::{markdown_with_headings, MarkdownOptions};

@@ -1,4 +1,4 @@
-//! [`MarkdownOptions`] in one expression.
+//! Setters of [`MarkdownOptions`].
 
 use super::{DocumentHtml, MarkdownOptions};
 use crate::setters::setters;

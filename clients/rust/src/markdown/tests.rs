@@ -1,7 +1,8 @@
-//! Markdown in: documents, and the options below.
+//! Documents; the modules below test the options.
 
 use crate::{
-    front_matter_of, markdown_to_html, markdown_with_headings, DocumentHtml, Error, MarkdownOptions,
+    front_matter_of, markdown_to_html, markdown_with_headings, DocumentHtml, Error,
+    MarkdownOptions, SafeHtml,
 };
 
 mod additions;
@@ -10,11 +11,11 @@ mod choices;
 mod limits;
 mod setters;
 
-/// The HTML under options that differ from the default ones as told.
+/// The HTML under changed default options.
 fn html_with(text: &str, change: impl Fn(&mut MarkdownOptions)) -> Result<String, Error> {
     let mut options = MarkdownOptions::default();
     change(&mut options);
-    markdown_to_html(text, &options)
+    markdown_to_html(text, &options).map(SafeHtml::into_string)
 }
 
 fn html(text: &str) -> String {
@@ -196,7 +197,7 @@ fn html_at_the_end_of_a_list() {
     assert_eq!(html("- a\n- <div>"), format!("<ul>\n<li>a</li>\n{block}"));
 }
 
-/// No link stands in a link, nor does a footnote's call.
+/// No link is in a link, and no footnote call is.
 #[test]
 fn links_in_links() {
     for (text, wanted) in [
@@ -214,7 +215,7 @@ fn links_in_links() {
     }
 }
 
-/// What was read otherwise by pulldown-cmark.
+/// Documents that pulldown-cmark reads differently.
 #[test]
 fn as_gfm() {
     for (text, wanted) in [

@@ -1,4 +1,4 @@
-//! How a document is made, node by node.
+//! Makes a document, node by node.
 
 use crate::{Document, Event, Kind, Name};
 use std::borrow::Cow;
@@ -21,7 +21,7 @@ impl Document {
         self.exit(name);
     }
 
-    /// A node over a text of its own.
+    /// A node with its own text.
     pub(super) fn text(&mut self, name: Name, text: &str) {
         self.enter(name);
         self.bytes.extend_from_slice(text.as_bytes());
@@ -30,11 +30,11 @@ impl Document {
 
     /// A node with one text in it.
     pub(super) fn within(&mut self, outer: Name, inner: Name, text: &str) {
-        let range = self.put(text);
+        let range = self.append(text);
         self.within_at(outer, inner, range);
     }
 
-    /// A node with one text in it, which stands there in the bytes.
+    /// A node with one text in it, which is at that place in the bytes.
     pub(super) fn within_at(&mut self, outer: Name, inner: Name, range: Range<usize>) {
         self.events.extend([
             Event::enter(outer, range.start),
@@ -44,8 +44,8 @@ impl Document {
         ]);
     }
 
-    /// Puts a text at the end of the bytes; where it stands.
-    pub(super) fn put(&mut self, text: &str) -> Range<usize> {
+    /// Appends a text to the bytes; returns its range.
+    pub(super) fn append(&mut self, text: &str) -> Range<usize> {
         let start = self.bytes.len();
         self.bytes.extend_from_slice(text.as_bytes());
         start..self.bytes.len()
@@ -79,7 +79,7 @@ impl Document {
         }
     }
 
-    /// Takes away the empty cells at the end of a row, which the library prints anyway.
+    /// Removes the empty cells at the end of a row, which the library prints anyway.
     pub(super) fn drop_empty_cells(&mut self) {
         let is = |event: &Event, kind| event.kind == kind && event.name == Name::GfmTableCell;
         while let [.., start, end] = &self.events[..] {

@@ -8,7 +8,7 @@ use pulldown_cmark::Event;
 use std::ops::Range;
 
 impl Walk<'_> {
-    /// Whether HTML is a block here. In a tight list's item the parser doesn't tell; but there a
+    /// Whether HTML is a block here. In a tight list's item the parser doesn't say so; but there a
     /// block ends its line, by itself or in the next event.
     pub(super) fn is_in_flow(&self, html: &str, next: Option<&(Event, Range<usize>)>) -> bool {
         let is_line_end = |each| each == '\n' || each == '\r';
@@ -23,7 +23,7 @@ impl Walk<'_> {
         }
     }
 
-    /// Whether a text is what is left of a tab before HTML: there is no other text outside of
+    /// Whether a text is the rest of a tab before HTML: there is no other text outside of
     /// blocks, and no paragraph begins with a space.
     pub(super) fn is_before_flow_html(
         &self,

@@ -14,11 +14,11 @@ impl Walk<'_> {
         Open::List(List {
             name,
             start,
-            is_told_loose: false,
+            is_marked_loose: false,
         })
     }
 
-    /// The number of an ordered list stands in its first item.
+    /// The number of an ordered list is in its first item.
     pub(super) fn start_item(&mut self) -> Open {
         self.document.enter(Name::ListItem);
         self.document.enter(Name::ListItemPrefix);
@@ -36,8 +36,8 @@ impl Walk<'_> {
     pub(super) fn end_item(&mut self, has_paragraph: bool) {
         self.document.exit(Name::ListItem);
         if let Some(Open::List(list)) = self.open.last_mut() {
-            if has_paragraph && !list.is_told_loose {
-                list.is_told_loose = true;
+            if has_paragraph && !list.is_marked_loose {
+                list.is_marked_loose = true;
                 self.document.text(Name::BlankLineEnding, "\n");
             }
         }
@@ -47,15 +47,14 @@ impl Walk<'_> {
     pub(super) fn is_in_loose_item(&self) -> bool {
         match self.open[..] {
             [.., Open::List(ref list), Open::Item(ref item)] => {
-                list.is_told_loose || item.has_paragraph
+                list.is_marked_loose || item.has_paragraph
             }
             _ => false,
         }
     }
 
-    /// The box of a task and a space. They stand in a quote's prefix, which prints nothing
-    /// itself and isn't part of what an item holds: so an item that holds no more than its box
-    /// ends on the same line.
+    /// The box of a task and a space. They are in a quote's prefix, which prints nothing itself and
+    /// isn't part of an item's content: so an item with only its box ends on the same line.
     pub(super) fn task(&mut self, is_checked: bool) {
         self.document.enter(Name::BlockQuotePrefix);
         self.document.enter(Name::GfmTaskListItemCheck);

@@ -1,7 +1,7 @@
-//! pulldown-cmark's events as the library has them.
+//! Converts pulldown-cmark's events into the library's.
 //!
-//! Nothing is proved of that parser or of this way from its events to ours. What the library
-//! promises it promises of any events.
+//! Nothing is proved about that parser or about this conversion. The library's promises hold for
+//! any events.
 
 mod blocks;
 mod building;
@@ -22,10 +22,10 @@ use std::collections::{HashMap, HashSet};
 use std::iter::Peekable;
 use std::ops::Range;
 
-/// The library's events for those of a parser, with the texts that they are over.
+/// Converts the events of pulldown-cmark into a document for the library.
 ///
-/// It is for whoever calls pulldown-cmark: to read with other options, or to change its events. The
-/// parser tells no bare links, and none are made of them here.
+/// It is for callers of pulldown-cmark that use other options or change its events. The parser
+/// doesn't report bare links, and this doesn't make any.
 ///
 /// ```
 /// use bivdrazo::pulldown_cmark::{Event, Parser};
@@ -49,26 +49,25 @@ where
     walk.document
 }
 
-/// The way through a parser's events. What it does of each kind of node stands in a
-/// module of its own.
+/// The conversion of a parser's events. Each kind of node has its own module.
 #[derive(Default)]
 struct Walk<'a> {
     document: Document,
     open: Vec<Open>,
     spans: Vec<Span<'a>>,
-    /// How many images are open.
+    /// The number of open images.
     images: usize,
     alignments: Vec<Alignment>,
     footnotes: HashSet<String>,
     /// The indices of the first events of footnotes' calls.
     calls: Vec<usize>,
-    /// Where the destinations and titles that definitions share stand in the bytes, by their
+    /// The ranges in the bytes of destinations and titles that definitions share, by their
     /// addresses and lengths.
     shared: HashMap<(usize, usize), Range<usize>>,
 }
 
 impl<'a> Walk<'a> {
-    /// Goes through all events.
+    /// Converts all events.
     fn all<P>(&mut self, parser: P)
     where
         P: IntoIterator<Item = (Event<'a>, Range<usize>)>,
@@ -109,7 +108,7 @@ impl<'a> Walk<'a> {
         }
     }
 
-    /// Begins the paragraph of a tight list's item, where one isn't begun.
+    /// Begins the paragraph of a tight list's item, unless it has begun.
     fn before_phrasing(&mut self) {
         if let Some(Open::Item(item)) = self.open.last_mut() {
             if item.has_tight_paragraph {
@@ -123,8 +122,8 @@ impl<'a> Walk<'a> {
         }
     }
 
-    /// Ends the paragraph of a tight list's item. The next line ending isn't
-    /// printed: it is this one.
+    /// Ends the paragraph of a tight list's item. Its line ending replaces the next one, which
+    /// isn't printed.
     fn before_block(&mut self) {
         self.end_spans();
         if let Some(Open::Item(item)) = self.open.last_mut() {

@@ -1,9 +1,9 @@
-//! What is open on the way through a parser's events.
+//! The open nodes during the conversion of a parser's events.
 
 use crate::Name;
 use pulldown_cmark::Tag;
 
-/// A node that is open, as far as what follows depends on it.
+/// An open node, as far as later events depend on it.
 pub(super) enum Open {
     /// A quote or a footnote's definition.
     Flow,
@@ -22,16 +22,16 @@ pub(super) enum Open {
 /// A list.
 pub(super) struct List {
     pub(super) name: Name,
-    /// What the first item has to say.
+    /// The number of the first item.
     pub(super) start: Option<u64>,
-    /// Whether a blank line was told, which makes it loose.
-    pub(super) is_told_loose: bool,
+    /// Whether a blank line was added, which makes it loose.
+    pub(super) is_marked_loose: bool,
 }
 
 /// An item of a list.
 #[derive(Default)]
 pub(super) struct Item {
-    /// Whether a paragraph is open that the parser doesn't tell, since the list is tight.
+    /// Whether a paragraph is open that the parser doesn't report, since the list is tight.
     pub(super) has_tight_paragraph: bool,
     pub(super) has_paragraph: bool,
     pub(super) has_block: bool,

@@ -1,4 +1,4 @@
-//! Pieces of text and of HTML that a parser tells one by one, put together.
+//! Joins pieces of text and of HTML that a parser reports one by one.
 
 use pulldown_cmark::{CowStr, Event};
 use std::borrow::Cow;
@@ -24,7 +24,7 @@ where
     whole
 }
 
-/// A line of HTML with the lines that follow it, and with what is left of tabs before them.
+/// A line of HTML with the lines that follow it, and with the rests of tabs before them.
 pub(super) fn whole_html<'a, P>(first: &str, rest: &mut Peekable<P>) -> String
 where
     P: Iterator<Item = (Event<'a>, Range<usize>)>,
@@ -43,7 +43,7 @@ where
     whole
 }
 
-/// Whether a text is what the parser tells of a tab of which a part is taken.
+/// Whether a text is the rest of a tab of which some columns are used.
 pub(super) fn is_spaces(text: &str) -> bool {
     text.bytes().all(|byte| byte == b' ')
 }

@@ -34,7 +34,7 @@ impl Walk<'_> {
         }
     }
 
-    /// Ends the spans that are open: in a tight list's item the parser tells some around a block.
+    /// Ends the open spans: in a tight list's item the parser reports some around a block.
     pub(super) fn end_spans(&mut self) {
         let mut spans = mem::take(&mut self.spans);
         for span in spans.iter_mut().rev().take_while(|span| !span.is_ended) {
@@ -70,9 +70,9 @@ impl Walk<'_> {
         });
     }
 
-    /// A destination or a title. The parser hands out the same text for each link that uses a
-    /// definition: what is made of it stands in the bytes once. Two texts that are borrowed from
-    /// the document are equal where their addresses and lengths are.
+    /// A destination or a title. The parser returns the same text for each link that uses a
+    /// definition, so the bytes have it once. Two texts that are borrowed from the document are
+    /// equal if their addresses and lengths are.
     fn string(
         &mut self,
         name: Name,
@@ -86,7 +86,7 @@ impl Walk<'_> {
             _ => None,
         };
         let known = place.and_then(|place| self.shared.get(&place).cloned());
-        let range = known.unwrap_or_else(|| self.document.put(&made(text)));
+        let range = known.unwrap_or_else(|| self.document.append(&made(text)));
         self.document.within_at(name, Name::Data, range.clone());
         if let Some(place) = place {
             self.shared.insert(place, range);

@@ -44,8 +44,8 @@ impl Walk<'_> {
         }
     }
 
-    /// The parser tells tables without columns, of which the library prints no cell: their
-    /// cells are paragraphs.
+    /// The parser reports tables without columns, of which the library prints no cell: their cells
+    /// become paragraphs.
     fn cell_name(&self) -> Name {
         if self.alignments.is_empty() {
             Name::Paragraph
@@ -84,7 +84,7 @@ impl Walk<'_> {
         }
     }
 
-    /// How columns are aligned: by markers at the first and at the last place of each value.
+    /// The alignment of columns: markers at the first and at the last place of each value.
     fn delimiter_row(&mut self) {
         self.document.enter(Name::GfmTableDelimiterRow);
         for alignment in &self.alignments {

@@ -1,10 +1,10 @@
-//! What pulldown-cmark tells, as HTML.
+//! The HTML of pulldown-cmark's events.
 
 use super::*;
 use crate::Options;
 use pulldown_cmark::{CowStr, Parser};
 
-/// The HTML of what pulldown-cmark reads with its options.
+/// The HTML of a document that pulldown-cmark reads with its options.
 fn html(text: &str) -> String {
     let parser = Parser::new_ext(text, pulldown_cmark::Options::all());
     let document = events_of(parser.into_offset_iter());
@@ -163,7 +163,7 @@ fn table_after_a_tight_paragraph() {
     assert_eq!(html("- a\n  # b\n  | c |\n  |---|\n  | d |"), wanted);
 }
 
-/// In a tight list's item the parser tells spans around blocks.
+/// In a tight list's item the parser reports spans around blocks.
 #[test]
 fn spans_around_blocks() {
     for (text, wanted) in [
@@ -185,7 +185,7 @@ fn spans_around_blocks() {
     }
 }
 
-/// Events that no parser tells: each list is refused or has a text.
+/// Events that no parser reports: each list is refused or has a text.
 #[test]
 fn strange_parsers() {
     let tags = [

@@ -1,4 +1,4 @@
-//! What statuses stand for, and how errors print.
+//! The errors of statuses, and their texts.
 
 use super::*;
 use crate::errors::error_of;
@@ -43,12 +43,12 @@ fn texts_of_errors() {
     for (error, text) in [
         (
             refused(Rule::Order),
-            "event 3: no tree's events begin so, or a node or a group is open at the end",
+            "event 3: no tree has events that begin so, or a node or a group is open at the end",
         ),
         (refused(Rule::Mdx), "event 3: a name of MDX"),
         (
             refused(Rule::Target),
-            "event 3: a link or an image leads nowhere",
+            "event 3: a link or an image has no target",
         ),
         (Error::Event(4), "event 4: no such kind or name"),
         (Error::Name(5), "character reference 5: not UTF-8"),

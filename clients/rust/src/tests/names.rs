@@ -14,7 +14,7 @@ fn names_of_references() {
     );
 }
 
-/// Each of HTML's names stands for its text.
+/// Each of HTML's names has its text.
 #[test]
 fn references() {
     assert_eq!(REFERENCES.len(), 2125);
@@ -30,7 +30,7 @@ fn references() {
     }
 }
 
-/// A link in a link is told, where that is asked for.
+/// A link in a link is an error in the calls that check for it.
 #[test]
 fn nested_links() {
     let around = |inner: &[Event]| {
@@ -41,7 +41,7 @@ fn nested_links() {
     };
     let unnested = |events: &[Event]| compile_unnested(events, b"", &Options::default(), &[]);
     let nested = around(&around(&[]));
-    assert_eq!(unnested(&around(&[])), Ok("<a href=\"\"></a>".to_string()));
+    assert_eq!(unnested(&around(&[])).unwrap(), "<a href=\"\"></a>");
     assert_eq!(unnested(&nested), Err(Error::Nested));
     assert_eq!(has_nested_link(&nested), Ok(true));
     assert_eq!(has_nested_link(&around(&[])), Ok(false));

@@ -3,7 +3,7 @@
 use crate::{Attributes, Limits, LineEnding, Options};
 use std::fmt::Debug;
 
-/// That what a setter made differs from the default in what is set here alone.
+/// Checks that a setter changes only this field of the default.
 pub(crate) fn sets<T: Debug + Default + PartialEq>(made: T, set: impl Fn(&mut T)) {
     let mut wanted = T::default();
     assert_ne!(made, wanted);
@@ -11,7 +11,7 @@ pub(crate) fn sets<T: Debug + Default + PartialEq>(made: T, set: impl Fn(&mut T)
     assert_eq!(made, wanted);
 }
 
-/// A text that is set.
+/// A set text.
 pub(crate) fn text() -> Option<String> {
     Some("a".to_string())
 }

@@ -1,4 +1,4 @@
-//! What is read only where it is asked for, or isn't.
+//! Syntax that options switch on or off.
 
 use super::*;
 

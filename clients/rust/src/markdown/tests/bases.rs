@@ -1,8 +1,8 @@
-//! URLs that are read against a base.
+//! URLs that are resolved against a base.
 
 use super::*;
 
-/// A URL as it stands in the text, read against a base.
+/// A URL in the text, resolved against a base.
 fn resolved(base: &str, url: &str) -> String {
     let text = format!("[x](<{url}>)");
     let html = html_with(&text, |options| options.base = Some(base.to_string())).unwrap();

@@ -125,3 +125,20 @@ fn bare_links_in_a_document() {
         "<p>https://a.org</p>\n"
     );
 }
+
+#[test]
+fn names_of_html() {
+    for (name, choice) in [
+        ("text", DocumentHtml::Text),
+        ("left-out", DocumentHtml::LeftOut),
+        ("without-comments", DocumentHtml::WithoutComments),
+    ] {
+        assert_eq!(name.parse(), Ok(choice));
+        assert_eq!(choice.to_string(), name);
+    }
+    for name in ["", "Text", "text ", "left_out"] {
+        let error = name.parse::<DocumentHtml>().unwrap_err();
+        let wanted = "expected text, left-out or without-comments";
+        assert_eq!(error.to_string(), wanted, "{name}");
+    }
+}

@@ -1,4 +1,4 @@
-//! The bounds, and what is long, wide or deep.
+//! The limits, and documents that are long, wide or deep.
 
 use super::*;
 use crate::default_work;
@@ -79,7 +79,7 @@ fn long_texts_with_attributes() {
     assert!(start.elapsed() < Duration::from_secs(10));
 }
 
-/// Where no limit of the work is set, the document's length says it.
+/// The default limit of the work depends on the document's length.
 #[test]
 fn default_limit_of_work() {
     let text = |uses| format!("[a]: {}\n\n{}", "b".repeat(10_000), "[a] ".repeat(uses));
@@ -116,7 +116,7 @@ fn long_destinations_with_references() {
     }
 }
 
-/// Neither links of another definition count, nor what an image's description leads to.
+/// Neither the links in another definition count, nor the targets in an image's description.
 #[test]
 fn what_is_not_printed() {
     let defined = format!("[a]: /&amp;{}\n\n", "b".repeat(50_000));
@@ -130,7 +130,7 @@ fn what_is_not_printed() {
     assert_eq!(html.as_deref(), Ok("<p><img src=\"y\" alt=\"a\" /></p>\n"));
 }
 
-/// A row that is too short is filled up with cells, up to so many that nobody wrote.
+/// A row that is too short is filled with cells, up to a limit on the added ones.
 #[test]
 fn wide_tables() {
     let table = |columns, rows| {
@@ -146,7 +146,7 @@ fn wide_tables() {
     assert!(((1 << 19) - 2000..=1 << 19).contains(&cells), "{cells}");
 }
 
-/// What would nest deeper than its bound is shown as it is written.
+/// A document that nests deeper than its limit is shown as it is written.
 #[test]
 fn depth() {
     let quotes = "> > > > *a*";
@@ -168,7 +168,7 @@ fn depth() {
     assert_eq!(made, Err(Error::OutputTooLong { limit }));
 }
 
-/// A mark in which so many quotes, lists and items are open is text.
+/// A mark is text if too many quotes, lists and items are open.
 #[test]
 fn nests() {
     let deep = html(&("> ".repeat(40_000) + "a"));

@@ -1,0 +1,250 @@
+//! The title in front matter that is YAML, from the events of yaml-rust.
+//!
+//! Events come one by one, so that nesting takes no stack, and an alias isn't expanded: a title may
+//! be an alias of a text, and no other value is looked at.
+
+use super::{invalid_at, no_text, too_deep, MOST_DEPTH};
+use std::collections::HashMap;
+use std::rc::Rc;
+use std::str::Chars;
+use yaml_rust::parser::{Event, Parser};
+use yaml_rust::scanner::{Marker, ScanError, TScalarStyle, TokenType};
+
+/// The key of the title, and the one by which YAML 1.1 merges another mapping.
+const TITLE: &str = "title";
+const MERGE: &str = "<<";
+
+const NO_END: &str = "the reader of YAML finds no end: please report it";
+
+/// What yaml-rust says of `a: b: c`, and what a writer can do about it.
+const MANY_COLONS: &str = "mapping values are not allowed in this context";
+pub const QUOTE_IT: &str = "a value with a colon and a space needs quotes";
+
+/// The tags that a text may have: none, or those of a string.
+const STRINGS: [(&str, &str); 3] = [("!!", "str"), ("", "tag:yaml.org,2002:str"), ("", "!")];
+
+/// A value, as far as a title needs it.
+#[derive(Clone, Debug)]
+enum Value {
+    Text(Rc<str>),
+    /// No value.
+    Nothing,
+    /// A null that is written.
+    Null,
+    /// What yaml-rust has for no value, and for `~` at this place.
+    Tilde(Marker),
+    /// A text with the tag of another type.
+    Tagged,
+    List,
+    Map,
+}
+
+struct Reader<'a> {
+    text: &'a str,
+    parser: Parser<Chars<'a>>,
+    /// The values with an anchor, by the number of that.
+    anchors: HashMap<usize, Value>,
+    /// How many events may follow: a text has fewer than four for each byte.
+    left: usize,
+}
+
+/// The title in a text.
+pub fn title(text: &str) -> Result<Option<String>, String> {
+    if let Some(at) = text.find(is_unprintable) {
+        let line = text[..at].matches('\n').count() + 1;
+        return Err(invalid_at("YAML", text, line, "a control character"));
+    }
+    let mut reader = Reader {
+        text,
+        parser: Parser::new(text.chars()),
+        anchors: HashMap::new(),
+        left: 4 * text.len() + 16,
+    };
+    reader.document()
+}
+
+/// Whether YAML doesn't allow a character; yaml-rust takes NUL for the end.
+fn is_unprintable(each: char) -> bool {
+    (each.is_control() && !matches!(each, '\t' | '\n' | '\u{85}'))
+        || matches!(each, '\u{fffe}' | '\u{ffff}')
+}
+
+impl Reader<'_> {
+    /// The title of the only document.
+    fn document(&mut self) -> Result<Option<String>, String> {
+        self.next()?;
+        if self.next()?.0 == Event::StreamEnd {
+            return Ok(None);
+        }
+        let found = match self.next()? {
+            (Event::MappingStart(_), mark) => self.mapping(mark)?,
+            (_, mark) => return Err(self.error(mark, "no key, such as title:")),
+        };
+        loop {
+            match self.next()? {
+                (Event::StreamEnd, _) => break,
+                (Event::DocumentStart, mark) => return Err(self.error(mark, "a second document")),
+                _ => {}
+            }
+        }
+        match found {
+            Some(Value::Text(title)) => Ok(Some(title.to_string())),
+            Some(Value::Tilde(mark)) if self.is_at(mark, '~') => Err(no_text("null")),
+            None | Some(Value::Nothing | Value::Tilde(_)) => Ok(None),
+            Some(Value::Null) => Err(no_text("null")),
+            Some(Value::Tagged) => Err(no_text("of a type that isn't known")),
+            Some(Value::List) => Err(no_text("a list")),
+            Some(Value::Map) => Err(no_text("a map")),
+        }
+    }
+
+    /// The title in the outermost mapping, whose start was read.
+    fn mapping(&mut self, start: Marker) -> Result<Option<Value>, String> {
+        let mut found = None;
+        let mut merged = None;
+        let is_block = !self.is_at(start, '{');
+        loop {
+            let (event, mark) = self.next()?;
+            if event == Event::MappingEnd {
+                break;
+            }
+            let key = self.value(event, mark)?;
+            let (event, at) = self.next()?;
+            // yaml-rust accepts this, though YAML doesn't.
+            if is_block && at.line() > mark.line() && at.col() == 0 && self.is_there(&event, at) {
+                return Err(self.error(at, "a value without indentation"));
+            }
+            let value = self.value(event, at)?;
+            match key {
+                Value::Text(key) if &*key == TITLE => {
+                    if found.replace(value).is_some() {
+                        return Err(self.error(mark, "a second title"));
+                    }
+                }
+                Value::Text(key) if &*key == MERGE => merged = Some(mark),
+                _ => {}
+            }
+        }
+        match merged {
+            Some(mark) if found.is_none() => {
+                Err(self.error(mark, "a merge key (<<), which isn't supported"))
+            }
+            _ => Ok(found),
+        }
+    }
+
+    /// The value that begins with an event, read to its end.
+    fn value(&mut self, event: Event, mark: Marker) -> Result<Value, String> {
+        let (anchor, value) = match event {
+            Event::Alias(anchor) => {
+                let value = self.anchors.get(&anchor).cloned();
+                return value
+                    .ok_or_else(|| self.error(mark, "an alias of a value that contains it"));
+            }
+            Event::Scalar(text, style, anchor, tag) => {
+                (anchor, scalar(&text, style, tag.as_ref(), mark))
+            }
+            Event::SequenceStart(anchor) => (anchor, Value::List),
+            Event::MappingStart(anchor) => (anchor, Value::Map),
+            _ => return Err(self.error(mark, "no value")),
+        };
+        if matches!(value, Value::List | Value::Map) {
+            self.skip_collection()?;
+        }
+        if anchor > 0 {
+            self.anchors.insert(anchor, value.clone());
+        }
+        Ok(value)
+    }
+
+    /// Reads the rest of a list or map; the anchors in it count too.
+    fn skip_collection(&mut self) -> Result<(), String> {
+        let mut open = vec![None];
+        while !open.is_empty() {
+            if open.len() > MOST_DEPTH {
+                return Err(too_deep());
+            }
+            let (event, mark) = self.next()?;
+            let (anchor, value) = match event {
+                Event::SequenceStart(anchor) => {
+                    open.push(Some((anchor, Value::List)));
+                    continue;
+                }
+                Event::MappingStart(anchor) => {
+                    open.push(Some((anchor, Value::Map)));
+                    continue;
+                }
+                Event::SequenceEnd | Event::MappingEnd => match open.pop().flatten() {
+                    Some(ended) => ended,
+                    None => continue,
+                },
+                Event::Scalar(text, style, anchor, tag) => {
+                    (anchor, scalar(&text, style, tag.as_ref(), mark))
+                }
+                Event::Alias(_) => continue,
+                _ => return Err(self.error(mark, "a collection without an end")),
+            };
+            if anchor > 0 {
+                self.anchors.insert(anchor, value);
+            }
+        }
+        Ok(())
+    }
+
+    /// Whether a character is at a place.
+    fn is_at(&self, mark: Marker, wanted: char) -> bool {
+        self.text.chars().nth(mark.index()) == Some(wanted)
+    }
+
+    /// Whether an event is a scalar in a line, and not a value that is missing.
+    fn is_there(&self, event: &Event, mark: Marker) -> bool {
+        match event {
+            Event::Scalar(_, TScalarStyle::Literal | TScalarStyle::Foled, ..) => false,
+            Event::Scalar(text, TScalarStyle::Plain, ..) if text == "~" => self.is_at(mark, '~'),
+            Event::Scalar(text, TScalarStyle::Plain, ..) => !text.is_empty(),
+            Event::Scalar(..) => true,
+            _ => false,
+        }
+    }
+
+    /// The next event.
+    fn next(&mut self) -> Result<(Event, Marker), String> {
+        self.left = self.left.checked_sub(1).ok_or(NO_END)?;
+        self.parser.next().map_err(|error| {
+            let line = error.marker().line();
+            invalid_at("YAML", self.text, line, &reason(&error))
+        })
+    }
+
+    fn error(&self, mark: Marker, why: &str) -> String {
+        invalid_at("YAML", self.text, mark.line(), why)
+    }
+}
+
+/// The value of a scalar. A plain number, date or truth value is its text as it is written.
+fn scalar(text: &str, style: TScalarStyle, tag: Option<&TokenType>, mark: Marker) -> Value {
+    let is_string = match tag {
+        Some(TokenType::Tag(handle, suffix)) => STRINGS.contains(&(handle, suffix)),
+        _ => false,
+    };
+    match text {
+        _ if tag.is_some() && !is_string => Value::Tagged,
+        _ if is_string || style != TScalarStyle::Plain => Value::Text(text.into()),
+        "" => Value::Nothing,
+        "~" => Value::Tilde(mark),
+        "null" | "Null" | "NULL" => Value::Null,
+        _ => Value::Text(text.into()),
+    }
+}
+
+/// The reason of an error, without the place that its text ends with.
+fn reason(error: &ScanError) -> String {
+    let text = error.to_string();
+    let reason = text
+        .rsplit_once(" at line ")
+        .map_or(&*text, |(reason, _)| reason);
+    match reason {
+        MANY_COLONS => QUOTE_IT.to_string(),
+        _ => reason.to_string(),
+    }
+}
