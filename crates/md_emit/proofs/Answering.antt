@@ -9,7 +9,7 @@ use Rattle.md_shape.specs.Steps.{entered, exited}
 use Rattle.md_emit.specs.declared.given.Given.{Given as Supplied}
 use Rattle.md_emit.specs.Supplies.{Supplies, Enters, Leaves}
 
--- what is given, with the line ending that the code has
+-- the context, with the line ending that the code has
 abbrev pub ending_in : List ℕ → Given → Given
 ending_in ending given = record given { ending = ending }
 

@@ -10,7 +10,7 @@ use Rattle.md_meaning.specs.Meaning.Footnotes.{call_id, count_of, distinct, id_o
 use Rattle.md_shape.specs.Sides.{call_pieces}
 use Rattle.md_output.specs.LinkHeads.{anchor_head, picture_head, picture_tail}
 
--- texts one after another, by what they are parts of
+-- texts in sequence, by the texts that they are parts of
 anchored : (t a b c d e f : List ℕ) →
     (((((t ++ a) ++ b) ++ c) ++ d) ++ e) ++ f ≡ t ++ ((a ++ (b ++ (c ++ d))) ++ (e ++ f))
 anchored t a b c d e f = simp append_assoc
@@ -61,7 +61,7 @@ picture-laid ending text options target label = by target.title
     by (Some title) = pictured_with text (codes "<img src=\"") (src options target.destination)
         (codes "\" alt=\"") label (codes "\"") (codes " title=\"") title (codes "\"") (codes " />")
 
--- seven texts one after another, made first or put one by one
+-- seven texts in sequence, joined first or written one by one
 apart : (t a b c d e f g : List ℕ) →
     t ++ ((((((a ++ b) ++ c) ++ d) ++ e) ++ f) ++ g)
     ≡ ((((((t ++ a) ++ b) ++ c) ++ d) ++ e) ++ f) ++ g

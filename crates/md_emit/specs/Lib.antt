@@ -1,5 +1,5 @@
--- What the code of the printer speaks of beside the steps: heads of links and images, the text of
--- code, surroundings.
+-- The definitions that the printer's code uses besides the steps: heads of links and images, the
+-- text of code, surroundings.
 pub mod View
 pub mod Supplies
 pub mod Parts

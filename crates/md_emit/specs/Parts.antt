@@ -1,4 +1,4 @@
--- What of the code's texts is written in two ways.
+-- The texts of the code that have two definitions.
 use Rattle.std.specs.Prelude.{ℕ, Bool, false, not, ◌&&◌, ◌||◌, ◌==◌, nat_lt, if◌then◌else◌}
 use Rattle.std.specs.Prelude.{List, [], ◌∷◌, ◌++◌, length, slice_index, codes}
 use Rattle.std.specs.Option.{option_map_or}
@@ -9,11 +9,11 @@ use Rattle.md_meaning.specs.Meaning.Spans.{is_at}
 use Rattle.md_meaning.specs.Meaning.Tables.{align_attribute}
 use Rattle.md_shape.specs.State.{State}
 
--- a zero before other digits
+-- a zero precedes other digits
 abbrev pub has_leading_zero : List ℕ → Bool
 has_leading_zero digits = nat_lt 1 (length digits) && (slice_index digits 0 == 48)
 
--- digits without the zeros before the number that they write
+-- digits without leading zeros
 abbrev pub unpadded : List ℕ → List ℕ
 unpadded [] = []
 unpadded (digit ∷ digits) =
@@ -25,7 +25,7 @@ line_closing state text = if state.around.in_code then said (codes " ")
     else (if not state.around.in_definition && state.slurps
     || option_map_or is_definition state.ended false then [] else said text)
 
--- a dash stands there
+-- the byte at this index is a dash
 abbrev pub is_dash_at : List ℕ → ℕ → Bool
 is_dash_at bytes index = is_at 45 bytes index
 
@@ -34,7 +34,7 @@ abbrev pub cell_start : Bool → AlignKind → List ℕ
 cell_start in_head kind =
     (if in_head then codes "<th" else codes "<td") ++ (align_attribute kind ++ codes ">")
 
--- a cell that holds nothing
+-- an empty cell
 abbrev pub empty_cell : Bool → AlignKind → List ℕ
 empty_cell in_head kind =
     cell_start in_head kind ++ (if in_head then codes "</th>" else codes "</td>")

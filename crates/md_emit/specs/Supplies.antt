@@ -1,4 +1,4 @@
--- What the code has of a document and of its nodes, as the steps name it.
+-- The code's input about a document and its nodes, in the terms of the steps.
 use Rattle.std.specs.Prelude.{◌≡◌, ℕ, Bool, true, false, Option, unwrap_or, option_and_then, List}
 use Rattle.std.specs.Prelude.{slice_get}
 use Rattle.md_base.specs.declared.event.Name.{Name}
@@ -15,12 +15,12 @@ use Rattle.md_told.specs.Told.{IsNoticedAt}
 use Rattle.md_told.specs.Definitions.{IsLedTo}
 use Rattle.md_emit.specs.declared.given.Given.{Given as Supplied}
 
--- the target at a place, if there is one
+-- the target at an index, if there is one
 abbrev pub target_at : List Target → Option ℕ → Target
 target_at targets place =
     unwrap_or (option_and_then (λ there. slice_get targets there) place) nowhere
 
--- what the code is supplied with is what the steps are given
+-- the code's input encodes the context of the steps
 pub record Supplies (code : Supplied) (given : Given) : Type 0 where
   pub bytes : given.bytes ≡ code.checked.now.bytes
   pub names : given.names ≡ name_table code.names.now
@@ -40,7 +40,7 @@ abbrev pub Leaves : Supplied → ℕ → Name → State → State → Type 0
 Leaves code index name before after = (given : Given) (one : Noticed) → Supplies code given →
     IsNoticedAt code.checked.now index one → after ≡ exited given one.told name before
 
--- a node of this name without children is as if it were left alone
+-- the entry of a node of this name, without children, changes nothing
 abbrev pub is_alone : Name → Bool
 is_alone name = elim name [
   | Data ↦ true

@@ -1,4 +1,4 @@
--- How the code's surroundings stand for those of the steps.
+-- How the code's surroundings encode those of the steps.
 use Rattle.md_emit.specs.declared.around.Around.{Around as Kept}
 use Rattle.md_shape.specs.State.{Around}
 

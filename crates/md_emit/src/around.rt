@@ -1,33 +1,33 @@
-//! What is known of the nodes around.
+//! The surroundings of a node.
 
 use md_base::AlignKind;
 
-/// What is known of the nodes around.
+/// The surroundings of a node: facts that its ancestors decide.
 #[derive(Clone, Copy)]
 pub(crate) struct Around<'a> {
-    /// A block quote, a list or a footnote is around.
+    /// A block quote, a list or a footnote contains it.
     pub(crate) is_contained: bool,
-    /// The innermost of these is a list whose paragraphs print no tags.
+    /// The innermost of these is a list whose paragraphs are printed without tags.
     pub(crate) is_tight: bool,
-    /// An image is around.
+    /// An image contains it.
     pub(crate) in_image: bool,
-    /// A link is around.
+    /// A link contains it.
     pub(crate) in_link: bool,
-    /// A table is around.
+    /// A table contains it.
     pub(crate) in_table: bool,
-    /// A table's head is around.
+    /// A table's head contains it.
     pub(crate) in_head: bool,
-    /// Code or mathematics in a text is around.
+    /// Code or math in a text contains it.
     pub(crate) in_code: bool,
-    /// A definition is around.
+    /// A definition contains it.
     pub(crate) in_definition: bool,
-    /// Characters that mean something in HTML are escaped.
+    /// Special characters of HTML are escaped.
     pub(crate) is_escaping: bool,
-    /// How the columns of the innermost table are aligned.
+    /// The alignments of the columns of the innermost table.
     pub(crate) columns: &'a [AlignKind],
 }
 
-/// Nothing is around.
+/// The surroundings outside all nodes.
 pub(crate) const OUTSIDE: Around<'static> = Around {
     is_contained: false,
     is_tight: false,

@@ -1,4 +1,4 @@
-//! What is printed of autolinks.
+//! Prints autolinks.
 
 ghost use Rattle.std.specs.Prelude.{◌≡◌, ◌++◌, OnOk, Some, None, true, false, ℕ, List, ◌+◌, ◌<◌};
 ghost use Rattle.std.specs.Prelude.{◌||◌, IfOk, string_bytes};
@@ -47,8 +47,8 @@ impl<'a> Printer<'a> {
         self.put_autolink(given, index, prefix, plain)
     }
 
-    /// Prints the text of the autolink that is left, which leads to itself after a prefix unless it
-    /// is plain.
+    /// Prints the text of the autolink that is left, linked to itself with a prefix unless it is
+    /// plain.
     fn put_autolink(
         &mut self,
         given: &Given,
@@ -83,7 +83,7 @@ impl<'a> Printer<'a> {
         self.put("</a>")
     }
 
-    /// Prints what stands before the label of a link to a prefix and a text.
+    /// Prints the tag before the label of a link to a prefix and a text.
     fn put_self_head(&mut self, given: &Given, prefix: &str, text: &str) -> Result<(), AllocError>
         ensures { OnOk result (self.new ≡ record self.old {
           text = self.old.text ++ anchor_head given.now.options.now
@@ -130,7 +130,7 @@ impl<'a> Printer<'a> {
     }
 }
 
-/// A prefix and a text, as one.
+/// A prefix and a text, joined.
 fn joined(alloc: Global, prefix: &str, text: &str) -> Result<String, AllocError>
     ensures { IfOk result (λ all. string_bytes all ≡ prefix.now ++ text.now) }
 {

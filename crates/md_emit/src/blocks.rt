@@ -1,4 +1,4 @@
-//! What is printed of paragraphs, quotes, and code in lines of its own.
+//! Prints paragraphs, quotes, and code blocks.
 
 ghost use Rattle.std.specs.Prelude.{◌≡◌, ◌∷◌, [], ◌==◌, OnOk, Some, None, true, false, not, ℕ};
 ghost use Rattle.std.specs.Prelude.{List, if◌then◌else◌, codes, ◌+◌, ◌<◌, ◌^◌, ◌||◌, ◌&&◌};
@@ -20,7 +20,7 @@ use md_base::name_tests::{is_definition, is_fence};
 use std::alloc::AllocError;
 
 impl<'a> Printer<'a> {
-    /// Enters a paragraph: its tag, unless it stands in a tight list.
+    /// Enters a paragraph: prints its tag, unless it is in a tight list.
     pub(crate) fn enter_paragraph(&mut self, ending: &str) -> Result<(), AllocError>
         ensures { OnOk result (self.new ≡ record self.old {
           text = laid_after ending.now self.old.text
@@ -37,7 +37,7 @@ impl<'a> Printer<'a> {
         }
     }
 
-    /// Enters a node whose tag stands on a line of its own.
+    /// Enters a node whose tag has a line of its own.
     #[inline(always)]
     pub(crate) fn enter_line(&mut self, ending: &str, tag: &str) -> Result<(), AllocError>
         ensures { OnOk result (self.new ≡ record self.old {
@@ -50,7 +50,7 @@ impl<'a> Printer<'a> {
         self.line(ending, tag)
     }
 
-    /// Enters code in lines.
+    /// Enters a code block.
     pub(crate) fn enter_raw(&mut self, ending: &str, tag: &str) -> Result<(), AllocError>
         ensures { OnOk result (self.new ≡ record self.old {
           text = laid_after ending.now self.old.text (on_own_line tag.now);
@@ -65,7 +65,7 @@ impl<'a> Printer<'a> {
         self.enter_line(ending, tag)
     }
 
-    /// Leaves a paragraph: its tag, or a slurped line ending where it stands in a tight list.
+    /// Leaves a paragraph: prints its tag, or slurps the next line ending if it is in a tight list.
     pub(crate) fn leave_paragraph(&mut self) -> Result<(), AllocError>
         ensures { OnOk result ((ending : List ℕ) → self.new ≡ record self.old {
           text = laid_after ending self.old.text
@@ -100,7 +100,7 @@ impl<'a> Printer<'a> {
         self.ends_slurping(Name::Frontmatter);
     }
 
-    /// Leaves a node whose tag stands on a line of its own.
+    /// Leaves a node whose tag has a line of its own.
     #[inline(always)]
     pub(crate) fn leave_line(
         &mut self,
@@ -156,7 +156,7 @@ impl<'a> Printer<'a> {
         self.close_code(ending)
     }
 
-    /// The end of code, on its own line where there is a line of code.
+    /// Prints the end of code, on its own line if there is a line of code.
     fn close_code(&mut self, ending: &str) -> Result<(), AllocError>
         ensures { OnOk result (self.new ≡ record self.old {
           text = laid_after ending.now self.old.text (sides.code_closing self.old);
@@ -169,7 +169,7 @@ impl<'a> Printer<'a> {
         }
     }
 
-    /// Leaves fenced code or mathematics.
+    /// Leaves fenced code or math.
     pub(crate) fn leave_fenced(&mut self, ending: &str, name: Name) -> Result<(), AllocError>
         requires solid { is_transparent name ≡ false }
         requires plain { marker name ≡ 38 }
@@ -185,7 +185,7 @@ impl<'a> Printer<'a> {
         Ok(())
     }
 
-    /// The end of fenced code, with what an unclosed fence lacks.
+    /// Prints the end of fenced code, and what an unclosed fence lacks.
     fn close_fenced(&mut self, ending: &str) -> Result<(), AllocError>
         ensures { OnOk result (self.new ≡ record self.old {
           text = laid_after ending.now self.old.text (sides.fenced_closing self.old self.old.ended);
@@ -198,7 +198,7 @@ impl<'a> Printer<'a> {
         self.need_if(is_unclosed, ending)
     }
 
-    /// Code with one fence that isn't the last of it, in a container.
+    /// Whether code in a container has one fence that isn't its last child.
     fn runs_out(&self) -> bool
         ensures { result ≡ ((self.now.fences == 1) && self.now.around.is_contained
             && not (option_map_or is_fence self.now.ended false)) }
@@ -206,7 +206,7 @@ impl<'a> Printer<'a> {
         self.fences == 1 && self.around.is_contained && !follows_fence(self.ended)
     }
 
-    /// Prints a line ending where it is asked for.
+    /// Prints a line ending, if `wanted`.
     fn put_if(&mut self, wanted: bool, ending: &str) -> Result<(), AllocError>
         ensures { OnOk result (self.new ≡ record self.old {
           text = laid_after ending.now self.old.text (when wanted (Forced ∷ []));
@@ -215,7 +215,7 @@ impl<'a> Printer<'a> {
         if wanted { self.put(ending) } else { Ok(()) }
     }
 
-    /// Prints a line ending unless a line begins here, where it is asked for.
+    /// Prints a line ending unless a line begins here, if `wanted`.
     fn need_if(&mut self, wanted: bool, ending: &str) -> Result<(), AllocError>
         ensures { OnOk result (self.new ≡ record self.old {
           text = laid_after ending.now self.old.text (when wanted (Needed ∷ []));
@@ -250,7 +250,7 @@ impl<'a> Printer<'a> {
     }
 }
 
-/// Whether a definition of either kind ended right before.
+/// Whether the previous node is a definition of either kind.
 #[inline(always)]
 pub(crate) fn follows_definition(ended: Option<Name>) -> bool
     ensures { result ≡ option_map_or is_definition ended false }
@@ -261,7 +261,7 @@ pub(crate) fn follows_definition(ended: Option<Name>) -> bool
     }
 }
 
-/// Whether a fence ended right before.
+/// Whether the previous node is a fence.
 fn follows_fence(ended: Option<Name>) -> bool
     ensures { result ≡ option_map_or is_fence ended false }
 {

@@ -1,4 +1,4 @@
-//! What is printed of footnote calls, and kept of footnotes.
+//! Prints footnote calls, and stores footnotes.
 
 ghost use Rattle.std.specs.Prelude.{◌≡◌, ◌∷◌, ◌++◌, [], OnOk, Some, None, not, ℕ, List, unwrap_or};
 ghost use Rattle.std.specs.Prelude.{◌+◌, ◌<◌, IfOk, string_bytes};
@@ -71,7 +71,7 @@ impl<'a> Printer<'a> {
         self.output.put(self.scratch.as_str())
     }
 
-    /// One call more of the footnote with an identifier.
+    /// Records a call of the footnote with an identifier.
     fn count_call(&mut self, identifier: String) -> Result<(), AllocError>
         ensures { OnOk result (self.new ≡ record self.old {
           calls = self.old.calls ++ string_bytes identifier ∷ [];
@@ -80,7 +80,7 @@ impl<'a> Printer<'a> {
         self.footnotes.call(identifier)
     }
 
-    /// Leaves a footnote definition, whose text is kept if it is the first with its identifier.
+    /// Leaves a footnote definition, whose text is stored if it is the first with its identifier.
     pub(crate) fn leave_footnote(&mut self, given: &Given, index: usize) -> Result<(), AllocError>
         requires { ExitsAt given.now.checked.now.events index names.GfmFootnoteDefinition }
         ensures { OnOk result
@@ -93,7 +93,7 @@ impl<'a> Printer<'a> {
         self.note_footnote(identifier, text)
     }
 
-    /// One footnote more, unless there is one with its identifier.
+    /// Adds a footnote, unless there is one with its identifier.
     fn note_footnote(&mut self, identifier: String, text: String) -> Result<(), AllocError>
         ensures { OnOk result (self.new ≡ record self.old {
           footnotes = steps.noted self.old.footnotes
@@ -104,7 +104,7 @@ impl<'a> Printer<'a> {
     }
 }
 
-/// Makes a text that of a call of the footnote with an identifier.
+/// Replaces a text by a call of the footnote with an identifier.
 fn write_call(
     alloc: Global,
     text: &mut String,
@@ -119,8 +119,8 @@ fn write_call(
     footnotes.push_call(alloc, text, options, identifier)
 }
 
-/// The text between two points with the spaces of the tabs that are cut there; empty
-/// where there is none.
+/// The text between two points with the spaces of the tabs that are cut there; empty if there is
+/// none.
 pub(crate) fn serialized(
     alloc: Global,
     bytes: &[u8],

@@ -1,4 +1,4 @@
-//! What is made of captured texts of code, HTML and references.
+//! Prints captured texts of code, HTML and references.
 
 ghost use Rattle.std.specs.Prelude.{◌≡◌, ◌++◌, [], ◌==◌, OnOk, Some, true, false, ℕ, List};
 ghost use Rattle.std.specs.Prelude.{if◌then◌else◌, unwrap_or, ◌+◌, ◌<◌, ◌&&◌};
@@ -28,7 +28,7 @@ use md_told::{place_left_at, text_left_at, text_of_leaf};
 use std::alloc::{AllocError, Global};
 
 impl<'a> Printer<'a> {
-    /// Leaves code in a text, between its tags outside images.
+    /// Leaves inline code, between its tags outside images.
     pub(crate) fn leave_code(&mut self, alloc: Global, name: Name) -> Result<(), AllocError>
         requires solid { is_transparent name ≡ false }
         requires plain { marker name ≡ 38 }
@@ -49,7 +49,7 @@ impl<'a> Printer<'a> {
         self.tag("</code>")
     }
 
-    /// Puts the text of code where it stands.
+    /// Inserts the text of code in its place.
     fn put_code(&mut self, alloc: Global) -> Result<(), AllocError>
         ensures { OnOk result (self.new ≡ record self.old {
           text = steps.first_or [] self.old.below ++ trimmed
@@ -63,8 +63,8 @@ impl<'a> Printer<'a> {
         push_code(alloc, &mut self.output, in_table, self.scratch.as_str())
     }
 
-    /// Leaves the value of a character reference: what it stands for, escaped where its
-    /// surroundings say so.
+    /// Leaves the value of a character reference: prints its text, escaped if its surroundings say
+    /// so.
     pub(crate) fn leave_reference(&mut self, given: &Given, index: usize) -> Result<(), AllocError>
         requires { ExitsAt given.now.checked.now.events index names.CharacterReferenceValue }
         ensures { OnOk result
@@ -77,7 +77,7 @@ impl<'a> Printer<'a> {
         self.put_encoded(text.as_str(), self.around.is_escaping)
     }
 
-    /// Leaves HTML, which the tag filter disarms where it may stand.
+    /// Leaves HTML, whose tags the tag filter escapes if HTML is allowed.
     pub(crate) fn leave_html(
         &mut self,
         given: &Given,
@@ -129,7 +129,7 @@ impl<'a> Printer<'a> {
         self.put_line_of_code(given, place.start, place.end)
     }
 
-    /// A line of code has ended.
+    /// Records that a line of code has ended.
     fn ends_chunk(&mut self, name: Name)
         requires solid { is_transparent name ≡ false }
         requires plain { marker name ≡ 38 }
@@ -159,7 +159,7 @@ impl<'a> Printer<'a> {
         self.put_encoded(text.as_str(), true)
     }
 
-    /// Leaves a node whose text goes.
+    /// Leaves a node whose text is dropped.
     pub(crate) fn leave_dropped(&mut self, name: Name) -> Result<(), AllocError>
         requires solid { is_transparent name ≡ false }
         requires plain { marker name ≡ 38 }

@@ -1,4 +1,4 @@
-//! What is done where a node is entered.
+//! The step at the entry of a node.
 
 ghost use Rattle.std.specs.Prelude.{OnOk};
 ghost use Rattle.md_tree.specs.Texts.{EntersAt};
@@ -16,7 +16,7 @@ impl<'a> Printer<'a> {
     ///
     /// # Errors
     ///
-    /// Only where memory runs out.
+    /// Returns an error only if memory runs out.
     #[inline(always)]
     pub fn enter(&mut self, given: &Given<'a>, index: usize, name: Name) -> Result<(), AllocError>
         requires { EntersAt given.now.checked.now.events index name }

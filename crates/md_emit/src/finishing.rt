@@ -1,4 +1,4 @@
-//! Before the first event and after the last one.
+//! The state before the first event, and after the last one.
 
 ghost use Rattle.std.specs.Prelude.{◌≡◌, ◌<◌, [], IfOk, true, length, string_bytes};
 ghost use Rattle.md_meaning.specs.Meaning.At as At;
@@ -15,14 +15,14 @@ use md_text::CompileOptions;
 use std::alloc::{AllocError, Global};
 
 impl<'a> Printer<'a> {
-    /// Makes room for the text of a document of so many bytes, where there is memory for it.
+    /// Reserves capacity for the text of a document of `bytes` bytes, if there is memory for it.
     pub fn reserve(&mut self, bytes: usize)
         ensures { self.new ≡ self.old }
     {
         self.output.reserve(bytes);
     }
 
-    /// Nothing is printed again; the room is kept.
+    /// Removes the printed text; keeps the capacity.
     pub fn restart(&mut self, alloc: Global)
         ensures { self.new ≡ steps.beginning }
     {
@@ -41,15 +41,15 @@ impl<'a> Printer<'a> {
         self.footnotes = Footnotes::new(alloc);
     }
 
-    /// Passes a definition over, which is printed ahead of all else.
+    /// Skips a definition, which is printed before all else.
     pub fn pass_definition(&mut self)
         ensures { self.new ≡ steps.passed self.old }
     {
         self.ends(Name::Definition);
     }
 
-    /// Whether no text is captured and what is printed is longer than this, even without what
-    /// waits to be put in.
+    /// Whether no text is captured and the printed one is longer than this, even without its
+    /// pending heads.
     #[inline(always)]
     pub fn is_longer(&self, limit: usize) -> bool
         ensures { result ≡ true → (self.now.below ≡ []) × (limit < length self.now.text) }
@@ -57,11 +57,11 @@ impl<'a> Printer<'a> {
         self.output.is_longer(limit)
     }
 
-    /// The whole text, with the section of footnotes.
+    /// Returns the whole text, with the section of footnotes.
     ///
     /// # Errors
     ///
-    /// Only where memory runs out.
+    /// Returns an error only if memory runs out.
     pub fn into_text(
         self,
         alloc: Global,
@@ -95,11 +95,11 @@ impl<'a> Printer<'a> {
         Ok(text)
     }
 
-    /// Where the definition leads that was printed last.
+    /// The target of the definition that was printed last.
     ///
     /// # Errors
     ///
-    /// Only where memory runs out.
+    /// Returns an error only if memory runs out.
     pub fn target(&self, alloc: Global) -> Result<Target, AllocError>
         ensures { IfOk result (λ target. target ≡ self.now.target) }
     {

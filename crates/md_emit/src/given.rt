@@ -1,4 +1,4 @@
-//! What all nodes of a document are given.
+//! The shared context of a document's nodes.
 
 use md_output::Target;
 use md_text::CompileOptions;
@@ -6,19 +6,19 @@ use md_tree::Checked;
 use std::alloc::Global;
 use std::marker::Model;
 
-/// What all nodes are given.
+/// Shared context.
 #[derive(Clone, Copy)]
 pub struct Given<'a> {
-    /// What texts are allocated with.
+    /// The allocator for texts.
     pub alloc: Global,
-    /// The events, and what the check found of them.
+    /// The events, and the facts that the check found about them.
     pub checked: &'a Checked<'a>,
-    /// The names of character references, and what each stands for.
+    /// The names of character references, each with its text.
     pub names: &'a [(&'a str, &'a str)],
     /// The options.
     pub options: &'a CompileOptions,
-    /// The line ending that is used.
+    /// The line ending to print.
     pub ending: &'a str,
-    /// Where the definitions lead, in the order of their exits.
+    /// The targets of the definitions, in the order of their exits.
     pub definitions: &'a [Target],
 }

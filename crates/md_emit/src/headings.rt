@@ -1,4 +1,4 @@
-//! What is printed of headings.
+//! Prints headings.
 
 ghost use Rattle.std.specs.Prelude.{◌≡◌, ◌++◌, [], ◌==◌, OnOk, IfSome, Some, None, true, false};
 ghost use Rattle.std.specs.Prelude.{if◌then◌else◌, codes, ◌+◌, ◌<◌};
@@ -33,7 +33,7 @@ impl<'a> Printer<'a> {
         self.put_heading(given.alloc, "<h", rank)
     }
 
-    /// A heading's tag.
+    /// Prints a heading's tag.
     pub(crate) fn put_heading(
         &mut self,
         alloc: Global,
@@ -64,7 +64,7 @@ impl<'a> Printer<'a> {
         self.put_heading(alloc, "</h", rank)
     }
 
-    /// Leaves a setext heading's text, which is kept until its underline tells its rank.
+    /// Leaves a setext heading's text, which is stored until its underline decides its rank.
     pub(crate) fn leave_setext_text(&mut self) -> Result<(), AllocError>
         ensures { OnOk result (self.new ≡ record self.old {
           text = steps.first_or [] self.old.below;
@@ -80,7 +80,7 @@ impl<'a> Printer<'a> {
         self.output.move_into(&mut self.heading)
     }
 
-    /// Leaves a setext heading's underline, which tells the rank of the heading before it.
+    /// Leaves a setext heading's underline, which decides the rank of the heading before it.
     pub(crate) fn leave_underline(&mut self, given: &Given, index: usize) -> Result<(), AllocError>
         requires { ExitsAt given.now.checked.now.events index names.HeadingSetextUnderlineSequence }
         ensures { OnOk result
@@ -109,7 +109,7 @@ impl<'a> Printer<'a> {
     }
 }
 
-/// A number of one digit that a heading's rank may be.
+/// The digit of a heading's rank.
 fn rank_digit(rank: usize) -> Option<&'static str>
     ensures { IfSome result (λ digits. digits.now ≡ decimal rank) }
 {

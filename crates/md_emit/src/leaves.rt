@@ -1,4 +1,4 @@
-//! What is done where a node without children is entered and left, if its name is frequent.
+//! The step at a frequent node without children, for its entry and exit together.
 
 ghost use Rattle.std.specs.Prelude.{◌≡◌, IfOk, true, false};
 ghost use Rattle.md_tree.specs.Texts.{EntersAt, ExitsAt};
@@ -13,12 +13,12 @@ use md_told::{is_last_at, text_inside};
 use std::alloc::AllocError;
 
 impl<'a> Printer<'a> {
-    /// Enters and leaves a node without children, if its name is frequent; answers whether it is.
-    /// Of such a node it is as if it were left alone.
+    /// Enters and leaves a node without children, if its name is frequent; returns whether it is.
+    /// Only the exit of such a node changes the state.
     ///
     /// # Errors
     ///
-    /// Only where memory runs out.
+    /// Returns an error only if memory runs out.
     #[inline(always)]
     pub fn leaf(
         &mut self,
@@ -36,7 +36,8 @@ impl<'a> Printer<'a> {
             (λ done. done ≡ true → Leaves given.now entry name self.old self.new) }
         ensures same { IfOk result (λ done. done ≡ false → self.new ≡ self.old) }
     {
-        // An arm for each frequent name, though `exit` has them too: so such a leaf costs one jump.
+        // Each frequent name has an arm here, although `exit` has one too: so such a leaf costs one
+        // jump.
         match name {
             Name::Data => {
                 self.leave_text(text_inside(given.checked, entry, exit), Name::Data)?;

@@ -1,4 +1,4 @@
-//! What is done where a node is left.
+//! The step at the exit of a node.
 
 ghost use Rattle.std.specs.Prelude.{OnOk, ◌<◌, ◌^◌};
 ghost use Rattle.md_tree.specs.Texts.{ExitsAt};
@@ -15,7 +15,7 @@ impl<'a> Printer<'a> {
     ///
     /// # Errors
     ///
-    /// Only where memory runs out.
+    /// Returns an error only if memory runs out.
     pub fn exit(&mut self, given: &Given<'a>, index: usize, name: Name) -> Result<(), AllocError>
         requires there { ExitsAt given.now.checked.now.events index name }
         requires cells { self.old.cells < 2 ^ 63 }

@@ -1,4 +1,4 @@
-//! The printer's state, and what is done to it at each event, by the steps of `md_shape`.
+//! The printer's state, and its step at each event, as `md_shape` defines the steps.
 #![tactic(auto)]
 
 mod around;

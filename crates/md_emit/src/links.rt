@@ -1,4 +1,4 @@
-//! What is printed of links and images, and kept of where they lead.
+//! Prints links and images, and stores their targets.
 
 ghost use Rattle.std.specs.Prelude.{◌≡◌, ◌∷◌, ◌++◌, [], OnOk, Some, None, true, false, codes};
 ghost use Rattle.std.specs.Prelude.{unwrap_or, ◌+◌, ◌<◌, IfOk, option_copied};
@@ -27,7 +27,7 @@ use std::alloc::AllocError;
 use std::mem::swap;
 
 impl<'a> Printer<'a> {
-    /// Begins what stands around a label.
+    /// Begins a label.
     pub(crate) fn enter_label(&mut self) -> Result<(), AllocError>
         ensures { OnOk result (self.new ≡ record self.old {
           text = [];
@@ -39,7 +39,7 @@ impl<'a> Printer<'a> {
         self.output.capture_label()
     }
 
-    /// Begins where a resource or a definition leads, in which nothing is escaped yet.
+    /// Begins the content of a resource or a definition, in which nothing is escaped yet.
     pub(crate) fn enter_destination(&mut self) -> Result<(), AllocError>
         ensures { OnOk result (self.new ≡ record self.old {
           text = [];
@@ -55,7 +55,7 @@ impl<'a> Printer<'a> {
         })
     }
 
-    /// Begins what tells where something leads.
+    /// Begins a resource or a definition, which contains a target.
     pub(crate) fn enter_target(&mut self) -> Result<(), AllocError>
         ensures { OnOk result (self.new ≡ record self.old {
           text = [];
@@ -67,7 +67,8 @@ impl<'a> Printer<'a> {
         self.capture()
     }
 
-    /// Leaves a link: what stands before its label, and its end; in an image its label alone.
+    /// Leaves a link: inserts the tag before its label, and prints its end; in an image only its
+    /// label.
     pub(crate) fn leave_link(&mut self, given: &Given, index: usize) -> Result<(), AllocError>
         requires { ExitsAt given.now.checked.now.events index names.Link }
         ensures { OnOk result (Leaves given.now index names.Link self.old self.new) }
@@ -83,7 +84,7 @@ impl<'a> Printer<'a> {
         self.put_link(given.options, found)
     }
 
-    /// Puts what stands around a link's label.
+    /// Writes the tags of a link around its label.
     fn put_link(
         &mut self,
         options: &CompileOptions,
@@ -102,7 +103,8 @@ impl<'a> Printer<'a> {
         self.output.put("</a>")
     }
 
-    /// Leaves an image: what stands around its alternative text; in another image that text alone.
+    /// Leaves an image: writes its tag around its alternative text; in another image only that
+    /// text.
     pub(crate) fn leave_image(&mut self, given: &Given, index: usize) -> Result<(), AllocError>
         requires { ExitsAt given.now.checked.now.events index names.Image }
         ensures { OnOk result (Leaves given.now index names.Image self.old self.new) }
@@ -118,8 +120,7 @@ impl<'a> Printer<'a> {
         self.put_picture(given.options, found)
     }
 
-    /// Where a link or an image leads by its identifier: it is looked up where there is no
-    /// resource.
+    /// The target of a link or an image by its identifier: it is looked up if there is no resource.
     fn led<'b>(&self, given: &Given<'b>, index: usize) -> Option<&'b Target>
         requires { ExitsOf is_of_definitions given.now.checked.now.events index }
         ensures { (all : At.Given) (one : Noticed) → Supplies given.now all
@@ -133,7 +134,7 @@ impl<'a> Printer<'a> {
         target_of(given.definitions, definition_led_at(given.checked, index))
     }
 
-    /// Puts what stands around an image's alternative text.
+    /// Writes the tag of an image around its alternative text.
     fn put_picture(
         &mut self,
         options: &CompileOptions,
@@ -159,7 +160,7 @@ impl<'a> Printer<'a> {
         put_picture_tail(&mut self.output, lead.title)
     }
 
-    /// Leaves a resource: where it leads is kept.
+    /// Leaves a resource, whose target is stored.
     pub(crate) fn leave_resource(&mut self) -> Result<(), AllocError>
         ensures { OnOk result (self.new ≡ record self.old {
           text = steps.first_or [] self.old.below;
@@ -178,7 +179,7 @@ impl<'a> Printer<'a> {
         Ok(())
     }
 
-    /// Leaves a destination, which is kept.
+    /// Leaves a destination, which is stored.
     pub(crate) fn leave_destination(&mut self, name: Name) -> Result<(), AllocError>
         requires solid { is_transparent name ≡ false }
         requires plain { marker name ≡ 38 }
@@ -197,7 +198,7 @@ impl<'a> Printer<'a> {
         self.target.note_destination(&mut self.output)
     }
 
-    /// Leaves a title, which is kept.
+    /// Leaves a title, which is stored.
     pub(crate) fn leave_title(&mut self, name: Name) -> Result<(), AllocError>
         requires solid { is_transparent name ≡ false }
         requires plain { marker name ≡ 38 }
@@ -214,7 +215,7 @@ impl<'a> Printer<'a> {
     }
 }
 
-/// The definition at a place, if there is one.
+/// The definition at an index, if there is one.
 fn target_of(targets: &[Target], place: Option<usize>) -> Option<&Target>
     ensures { unwrap_or (option_copied result) steps.nowhere ≡ target_at targets.now place }
 {

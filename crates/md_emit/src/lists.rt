@@ -1,4 +1,4 @@
-//! What is printed of lists and their items.
+//! Prints lists and their items.
 
 ghost use Rattle.std.specs.Prelude.{◌≡◌, ◌∷◌, ◌++◌, [], ◌==◌, OnOk, Some, None, true, false, not};
 ghost use Rattle.std.specs.Prelude.{ℕ, List, if◌then◌else◌, codes, bytes_eq, ◌+◌, ◌<◌, ◌&&◌};
@@ -29,7 +29,7 @@ use md_told::{number_at, text_of_leaf};
 use std::alloc::AllocError;
 
 impl<'a> Printer<'a> {
-    /// Goes on in a list.
+    /// Pushes the surroundings of a list.
     pub(crate) fn turn_list(&mut self, loose: bool) -> Result<(), AllocError>
         ensures { OnOk result (self.new ≡ record self.old {
           around = record self.old.around { is_contained = true; is_tight = not loose };
@@ -43,7 +43,7 @@ impl<'a> Printer<'a> {
         })
     }
 
-    /// The tag of an ordered list, with its number unless that is 1.
+    /// Prints the tag of an ordered list, with its number unless that is 1.
     pub(crate) fn open_list(&mut self, given: &Given, index: usize) -> Result<(), AllocError>
         requires { EntersAt given.now.checked.now.events index ListOrdered }
         ensures { OnOk result ((all : At.Given) (one : Noticed) → Supplies given.now all
@@ -59,7 +59,7 @@ impl<'a> Printer<'a> {
         self.put(">")
     }
 
-    /// The number of the ordered list that is entered, unless it is 1.
+    /// Prints the number of the ordered list that is entered, unless it is 1.
     fn open_start(&mut self, given: &Given, index: usize) -> Result<(), AllocError>
         requires { EntersAt given.now.checked.now.events index ListOrdered }
         ensures { OnOk result ((all : At.Given) (one : Noticed) → Supplies given.now all
@@ -77,7 +77,7 @@ impl<'a> Printer<'a> {
         }
     }
 
-    /// The number of an ordered list, unless it is 1.
+    /// Prints the number of an ordered list, unless it is 1.
     fn open_number(&mut self, digits: &str) -> Result<(), AllocError>
         ensures { OnOk result ((ending : List ℕ) → self.new ≡ record self.old {
           text = laid_after ending self.old.text (when (not (bytes_eq digits.now (codes "1")))
@@ -92,7 +92,7 @@ impl<'a> Printer<'a> {
         self.put("\"")
     }
 
-    /// Enters a task's box, up to whether it is checked.
+    /// Enters a task's box: prints its tag up to whether it is checked.
     pub(crate) fn enter_task(&mut self, checkable: bool) -> Result<(), AllocError>
         ensures { OnOk result ((ending : List ℕ) → self.new ≡ record self.old {
           text = laid_after ending self.old.text (when (not self.old.around.in_image)
@@ -114,7 +114,7 @@ impl<'a> Printer<'a> {
         }
     }
 
-    /// Leaves an item, on a line of its own unless its last child says otherwise.
+    /// Leaves an item: its tag has a line of its own unless its last child decides otherwise.
     pub(crate) fn leave_item(&mut self, ending: &str, last: Option<Name>) -> Result<(), AllocError>
         ensures { OnOk result
             ((told : states.Told) → told.contributing ≡ last → self.new ≡ record self.old {
@@ -134,7 +134,7 @@ impl<'a> Printer<'a> {
         }
     }
 
-    /// Leaves a list: its tag comes after a line ending in any case.
+    /// Leaves a list: its tag follows a line ending in any case.
     pub(crate) fn leave_list(
         &mut self,
         ending: &str,
@@ -158,14 +158,14 @@ impl<'a> Printer<'a> {
     }
 }
 
-/// Digits without the zeros before the number that they write.
+/// Digits without leading zeros.
 fn without_zeros(digits: &str) -> &str
     ensures { result.now ≡ without_zeros digits.now }
 {
     unpadded(digits)
 }
 
-/// The same, zero after zero.
+/// The same, zero by zero.
 fn unpadded(mut digits: &str) -> &str
     ensures { result.now ≡ parts.unpadded digits.entry.now }
 {
@@ -175,7 +175,7 @@ fn unpadded(mut digits: &str) -> &str
     digits
 }
 
-/// A zero before other digits.
+/// Whether a zero precedes other digits.
 fn has_leading_zero(digits: &str) -> bool
     ensures value { result ≡ parts.has_leading_zero digits.now }
     ensures cut { OnTrue result (IsCharBoundary digits.now 1) }
@@ -183,7 +183,8 @@ fn has_leading_zero(digits: &str) -> bool
     digits.len() > 1 && digits.as_bytes()[0] == b'0'
 }
 
-/// An item's last child that contributes ends its line: its prefix, or a paragraph of a tight list.
+/// Whether an item's last contributing child ends its line: its prefix, or a paragraph of a tight
+/// list.
 fn ends_in_line(is_tight: bool, last: Option<Name>) -> bool
     ensures { (state : states.State) (told : states.Told) → state.around.is_tight ≡ is_tight
         → told.contributing ≡ last

@@ -1,4 +1,4 @@
-//! The text so far, and what is kept of the open nodes.
+//! The text so far, and the state of the open nodes.
 
 ghost use Rattle.std.specs.Prelude.{◌≡◌, ◌∷◌, [], OnOk, IfOk, string_bytes, Some, None};
 ghost use Rattle.std.specs.Prelude.{false, not, ℕ, List, if◌then◌else◌};
@@ -19,18 +19,18 @@ use md_output::{Output, Target};
 use std::alloc::{AllocError, Global};
 use std::marker::Model;
 
-/// The text so far, and what is kept of the open nodes.
+/// The text so far, and the state of the open nodes.
 #[derive(Drop)]
 pub struct Printer<'a> {
     pub(crate) output: Output,
     pub(crate) around: Around<'a>,
-    /// The surroundings to come back to, the next ones last.
+    /// The surroundings to restore, the next ones last.
     pub(crate) arounds: Vec<Around<'a>>,
-    /// The next line ending is slurped.
+    /// Whether the next line ending is slurped.
     pub(crate) is_slurping: bool,
-    /// The node that ended right before.
+    /// The previous node.
     pub(crate) ended: Option<Name>,
-    /// How the value of a character reference is read.
+    /// The marker by which the value of a character reference is decoded.
     pub(crate) marker: u8,
     /// How many fences the code has so far, and whether it has a line.
     pub(crate) fences: usize,
@@ -39,13 +39,13 @@ pub struct Printer<'a> {
     pub(crate) heading: String,
     /// How many cells the row has so far.
     pub(crate) cells: usize,
-    /// Where the resource or the definition leads so far.
+    /// The target of the resource or the definition so far.
     pub(crate) target: Target,
-    /// Where the resource after the latest label leads, if there is one.
+    /// The target of the resource after the latest label, if there is one.
     pub(crate) resource: Target,
     pub(crate) has_resource: bool,
     pub(crate) footnotes: Footnotes,
-    /// A text that is made to be printed at once.
+    /// A buffer for texts that are printed at once.
     pub(crate) scratch: String,
 }
 
@@ -77,7 +77,7 @@ impl<'a> Model for Printer<'a> {
 }
 
 impl<'a> Printer<'a> {
-    /// Nothing is printed yet.
+    /// A printer without text.
     pub fn new(alloc: Global) -> Printer<'a>
         ensures { result ≡ steps.beginning }
     {
@@ -104,7 +104,7 @@ impl<'a> Printer<'a> {
     ///
     /// # Errors
     ///
-    /// Only where memory runs out.
+    /// Returns an error only if memory runs out.
     #[inline(always)]
     pub(crate) fn put(&mut self, text: &str) -> Result<(), AllocError>
         ensures { OnOk result
@@ -113,11 +113,11 @@ impl<'a> Printer<'a> {
         self.output.put(text)
     }
 
-    /// Prints a text, escaped where `escaping` says so.
+    /// Prints a text, escaped if `escaping` is set.
     ///
     /// # Errors
     ///
-    /// Only where memory runs out.
+    /// Returns an error only if memory runs out.
     #[inline(always)]
     pub(crate) fn put_encoded(&mut self, text: &str, escaping: bool) -> Result<(), AllocError>
         ensures { OnOk result (self.new ≡ record self.old {
@@ -131,7 +131,7 @@ impl<'a> Printer<'a> {
     ///
     /// # Errors
     ///
-    /// Only where memory runs out.
+    /// Returns an error only if memory runs out.
     #[inline(always)]
     pub(crate) fn need(&mut self, ending: &str) -> Result<(), AllocError>
         ensures { OnOk result (self.new ≡ record self.old {
@@ -145,7 +145,7 @@ impl<'a> Printer<'a> {
     ///
     /// # Errors
     ///
-    /// Only where memory runs out.
+    /// Returns an error only if memory runs out.
     #[inline(always)]
     pub(crate) fn line(&mut self, ending: &str, tag: &str) -> Result<(), AllocError>
         ensures { OnOk result (self.new ≡ record self.old {
@@ -160,7 +160,7 @@ impl<'a> Printer<'a> {
     ///
     /// # Errors
     ///
-    /// Only where memory runs out.
+    /// Returns an error only if memory runs out.
     #[inline(always)]
     pub(crate) fn tag(&mut self, tag: &str) -> Result<(), AllocError>
         ensures { OnOk result ((ending : List ℕ) → self.new ≡ record self.old {
@@ -175,11 +175,11 @@ impl<'a> Printer<'a> {
         }
     }
 
-    /// Goes on in other surroundings.
+    /// Pushes the surroundings and replaces them.
     ///
     /// # Errors
     ///
-    /// Only where memory runs out.
+    /// Returns an error only if memory runs out.
     pub(crate) fn turn(&mut self, around: Around<'a>) -> Result<(), AllocError>
         ensures { OnOk result (self.new ≡ record self.old {
           around = around_of around.entry;
@@ -191,7 +191,7 @@ impl<'a> Printer<'a> {
         Ok(())
     }
 
-    /// Comes back to the surroundings before.
+    /// Pops the surroundings.
     pub(crate) fn turn_back(&mut self)
         ensures { self.new ≡ record self.old {
           around = steps.first_or states.outside self.old.arounds;
@@ -204,11 +204,11 @@ impl<'a> Printer<'a> {
         }
     }
 
-    /// Begins a text by itself.
+    /// Begins to capture a text.
     ///
     /// # Errors
     ///
-    /// Only where memory runs out.
+    /// Returns an error only if memory runs out.
     #[inline(always)]
     pub(crate) fn capture(&mut self) -> Result<(), AllocError>
         ensures { OnOk result
@@ -217,7 +217,7 @@ impl<'a> Printer<'a> {
         self.output.capture()
     }
 
-    /// Drops the text by itself.
+    /// Drops the captured text.
     pub(crate) fn discard(&mut self)
         ensures { self.new ≡ record self.old {
           text = steps.first_or [] self.old.below;
@@ -227,7 +227,7 @@ impl<'a> Printer<'a> {
         self.output.discard();
     }
 
-    /// An image is around.
+    /// Whether an image contains the node.
     #[inline(always)]
     pub(crate) fn is_in_image(&self) -> bool
         ensures { result ≡ self.now.around.in_image }
@@ -235,11 +235,11 @@ impl<'a> Printer<'a> {
         self.around.in_image
     }
 
-    /// Ends the text by itself, which is handed out.
+    /// Ends the captured text, and returns it.
     ///
     /// # Errors
     ///
-    /// Only where memory runs out.
+    /// Returns an error only if memory runs out.
     pub(crate) fn take_text(&mut self, alloc: Global) -> Result<String, AllocError>
         ensures text { IfOk result (λ text. string_bytes text ≡ self.old.text) }
         ensures left { OnOk result (self.new ≡ record self.old {

@@ -1,4 +1,4 @@
-//! What is printed of texts and line endings, and of spans in them.
+//! Prints texts and line endings, and the spans in them.
 
 ghost use Rattle.std.specs.Prelude.{◌≡◌, ◌∷◌, ◌++◌, [], ◌==◌, OnOk, Some, None, true, false, not};
 ghost use Rattle.std.specs.Prelude.{ℕ, List, if◌then◌else◌, codes, ◌+◌, ◌<◌, ◌||◌, ◌&&◌};
@@ -25,7 +25,7 @@ use md_base::name_tests::is_definition;
 use std::alloc::AllocError;
 
 impl<'a> Printer<'a> {
-    /// Enters a span: its tag, outside images.
+    /// Enters a span: prints its tag, outside images.
     #[inline(always)]
     pub(crate) fn enter_span(&mut self, tag: &str) -> Result<(), AllocError>
         ensures { OnOk result ((ending : List ℕ) → self.new ≡ record self.old {
@@ -40,7 +40,7 @@ impl<'a> Printer<'a> {
         if is_hidden { Ok(()) } else { self.put(tag) }
     }
 
-    /// Enters HTML, in which nothing is escaped where it may stand.
+    /// Enters HTML, in which nothing is escaped if HTML is allowed.
     pub(crate) fn enter_html(&mut self, allowed: bool) -> Result<(), AllocError>
         ensures { OnOk result (self.new ≡ record self.old {
           around = record self.old.around { is_escaping = not allowed };
@@ -56,7 +56,7 @@ impl<'a> Printer<'a> {
         })
     }
 
-    /// Enters code in a text: its tag, outside images.
+    /// Enters inline code: prints its tag, outside images.
     pub(crate) fn enter_code(&mut self, tag: &str) -> Result<(), AllocError>
         ensures { OnOk result ((ending : List ℕ) → self.new ≡ record self.old {
           text = [];
@@ -74,7 +74,7 @@ impl<'a> Printer<'a> {
         })
     }
 
-    /// Leaves a text, escaped where its surroundings say so.
+    /// Leaves a text, escaped if its surroundings say so.
     #[inline(always)]
     pub(crate) fn leave_text(&mut self, text: &str, name: Name) -> Result<(), AllocError>
         requires solid { is_transparent name ≡ false }
@@ -89,7 +89,7 @@ impl<'a> Printer<'a> {
         self.put_encoded(text, self.around.is_escaping)
     }
 
-    /// Leaves a line ending: a space in code, else its own text, unless it is slurped or
+    /// Leaves a line ending: prints a space in code, else its own text, unless it is slurped or
     /// follows a definition.
     pub(crate) fn leave_line_ending(&mut self, text: &str) -> Result<(), AllocError>
         ensures { OnOk result ((ending : List ℕ) → self.new ≡ record self.old {
@@ -113,8 +113,7 @@ impl<'a> Printer<'a> {
         }
     }
 
-    /// Prints a line ending. Most are a line feed, which is known where this is built: so no
-    /// copy is called for.
+    /// Prints a line ending. Most are a line feed, which is a constant here, so no copy is called.
     #[inline(always)]
     fn put_ending(&mut self, text: &str) -> Result<(), AllocError>
         ensures { OnOk result
@@ -127,7 +126,7 @@ impl<'a> Printer<'a> {
         }
     }
 
-    /// A line ending here isn't printed.
+    /// Whether a line ending here isn't printed.
     #[inline(always)]
     fn drops_ending(&self) -> bool
         ensures { result ≡ (not self.now.around.in_definition && self.now.slurps
@@ -152,7 +151,7 @@ impl<'a> Printer<'a> {
         self.tag(tag)
     }
 
-    /// Leaves a hard break: its tag, outside images.
+    /// Leaves a hard break: prints its tag, outside images.
     pub(crate) fn leave_break(&mut self, name: Name) -> Result<(), AllocError>
         requires solid { is_transparent name ≡ false }
         requires plain { marker name ≡ 38 }
@@ -166,7 +165,7 @@ impl<'a> Printer<'a> {
         self.leave_span("<br />", name)
     }
 
-    /// Leaves a mail address that stands as a link.
+    /// Leaves a mail address that is a link.
     pub(crate) fn leave_mail(&mut self, given: &Given, index: usize) -> Result<(), AllocError>
         requires { ExitsAt given.now.checked.now.events index names.GfmAutolinkLiteralEmail }
         ensures { OnOk result ((all : At.Given) (one : Noticed) → Supplies given.now all

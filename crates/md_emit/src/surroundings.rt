@@ -1,5 +1,5 @@
-//! Pushing the surroundings of a node that is entered. By calls, so that nodes that change nothing
-//! around their children don't pay for the copies that these make.
+//! Pushes the surroundings of a node that is entered. These are calls, so that nodes that change
+//! nothing for their children don't pay for the copies.
 
 ghost use Rattle.std.specs.Prelude.{◌≡◌, ◌∷◌, OnOk, true, false};
 

@@ -1,4 +1,4 @@
-//! What is printed of tables: rows and cells.
+//! Prints tables: rows and cells.
 
 ghost use Rattle.std.specs.Prelude.{◌≡◌, ◌∷◌, ◌++◌, [], OnOk, Some, None, true, false, ℕ, List};
 ghost use Rattle.std.specs.Prelude.{if◌then◌else◌, codes, slice_get, ◌+◌, ◌<◌, ◌^◌, drop};
@@ -32,7 +32,7 @@ impl<'a> Printer<'a> {
         self.enter_line(ending, "<tr>")
     }
 
-    /// Enters a cell: its tag, where the table has its column.
+    /// Enters a cell: prints its tag, if the table has its column.
     pub(crate) fn enter_cell(&mut self, ending: &str) -> Result<(), AllocError>
         ensures { OnOk result (self.new ≡ record self.old {
           text = [];
@@ -48,7 +48,7 @@ impl<'a> Printer<'a> {
         self.capture()
     }
 
-    /// A cell's tag, where the table has its column.
+    /// Prints a cell's tag, if the table has its column.
     fn open_cell(&mut self, ending: &str) -> Result<(), AllocError>
         ensures { OnOk result (self.new ≡ record self.old {
           text = laid_after ending.now self.old.text
@@ -62,7 +62,7 @@ impl<'a> Printer<'a> {
         }
     }
 
-    /// The tag of a cell of a column.
+    /// Prints the tag of a column's cell.
     fn open_column(&mut self, ending: &str, kind: AlignKind) -> Result<(), AllocError>
         ensures { OnOk result (self.new ≡ record self.old {
           text =
@@ -73,7 +73,7 @@ impl<'a> Printer<'a> {
         self.line(ending, tag)
     }
 
-    /// Goes on in a table.
+    /// Pushes the surroundings of a table.
     pub(crate) fn turn_table(&mut self, columns: &'a [AlignKind]) -> Result<(), AllocError>
         ensures { OnOk result (self.new ≡ record self.old {
           around = record self.old.around { in_table = true; columns = columns.now };
@@ -87,7 +87,7 @@ impl<'a> Printer<'a> {
         })
     }
 
-    /// Leaves a cell: what it holds goes where the table doesn't have its column.
+    /// Leaves a cell: drops its content if the table doesn't have its column.
     pub(crate) fn leave_cell(&mut self) -> Result<(), AllocError>
         requires { self.old.cells < 2 ^ 63 }
         ensures { OnOk result ((ending : List ℕ) → self.new ≡ record self.old {
@@ -112,7 +112,7 @@ impl<'a> Printer<'a> {
         }
     }
 
-    /// Leaves a row: empty cells for the columns that it has no cells for, and its tag.
+    /// Leaves a row: prints empty cells for the columns that it lacks, and its tag.
     #[inline(never)]
     pub(crate) fn leave_row(&mut self, ending: &str) -> Result<(), AllocError>
         ensures { OnOk result (self.new ≡ record self.old {
@@ -127,7 +127,7 @@ impl<'a> Printer<'a> {
         self.line(ending, "</tr>")
     }
 
-    /// Prints empty cells for the columns that the row has no cells for.
+    /// Prints empty cells for the columns that the row lacks.
     fn put_empty_cells(&mut self, ending: &str) -> Result<(), AllocError>
         ensures { OnOk result (self.new ≡ record self.old {
           text = laid_after ending.now self.old.text (flat_map (cell_of self.old.around.in_head [])
@@ -153,7 +153,7 @@ impl<'a> Printer<'a> {
     }
 }
 
-/// The start tag of a cell of a column, by how that is aligned.
+/// The start tag of a column's cell, by the column's alignment.
 fn cell_start(in_head: bool, kind: AlignKind) -> &'static str
     ensures { result.now ≡ parts.cell_start in_head kind }
 {
@@ -169,7 +169,7 @@ fn cell_start(in_head: bool, kind: AlignKind) -> &'static str
     }
 }
 
-/// An empty cell of a column, by how that is aligned.
+/// An empty cell of a column, by the column's alignment.
 fn empty_cell(in_head: bool, kind: AlignKind) -> &'static str
     ensures { result.now ≡ parts.empty_cell in_head kind }
 {
@@ -192,7 +192,7 @@ fn cell_end(in_head: bool) -> &'static str
     if in_head { "</th>" } else { "</td>" }
 }
 
-/// The columns from an index on.
+/// The columns from an index.
 fn columns_past(columns: &[AlignKind], first: usize) -> &[AlignKind]
     ensures { result.now ≡ drop first columns.now }
 {

@@ -1,4 +1,4 @@
-//! The columns of a table, as the steps are told them.
+//! The columns of a table, as input for the steps.
 
 ghost use Rattle.std.specs.Prelude.{◌≡◌};
 ghost use Rattle.md_base.specs.declared.event.Name.TheVariants as name;
@@ -9,7 +9,7 @@ ghost use Rattle.md_shape.specs.Run.{Noticed};
 use md_base::AlignKind;
 use md_tree::Checked;
 
-/// How the columns are aligned of the table that the event at an index enters.
+/// The alignments of the columns of the table that the event at an index enters.
 pub(crate) fn columns_at<'a>(checked: &'a Checked, index: usize) -> &'a [AlignKind]
     requires { EntersAt checked.now.events index name.GfmTable }
     ensures { (one : Noticed) → IsNoticedAt checked.now index one → result.now ≡ one.told.columns }

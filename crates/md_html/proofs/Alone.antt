@@ -1,4 +1,4 @@
--- Of a node that is as if it were left alone, that it was entered changes nothing.
+-- The entry of a node that may be printed at its exit alone changes nothing.
 use Rattle.std.proofs.Common.{◌≡◌, true, false, refl}
 use Rattle.md_base.specs.declared.event.Name.{Name}
 use Rattle.md_base.specs.declared.event.Name.TheVariants as name_variants

@@ -39,7 +39,7 @@ either laid false text ending f g =
     further (length text) (length (text ++ ending)) (length (laid (text ++ ending)))
     (longer text ending) g
 
--- pieces are laid behind what is there
+-- pieces are laid out after a text
 pub laid-grows : (ending text : List ℕ) (pieces : List Piece) →
     length text ≤ length (laid_after ending text pieces)
 laid-grows ending text [] = same (length text)

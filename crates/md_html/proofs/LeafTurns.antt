@@ -1,4 +1,4 @@
--- What one turn of the run does at a node without children, which it goes over at once.
+-- One iteration of the run at a node without children, which it prints at once.
 use Rattle.std.proofs.Common.{◌≡◌, ◌≤◌, ◌<◌, ℕ, suc, ◌+◌, true, false, Some, length, refl, sym, ap}
 use Rattle.std.proofs.Common.{◌∙◌, subst, arith}
 use Rattle.std.specs.Prelude.{slice_get, if◌then◌else◌}
@@ -158,7 +158,7 @@ module _ (code : Supplied) (index to : ℕ) (event : Event) (before after : Stat
         (more (stepped at exit seen_here.one.told before).fences
         (stepped-fences at exit seen_here.one.told before index le))
 
--- what is so up to one end is so up to a later one
+-- what holds up to one end holds up to a later one
 leafs-later : (code : Supplied) (index to end : ℕ) (event : Event) (before after : State) →
     to ≤ end →
     Leafs code index to event before after → Leafs code index end event before after

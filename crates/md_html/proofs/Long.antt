@@ -19,7 +19,7 @@ use Rattle.md_html.proofs.Windows.{window-end}
 use Rattle.md_html.proofs.FirstText.{outermost, laid-grows, run-grows}
 use Rattle.md_html.proofs.Fits.{fits-all}
 
--- what goes on after what has gone on
+-- a run that continues another run
 pub goes-on : (code : Supplied) (from index next to end : ℕ) (first before after : State) →
     to ≤ end →
     Goes code from index end first before → Goes code index next to before after →

@@ -1,4 +1,4 @@
--- What is told of events that flatten a document is what is said of the document.
+-- What events that flatten a document decide is what is defined for the document.
 use Rattle.std.proofs.Common.{◌≡◌, ℕ, suc, Bool, true, false, ◌&&◌, not, List, [], ◌∷◌, ◌++◌, refl}
 use Rattle.std.proofs.Common.{ap, sym, ◌∙◌, append_assoc}
 use Rattle.std.specs.Prelude.{◌||◌, if◌then◌else◌}
@@ -155,7 +155,7 @@ told_of_document document events flat =
     ap (λ es. nests false 0 es) (sym flat ∙ sym (append_nil (flatten document)))
     ∙ nested document false [] ∙ or_false (has_nested_link false document)
 
--- ---- at a turn of the loop
+-- ---- at an iteration of the loop
 
 pub found : (in_link : Bool) (images : ℕ) (event : Event) (following rest events : List Event) →
     rest ≡ event ∷ following → is_nested in_link images event ≡ true →

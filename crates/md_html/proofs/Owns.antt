@@ -1,4 +1,4 @@
--- Where the definitions lead, one after another.
+-- The targets of the definitions, in sequence.
 use Rattle.std.proofs.Common.{◌≡◌, ◌≤◌, ℕ, zero, suc, ◌+◌, ◌-◌, true, Some, List, [], ◌∷◌, ◌++◌}
 use Rattle.std.proofs.Common.{length, take, drop, refl, sym, ap, ◌∙◌, arith}
 use Rattle.std.specs.Prelude.{slice_get, map, option_map}
@@ -73,7 +73,7 @@ window-all xs n e = take-whole xs (n - 0) (least e)
     least : n ≡ length xs → length xs ≤ n - 0
     least f = omega (arith, f)
 
--- ---- where each leads
+-- ---- the target of each
 
 abbrev pub targets_of : Given → Forest → List Target
 targets_of at document = map (λ (d : Defined). d.target) (defined at document)

@@ -1,5 +1,5 @@
--- What a document uses again is counted at the exits of links and images, where the check says to
--- which definition they lead, and elsewhere no mention leads to one.
+-- The reuse of a document is counted at the exits of links and images, where the check knows their
+-- definitions; no other mention refers to a definition.
 use Rattle.std.proofs.Common.{◌≡◌, ◌<◌, ◌≤◌, ℕ, zero, suc, ◌+◌, true, false, Option, Some, None}
 use Rattle.std.proofs.Common.{List, [], ◌∷◌, length, refl, sym, ap, ◌∙◌, subst, arith}
 use Rattle.std.proofs.lemmas.Grind.{common_steps}
@@ -34,7 +34,7 @@ use Rattle.md_html.specs.Counting.{capped}
 lie : true ≡ false → ⊥
 lie h = cc
 
--- what no link and no image mentions leads to no definition
+-- a mention of neither a link nor an image refers to no definition
 pub not-media :
     (bytes : List ℕ) (mentions : List Mention) (name : Name) (target : Referral) →
     is_media name ≡ false →
@@ -80,7 +80,7 @@ mentions-length (Node name start end children rest) =
     ∙ ap (λ n. length (flatten children) + suc n) (mentions-length rest)
     ∙ sym (length-append (flatten children) (exiting name end ∷ flatten rest)))
 
--- no mention of an event that exits neither a link nor an image leads to a definition
+-- no mention of an event that exits neither a link nor an image refers to a definition
 pub none-led : (bytes : List ℕ) (document : Forest) (events : List Event) (index : ℕ)
     (event : Event) (mention : Mention) → flatten document ≡ events →
     slice_get events index ≡ Some event →
@@ -136,7 +136,7 @@ mention-at document events index event flat there =
     let (fact, m, fact_there, m_there, told) = told-at document events index event flat there in
     (m, m_there)
 
--- behind the last event nothing is mentioned
+-- there are no mentions after the last event
 pub led-all : (lengths : List ℕ) (leads : Mention → Option ℕ) (document : Forest)
     (events : List Event) (index : ℕ) → flatten document ≡ events → index ≡ length events →
     led_lengths lengths leads (drop index (mentions_of document)) ≡ 0
@@ -167,9 +167,9 @@ lengths-capped document events flat =
     map-map (entry ∷ entries) =
         ap (λ es. capped (definition_length (flatten document) entry) ∷ es) (map-map entries)
 
--- ---- what isn't there counts nothing
+-- ---- what is missing counts nothing
 
--- where there are no lengths, none is found
+-- if there are no lengths, none is found
 no-lengths : (leads : Mention → Option ℕ) (mentions : List Mention) →
     led_lengths [] leads mentions ≡ 0
 no-lengths leads [] = refl
@@ -183,7 +183,7 @@ no-lengths leads (mention ∷ mentions) =
     nowhere (Some zero) = refl
     nowhere (Some (suc place)) = refl
 
--- where there are no definitions, nothing refers to one
+-- if there are no definitions, nothing refers to one
 pub none-referred : (bytes : List ℕ) (document : Forest) → definition_entries 0 document ≡ [] →
     referred bytes document ≡ 0
 none-referred bytes document none =
@@ -192,7 +192,7 @@ none-referred bytes document none =
     (mentions_of document)) none
     ∙ no-lengths leads (mentions_of document)
 
--- where no event enters a call, none is open
+-- if no event enters a call, none is open
 abbrev entered : Bool → Kind → ℕ
 entered named kind = if (elim kind [ Enter ↦ named | Exit ↦ false ]) then 1 else 0
 

@@ -1,5 +1,5 @@
--- What is noticed at an event, that what is passed over after it lies in the document, and
--- how far counts go.
+-- The facts at an event, that the events skipped after it are in the document, and the bounds of
+-- counts.
 use Rattle.std.proofs.Common.{◌≡◌, ◌≤◌, ◌<◌, ℕ, ◌+◌, Bool, true, false, Some, length, refl, ap}
 use Rattle.std.proofs.Common.{arith}
 use Rattle.std.specs.Prelude.{slice_get, if◌then◌else◌}

@@ -32,7 +32,7 @@ use Rattle.md_meaning.specs.Meaning.Footnotes.{section}
 abbrev pub filtering : Bool → CompileOptions → CompileOptions
 filtering filter options = record options { gfm_tagfilter = filter }
 
--- what nodes are given, under these options
+-- the context of nodes, under these options
 abbrev under : Bool → Given → Given
 under filter given = record given { options = filtering filter given.options }
 

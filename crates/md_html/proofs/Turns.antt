@@ -1,4 +1,4 @@
--- What one turn of the run does: its index, the counts, and what is left to go over.
+-- One iteration of the run: its index, the counts, and the remaining events.
 use Rattle.std.proofs.Common.{◌≡◌, ◌≤◌, ◌<◌, ℕ, suc, ◌+◌, true, Some, List, ◌∷◌, length, drop}
 use Rattle.std.proofs.Common.{sym, ap, ◌∙◌, subst, arith}
 use Rattle.std.specs.Prelude.{slice_get}
@@ -26,7 +26,7 @@ module _ (code : Supplied) (at : Given) (index : ℕ) (event : Event) (more : �
   abbrev pub here : Seen code.checked.now checked.0 index event
   here = seen code.checked.now checked.0 index event (IsReadAs.flattened checked.1) got
 
-  -- what is passed over lies in the document
+  -- the skipped events are in the document
   pub turn-within : index + more < length code.checked.now.events
   turn-within =
       within (passes event here.one.inside) (steps at here.one supplies here.there).0 here.inner

@@ -1,4 +1,4 @@
--- The events between two indices, one after another.
+-- The events between two indices, in sequence.
 use Rattle.std.proofs.Common.{◌≡◌, ◌≤◌, ◌<◌, ℕ, zero, suc, ◌+◌, ◌-◌, Some, List, [], ◌∷◌, take}
 use Rattle.std.proofs.Common.{drop, refl, sym, ap, ◌∙◌, arith}
 use Rattle.std.specs.Prelude.{slice_get}
@@ -59,7 +59,7 @@ window-drop xs i to n next e =
     less : next ≡ i + n → to - i - n ≡ to - next
     less f = omega (arith, f)
 
--- events that are passed over
+-- events that are skipped
 run-none : (given : Given) (left : ℕ) (events : List Event) (state : State) →
     run given left events [] state ≡ state
 run-none given left [] state = refl

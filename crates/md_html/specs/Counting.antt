@@ -1,4 +1,4 @@
--- What the work is counted in. No public contract speaks of this.
+-- The numbers in which the work is counted. No public contract cites this.
 use Rattle.std.specs.Prelude.{ℕ, ◌-◌, ◌^◌, min, suc, Bool, true, false, ◌||◌, if◌then◌else◌}
 use Rattle.md_base.specs.declared.event.Kind.{Kind}
 use Rattle.md_base.specs.declared.event.Kind.TheVariants.{Enter, Exit}
@@ -8,20 +8,20 @@ use Rattle.md_base.specs.declared.event.Name.TheVariants.{GfmTableDelimiterCellV
 use Rattle.md_pattern.specs.declared.kinds.Standing.{Standing}
 use Rattle.md_tree.specs.Texts.{has_reading, is_text, is_identifier}
 
--- a number, or the most that a `u128` holds
+-- a number, or the maximum of a `u128`
 abbrev pub capped : ℕ → ℕ
 capped n = min n (2 ^ 128 - 1)
 
--- how many nodes that count are open after an event of one that does or doesn't
+-- how many counted nodes are open after an event of a node that counts or doesn't
 abbrev pub moved : ℕ → Kind → Bool → ℕ
 moved depth kind counts =
     if counts then (elim kind [ Enter ↦ suc depth | Exit ↦ depth - 1 ]) else depth
 
--- a node that stands so is read
+-- a node of this class is read
 abbrev pub is_read_standing : Standing → Bool
 is_read_standing standing = has_reading is_text standing || has_reading is_identifier standing
 
--- a node of this name is a table, a part of one that is counted, or a footnote call
+-- a name is that of a table, of a counted part of one, or of a footnote call
 abbrev pub is_part : Name → Bool
 is_part name = elim name [
   | GfmTable ↦ true

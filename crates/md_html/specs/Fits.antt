@@ -1,5 +1,5 @@
--- Whether each captured text that some events end has begun before, so that none of what is printed
--- before goes away.
+-- Whether each captured text that some events end has begun before, so that no earlier printed text
+-- is removed.
 use Rattle.std.specs.Prelude.{ℕ, zero, suc, ◌-◌, Bool, true, false, ◌&&◌, not, if◌then◌else◌, List}
 use Rattle.std.specs.Prelude.{[], ◌∷◌}
 use Rattle.md_base.specs.declared.event.Event.{Event}
@@ -8,7 +8,7 @@ use Rattle.md_shape.specs.Run.{Noticed, passes}
 use Rattle.md_shape.specs.State.{captures}
 use Rattle.md_shape.specs.Steps.{is_passed}
 
--- a text begins at an event, or one ends there
+-- an event begins a captured text, or ends one
 abbrev pub begins : Event → Bool
 begins event =
     elim event.kind [ Enter ↦ captures event.name && not (is_passed event.name) | Exit ↦ false ]
@@ -16,12 +16,12 @@ begins event =
 abbrev pub ends : Event → Bool
 ends event = elim event.kind [ Enter ↦ false | Exit ↦ captures event.name ]
 
--- where so many are captured, an event ends none, or one of them
+-- with so many captured texts, an event ends none, or one of them
 abbrev pub may_end : Event → ℕ → Bool
 may_end event zero = not (ends event)
 may_end event (suc captured) = true
 
--- how many are captured after an event
+-- how many texts are captured after an event
 abbrev pub captured_after : Event → ℕ → ℕ
 captured_after event captured =
     if begins event then suc captured else (if ends event then captured - 1 else captured)
@@ -30,7 +30,7 @@ abbrev pub is_none : ℕ → Bool
 is_none zero = true
 is_none (suc count) = false
 
--- so at each of some events, after so many that are passed over, and at their end none is captured
+-- so at each of some events, after so many that are skipped, and at their end no text is captured
 abbrev pub fits : ℕ → ℕ → List Event → List Noticed → Bool
 fits passed_over captured [] seen = is_none captured
 fits passed_over captured (event ∷ events) [] = false

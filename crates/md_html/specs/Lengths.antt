@@ -1,2 +1,2 @@
--- The words of the law of what work counts.
+-- The definitions for the law on what work counts.
 pub use Rattle.md_length.specs.Lengths.{lengths, GoesForward}

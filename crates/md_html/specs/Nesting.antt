@@ -1,5 +1,4 @@
--- Whether events have a link in a link, told as they are gone over one after another. No public
--- contract speaks of this.
+-- Whether events have a link in a link, decided event by event. No public contract cites this.
 use Rattle.std.specs.Prelude.{ℕ, zero, suc, Bool, true, false, ◌&&◌, ◌||◌, if◌then◌else◌, List, []}
 use Rattle.std.specs.Prelude.{◌∷◌}
 use Rattle.md_base.specs.declared.event.Event.{Event}
@@ -44,7 +43,7 @@ abbrev pub is_nested : Bool → ℕ → Event → Bool
 is_nested in_link images event =
     is_entry event.kind && (is_none images && (in_link && prints_link event.name))
 
--- whether what comes after it is in a link, and in how many images
+-- whether the events after it are in a link, and in how many images
 abbrev pub link_after : Bool → ℕ → Event → Bool
 link_after in_link images event =
     if is_none images && is_link event.name then is_entry event.kind else in_link

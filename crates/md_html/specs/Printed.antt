@@ -1,4 +1,4 @@
--- The text of a document, where its definitions are given.
+-- The text of a document, given its definitions.
 use Rattle.std.specs.Prelude.{ℕ, true, List}
 use Rattle.md_base.specs.Tree.{Forest, flatten}
 use Rattle.md_meaning.specs.Meaning.At.{Given}

@@ -1,4 +1,4 @@
--- What a text is that may be set into a page, and why there is none.
+-- A text that may be inserted into a page, and why there is none.
 use Rattle.std.specs.Prelude.{ℕ, List, codes}
 use Rattle.md_text.specs.Html.{HasOneReadingWith}
 use Rattle.md_text.specs.Safe.{is_safe_link, is_safe_image}
@@ -11,18 +11,18 @@ use Rattle.md_html.specs.declared.safe_html.SafeError.{SafeError}
 use Rattle.md_html.specs.declared.safe_html.SafeError.TheVariants.{Options, Compile}
 
 -- a text with exactly one reading, in which each link and each image has no protocol or a permitted
--- one, and everything stands where it may
+-- one, and which fulfils the content model
 pub record IsSafe (text : List ℕ) : Type 0 where
   pub safe_links : HasOneReadingWith is_safe_link text
   pub safe_images : HasOneReadingWith is_safe_image text
   pub contained : IsContained text
 
--- options are refused exactly where they aren't safe
+-- options are refused exactly if they aren't safe
 abbrev pub IsRefusedFor : CompileOptions → SafeError → Type 0
 IsRefusedFor options Options = KeepsImages options → ⊥
 IsRefusedFor options (Compile cause) = KeepsImages options
 
--- a claim about the refusal of a compiler, where it is one
+-- a claim about the refusal of a compiler, if it is the error
 abbrev pub OfCompile : (CompileError → Type 0) → SafeError → Type 0
 OfCompile claim Options = Unit {0}
 OfCompile claim (Compile cause) = claim cause

@@ -1,4 +1,4 @@
--- What a safe text keeps.
+-- The model of a safe text.
 use Rattle.std.specs.String.{string_bytes}
 use Rattle.md_html.specs.declared.safe_html.SafeHtml.TheInside.{Inside}
 use Rattle.md_html.specs.Safe.{IsSafe}

@@ -7,12 +7,12 @@ use Rattle.md_html.specs.declared.within.WithinError.{WithinError}
 use Rattle.md_html.specs.declared.within.SafeWithinError.{SafeWithinError}
 use Rattle.md_html.specs.declared.within.SafeWithinError.TheVariants.{Options, Within}
 
--- options are refused exactly where they aren't safe
+-- options are refused exactly if they aren't safe
 abbrev pub IsUnsafeFor : CompileOptions → SafeWithinError → Type 0
 IsUnsafeFor options Options = KeepsImages options → ⊥
 IsUnsafeFor options (Within cause) = KeepsImages options
 
--- a claim about why there is no text within limits, where that is the cause
+-- a claim about why there is no text within limits, if that is the error
 abbrev pub OfLimits : (WithinError → Type 0) → SafeWithinError → Type 0
 OfLimits claim Options = Unit {0}
 OfLimits claim (Within cause) = claim cause

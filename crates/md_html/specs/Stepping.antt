@@ -1,4 +1,4 @@
--- What is done at one event, as the steps over the events do it.
+-- The step at one event, as the steps over the events do it.
 use Rattle.std.specs.Prelude.{◌≡◌, ◌<◌, ◌≤◌, ℕ, suc, true, if◌then◌else◌, length}
 use Rattle.md_base.specs.declared.event.Event.{Event}
 use Rattle.md_base.specs.declared.event.Kind.TheVariants.{Enter}
@@ -15,20 +15,20 @@ use Rattle.md_emit.specs.declared.given.Given.{Given as Supplied}
 use Rattle.md_html.specs.Windows.{window}
 use Rattle.md_html.specs.Fits.{fits}
 
--- an event is gone over, and so many after it are passed over
+-- the step at an event, after which so many events are skipped
 abbrev pub Steps : Supplied → ℕ → Event → ℕ → State → State → Type 0
 Steps code index event more before after =
     (at : Given) (one : Noticed) → Supplies code at → IsNoticedAt code.checked.now index one →
     (more ≡ passes event one.inside) × (after ≡ stepped at event one.told before)
 
--- the same of an entry
+-- the same for an entry
 abbrev pub Opens : Supplied → ℕ → Name → ℕ → State → State → Type 0
 Opens code index name more before after =
     (at : Given) (one : Noticed) → Supplies code at → IsNoticedAt code.checked.now index one →
     (more ≡ (if is_passed name then one.inside else 0))
     × (after ≡ (if is_passed name then passed before else entered at one.told name before))
 
--- the node that an event enters is left by the next one, and that it was entered changes nothing
+-- the next event exits the node that an event enters, and its entry changes nothing
 pub record Leafs (code : Supplied) (index to : ℕ) (event : Event)
     (before after : State) : Type 0 where
   pub enters : event.kind ≡ Enter
@@ -39,8 +39,8 @@ pub record Leafs (code : Supplied) (index to : ℕ) (event : Event)
       IsNoticedAt code.checked.now (suc index) one
   pub left : Leaves code index event.name before after
 
--- up to any end that isn't before `to`, going on from one event is as going on from an earlier one;
--- and if each captured text that ended there had begun, then so here
+-- up to any end at or after `to`, continuing from one event has the same result as continuing from
+-- an earlier one; and if each captured text that ended there had begun, the same holds here
 pub record Goes (code : Supplied) (from next to : ℕ) (before after : State) : Type 0 where
   pub runs : (at : Given) (document : Forest) (end : ℕ) → Supplies code at →
       flatten document ≡ code.checked.now.events → to ≤ end →

@@ -1,4 +1,4 @@
--- Why there is no safe text of a document in which no link stands in a link.
+-- Why there is no safe text of a document in which no link contains a link.
 use Rattle.std.specs.Prelude.{◌≡◌, ℕ, true, false, List, codes}
 use Rattle.md_base.specs.declared.event.Event.{Event}
 use Rattle.md_base.specs.Tree.{Forest, flatten}
@@ -8,22 +8,22 @@ use Rattle.md_html.specs.declared.safe_html.SafeError.{SafeError}
 use Rattle.md_html.specs.declared.unnested.UnnestedError.{UnnestedError}
 use Rattle.md_html.specs.declared.unnested.UnnestedError.TheVariants.{Nested, Safe}
 
--- of a document that the events flatten a link stands in a link
+-- a link contains a link in a document that the events flatten
 abbrev pub AreNested : List Event → Type 0
 AreNested events =
     (document : Forest) → flatten document ≡ events → has_nested_link false document ≡ true
 
--- in none of these documents does a link stand in a link
+-- in none of these documents does a link contain a link
 abbrev pub AreUnnested : List Event → Type 0
 AreUnnested events =
     (document : Forest) → flatten document ≡ events → has_nested_link false document ≡ false
 
--- a claim about why there is no safe text, where that is the cause
+-- a claim about why there is no safe text, if that is the error
 abbrev pub OfSafe : (SafeError → Type 0) → UnnestedError → Type 0
 OfSafe claim Nested = Unit {0}
 OfSafe claim (Safe cause) = claim cause
 
--- a claim where a link stands in a link
+-- a claim if a link contains a link
 abbrev pub OfNested : Type 0 → UnnestedError → Type 0
 OfNested claim Nested = claim
 OfNested claim (Safe cause) = Unit {0}

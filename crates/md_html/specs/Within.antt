@@ -14,42 +14,41 @@ use Rattle.md_html.specs.declared.within.WithinError.{WithinError}
 use Rattle.md_html.specs.declared.within.WithinError.TheVariants.{TooLong, TooMuch, TooDeep}
 use Rattle.md_html.specs.declared.within.WithinError.TheVariants.{Compile}
 
--- of a document that the events flatten the meaning has more bytes than this
+-- the meaning of a document that the events flatten has more bytes than this
 abbrev pub IsLonger : CompileOptions → Handed → ℕ → Type 0
 IsLonger options given limit =
     (document : Forest) → flatten document ≡ given.events →
     limit < length (meaning options given.names given.bytes document)
 
--- a claim where the text is too long
+-- a claim if the text is too long
 abbrev pub OfTooLong : Type 0 → WithinError → Type 0
 OfTooLong claim TooLong = claim
 OfTooLong claim TooMuch = Unit {0}
 OfTooLong claim TooDeep = Unit {0}
 OfTooLong claim (Compile cause) = Unit {0}
 
--- the document that the events flatten uses no more again than this
+-- the reuse of the document that the events flatten doesn't exceed this
 abbrev pub IsReuseWithin : CompileOptions → Handed → ℕ → Type 0
 IsReuseWithin options given limit =
     (document : Forest) → flatten document ≡ given.events →
     reuse options given.bytes document ≤ limit
 
--- there is more to read and to print than this, or it is a document of the grammar that uses
--- more again
+-- the work exceeds this, or the events are a document of the grammar whose reuse does
 abbrev pub IsOver : CompileOptions → Handed → ℕ → Type 0
 IsOver options given limit =
     (limit < work given.events)
     ⊎ (IsChecked given × ((document : Forest) → flatten document ≡ given.events →
     limit < reuse options given.bytes document))
 
--- `TooDeep` says that the events nest deeper than this, and each other cause that they don't
+-- `TooDeep` means that the events nest deeper than this, and each other error that they don't
 abbrev pub IsTooDeepFor : List Event → ℕ → WithinError → Type 0
 IsTooDeepFor events limit TooDeep = limit < depth events
 IsTooDeepFor events limit TooMuch = depth events ≤ limit
 IsTooDeepFor events limit TooLong = depth events ≤ limit
 IsTooDeepFor events limit (Compile cause) = depth events ≤ limit
 
--- `TooMuch` says that one of the two is more than this; `TooLong` that neither is; a refusal of
--- the compiler that the first isn't; `TooDeep` says nothing of them
+-- `TooMuch` means that one of the two exceeds this; `TooLong` that neither does; a refusal of the
+-- compiler that the first doesn't; `TooDeep` says nothing about them
 abbrev pub IsTooMuchFor : CompileOptions → Handed → ℕ → WithinError → Type 0
 IsTooMuchFor options given limit TooMuch = IsOver options given limit
 IsTooMuchFor options given limit TooDeep = Unit {0}
@@ -57,7 +56,7 @@ IsTooMuchFor options given limit TooLong =
     (work given.events ≤ limit) × IsReuseWithin options given limit
 IsTooMuchFor options given limit (Compile cause) = work given.events ≤ limit
 
--- a claim about the refusal of a compiler, where it is one
+-- a claim about the refusal of a compiler, if it is the error
 abbrev pub OfWithin : (CompileError → Type 0) → WithinError → Type 0
 OfWithin claim TooLong = Unit {0}
 OfWithin claim TooMuch = Unit {0}

@@ -1,4 +1,4 @@
-//! Events to HTML.
+//! Compiles events to HTML.
 
 ghost use Rattle.std.specs.Prelude.{◌≡◌, ◌≤◌, ◌<◌, ◌^◌, OnOk, IfOk, IfErr, false, string_bytes};
 ghost use Rattle.std.specs.Prelude.{length, ◌*◌};
@@ -28,30 +28,30 @@ use std::alloc::{AllocError, Global};
 pub struct Counted {
     /// The text.
     pub text: String,
-    /// How often an event was visited: each twice, once by the check and once for the text.
+    /// The number of visits of events: two for each event, one by the check and one for the text.
     pub visits: usize,
 }
 
-/// The HTML of a list of Markdown events over a document's bytes: the meaning of the document that
-/// the list flattens.
+/// Compiles a list of Markdown events over a document's bytes to HTML: the meaning of the document
+/// that the list flattens.
 ///
-/// `names` is the table of named character references. Nothing is assumed of events, bytes, options
-/// or names. Where HTML isn't allowed and the heading of the footnotes is the usual one, the text
-/// has exactly one reading in the HTML grammar. Where dangerous protocols aren't allowed either,
-/// each link in it has no protocol or a permitted one; where any image source isn't allowed either,
-/// so has each image. The default options are such. Where footnote ids go by number and the text
-/// has one reading, no two ids in it are equal, with any prefix and any protocols. The same holds
-/// in the web's own words: a text with one reading is what the HTML Standard's tokenizer emits of
-/// it, and by the URL Standard a link, or an image, has no scheme of its own or a permitted one. In
-/// that reading each element stands where it may: an item in a list, a row in a table, a block in
-/// no paragraph. Where no link of the document stands in a link, the Standard's tree construction
-/// builds of the text, set into a `div` or a cell, the reading's own tree.
+/// `names` is the table of named character references. Nothing is assumed about events, bytes,
+/// options or names. If HTML isn't allowed and the heading of the footnotes is the usual one, the
+/// text has exactly one reading in the HTML grammar. If dangerous protocols aren't allowed either,
+/// each link in it has no protocol or a permitted one; if any image source isn't allowed either, so
+/// has each image. The default options are such. If footnote ids are by number and the text has one
+/// reading, no two ids in it are equal, with any prefix and any protocols. The same holds in the
+/// web's own terms: the HTML Standard's tokenizer emits for a text with one reading the tokens of
+/// that reading, and by the URL Standard a link, or an image, has no scheme of its own or a
+/// permitted one. That reading fulfils the content model: an item is in a list, a row in a table,
+/// and no block in a paragraph. If no link of the document contains a link, the Standard's tree
+/// construction builds for the text, inserted into a `div` or a cell, the reading's own tree.
 ///
 /// # Errors
 ///
-/// Names an event where the list is no flattening of a document of the event grammar over these
-/// bytes and names, as [`check`] does; or says that it is out of memory. If several rules are
-/// broken, which of them is named is left open.
+/// Reports an event if the list isn't the flattening of a document of the event grammar over these
+/// bytes and names, as [`check`] does; or that memory ran out. If several rules are broken, it
+/// isn't specified which is reported.
 ///
 /// # Examples
 ///
@@ -105,11 +105,11 @@ pub fn compile(
     Ok(counted.text)
 }
 
-/// As [`compile`], with the count of events that were visited for the text.
+/// The same as [`compile`], with the number of visits of events for the text.
 ///
 /// # Errors
 ///
-/// Those of [`compile`].
+/// The errors of [`compile`].
 ///
 /// # Examples
 ///
@@ -162,11 +162,11 @@ pub fn compile_counted(
     Ok(counted)
 }
 
-/// The HTML of events that have passed a check: the meaning of the document that they are.
+/// Compiles events that have passed the check to HTML: the meaning of their document.
 ///
 /// # Errors
 ///
-/// `AllocError`, only where memory runs out.
+/// `AllocError`, only if memory runs out.
 ///
 /// # Examples
 ///
@@ -206,8 +206,8 @@ pub fn compile_checked(
     Ok(counted.text)
 }
 
-/// The HTML of events that have passed a check, and how many events were visited for it, by
-/// the check as well.
+/// Compiles events that have passed the check to HTML, and returns how many events were visited for
+/// it, including the check.
 fn count_checked(
     alloc: Global,
     checked: &Checked,
@@ -244,7 +244,7 @@ fn count_checked(
     Ok(Counted { text, visits })
 }
 
-/// How often events are visited: each once by the check, and once for its text.
+/// The number of visits of events: each is visited once by the check, and once for its text.
 fn visited(checked: &Checked) -> usize
     ensures visits { result ≡ 2 * length checked.now.events }
     ensures grammatical { IsChecked checked.now }

@@ -1,23 +1,23 @@
-//! Going over events, and adding up the lengths of their nodes.
+//! Iterates over events, and adds the lengths of their nodes.
 
 ghost use Rattle.std.specs.Prelude.{◌≡◌, ◌+◌, ◌-◌, ◌*◌, ◌^◌, ◌<◌};
 ghost use Rattle.md_html.specs.Counting.{capped, moved};
 
 use md_base::{Event, Kind};
 
-/// How far events are gone over.
+/// The state of the iteration.
 #[derive(Clone, Copy)]
 pub(crate) struct Progress {
-    /// Where the last one stands.
+    /// The index of the last event's point.
     pub(crate) index: usize,
-    /// How many nodes that count are open there.
+    /// How many counted nodes are open there.
     pub(crate) depth: usize,
-    /// Their lengths so far.
+    /// The sum of their lengths so far.
     pub(crate) length: u128,
 }
 
 impl Progress {
-    /// Before any event.
+    /// The state before any event.
     pub(crate) fn new() -> Progress
         ensures index { result.index ≡ 0 }
         ensures depth { result.depth ≡ 0 }
@@ -30,7 +30,7 @@ impl Progress {
         }
     }
 
-    /// After one more event, of a node that counts or doesn't.
+    /// The state after one more event, of a node that counts or doesn't.
     #[inline(always)]
     pub(crate) fn after(self, event: &Event, counts: bool) -> Progress
         requires { self.depth < 2 ^ 63 }
@@ -47,7 +47,7 @@ impl Progress {
         }
     }
 
-    /// The lengths so far and those up to an index. Mostly no node that counts is open.
+    /// The lengths so far and those up to an index. Usually no counted node is open.
     #[inline(always)]
     fn length_up_to(self, index: usize) -> u128
         ensures { result ≡ capped (self.length + self.depth * (index - self.index)) }
@@ -60,7 +60,7 @@ impl Progress {
     }
 }
 
-/// A product that always fits.
+/// A product that can't overflow.
 #[inline(always)]
 fn product(a: usize, b: usize) -> u128
     ensures { result ≡ a * b }
@@ -68,13 +68,13 @@ fn product(a: usize, b: usize) -> u128
     a as u128 * b as u128
 }
 
-/// How many nodes that count are open after an event of one that does or doesn't.
+/// How many counted nodes are open after an event of a node that counts or doesn't.
 #[inline(always)]
 fn moved(depth: usize, kind: Kind, counts: bool) -> usize
     requires { depth < 2 ^ 63 }
     ensures { result ≡ moved depth kind counts }
 {
-    // Without a branch on whether it counts, which goes to and fro.
+    // Without a branch on whether it counts, which would be hard to predict.
     let change = counts as usize;
     match kind {
         Kind::Enter => depth + change,

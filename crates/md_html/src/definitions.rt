@@ -1,4 +1,4 @@
-//! Where definitions lead, each printed only from its own events.
+//! The targets of definitions, each printed only from its own events.
 
 ghost use Rattle.std.specs.Prelude.{◌≡◌, OnOk, IfOk, true, map};
 ghost use Rattle.md_base.specs.Tree.{Forest, flatten};
@@ -19,11 +19,11 @@ use md_told::inside_at;
 use md_tree::Checked;
 use std::alloc::AllocError;
 
-/// Where the document's definitions lead, in the order of their exits.
+/// Returns the targets of the document's definitions, in the order of their exits.
 ///
 /// # Errors
 ///
-/// Only where memory runs out.
+/// Returns an error only if memory runs out.
 pub(crate) fn targets(given: &Given) -> Result<Vec<Target>, AllocError>
     requires supplied { (at : At.Given) × Supplies given.now at }
     ensures { IfOk result (λ targets. (at : At.Given) (document : Forest) → Supplies given.now at
@@ -36,7 +36,7 @@ pub(crate) fn targets(given: &Given) -> Result<Vec<Target>, AllocError>
     targets
 }
 
-/// The same, by a printer that is used for one definition after another.
+/// The same, with one printer for all definitions.
 fn gathered<'a>(printer: &mut Printer<'a>, given: &Given<'a>) -> Result<Vec<Target>, AllocError>
     requires supplied { (at : At.Given) × Supplies given.now at }
     ensures { IfOk result (λ targets. (at : At.Given) (document : Forest) → Supplies given.now at
@@ -53,7 +53,7 @@ fn gathered<'a>(printer: &mut Printer<'a>, given: &Given<'a>) -> Result<Vec<Targ
     Ok(targets)
 }
 
-/// Where the definition leads that is entered at an index.
+/// The target of the definition that is entered at an index.
 fn target_at<'a>(
     printer: &mut Printer<'a>,
     given: &Given<'a>,
@@ -73,7 +73,7 @@ fn target_at<'a>(
     printer.target(given.alloc)
 }
 
-/// Enters the definition, and prints its own events, but for its exit.
+/// Enters the definition, and prints its own events, except its exit.
 fn run_definition<'a>(
     printer: &mut Printer<'a>,
     given: &Given<'a>,
@@ -96,7 +96,7 @@ fn run_definition<'a>(
     Ok(())
 }
 
-/// Nothing is done: the document is one of the grammar.
+/// Does nothing: its contract says that the document matches the grammar.
 #[inline(always)]
 fn grammatical(checked: &Checked)
     ensures { IsChecked checked.now }

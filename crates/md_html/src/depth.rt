@@ -5,17 +5,17 @@ ghost use Rattle.md_depth.specs.Depth.{opened_after};
 
 use md_base::{Event, Kind};
 
-/// How deep the events nest that are gone over.
+/// How deep the events so far nest.
 #[derive(Clone, Copy)]
 pub(crate) struct Levels {
-    /// How many nodes are open.
+    /// The number of open nodes.
     pub(crate) opened: usize,
-    /// How many were open at most.
+    /// The maximum number of open nodes.
     pub(crate) deepest: usize,
 }
 
 impl Levels {
-    /// Before any event.
+    /// The state before any event.
     pub(crate) fn new() -> Levels
         ensures opened { result.opened ≡ 0 }
         ensures deepest { result.deepest ≡ 0 }
@@ -26,7 +26,7 @@ impl Levels {
         }
     }
 
-    /// After one more event.
+    /// The state after one more event.
     #[inline(always)]
     pub(crate) fn after(self, event: &Event) -> Levels
         requires { self.opened < 2 ^ 63 }

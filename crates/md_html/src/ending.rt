@@ -1,4 +1,4 @@
-//! The line ending that is used.
+//! The line ending to print.
 
 ghost use Rattle.std.specs.Prelude.{◌≡◌};
 ghost use Rattle.md_base.specs.Tree.{Forest, flatten};

@@ -1,4 +1,4 @@
-//! Events to HTML.
+//! Compiles events to HTML.
 
 ghost use Rattle.std.specs.Prelude.{◌≡◌, IfOk, string_bytes};
 ghost use Rattle.md_base.specs.Tree.{Forest, flatten};
@@ -17,11 +17,11 @@ use md_text::CompileOptions;
 use md_tree::Checked;
 use std::alloc::{AllocError, Global};
 
-/// The HTML of events that have passed a check: the meaning of the document that they are.
+/// Compiles events that have passed the check to HTML: the meaning of their document.
 ///
 /// # Errors
 ///
-/// `AllocError`, only where memory runs out.
+/// `AllocError`, only if memory runs out.
 ///
 /// # Examples
 ///
@@ -70,8 +70,8 @@ fn print(given: &Given) -> Result<String, AllocError>
     let mut printer = Printer::new(given.alloc);
     printer.reserve(given.checked.bytes().len());
     let ran = run_events(&mut printer, given, 0, given.checked.events().len());
-    // The printer is used up before the run's error is answered, so that no path has its
-    // many parts to drop.
+    // This consumes the printer before the run's error is returned, so that no path has to drop its
+    // many parts.
     let text = printer.into_text(given.alloc, given.options, given.ending)?;
     ran?;
     Ok(text)

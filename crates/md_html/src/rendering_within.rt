@@ -1,4 +1,4 @@
-//! The HTML of events, where it isn't longer than a limit.
+//! Compiles events to HTML, if it doesn't exceed a limit.
 
 ghost use Rattle.std.specs.Prelude.{◌≡◌, ◌≤◌, ◌<◌, IfOk, IfSome, None, true, false, length};
 ghost use Rattle.std.specs.Prelude.{string_bytes};
@@ -19,15 +19,15 @@ use md_text::CompileOptions;
 use md_tree::Checked;
 use std::alloc::{AllocError, Global};
 
-/// After so many events it is seen whether the text is too long.
+/// The number of events between two checks whether the text is too long.
 const AT_ONCE: usize = 16;
 
-/// The HTML of events that have passed a check, or none where it is longer than a limit. Printing
-/// stops as soon as no text is captured and what is printed is longer.
+/// Compiles events that have passed the check to HTML, or returns None if it exceeds a limit.
+/// Printing stops as soon as no text is captured and the printed text exceeds the limit.
 ///
 /// # Errors
 ///
-/// `AllocError`, only where memory runs out.
+/// `AllocError`, only if memory runs out.
 ///
 /// # Examples
 ///
@@ -76,7 +76,7 @@ pub fn render_within(
     print_within(&given, limit)
 }
 
-/// The text of all events and of the footnotes' section, where it isn't longer than a limit.
+/// The text of all events and of the footnotes' section, if it doesn't exceed a limit.
 fn print_within(given: &Given, limit: usize) -> Result<Option<String>, AllocError>
     requires supplied { (at : At.Given) × Supplies given.now at }
     ensures text { IfOk result (λ answer. IfSome answer (λ text. (at : At.Given) (document : Forest)
@@ -91,8 +91,8 @@ fn print_within(given: &Given, limit: usize) -> Result<Option<String>, AllocErro
     let mut printer = Printer::new(given.alloc);
     printer.reserve(given.checked.bytes().len());
     let ran = run_events_within(&mut printer, given, limit);
-    // The printer is used up before the run's answer is looked at, so that no path has its
-    // many parts to drop.
+    // This consumes the printer before the run's result is examined, so that no path has to drop
+    // its many parts.
     let text = printer.into_text(given.alloc, given.options, given.ending)?;
     let is_whole = ran?;
     if is_whole && text.len() <= limit {
@@ -102,8 +102,7 @@ fn print_within(given: &Given, limit: usize) -> Result<Option<String>, AllocErro
     }
 }
 
-/// Prints all events, until the text is longer than a limit for sure; answers whether
-/// all were printed.
+/// Prints all events, until the text certainly exceeds a limit; returns whether all were printed.
 fn run_events_within<'a>(
     printer: &mut Printer<'a>,
     given: &Given<'a>,

@@ -1,5 +1,5 @@
-//! How much a document uses again: definitions where they are referred to, and in footnote calls
-//! their labels and the texts of options.
+//! The reuse of a document: definitions for the links and images that refer to them, and for
+//! footnote calls their labels and the texts of options.
 
 ghost use Rattle.std.specs.Prelude.{◌≡◌, ◌<◌, ◌^◌, ◌-◌, IfOk, map, min, nat_lt, length};
 ghost use Rattle.std.specs.Prelude.{slice_get, Some, if◌then◌else◌, ◌+◌};
@@ -21,16 +21,16 @@ use md_text::CompileOptions;
 use md_tree::Checked;
 use std::alloc::{AllocError, Global};
 
-/// How much a document uses again when it is printed, or `usize::MAX` where it is more.
+/// Returns how much a document uses again when it is printed, or `usize::MAX` if it is more.
 ///
-/// Counted are, for each link and image that leads to a definition, what is read in that
-/// definition and one for each of its events; and for each footnote call five times its length,
-/// four times the length of `gfm_footnote_clobber_prefix` and that of
+/// The count is, for each link and image that refers to a definition, the length of what is read in
+/// that definition and one for each of its events; and for each footnote call five times its
+/// length, four times the length of `gfm_footnote_clobber_prefix` and that of
 /// `gfm_footnote_back_label`.
 ///
 /// # Errors
 ///
-/// `AllocError`, only where memory runs out.
+/// `AllocError`, only if memory runs out.
 ///
 /// # Examples
 ///
@@ -52,11 +52,11 @@ pub fn reuse_of(
     Ok(used.min(usize::MAX as u128) as usize)
 }
 
-/// Whether a document uses more again than a limit.
+/// Whether a document's reuse exceeds a limit.
 ///
 /// # Errors
 ///
-/// `AllocError`, only where memory runs out.
+/// `AllocError`, only if memory runs out.
 pub(crate) fn is_reuse_over(
     alloc: Global,
     checked: &Checked,
@@ -72,8 +72,7 @@ pub(crate) fn is_reuse_over(
     Ok(used > limit as u128)
 }
 
-/// What is used again, or the greatest number where it is more, of a document with so many footnote
-/// calls.
+/// The reuse of a document with `calls` footnote calls, or the greatest number if it is more.
 fn count_reuse(
     alloc: Global,
     checked: &Checked,
@@ -97,7 +96,7 @@ fn count_reuse(
     )
 }
 
-/// What is read in the definitions to which links and images refer, for each of these.
+/// For each link and image the length of what is read in the definition that it refers to.
 fn count_referred(alloc: Global, checked: &Checked) -> Result<u128, AllocError>
     ensures { IfOk result (λ length. (document : Forest) → flatten document ≡ checked.now.events
         → length ≡ capped (referred checked.now.bytes document)) }
@@ -109,7 +108,8 @@ fn count_referred(alloc: Global, checked: &Checked) -> Result<u128, AllocError>
     Ok(referred_length(checked, lengths.as_slice()))
 }
 
-/// What is read in each definition, and its events, in the order of their exits.
+/// The length of what is read in each definition, plus the number of its events, in the order of
+/// their exits.
 fn lengths_of(alloc: Global, checked: &Checked) -> Result<Vec<u128>, AllocError>
     ensures { IfOk result (λ lengths. (document : Forest) → flatten document ≡ checked.now.events
         → lengths.items ≡ map capped (definition_lengths document)) }
@@ -122,7 +122,8 @@ fn lengths_of(alloc: Global, checked: &Checked) -> Result<Vec<u128>, AllocError>
     Ok(lengths)
 }
 
-/// What is read in the definition that the event at an index enters, and its events.
+/// The length of what is read in the definition that the event at an index enters, plus the number
+/// of its events.
 fn length_behind(events: &[Event], entry: usize) -> u128
     requires { entry < length events.now }
     ensures { result ≡ capped (definition_length events.now entry) }
@@ -130,7 +131,8 @@ fn length_behind(events: &[Event], entry: usize) -> u128
     definition_length(&events[entry + 1..])
 }
 
-/// What is read before the next event of a definition, and one for each event before it.
+/// The length of what is read before the next event of a definition, plus one for each event before
+/// it.
 fn definition_length(events: &[Event]) -> u128
     ensures { result ≡ capped (read_length (before_definition events.now)
         + length (before_definition events.now)) }
@@ -139,7 +141,7 @@ fn definition_length(events: &[Event]) -> u128
     read.saturating_add(events_before_definition(events) as u128)
 }
 
-/// What is read before the next event of a definition.
+/// The length of what is read before the next event of a definition.
 fn read_before_definition(events: &[Event]) -> u128
     ensures { result ≡ capped (read_length (before_definition events.now)) }
 {
@@ -171,7 +173,7 @@ fn events_before_definition(events: &[Event]) -> usize
     count
 }
 
-/// What is read in the definitions to which links and images refer, where these are their lengths.
+/// The same, given the lengths of the definitions.
 fn referred_length(checked: &Checked, lengths: &[u128]) -> u128
     requires { (document : Forest) → flatten document ≡ checked.now.events
         → lengths.now ≡ map capped (definition_lengths document) }
@@ -189,7 +191,7 @@ fn referred_length(checked: &Checked, lengths: &[u128]) -> u128
     referred
 }
 
-/// The lengths of footnote calls.
+/// The sum of the lengths of footnote calls.
 fn call_lengths(events: &[Event]) -> u128
     ensures { result ≡ capped (covered is_call events.now) }
 {
@@ -202,7 +204,7 @@ fn call_lengths(events: &[Event]) -> u128
     progress.length
 }
 
-/// What is read in the definition to which the link or the image leads that an event exits, if it
+/// The length of what is read in the definition that the link or the image refers to, if an event
 /// exits one.
 #[inline(always)]
 fn referred_at(checked: &Checked, lengths: &[u128], index: usize, event: &Event) -> u128
@@ -223,7 +225,7 @@ fn referred_at(checked: &Checked, lengths: &[u128], index: usize, event: &Event)
     }
 }
 
-/// The length at a place, and 0 where there is none.
+/// The length at an index, and 0 if there is none.
 fn length_in(lengths: &[u128], place: Option<usize>) -> u128
     ensures { result ≡ length_at lengths.now place }
 {
@@ -249,7 +251,7 @@ fn is_call(name: Name) -> bool
     matches!(name, Name::GfmFootnoteCall)
 }
 
-/// One where an event enters a footnote call.
+/// One if an event enters a footnote call, else 0.
 #[inline(always)]
 pub(crate) fn calls_entered(event: &Event) -> usize
     ensures { result ≡ (if enters is_call event.now then 1 else 0) }
@@ -260,7 +262,7 @@ pub(crate) fn calls_entered(event: &Event) -> usize
     }
 }
 
-/// The lengths of the texts of options that a footnote call prints.
+/// The lengths of the option texts that a footnote call prints.
 fn call_texts(options: &CompileOptions) -> u128
     ensures { result ≡ call_texts options.now }
 {
@@ -269,7 +271,7 @@ fn call_texts(options: &CompileOptions) -> u128
     4 * prefix as u128 + label as u128
 }
 
-/// The length of an option's text, 0 where it is unset.
+/// The length of an option's text, 0 if it is unset.
 fn option_length(text: &Option<String>) -> usize
     ensures { result ≡ option_length text.now }
 {

@@ -1,4 +1,4 @@
-//! Going over the events, one after another.
+//! Iterates over the events.
 
 ghost use Rattle.std.specs.Prelude.{◌≡◌, ◌≤◌, ◌<◌, ◌^◌, OnOk, IfOk, Some, true, false, length};
 ghost use Rattle.std.specs.Prelude.{slice_get, suc};
@@ -22,12 +22,12 @@ use md_tree::Checked;
 use std::alloc::AllocError;
 use std::ops::Range;
 
-/// Prints the events from one index up to another, and answers the index of the next one: a
-/// definition that begins before the end is passed over whole.
+/// Prints the events from one index up to another, and returns the index of the next one: a
+/// definition that begins before the end is skipped whole.
 ///
 /// # Errors
 ///
-/// Only where memory runs out.
+/// Returns an error only if memory runs out.
 pub(crate) fn run_events<'a>(
     printer: &mut Printer<'a>,
     given: &Given<'a>,
@@ -61,8 +61,8 @@ pub(crate) fn run_events<'a>(
     Ok(index)
 }
 
-/// Goes over a node without children, if the first of the events that are left enters it and it has
-/// a frequent name; answers whether it did.
+/// Prints a node without children, if the first of the remaining events enters it and its name is
+/// frequent; returns whether it did.
 #[inline(always)]
 fn leaf<'a>(
     printer: &mut Printer<'a>,
@@ -91,7 +91,7 @@ fn leaf<'a>(
     }
 }
 
-/// Whether the node that the event at an index enters has no children, and is left before another
+/// Whether the node that the event at an index enters has no children, and exits before another
 /// index.
 #[inline(always)]
 fn is_leaf_before(checked: &Checked, events: &[Event], index: usize, to: usize) -> bool
@@ -107,7 +107,7 @@ fn is_leaf_before(checked: &Checked, events: &[Event], index: usize, to: usize) 
     index + 1 < to && is_leaf_among(checked, events, index)
 }
 
-/// Goes one event further; answers how many after it are passed over.
+/// Handles one event; returns how many events after it are skipped.
 #[inline(always)]
 fn step<'a>(
     printer: &mut Printer<'a>,
@@ -129,7 +129,7 @@ fn step<'a>(
     }
 }
 
-/// Enters a node, or passes it over; answers how many events after its entry are passed over.
+/// Enters a node, or skips it; returns how many events after its entry are skipped.
 #[inline(always)]
 fn open<'a>(
     printer: &mut Printer<'a>,
@@ -149,7 +149,7 @@ fn open<'a>(
     }
 }
 
-/// Whether it is a definition, which is printed ahead of all else.
+/// Whether it is a definition, which is printed before all else.
 #[inline(always)]
 fn is_passed_over(name: Name) -> bool
     ensures { result ≡ is_passed name }

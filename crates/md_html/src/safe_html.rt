@@ -1,4 +1,4 @@
-//! Texts that may be set into a page.
+//! Texts that may be inserted into a page.
 
 ghost use Rattle.std.specs.Prelude.{◌≡◌, ◌↔◌, OnOk, IfOk, IfErr, IsTrue, true, false};
 ghost use Rattle.md_base.specs.Reference.{name_table};
@@ -24,8 +24,8 @@ use std::marker::Model;
 use thiserror::Error;
 
 /// A text that has exactly one reading in the HTML grammar, in which each `href` and `src` has no
-/// protocol or a permitted one, and each element stands where it may. Only [`compile_safe`] and
-/// [`compile_safe_within`](crate::compile_safe_within) make one.
+/// protocol or a permitted one, and which fulfils the content model. Only [`compile_safe`] and
+/// [`compile_safe_within`](crate::compile_safe_within) create one.
 #[derive(Drop)]
 pub struct SafeHtml {
     text: String,
@@ -48,7 +48,7 @@ impl SafeHtml {
     ghost use Rattle.md_safe.specs.Tokenized.{IsSafelyTokenized};
     ghost use Rattle.std.specs.Prelude.{◌≡◌, string_bytes};
 
-    /// A text that is safe.
+    /// Wraps a safe text.
     pub(crate) fn new(text: String) -> SafeHtml
         requires { IsSafe (string_bytes text) }
         ensures { result ≡ string_bytes text }
@@ -79,7 +79,7 @@ impl SafeHtml {
 pub enum SafeError {
     /// The options aren't safe.
     Options,
-    /// The compiler refuses the events, or memory runs out.
+    /// The compiler refuses the events, or memory ran out.
     Compile(CompileError),
 }
 
@@ -108,16 +108,16 @@ impl From<CompileError> for SafeError {
     }
 }
 
-/// The HTML of a list of Markdown events, as [`compile`] gives it, where the options are safe.
+/// Compiles a list of Markdown events to HTML, as [`compile`] does, if the options are safe.
 ///
-/// The options are safe where `allow_any_img_src`, `allow_dangerous_html` and
+/// The options are safe if `allow_any_img_src`, `allow_dangerous_html` and
 /// `allow_dangerous_protocol` are off, and `gfm_footnote_label_tag_name` and
-/// `gfm_footnote_label_attributes` are unset. The default options are such.
+/// `gfm_footnote_label_attributes` are unset. The default options are safe.
 ///
 /// # Errors
 ///
-/// [`SafeError::Options`] exactly where the options aren't safe, whatever else is handed in; else
-/// the refusal of [`compile`].
+/// [`SafeError::Options`] exactly if the options aren't safe, whatever the other arguments are;
+/// else the refusal of [`compile`].
 ///
 /// # Examples
 ///

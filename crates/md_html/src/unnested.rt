@@ -1,5 +1,5 @@
-//! Safe texts of documents in which no link stands in a link: a browser builds of them the tree
-//! that they are read as.
+//! Safe texts of documents in which no link contains a link: a browser builds for them the tree of
+//! their reading.
 
 ghost use Rattle.std.specs.Prelude.{◌≡◌, ◌<◌, ◌^◌, OnOk, IfOk, IfErr, true, false};
 ghost use Rattle.md_base.specs.Reference.{name_table};
@@ -25,10 +25,10 @@ use std::alloc::Global;
 use std::fmt;
 use thiserror::Error;
 
-/// Why there is no safe text of a document in which no link stands in a link.
+/// Why there is no safe text of a document in which no link contains a link.
 #[derive(Debug, PartialEq, Eq, Drop, Error)]
 pub enum UnnestedError {
-    /// A link stands in a link.
+    /// A link contains a link.
     Nested,
     /// There is no safe text.
     Safe(SafeError),
@@ -59,14 +59,14 @@ impl From<SafeError> for UnnestedError {
     }
 }
 
-/// The HTML of a list of Markdown events, as [`compile_safe`] gives it, where no link stands in a
-/// link: so wherever flow content may be set, the HTML Standard's tree construction builds the tree
-/// that the text is read as.
+/// Compiles a list of Markdown events to HTML, as [`compile_safe`] does, if no link contains a
+/// link. So wherever flow content may be inserted, the HTML Standard's tree construction builds the
+/// tree of the text's reading.
 ///
 /// # Errors
 ///
-/// [`UnnestedError::Nested`] exactly where [`compile_safe`] gives a text and a link stands in a
-/// link, as [`has_nested_link`] tells; else what [`compile_safe`] answers, out of memory too.
+/// [`UnnestedError::Nested`] exactly if [`compile_safe`] returns a text and a link contains a link,
+/// as [`has_nested_link`] reports; else the error of [`compile_safe`], out of memory too.
 ///
 /// # Examples
 ///
@@ -114,9 +114,8 @@ pub fn compile_unnested(
     Ok(html)
 }
 
-/// Whether of the document that a list of events flattens a link stands in a link, of which
-/// neither stands in an image. Links are also automatic ones that are none by letters alone, and
-/// calls of footnotes.
+/// Whether a link contains a link in the document that a list of events flattens, and neither is in
+/// an image. Calls of footnotes are links too, and so are autolinks, except literal ones.
 ///
 /// # Examples
 ///
@@ -171,7 +170,7 @@ fn is_nested(in_link: bool, images: usize, event: &Event) -> bool
     }
 }
 
-/// Whether what comes after an event is in a link, outside images.
+/// Whether the events after an event are in a link, outside images.
 #[inline(always)]
 fn link_after(in_link: bool, images: usize, event: &Event) -> bool
     ensures { result ≡ link_after in_link images event.now }
@@ -182,7 +181,7 @@ fn link_after(in_link: bool, images: usize, event: &Event) -> bool
     in_link
 }
 
-/// In how many images what comes after an event is.
+/// How many images contain the events after an event.
 #[inline(always)]
 fn images_after(images: usize, event: &Event) -> usize
     requires { images < 2 ^ 63 }
@@ -197,7 +196,7 @@ fn images_after(images: usize, event: &Event) -> usize
     }
 }
 
-/// Whether a name prints a link wherever it stands outside images.
+/// Whether a name prints a link except in images.
 #[inline(always)]
 fn prints_link(name: Name) -> bool
     ensures { result ≡ prints_link name }

@@ -1,5 +1,4 @@
-//! Texts within limits: how long a text may be, how much work it may take, and how deep its events
-//! may nest.
+//! Texts within limits: on their length, on their work, and on how deep their events nest.
 
 ghost use Rattle.std.specs.Prelude.{◌≡◌, ◌+◌, ◌*◌, ◌≤◌, ◌<◌, OnOk, IfOk, IfErr, true, false, length};
 ghost use Rattle.std.specs.Prelude.{string_bytes};
@@ -36,32 +35,33 @@ use std::alloc::{AllocError, Global};
 use std::fmt;
 use thiserror::Error;
 
-/// How long a text may be, how much work it may take, and how deep its events may nest.
+/// Limits on the length of a text, on its work, and on how deep its events nest.
 #[derive(Clone, Copy, Debug, PartialEq, Eq)]
 pub struct Limits {
-    /// How many bytes the text may have.
+    /// The maximum length of the text in bytes.
     pub text: usize,
-    /// How much there may be to read and to print, as [`work_of`](crate::work_of) counts it (the
-    /// lengths of texts and of labels, of a parser's events the document's length and that of
-    /// labels again, and for each row of a table's body five for each of its columns); and how much
-    /// may be used again, as [`reuse_of`](crate::reuse_of) counts it (for each link or image that
-    /// leads to a definition the length of that one, and what footnote calls print). The limit
-    /// holds for each of the two by itself.
+    /// The maximum of what is read and printed, as [`work_of`](crate::work_of) counts it (the
+    /// lengths of texts and of labels, which for a parser's events are the document's length and
+    /// that of labels again, and for each row of a table's body five for each of its columns); and
+    /// of what is used again, as [`reuse_of`](crate::reuse_of) counts it (for each link or image
+    /// that refers to a definition the length of that definition, and what footnote calls print).
+    /// The limit applies to each of the two separately.
     pub work: usize,
-    /// How many nodes may be open at once, as [`depth_of`](crate::depth_of) counts them.
+    /// The maximum number of nodes that are open at once, as [`depth_of`](crate::depth_of) counts
+    /// them.
     pub depth: usize,
 }
 
 /// Why there is no text within limits.
 #[derive(Debug, PartialEq, Eq, Drop, Error)]
 pub enum WithinError {
-    /// The text is longer than it may be.
+    /// The text exceeds its limit.
     TooLong,
-    /// There is more to read and to print, or to use again, than there may be.
+    /// Reading, printing and reuse exceed the work limit.
     TooMuch,
-    /// The events nest deeper than they may.
+    /// The events nest deeper than the limit allows.
     TooDeep,
-    /// The compiler refuses the events, or memory runs out.
+    /// The compiler refuses the events, or memory ran out.
     Compile(CompileError),
 }
 
@@ -104,20 +104,20 @@ impl From<AllocError> for WithinError {
     }
 }
 
-/// The HTML of a list of Markdown events, as [`compile`](crate::compile) gives it, where it
-/// is within limits.
+/// Compiles a list of Markdown events to HTML, as [`compile`](crate::compile) does, if it is within
+/// limits.
 ///
-/// What it costs goes by these limits, though no clause can say so: time and memory grow with the
+/// The cost depends on these limits, though no clause can say so: time and memory grow with the
 /// number of events, the document's length and `limits.work`, and printing stops soon after the
 /// text is too long.
 ///
 /// # Errors
 ///
-/// [`WithinError::TooDeep`] exactly where the events nest deeper than `limits.depth`, before
-/// anything else is looked at; [`WithinError::TooMuch`] where else there is more work than
-/// `limits.work`, and where the events are a document's that uses more again than that;
-/// [`WithinError::TooLong`] only where they are a document's whose text has more than `limits.text`
-/// bytes; else the refusal of [`compile`](crate::compile).
+/// [`WithinError::TooDeep`] exactly if the events nest deeper than `limits.depth`, before anything
+/// else is checked; [`WithinError::TooMuch`] if otherwise the work exceeds `limits.work`, or the
+/// events are a document's whose reuse exceeds it; [`WithinError::TooLong`] only if they are a
+/// document's whose text has more than `limits.text` bytes; else the refusal of
+/// [`compile`](crate::compile).
 ///
 /// # Examples
 ///
@@ -229,13 +229,13 @@ impl From<WithinError> for SafeWithinError {
     }
 }
 
-/// The HTML of a list of Markdown events, as [`compile_safe`](crate::compile_safe) gives it, where
-/// it is within limits: what a server calls that takes text from strangers.
+/// Compiles a list of Markdown events to HTML, as [`compile_safe`](crate::compile_safe) does, if it
+/// is within limits: the call for a server that accepts text from strangers.
 ///
 /// # Errors
 ///
-/// [`SafeWithinError::Options`] exactly where the options aren't safe, whatever else is handed in;
-/// else the refusal of [`compile_within`].
+/// [`SafeWithinError::Options`] exactly if the options aren't safe, whatever the other arguments
+/// are; else the refusal of [`compile_within`].
 ///
 /// # Examples
 ///

@@ -1,4 +1,4 @@
-//! How much a list of events gives to read and to print, and how deep they nest: counted in one
+//! The work of a list of events (what is read and printed), and how deep they nest: counted in one
 //! pass.
 
 ghost use Rattle.std.specs.Prelude.{◌≡◌, ◌+◌, ◌-◌, ◌*◌, ◌^◌, ◌<◌, ℕ, min, true, false};
@@ -16,12 +16,12 @@ use crate::reuse::calls_entered;
 use md_base::{Event, Kind, Name};
 use md_pattern::{Reading, Standing, standing_of};
 
-/// How much a list of events gives to read and to print, or `usize::MAX` where it is more.
+/// Returns how much a list of events gives to read and to print, or `usize::MAX` if it is more.
 ///
-/// Counted are the lengths of texts and of labels: of a parser's events at most the document's
+/// The count is the lengths of texts and of labels: for a parser's events at most the document's
 /// length, and once more that of each label; and for each row of a table's body five for each of
-/// its columns. The row of its head ends before these are known, and counts nothing. What a
-/// document uses again is counted by [`reuse_of`](crate::reuse_of).
+/// its columns. The row of its head ends before the columns are known, and counts nothing.
+/// [`reuse_of`](crate::reuse_of) counts what a document uses again.
 ///
 /// # Examples
 ///
@@ -34,7 +34,7 @@ pub fn work_of(events: &[Event]) -> usize
     measure(events).work.min(usize::MAX as u128) as usize
 }
 
-/// Whether a list of events gives more to read and to print than a limit.
+/// Whether the work of a list of events exceeds a limit.
 ///
 /// # Examples
 ///
@@ -47,8 +47,8 @@ pub fn is_over(events: &[Event], limit: usize) -> bool
     measure(events).is_over(limit)
 }
 
-/// How deep a list of events nests: the greatest number of nodes that are open at once. Of a
-/// document's events that is how many of its nodes at most lie in one another.
+/// Returns how deep a list of events nests: the maximum number of nodes that are open at once. For
+/// a document's events that is how deep its nodes nest.
 ///
 /// # Examples
 ///
@@ -61,19 +61,19 @@ pub fn depth_of(events: &[Event]) -> usize
     tally_of(events).depth
 }
 
-/// What a list of events takes.
+/// The measurements of a list of events.
 #[derive(Clone, Copy)]
 pub(crate) struct Measured {
-    /// The work, or the greatest number where it is more.
+    /// The work, or the greatest number if it is more.
     pub(crate) work: u128,
     /// How deep they nest.
     pub(crate) depth: usize,
-    /// How many of them enter a footnote call.
+    /// The number of events that enter a footnote call.
     pub(crate) calls: usize,
 }
 
 impl Measured {
-    /// Whether the work is more than a limit.
+    /// Whether the work exceeds a limit.
     pub(crate) fn is_over(self, limit: usize) -> bool
         ensures { (given : ℕ) → self.work ≡ capped given → result ≡ nat_lt limit given }
     {
@@ -95,16 +95,16 @@ pub(crate) fn measure(events: &[Event]) -> Measured
     }
 }
 
-/// What is counted of events.
+/// The counts of events.
 #[derive(Clone, Copy)]
 struct Tally {
-    /// What is read.
+    /// The length of what is read.
     read: u128,
-    /// What the cells of tables count.
+    /// The count of the cells of tables.
     cells: u128,
     /// How deep they nest.
     depth: usize,
-    /// How many enter a footnote call.
+    /// The number of events that enter a footnote call.
     calls: usize,
 }
 
@@ -135,19 +135,19 @@ fn tally_of(events: &[Event]) -> Tally
     }
 }
 
-/// What is counted of parts of tables, and of footnote calls.
+/// The counts of parts of tables, and of footnote calls.
 #[derive(Clone, Copy)]
 struct Parts {
-    /// How many columns are known of the table that is open.
+    /// How many columns of the open table are known.
     columns: usize,
-    /// What the cells of tables count.
+    /// The count of the cells of tables.
     cells: u128,
-    /// How many footnote calls were entered.
+    /// The number of footnote calls that were entered.
     calls: usize,
 }
 
 impl Parts {
-    /// Before any event.
+    /// The state before any event.
     fn new() -> Parts
         ensures columns { result.columns ≡ 0 }
         ensures cells { result.cells ≡ 0 }
@@ -160,7 +160,7 @@ impl Parts {
         }
     }
 
-    /// After one more event.
+    /// The state after one more event.
     fn after(self, event: &Event) -> Parts
         requires columns { self.columns < 2 ^ 63 }
         requires calls { self.calls < 2 ^ 63 }
@@ -178,7 +178,7 @@ impl Parts {
     }
 }
 
-/// What cells count so far, and those of the row that an event exits, if it does.
+/// The count of cells so far, with those of the row that an event exits, if it exits one.
 #[inline(always)]
 fn cells_after(cells: u128, columns: usize, event: &Event) -> u128
     ensures { result
@@ -192,7 +192,7 @@ fn cells_after(cells: u128, columns: usize, event: &Event) -> u128
     }
 }
 
-/// How many columns are known after an event of the table that is open.
+/// How many columns of the open table are known after an event.
 #[inline(always)]
 fn columns_after(columns: usize, event: &Event) -> usize
     requires { columns < 2 ^ 63 }
@@ -205,7 +205,7 @@ fn columns_after(columns: usize, event: &Event) -> usize
     }
 }
 
-/// Whether a node of a name is a table, a part of one that is counted, or a footnote call.
+/// Whether a name is that of a table, of a counted part of one, or of a footnote call.
 #[inline(always)]
 fn is_part(name: Name) -> bool
     ensures { result ≡ is_part name }
@@ -219,7 +219,7 @@ fn is_part(name: Name) -> bool
     )
 }
 
-/// Whether a node of a name is read: its text, or as what identifies another.
+/// Whether a node with this name is read: its text, or its identifier.
 #[inline(always)]
 pub(crate) fn is_read(name: Name) -> bool
     ensures { result ≡ is_read name }

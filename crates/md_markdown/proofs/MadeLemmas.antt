@@ -1,4 +1,4 @@
--- A text that the compiler gives is made of a document over these bytes.
+-- A text of the compiler is that of a document over these bytes.
 use Rattle.std.proofs.Common.{◌≡◌, ◌++◌, ℕ, Bool, List, [], refl}
 use Rattle.std.proofs.Common.{inl, inr, subst, sym}
 use Rattle.std.proofs.lemmas.List.{append-nil}
@@ -13,7 +13,7 @@ use Rattle.md_safe.specs.Options.{KeepsImages}
 use Rattle.md_markdown.specs.Made.{IsMadeOf, IsMadeOver, MayBeAdded}
 use Rattle.md_markdown.specs.Parsed.{IsMadeOfEither}
 
--- what a checked list of events means is made of the document that it flattens
+-- the meaning of a checked list of events is that of the document that it flattens
 pub made : (events : List Event) (bytes text : List ℕ)
     (names : List (Bor (List ℕ) × Bor (List ℕ))) (options : CompileOptions) →
     KeepsImages options → IsChecked (handed events bytes names) →
@@ -28,7 +28,7 @@ made events bytes text names options safe checked means = record {
   means = means checked.0 checked.1.flattened;
 }
 
--- a text over the bytes that were read, the document's and what was added behind them, or over the
+-- a text over the parsed bytes, which are the document's with those appended to it, or over the
 -- document's own alone
 pub of_either : (has_base : Bool) (document added bytes text : List ℕ) →
     MayBeAdded has_base added → bytes ≡ document ++ added → IsMadeOfEither bytes document text →

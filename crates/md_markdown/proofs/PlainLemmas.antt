@@ -1,4 +1,4 @@
--- A document that is shown as it is written is one of the grammar, whatever its text is.
+-- A document that is shown as it is written matches the grammar, whatever its text is.
 use Rattle.std.proofs.Common.{◌+◌, ◌*◌, ◌≤◌, ◌<◌, arith}
 use Rattle.std.proofs.Common.{◌≡◌, ◌∙◌, ℕ, zero, suc, ◌-◌, List, [], ◌∷◌, ◌++◌, true}
 use Rattle.std.proofs.Common.{false, ◌&&◌, if◌then◌else◌, refl, ap, sym, subst, length, nat_le, Some}

@@ -1,4 +1,4 @@
--- What the text of a Markdown document is made of.
+-- The text of a Markdown document.
 use Rattle.std.specs.Prelude.{◌≡◌, ◌⊎◌, ◌++◌, ◌∷◌, [], ℕ, Bool, true, List}
 use Rattle.md_base.specs.Tree.{Forest}
 use Rattle.md_text.specs.declared.options.CompileOptions.{CompileOptions}
@@ -6,7 +6,7 @@ use Rattle.md_tree.specs.Grammar.{IsGrammatical}
 use Rattle.md_meaning.specs.Meaning.{meaning}
 use Rattle.md_safe.specs.Options.{KeepsImages}
 
--- the text is what a document of the grammar over these bytes means under safe options
+-- the text is the meaning of a document of the grammar over these bytes under safe options
 pub record IsMadeOver (bytes text : List ℕ) : Type 0 where
   pub document : Forest
   pub names : List (List ℕ × List ℕ)
@@ -15,11 +15,11 @@ pub record IsMadeOver (bytes text : List ℕ) : Type 0 where
   pub grammatical : IsGrammatical bytes names document
   pub means : text ≡ meaning options names bytes document
 
--- what may stand behind a document: nothing or a line feed, and where there is a base any bytes
+-- what may be appended to a document: nothing or a line feed, and with a base any bytes
 abbrev pub MayBeAdded : Bool → List ℕ → Type 0
 MayBeAdded has_base added = (has_base ≡ true) ⊎ ((added ≡ []) ⊎ (added ≡ 10 ∷ []))
 
--- the text is made over a document's bytes and what stands behind them
+-- the text is that of a document over a document's bytes and what is appended to them
 abbrev pub IsMadeOf : Bool → List ℕ → List ℕ → Type 0
 IsMadeOf has_base document text =
     (added : List ℕ) × (MayBeAdded has_base added × IsMadeOver (document ++ added) text)

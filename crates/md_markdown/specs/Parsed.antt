@@ -1,4 +1,4 @@
--- What was made of a document, and of what its text is made. No public contract speaks of it.
+-- The parser's result for a document, and what its text is. No public contract cites this.
 use Rattle.std.specs.Prelude.{◌≡◌, ◌⊎◌, ◌≤◌, ℕ, Bool, true, false, List, Option, Some, None}
 use Rattle.md_base.specs.Tree.{Forest}
 use Rattle.md_tree.specs.Grammar.{Handed, IsReadAs, handed}
@@ -16,18 +16,18 @@ use Rattle.md_markdown.specs.declared.error.MarkdownWithinError.{MarkdownWithinE
 use Rattle.md_markdown.specs.declared.error.MarkdownWithinError.TheVariants as error
 use Rattle.md_markdown.specs.declared.compiling.Parsed.{Parsed}
 
--- what the compiler is handed
+-- the input of the compiler
 abbrev pub given_by : Parsed → Handed
 given_by parsed = handed parsed.events.now parsed.bytes.now parsed.names.now
 
--- a document of the grammar that the events flatten, in which no link stands in a link, and whose
+-- a document of the grammar that the events flatten, in which no link contains a link, and whose
 -- nodes nest no deeper than this
 pub record IsShown (given : Handed) (most : ℕ) (document : Forest) : Type 0 where
   pub read : IsReadAs given document
   pub unnested : has_nested_link false document ≡ false
   pub nested : height document ≤ most
 
--- the text is made over the bytes of events, or over the document's own
+-- the text is that of a document over the bytes of events, or over the document's own
 abbrev pub IsMadeOfEither : List ℕ → List ℕ → List ℕ → Type 0
 IsMadeOfEither bytes document text = IsMadeOver bytes text ⊎ IsMadeOver document text
 
@@ -36,7 +36,7 @@ abbrev pub is_memory : UnnestedError → Bool
 is_memory (unnested.Safe (safe.Compile refusal.Memory)) = true
 is_memory _ = false
 
--- the error of a document for one that says of no event that it breaks a rule
+-- the error of a document for an error other than an event that breaks a rule
 abbrev pub of_limits : SafeWithinError → Option MarkdownWithinError
 of_limits (safe_within.Within within.TooLong) = Some error.TooLong
 of_limits (safe_within.Within within.TooMuch) = Some error.TooMuch

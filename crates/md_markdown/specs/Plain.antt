@@ -5,7 +5,7 @@ use Rattle.md_base.specs.declared.event.Point.{Point}
 use Rattle.md_base.specs.declared.event.Name.TheVariants.{Paragraph, Data}
 use Rattle.md_base.specs.Tree.{Forest, Empty, Node}
 
--- the point behind so many bytes
+-- the point after so many bytes
 abbrev pub at : ℕ → Point
 at index = record { line = 1; column = 1; index = index; vs = 0 }
 

@@ -1,18 +1,18 @@
-//! Code and math on lines of their own.
+//! Code and math blocks.
 
 use md_base::Name;
 use md_inlines::Writer;
 use md_lines::Line;
 use std::alloc::AllocError;
 
-/// Lines that follow one another in the document, without prefixes between them.
+/// Lines that are adjacent in the document, without prefixes between them.
 #[derive(Clone, Copy, Debug, PartialEq, Eq)]
 pub(crate) struct Run {
     pub(crate) start: usize,
     pub(crate) columns: u8,
-    /// Where the text of the last line ends.
+    /// The end of the text of the last line.
     pub(crate) end: usize,
-    /// Where its line ending ends.
+    /// The end of its line ending.
     pub(crate) next: usize,
 }
 
@@ -26,12 +26,12 @@ impl Run {
         }
     }
 
-    /// Whether a line follows at once.
+    /// Whether a line follows directly.
     pub(crate) fn is_before(&self, line: &Line) -> bool {
         line.start == self.next && line.columns == 0
     }
 
-    /// With a line that follows at once.
+    /// The run with a line that follows directly.
     pub(crate) fn with(self, line: &Line) -> Run {
         Run {
             end: line.end,
@@ -41,7 +41,7 @@ impl Run {
     }
 }
 
-/// Writes lines with their endings, one node for those that follow one another.
+/// Writes lines with their endings, one node for each run of adjacent lines.
 pub(crate) fn write_chunks(
     writer: &mut Writer,
     lines: &[Line],

@@ -1,4 +1,4 @@
-//! Markdown to HTML.
+//! Compiles Markdown to HTML.
 
 ghost use Rattle.std.specs.Prelude.{◌≡◌, ◌≤◌, ◌+◌, ◌*◌, ◌++◌, IfOk, true, is_some, length};
 ghost use Rattle.md_base.specs.Tree.{Forest};
@@ -26,21 +26,23 @@ use md_text::CompileOptions;
 use std::alloc::{AllocError, Global};
 
 /// How deep the nodes of a document may nest: its elements then nest at most 485 deep. Browsers
-/// flatten beyond 512, of which what is around the text has 27, `html` and `body` among them.
+/// flatten elements beyond a depth of 512, of which the elements that contain the text take 27,
+/// `html` and `body` among them.
 pub const MAX_DEPTH: usize = 240;
 
-/// The HTML of a Markdown document, which is safe to set into a page: it has one reading in the
-/// HTML grammar, in which each link and each image has no protocol or a permitted one, and each
-/// element stands where it may; wherever flow content may be set, the HTML Standard's tree
-/// construction builds the tree that it is read as.
+/// Compiles a Markdown document to HTML that is safe to insert into a page: it has one reading in
+/// the HTML grammar, in which each link and each image has no protocol or a permitted one, and
+/// which fulfils the content model; wherever flow content may be inserted, the HTML Standard's tree
+/// construction builds the tree of its reading.
 ///
-/// Each document has a text. If the compiler refused what was made of a document, or a link stood
-/// in a link there, or it nested deeper than [`MAX_DEPTH`], which would be a fault of this crate
-/// and of which no document is known, its text would be one paragraph with all its characters.
+/// Each document has a text. If the compiler refused the parser's events, or a link contained a
+/// link there, or they nested deeper than [`MAX_DEPTH`], which would be a fault of this crate and
+/// of which no document is known, the text would be one paragraph with all characters of the
+/// document.
 ///
 /// # Errors
 ///
-/// Only where memory runs out.
+/// Returns an error only if memory runs out.
 ///
 /// # Examples
 ///
@@ -76,15 +78,15 @@ pub fn markdown(
     )
 }
 
-/// The HTML of a Markdown document as [`markdown`] gives it, where it is within limits: what a
-/// server calls that takes documents from strangers.
+/// Compiles a Markdown document to HTML as [`markdown`] does, if it is within limits: the call for
+/// a server that accepts documents from strangers.
 ///
 /// # Errors
 ///
-/// [`MarkdownWithinError::TooMuch`] where there is more work than `limits.work`, or more is used
-/// again than that; [`MarkdownWithinError::TooLong`] where the text has more than `limits.text`
-/// bytes; or that memory runs out. No clause says when these come. What nests deeper than
-/// `limits.depth` is no error: it is shown as it is written.
+/// [`MarkdownWithinError::TooMuch`] if the work or the reuse exceeds `limits.work`;
+/// [`MarkdownWithinError::TooLong`] if the text has more than `limits.text` bytes; or that memory
+/// runs out. No clause says when these occur. A document that nests deeper than `limits.depth` is
+/// no error: it is shown as it is written.
 ///
 /// # Examples
 ///
@@ -129,7 +131,8 @@ pub fn markdown_within(
     )
 }
 
-/// What was made of a document: events over bytes, and the names of character references in it.
+/// The parser's result for a document: events over bytes, and the names of character references in
+/// it.
 #[derive(Clone, Copy)]
 struct Parsed<'a> {
     events: &'a [Event],
@@ -138,7 +141,7 @@ struct Parsed<'a> {
 }
 
 impl<'a> Parsed<'a> {
-    /// What was written of a document, over bytes.
+    /// The result of a writer, over bytes.
     fn new(writer: &'a Writer, bytes: &'a [u8]) -> Parsed<'a>
         ensures { result.bytes.now ≡ bytes.now }
     {
@@ -150,9 +153,9 @@ impl<'a> Parsed<'a> {
     }
 }
 
-/// The HTML of what was made of a document, if it is a document of the event grammar in which no
-/// link stands in a link, and nests no deeper than [`MAX_DEPTH`]; else that of the document as it
-/// is written.
+/// The HTML of the parser's result, if it is a document of the event grammar in which no link
+/// contains a link, and nests no deeper than [`MAX_DEPTH`]; else that of the document as it is
+/// written.
 fn compile_or_plain(
     alloc: Global,
     parsed: &Parsed,
@@ -184,7 +187,7 @@ fn compile_or_plain(
     }
 }
 
-/// The same where it is within limits.
+/// The same if it is within limits.
 fn compile_or_plain_within(
     alloc: Global,
     parsed: &Parsed,
@@ -229,7 +232,7 @@ fn compile_or_plain_within(
     }
 }
 
-/// What stands behind a document for which bytes were added: a line feed, and with a base URLs.
+/// The bytes to append to a document: a line feed, and with a base URLs.
 fn added<'a>(writer: &'a Writer, options: &MarkdownOptions) -> &'a [u8]
     ensures { MayBeAdded (is_some options.now.base) result.now }
 {
@@ -239,7 +242,7 @@ fn added<'a>(writer: &'a Writer, options: &MarkdownOptions) -> &'a [u8]
     }
 }
 
-/// The bytes of a document and those that were added behind it.
+/// The bytes of a document and those appended to it.
 fn joined(alloc: Global, document: &[u8], added: &[u8]) -> Result<Vec<u8>, AllocError>
     ensures { IfOk result (λ whole. whole.items ≡ document.now ++ added.now) }
 {
@@ -249,12 +252,12 @@ fn joined(alloc: Global, document: &[u8], added: &[u8]) -> Result<Vec<u8>, Alloc
     Ok(whole)
 }
 
-/// The events of a document, the names of the character references in it, and the bytes that they
-/// need behind the document's.
+/// Parses a document: its events, the names of its character references, and the bytes that the
+/// events need after the document's.
 ///
 /// # Errors
 ///
-/// Only where memory runs out.
+/// Returns an error only if memory runs out.
 pub fn events_of(
     alloc: Global,
     bytes: &[u8],
@@ -262,7 +265,7 @@ pub fn events_of(
 ) -> Result<Writer, AllocError> {
     let blocks = parse_blocks(alloc, bytes, options.for_blocks())?;
     let mut writer = Writer::new(alloc, bytes.len());
-    // People's documents have an event for each six bytes or so.
+    // Documents that people write have an event for about every six bytes.
     writer.reserve((bytes.len() / 4).saturating_add(64))?;
     write_events(alloc, bytes, &blocks, options, &mut writer)?;
     Ok(writer)

@@ -10,7 +10,7 @@ use md_lines::{Span, after_ending, line_end};
 use std::alloc::AllocError;
 
 /// Writes a line ending at the end of a document, so that its text ends with one: the document's
-/// last or first, or one of its own where the document has none.
+/// last or first, or one of its own if the document has none.
 pub(crate) fn write_last_ending(writer: &mut Writer, bytes: &[u8]) -> Result<(), AllocError>
     ensures { OnOk result
         (IsLeafBehind BlankLineEnding writer.old.events.items writer.new.events.items) }
@@ -19,8 +19,8 @@ pub(crate) fn write_last_ending(writer: &mut Writer, bytes: &[u8]) -> Result<(),
     writer.leaf(Name::BlankLineEnding, ending.start, ending.end)
 }
 
-/// Where a line ending stands: that at the document's end, or else its first, or else one that is
-/// added behind it.
+/// The range of a line ending: that at the document's end, or else its first, or else one that is
+/// appended to it.
 fn last_ending(writer: &mut Writer, bytes: &[u8]) -> Result<Span, AllocError>
     ensures { writer.new.events.items ≡ writer.old.events.items }
 {
@@ -30,7 +30,7 @@ fn last_ending(writer: &mut Writer, bytes: &[u8]) -> Result<Span, AllocError>
     }
 }
 
-/// The line ending with which a document ends, or else its first.
+/// The line ending at the end of a document, or else its first.
 fn last_or_first(bytes: &[u8]) -> Option<Span> {
     let end = bytes.len();
     match bytes {
@@ -46,7 +46,7 @@ fn last_or_first(bytes: &[u8]) -> Option<Span> {
     }
 }
 
-/// The line ending of the line before that of a place.
+/// The line ending of the line before that of an index.
 pub(crate) fn ending_before(bytes: &[u8], start: usize) -> Option<(usize, usize)> {
     let before = bytes.get(..start)?;
     let at = before

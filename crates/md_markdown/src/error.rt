@@ -12,11 +12,11 @@ use thiserror::Error;
 /// Why a document has no text within limits.
 #[derive(Debug, PartialEq, Eq, Drop, Error)]
 pub enum MarkdownWithinError {
-    /// It is out of memory.
+    /// Memory ran out.
     Memory,
-    /// The text is longer than it may be.
+    /// The text exceeds its limit.
     TooLong,
-    /// There is more to read and to print, or to use again, than there may be.
+    /// Reading, printing and reuse exceed the work limit.
     TooMuch,
 }
 
@@ -41,7 +41,7 @@ impl From<AllocError> for MarkdownWithinError {
     }
 }
 
-/// Whether an error tells that memory ran out.
+/// Whether an error means that memory ran out.
 pub(crate) fn is_memory(error: &UnnestedError) -> bool
     ensures { result ≡ is_memory error.now }
 {
@@ -51,7 +51,7 @@ pub(crate) fn is_memory(error: &UnnestedError) -> bool
     )
 }
 
-/// The error of a document for one that says of no event that it breaks a rule.
+/// The error of a document for an error other than an event that breaks a rule.
 pub(crate) fn of_limits(error: &SafeWithinError) -> Option<MarkdownWithinError>
     ensures { result ≡ of_limits error.now }
 {

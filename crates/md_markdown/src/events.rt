@@ -1,4 +1,4 @@
-//! From the blocks of a document to its events.
+//! Converts the blocks of a document to events.
 
 ghost use Rattle.std.specs.Prelude.{◌≡◌, OnOk};
 
@@ -16,16 +16,16 @@ use md_lines::Span;
 use md_urls::Base;
 use std::alloc::{AllocError, Global};
 
-/// What stands before the next child of an open block.
+/// What precedes the next child of an open block.
 #[derive(Clone, Copy, Debug, PartialEq, Eq)]
 enum Before {
     Nothing,
-    /// A paragraph, which ended with the line ending from a place to another.
+    /// A paragraph, with the range of the line ending that ended it.
     Paragraph(usize, usize),
     Other,
 }
 
-/// A block that is open.
+/// An open block.
 #[derive(Clone, Copy, Debug, PartialEq, Eq)]
 struct Open {
     is_item: bool,
@@ -43,7 +43,7 @@ pub(crate) struct Emission<'a> {
     open: Vec<Open>,
     /// Whether the next item is its list's first.
     is_first_item: bool,
-    /// Whether nothing was written of the block before, or of what is in it.
+    /// Whether nothing was written for the previous block, or for its content.
     is_after_bare: bool,
 }
 
@@ -51,7 +51,7 @@ pub(crate) struct Emission<'a> {
 ///
 /// # Errors
 ///
-/// Only where memory runs out.
+/// Returns an error only if memory runs out.
 pub(crate) fn write_events(
     alloc: Global,
     bytes: &[u8],
@@ -93,7 +93,7 @@ impl<'a> Emission<'a> {
         Ok(())
     }
 
-    /// Enters a block that holds others.
+    /// Enters a container.
     fn enter(&mut self, writer: &mut Writer, container: &Container) -> Result<(), AllocError> {
         self.begin_block(writer)?;
         let is_item = matches!(container, Container::Item(_));
@@ -121,7 +121,7 @@ impl<'a> Emission<'a> {
         }
     }
 
-    /// Exits a block that holds others.
+    /// Exits a container.
     fn exit(&mut self, writer: &mut Writer, exit: &Exit) -> Result<(), AllocError> {
         let _ = self.open.pop();
         self.is_first_item = false;
@@ -136,7 +136,7 @@ impl<'a> Emission<'a> {
         writer.exit(name, exit.at)
     }
 
-    /// Writes a block that holds no blocks.
+    /// Writes a leaf.
     fn write_leaf(&mut self, writer: &mut Writer, leaf: &Leaf) -> Result<(), AllocError> {
         match leaf {
             Leaf::BlankLine { ending } => return self.write_blank_line(writer, *ending),
@@ -177,8 +177,8 @@ impl<'a> Emission<'a> {
         }
     }
 
-    /// Writes a blank line. Behind an item or a block of which nothing is written it comes twice,
-    /// since the first says nothing of the list there, and the second says that it is loose.
+    /// Writes a blank line. After an item or a block for which nothing is written it is written
+    /// twice, since the first one doesn't affect the list there, and the second one makes it loose.
     fn write_blank_line(&mut self, writer: &mut Writer, ending: Span) -> Result<(), AllocError> {
         if self.is_after_bare {
             writer.leaf(Name::BlankLineEnding, ending.start, ending.end)?;
@@ -186,7 +186,7 @@ impl<'a> Emission<'a> {
         writer.leaf(Name::BlankLineEnding, ending.start, ending.end)
     }
 
-    /// Writes a block of HTML, or what stays of it. One of which nothing stays is no block.
+    /// Writes a block of HTML, or what remains of it. If nothing remains, no block is written.
     fn write_html(&mut self, writer: &mut Writer, range: LineRange) -> Result<(), AllocError>
         ensures left_out { self.old.html ≡ DocumentHtml.LeftOut
             → OnOk result (writer.new.events.items ≡ writer.old.events.items) }
@@ -211,13 +211,13 @@ impl<'a> Emission<'a> {
         Ok(())
     }
 
-    /// Writes what is between a child of an item and a block before it, which is no paragraph or
-    /// begins on a line of its own.
+    /// Writes the events between a child of an item and the previous block, if that is no paragraph
+    /// or the child begins on a line of its own.
     fn begin_block(&mut self, writer: &mut Writer) -> Result<(), AllocError> {
         self.begin_child(writer, Before::Other, None)
     }
 
-    /// Writes what is between a child of an item and the child before it. `start` is where a
+    /// Writes the events between a child of an item and the previous child. `start` is where a
     /// paragraph begins.
     fn begin_child(
         &mut self,

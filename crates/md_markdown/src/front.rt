@@ -2,9 +2,9 @@
 
 use md_blocks::front_matter;
 
-/// The front matter of a Markdown document: what stands between the two lines of `---` with which
-/// it begins, each of its lines with its line ending. `None` where it has none. A byte order mark
-/// before it is passed over.
+/// Returns the front matter of a Markdown document: the text between the two lines of `---` at its
+/// beginning, with the line ending of each of its lines, or `None` if it has none. A byte order
+/// mark before it is skipped.
 ///
 /// # Examples
 ///

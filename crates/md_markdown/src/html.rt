@@ -9,7 +9,7 @@ use md_lines::Line;
 use std::alloc::{AllocError, Global};
 use std::str;
 
-/// Writes a block of HTML as it stands.
+/// Writes a block of HTML unchanged.
 pub(crate) fn write_html(writer: &mut Writer, lines: &[Line]) -> Result<(), AllocError> {
     let Some((first, others)) = lines.split_first() else {
         return Ok(());
@@ -29,7 +29,7 @@ pub(crate) fn write_html(writer: &mut Writer, lines: &[Line]) -> Result<(), Allo
     writer.exit(Name::HtmlFlow, run.end)
 }
 
-/// Writes lines of HTML, if they have any byte.
+/// Writes lines of HTML, if they aren't empty.
 fn write_html_run(writer: &mut Writer, run: Run) -> Result<(), AllocError> {
     if run.start < run.end || run.columns > 0 {
         writer.leaf_in_tab(Name::HtmlFlowData, run.start, run.columns, run.end)?;
@@ -53,8 +53,8 @@ pub(crate) enum Piece {
     },
 }
 
-/// What a block has outside of its comments, each of which goes from `<!--` to `-->`, or to the
-/// block's end. `<!-->` and `<!--->` are whole ones. Line endings at the end are left out.
+/// The parts of a block outside its comments. A comment extends from `<!--` to `-->`, or to the
+/// block's end. `<!-->` and `<!--->` are complete comments. Line endings at the end are left out.
 pub(crate) fn without_comments(
     alloc: Global,
     bytes: &[u8],
@@ -80,8 +80,8 @@ pub(crate) fn without_comments(
     Ok(pieces)
 }
 
-/// Adds what a line has outside of comments; whether a comment goes on behind it. `is_inside` says
-/// that one goes on in it.
+/// Adds the parts of a line outside comments; returns whether a comment continues after it.
+/// `is_inside` says that a comment continues in it.
 fn push_line(
     pieces: &mut Vec<Piece>,
     bytes: &[u8],
@@ -110,7 +110,7 @@ fn push_line(
     Ok(is_inside)
 }
 
-/// Adds a part of a line, if it has any byte.
+/// Adds a part of a line, if it isn't empty.
 fn push_text(
     pieces: &mut Vec<Piece>,
     line: &Line,
@@ -128,7 +128,7 @@ fn push_text(
     Ok(())
 }
 
-/// Where a mark begins that stands between two places.
+/// The index of a mark between two indices.
 fn find(bytes: &[u8], from: usize, end: usize, mark: &[u8]) -> Option<usize>
     ensures { IfSome result (λ at. from ≤ at) }
 {
@@ -141,7 +141,7 @@ fn find(bytes: &[u8], from: usize, end: usize, mark: &[u8]) -> Option<usize>
     None
 }
 
-/// Whether pieces have anything but white space.
+/// Whether pieces contain anything except white space.
 pub(crate) fn has_text(bytes: &[u8], pieces: &[Piece]) -> bool {
     pieces.iter().any(|piece| match piece {
         Piece::Text { start, end, .. } => !is_white(bytes.get(*start..*end).unwrap_or(b"")),
@@ -157,7 +157,7 @@ fn is_white(text: &[u8]) -> bool {
     }
 }
 
-/// Writes a block of HTML of these pieces, of which the first begins at a place.
+/// Writes a block of HTML of these pieces, the first of which begins at an index.
 pub(crate) fn write_pieces(
     writer: &mut Writer,
     pieces: &[Piece],

@@ -1,4 +1,4 @@
-//! Headings, fenced code, math and front matter as events.
+//! Writes headings, fenced code, math and front matter as events.
 
 use crate::code::write_chunks;
 use crate::events::Emission;
@@ -81,7 +81,7 @@ impl<'a> Emission<'a> {
     }
 }
 
-/// Where lines begin, and where the text of the last one ends.
+/// The beginning of lines, and the end of the text of the last one.
 pub(crate) fn ends_of(lines: &[Line]) -> (usize, usize) {
     match (lines.first(), lines.last()) {
         (Some(first), Some(last)) => (first.start, last.end),

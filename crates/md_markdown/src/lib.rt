@@ -1,4 +1,4 @@
-//! Markdown to safe HTML.
+//! Compiles Markdown to safe HTML.
 #![tactic(auto)]
 
 mod code;

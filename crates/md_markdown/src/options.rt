@@ -1,4 +1,4 @@
-//! How Markdown is read, and how its HTML is made.
+//! The options for reading Markdown and printing its HTML.
 
 ghost use Rattle.std.specs.Prelude.{◌≡◌, ◌≢◌, ◌↔◌, IfOk, IsTrue};
 ghost use Rattle.md_safe.specs.Options.{KeepsImages};
@@ -8,46 +8,46 @@ use md_inlines::InlineOptions;
 use md_text::{CompileOptions, LineEnding};
 use std::alloc::{AllocError, Global};
 
-/// What becomes of HTML in a document. Whatever is chosen, none of it is HTML in the text.
+/// How to print HTML in a document. Whatever is chosen, none of it is HTML in the text.
 #[derive(Clone, Copy, Debug, PartialEq, Eq)]
 pub enum DocumentHtml {
     /// It is printed as text: `<b>` as `&lt;b&gt;`.
     Text,
-    /// It is left out. What stands between two tags stays.
+    /// It is left out. The text between two tags stays.
     LeftOut,
     /// Comments are left out, and all else is printed as text.
     WithoutComments,
 }
 
-/// How Markdown is read, and how its HTML is made. Whatever is chosen, the text is safe.
+/// The options for reading Markdown and printing its HTML. Whatever is chosen, the text is safe.
 #[derive(Debug, Drop)]
 pub struct MarkdownOptions {
-    /// Read math: `$a$`, `$$a$$`, and blocks between lines of `$$`. Default: off.
+    /// Reads math: `$a$`, `$$a$$`, and blocks between lines of `$$`. Default: off.
     pub math: bool,
-    /// Read front matter between lines of `---`, which prints nothing. Default: off.
+    /// Reads front matter between lines of `---`, which prints nothing. Default: off.
     pub front_matter: bool,
-    /// Read footnotes: `[^a]` and `[^a]: text`. Default: on.
+    /// Reads footnotes: `[^a]` and `[^a]: text`. Default: on.
     pub footnotes: bool,
-    /// Read tables. Default: on.
+    /// Reads tables. Default: on.
     pub tables: bool,
-    /// Make links of bare URLs (`https://..`, `www...`) and of addresses. Default: on.
+    /// Reads bare URLs (`https://..`, `www...`) and addresses as links. Default: on.
     pub bare_links: bool,
-    /// Begin a new line where the document does: `<br />` for its soft breaks. Default: off.
+    /// Begins a new line where the document does: `<br />` for its soft breaks. Default: off.
     pub hard_breaks: bool,
-    /// What becomes of HTML in the document. Default: it is text.
+    /// How to print HTML in the document. Default: as text.
     pub html: DocumentHtml,
-    /// The URL against which those of links and images are read, as RFC 3986 has it. An empty URL
-    /// stays as it is, and so does one that begins with `#`.
+    /// The base against which the URLs of links and images are resolved, as in RFC 3986. An empty
+    /// URL stays unchanged, and so does one that begins with `#`.
     pub base: Option<String>,
-    /// What the ids of footnotes begin with; else `user-content-`. Each document of a page needs
+    /// The prefix of the ids of footnotes; else `user-content-`. Each document of a page needs
     /// another one.
     pub footnote_prefix: Option<String>,
-    /// Make the ids of footnotes of their numbers: then no two ids of the text are equal. Default:
-    /// off.
+    /// Derives the ids of footnotes from their numbers: then no two ids of the text are equal.
+    /// Default: off.
     pub number_ids: bool,
     /// The heading of the footnotes; else `Footnotes`.
     pub footnote_label: Option<String>,
-    /// The `aria-label` of a way back from a footnote; else `Back to content`.
+    /// The `aria-label` of a backreference from a footnote; else `Back to content`.
     pub footnote_back_label: Option<String>,
 }
 
@@ -71,7 +71,7 @@ impl Default for MarkdownOptions {
 }
 
 impl MarkdownOptions {
-    /// What the block pass reads.
+    /// The options of the block pass.
     pub(crate) fn for_blocks(&self) -> BlockOptions
         ensures math { result.math ≡ self.now.math }
         ensures front_matter { result.front_matter ≡ self.now.front_matter }
@@ -86,7 +86,7 @@ impl MarkdownOptions {
         }
     }
 
-    /// What the inline pass reads.
+    /// The options of the inline pass.
     pub(crate) fn for_inlines(&self) -> InlineOptions
         ensures math { result.math ≡ self.now.math }
         ensures footnotes { result.footnotes ≡ self.now.footnotes }
@@ -105,7 +105,7 @@ impl MarkdownOptions {
         }
     }
 
-    /// The compiler's options for these, which are safe.
+    /// The corresponding options of the compiler, which are safe.
     pub(crate) fn for_compiler(&self, alloc: Global) -> Result<CompileOptions, AllocError>
         ensures safe { IfOk result KeepsImages }
         ensures ids { IfOk result
@@ -131,7 +131,7 @@ impl MarkdownOptions {
     }
 }
 
-/// A text again, where there is one.
+/// A copy of a text, if there is one.
 fn copy_text(alloc: Global, text: &Option<String>) -> Result<Option<String>, AllocError> {
     match text {
         Some(text) => Ok(Some(String::from_str(alloc, text.as_str())?)),

@@ -30,7 +30,7 @@ pub(crate) struct Within<'a> {
 ///
 /// # Errors
 ///
-/// Only where memory runs out.
+/// Returns an error only if memory runs out.
 pub(crate) fn compile_plain(
     alloc: Global,
     text: &str,
@@ -54,12 +54,12 @@ pub(crate) fn compile_plain(
     }
 }
 
-/// The same where it is within limits.
+/// The same if it is within limits.
 ///
 /// # Errors
 ///
-/// [`MarkdownWithinError::TooMuch`] where the text is more work than the limit,
-/// [`MarkdownWithinError::TooLong`] where it is longer than the limit, or that memory runs out.
+/// [`MarkdownWithinError::TooMuch`] if the work of the text exceeds the limit,
+/// [`MarkdownWithinError::TooLong`] if its length does, or that memory runs out.
 pub(crate) fn compile_plain_within(
     alloc: Global,
     text: &str,
@@ -91,7 +91,7 @@ pub(crate) fn compile_plain_within(
     }
 }
 
-/// The events of one paragraph, whose text is a document of so many bytes.
+/// The events of one paragraph, whose text is a document of `size` bytes.
 pub(crate) fn plain_events(size: usize) -> [Event; 4]
     ensures { result ≡ flatten (plain size) }
 {
@@ -114,7 +114,7 @@ fn event(kind: Kind, name: Name, point: Point) -> Event
     Event { kind, name, point }
 }
 
-/// The point behind so many bytes.
+/// The point after `index` bytes.
 fn point_at(index: usize) -> Point
     ensures { result ≡ at index }
 {

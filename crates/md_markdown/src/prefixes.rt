@@ -1,4 +1,4 @@
-//! What stands before the first block in an item or in a footnote.
+//! Writes the events before the first block in an item or in a footnote.
 
 use md_base::Name;
 use md_blocks::Item;
@@ -6,7 +6,7 @@ use md_inlines::Writer;
 use md_lines::Span;
 use std::alloc::AllocError;
 
-/// Enters an item, whose number counts where it is its list's first.
+/// Enters an item, whose number is used if it is its list's first.
 pub(crate) fn write_item_start(
     writer: &mut Writer,
     item: &Item,
@@ -26,7 +26,7 @@ pub(crate) fn write_item_start(
     }
 }
 
-/// Writes a box, `[ ]` or `[x]`, and the space behind it.
+/// Writes a box, `[ ]` or `[x]`, and the space after it.
 fn write_task(writer: &mut Writer, start: usize, is_checked: bool) -> Result<(), AllocError> {
     let after = start.saturating_add(3);
     writer.enter(Name::GfmTaskListItemCheck, start)?;

@@ -35,8 +35,8 @@ pub(crate) fn write_table(
     writer.exit(Name::GfmTable, end)
 }
 
-/// Where the cells of a row begin and end: behind a bar at its beginning, without the spaces at its
-/// end.
+/// The beginning and the end of the cells of a row: after a bar at its beginning, without the
+/// spaces at its end.
 fn cells_of(bytes: &[u8], line: &Line) -> (usize, usize) {
     let end = trim_end(bytes, line.start, line.end);
     let has_bar = line.start < end && matches!(bytes.get(line.start), Some(b'|'));
@@ -48,7 +48,7 @@ fn cells_of(bytes: &[u8], line: &Line) -> (usize, usize) {
     (start, end)
 }
 
-/// Writes a row. Cells past the last column are left out.
+/// Writes a row. Cells beyond the last column are left out.
 fn write_row(
     writer: &mut Writer,
     inlines: &mut Inlines,
@@ -69,7 +69,7 @@ fn write_row(
     writer.exit(Name::GfmTableRow, line.end)
 }
 
-/// Writes a cell between two places.
+/// Writes a cell between two indices.
 fn write_cell(
     writer: &mut Writer,
     inlines: &mut Inlines,
@@ -105,8 +105,8 @@ fn write_delimiters(writer: &mut Writer, bytes: &[u8], line: &Line) -> Result<()
     writer.exit(Name::GfmTableDelimiterRow, line.end)
 }
 
-/// Writes how a column is aligned: its first child and its last one tell, of which one is a marker
-/// where the other isn't.
+/// Writes a column's alignment: it depends on the first and the last child, and if only one of them
+/// is a marker, something else takes the place of the other.
 fn write_delimiter(
     writer: &mut Writer,
     bytes: &[u8],

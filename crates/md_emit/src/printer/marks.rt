@@ -1,4 +1,4 @@
-//! What a node that ends leaves behind.
+//! The effects of a node that ends on the nodes after it.
 
 ghost use Rattle.std.specs.Prelude.{◌≡◌, Some, None, true};
 ghost use Rattle.std.specs.Prelude.{false, if◌then◌else◌};
@@ -10,7 +10,7 @@ use md_base::Name;
 use md_base::name_tests::is_transparent;
 
 impl<'a> Printer<'a> {
-    /// The next line ending is slurped, outside definitions.
+    /// Slurps the next line ending, outside definitions.
     #[inline(always)]
     pub(crate) fn slurp(&mut self)
         ensures { self.new ≡ record self.old {
@@ -22,7 +22,7 @@ impl<'a> Printer<'a> {
         }
     }
 
-    /// The next line ending isn't slurped, outside definitions.
+    /// Doesn't slurp the next line ending, outside definitions.
     #[inline(always)]
     pub(crate) fn stop_slurping(&mut self)
         ensures { self.new ≡ record self.old {
@@ -34,7 +34,7 @@ impl<'a> Printer<'a> {
         }
     }
 
-    /// A node has been entered.
+    /// Records that a node has been entered.
     #[inline(always)]
     pub(crate) fn enters(&mut self)
         ensures { self.new ≡ record self.old { ended = None; marker = 38 } }
@@ -43,7 +43,7 @@ impl<'a> Printer<'a> {
         self.marker = b'&';
     }
 
-    /// A node has ended.
+    /// Records that a node has ended.
     #[inline(always)]
     pub(crate) fn ends(&mut self, name: Name)
         requires solid { is_transparent name ≡ false }
@@ -54,7 +54,7 @@ impl<'a> Printer<'a> {
         self.marker = b'&';
     }
 
-    /// A node has ended after which the next line ending is slurped, outside definitions.
+    /// Records the end of a node after which the next line ending is slurped, outside definitions.
     #[inline(always)]
     pub(crate) fn ends_slurping(&mut self, name: Name)
         requires solid { is_transparent name ≡ false }
@@ -69,7 +69,8 @@ impl<'a> Printer<'a> {
         self.ends(name);
     }
 
-    /// A node has ended after which the next line ending isn't slurped, outside definitions.
+    /// Records the end of a node after which the next line ending isn't slurped, outside
+    /// definitions.
     #[inline(always)]
     pub(crate) fn ends_unslurped(&mut self, name: Name)
         requires solid { is_transparent name ≡ false }
@@ -84,7 +85,7 @@ impl<'a> Printer<'a> {
         self.ends(name);
     }
 
-    /// No resource comes after a label.
+    /// Records that no resource follows a label.
     #[inline(always)]
     pub(crate) fn forget_resource(&mut self)
         ensures { self.new ≡ record self.old { resource = None } }

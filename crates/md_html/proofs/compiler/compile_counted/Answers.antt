@@ -1,4 +1,4 @@
--- The events that were checked are those handed in.
+-- The checked events are those of the arguments.
 use Rattle.std.proofs.Common.{ap, sym, ◌∙◌}
 use Rattle.md_tree.specs.Grammar.{Handed}
 use Rattle.md_meaning.specs.Meaning.{meaning}

@@ -1,4 +1,4 @@
--- Each definition leads where the steps over its own events say.
+-- The target of each definition is the one that the steps over its own events give.
 use Rattle.std.proofs.Common.{◌++◌, ◌∷◌, [], ℕ, List, ap, ◌∙◌}
 use Rattle.std.proofs.lemmas.Option.{slice_get-get_or}
 use Rattle.md_meaning.specs.Meaning.At.{Target}

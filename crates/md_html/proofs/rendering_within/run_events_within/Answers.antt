@@ -1,4 +1,4 @@
--- Each turn goes on from where the one before it stands; what is too long where nothing is
+-- Each iteration continues where the previous one ended; a text that is too long while nothing is
 -- captured stays so.
 use Rattle.std.proofs.Common.{rules, ◌≤◌, length, ap}
 use Rattle.md_html.specs.Stepping.{Goes}

@@ -1,4 +1,4 @@
--- Before each event: the lengths so far and those to come are the lengths of all calls; no more
+-- Before each event, the lengths so far and those of the rest are the lengths of all calls; no more
 -- calls are open than events were read.
 use Rattle.std.proofs.Common.{◌≡◌, ◌+◌, ◌-◌, ◌^◌, ◌≤◌, length}
 use Rattle.md_html.specs.Work.{covered_from, covered}

@@ -1,4 +1,4 @@
--- Where there are no definitions, nothing refers to one.
+-- If there are no definitions, nothing refers to one.
 use Rattle.std.proofs.Common.{◌≡◌, ℕ, List, length, rules, ap, sym, ◌∙◌}
 use Rattle.std.proofs.lemmas.List.{nil_from_length}
 use Rattle.md_html.specs.Counting.{capped}

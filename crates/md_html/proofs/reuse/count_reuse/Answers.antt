@@ -1,4 +1,4 @@
--- Where there are no footnote calls, only references count.
+-- If there are no footnote calls, only references count.
 use Rattle.std.proofs.Common.{◌≡◌, rules, ap, sym, ◌∙◌}
 use Rattle.md_html.specs.Reuse.{entries, is_call}
 use Rattle.md_html.specs.Counting.{capped}

@@ -1,5 +1,5 @@
--- At each turn: the events gone over and those still to come before the definition are those before
--- it of all.
+-- In each iteration, the events so far and the remaining ones before the definition are all events
+-- before it.
 use Rattle.std.proofs.Common.{◌≡◌, ◌+◌, ◌≤◌, length}
 use Rattle.md_html.specs.Work.{before_definition}
 use Rattle.md_html.proofs.reuse.events_before_definition.Given as goal

@@ -1,5 +1,5 @@
--- At each turn: what is read and what is still to be read before the definition are what is read
--- before it of all; no more nodes are open than events gone over.
+-- In each iteration, the length so far and that of the rest before the definition are the whole
+-- length before it; no more nodes are open than events were visited.
 use Rattle.std.proofs.Common.{◌≡◌, ◌+◌, ◌-◌, ◌^◌, ◌≤◌, length}
 use Rattle.md_html.specs.Work.{before_definition, read_length}
 use Rattle.md_html.specs.Counting.{capped}

@@ -1,4 +1,4 @@
--- Elsewhere no mention leads to a definition.
+-- Elsewhere no mention refers to a definition.
 use Rattle.std.proofs.Common.{ap, sym, ◌∙◌}
 use Rattle.md_html.specs.Reuse.{length_at, definition_lengths}
 use Rattle.md_html.specs.Counting.{capped}

@@ -1,4 +1,4 @@
--- At each turn: what is counted and what is still to come are what is counted of all.
+-- In each iteration, the count so far and that of the rest are the whole count.
 use Rattle.std.proofs.Common.{◌≡◌, ◌+◌, ◌-◌, ◌^◌, ◌≤◌, length}
 use Rattle.std.specs.Prelude.{drop}
 use Rattle.md_base.specs.Tree.{Forest, flatten}

@@ -1,4 +1,4 @@
--- A definition is passed over, and another node is entered.
+-- A definition is skipped, and another node is entered.
 use Rattle.std.proofs.Common.{◌≡◌, true, sym, ap, ◌∙◌}
 use Rattle.std.specs.Prelude.{if◌then◌else◌}
 use Rattle.md_shape.specs.Steps.{entered, passed, is_passed}

@@ -1,5 +1,5 @@
--- What is told of the rest is what is said of the document.
--- By itself the search does no induction over the document.
+-- The result for the rest is the one that is defined for the document. The search alone does no
+-- induction over the document.
 use Rattle.std.proofs.Common.{sym, ◌∙◌}
 use Rattle.std.proofs.lemmas.List.{nil_from_length}
 use Rattle.md_html.proofs.Nesting.{found, not_found}

@@ -1,5 +1,5 @@
--- At each turn: what is told of the rest is what is told of all, and there are no more images than
--- events gone over.
+-- In each iteration, the result for the rest is that for all events, and the number of images is at
+-- most that of the events so far.
 use Rattle.std.proofs.Common.{◌≡◌, ◌+◌, ◌≤◌, false, length}
 use Rattle.md_html.specs.Nesting.{nests}
 use Rattle.md_html.proofs.unnested.has_nested_link.Given as goal

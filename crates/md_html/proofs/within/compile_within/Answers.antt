@@ -1,5 +1,5 @@
--- The events that were checked are those handed in, so a text is what their document means, and
--- what holds of each meaning holds of it.
+-- The checked events are those of the arguments, so a text is the meaning of their document, and
+-- facts about each meaning hold for it.
 use Rattle.std.proofs.Common.{rules, ◌≡◌, ◌≤◌, ◌<◌, ◌^◌, inr, length, string_bytes, subst, arith}
 use Rattle.std.proofs.Common.{sym, ◌∙◌}
 use Rattle.std.proofs.lemmas.Bool.{ltb-true, ltb-false}

@@ -1,5 +1,5 @@
--- At each turn: what is counted and what is still to come are what is counted of all; no count
--- passes the events gone over.
+-- In each iteration, the counts so far and those of the rest are the whole counts; no count exceeds
+-- the number of events so far.
 use Rattle.std.proofs.Common.{◌≡◌, ◌+◌, ◌-◌, ◌^◌, ◌≤◌, max, length}
 use Rattle.md_html.specs.Work.{read_length, cells}
 use Rattle.md_html.specs.Reuse.{entries, is_call}

@@ -1,4 +1,4 @@
--- Which text it is goes by whether the events are those of a document that is shown.
+-- The text depends on whether the events are those of a document that is shown.
 use Rattle.std.proofs.Common.{◌≤◌, ◌<◌, subst}
 use Rattle.std.proofs.lemmas.Result.{IfOk-weaker}
 use Rattle.md_markdown.specs.Depth.{most_depth}

@@ -1,4 +1,4 @@
--- A text over what was read is made of the document.
+-- A text over the parsed bytes is that of the document.
 use Rattle.std.proofs.Common.{◌++◌, [], inr, inl, is_some, refl, sym, ap, ◌∙◌}
 use Rattle.std.proofs.lemmas.List.{append-nil}
 use Rattle.std.proofs.lemmas.Result.{IfOk-weaker}

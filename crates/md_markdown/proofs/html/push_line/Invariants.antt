@@ -1,4 +1,4 @@
--- Each turn goes on in the line.
+-- Each iteration moves forward in the line.
 use Rattle.std.proofs.Common.{◌-◌}
 use Rattle.md_markdown.proofs.html.push_line.Given as goal
 

@@ -1,5 +1,5 @@
--- The search that proves it, and no other: a wrong body is refused by it in a second, where all
--- that is tried without an answer takes ten.
+-- The one search that proves it: it refuses a mutant in a second; the default search, with no
+-- answer given, takes ten.
 use Rattle.std.proofs.Common.{rules}
 use Rattle.md_emit.proofs.printer.Printer.count_call.Goals as goal
 

@@ -1,4 +1,4 @@
--- What is told is what the check found.
+-- The facts are those that the check found.
 use Rattle.std.proofs.Common.{◌∷◌, ◌++◌, [], ℕ, List, Bool, true, false, not}
 use Rattle.std.proofs.Common.{None, ap, ◌∙◌}
 use Rattle.std.specs.Prelude.{codes}

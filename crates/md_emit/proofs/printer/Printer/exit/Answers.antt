@@ -1,4 +1,4 @@
--- What is told is what the check found.
+-- The facts are those that the check found.
 use Rattle.std.proofs.Common.{◌∷◌, ◌++◌, [], ℕ, List, Bool, false, Some}
 use Rattle.std.proofs.Common.{ap, sym, ◌∙◌, rules}
 use Rattle.std.specs.Prelude.{codes, if◌then◌else◌, ◌&&◌}

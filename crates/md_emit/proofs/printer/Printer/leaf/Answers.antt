@@ -1,4 +1,4 @@
--- What is told of a blank line's end is whether it is the last.
+-- The fact about a blank line's end is whether it is the last.
 use Rattle.std.proofs.Common.{rules, ◌∷◌, [], Bool, false, Some, ap, ◌∙◌}
 use Rattle.std.specs.Prelude.{if◌then◌else◌}
 use Rattle.md_base.specs.declared.event.Name.TheVariants as names

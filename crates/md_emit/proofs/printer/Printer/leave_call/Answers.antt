@@ -1,4 +1,4 @@
--- It is counted under the identifier that is told.
+-- The call is counted under the identifier of the facts.
 use Rattle.std.proofs.Common.{◌∷◌, ◌++◌, [], ℕ, List, not, Some}
 use Rattle.std.proofs.Common.{refl, ap, sym, ◌∙◌}
 use Rattle.std.specs.Prelude.{string_bytes}

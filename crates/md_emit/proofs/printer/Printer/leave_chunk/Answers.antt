@@ -1,4 +1,4 @@
--- The line that is told.
+-- The line of the facts.
 use Rattle.std.proofs.Common.{◌++◌, [], true, Some}
 use Rattle.std.proofs.Common.{ap, ◌∙◌}
 use Rattle.std.specs.Prelude.{unwrap_or}

@@ -1,4 +1,4 @@
--- It is kept under the identifier that is told.
+-- The footnote is stored under the identifier of the facts.
 use Rattle.std.proofs.Common.{◌≡◌, [], ℕ, List, Some}
 use Rattle.std.proofs.Common.{refl, ap, ◌∙◌}
 use Rattle.std.specs.Prelude.{string_bytes}

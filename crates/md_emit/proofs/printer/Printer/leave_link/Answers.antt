@@ -1,4 +1,4 @@
--- It leads where its resource says, or its definition.
+-- The target is that of its resource, or of its definition.
 use Rattle.std.proofs.Common.{◌≡◌, ◌++◌, [], ℕ, List, false, Some}
 use Rattle.std.proofs.Common.{refl, ap, sym, ◌∙◌}
 use Rattle.std.specs.Prelude.{codes, if◌then◌else◌}

@@ -1,4 +1,4 @@
--- The underline that is told.
+-- The underline of the facts.
 use Rattle.std.proofs.Common.{◌++◌, Bool, Some}
 use Rattle.std.proofs.Common.{refl, ap, sym, ◌∙◌}
 use Rattle.std.specs.Prelude.{codes, if◌then◌else◌}

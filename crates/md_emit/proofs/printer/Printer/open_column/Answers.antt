@@ -1,4 +1,4 @@
--- A tag at once is its parts, one after another.
+-- A tag is the sequence of its parts.
 use Rattle.std.proofs.Common.{◌∷◌, [], ap, ◌∙◌}
 use Rattle.std.specs.Prelude.{codes, if◌then◌else◌}
 use Rattle.md_meaning.specs.Meaning.Layout.{Needed, laid_after, on_own_line}

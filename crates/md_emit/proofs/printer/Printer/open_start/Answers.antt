@@ -1,4 +1,4 @@
--- The number is that of the list that is told.
+-- The number is that of the list, by the facts.
 use Rattle.std.proofs.Common.{◌∷◌, [], ℕ, List, not, Option}
 use Rattle.std.proofs.Common.{ap, sym, ◌∙◌}
 use Rattle.std.specs.Prelude.{codes}

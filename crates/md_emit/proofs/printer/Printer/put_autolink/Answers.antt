@@ -1,4 +1,4 @@
--- The text that is told.
+-- The text of the facts.
 use Rattle.std.proofs.Common.{rules, ◌++◌, ℕ, List, true}
 use Rattle.std.proofs.Common.{None, ap, sym, ◌∙◌}
 use Rattle.std.specs.Prelude.{if◌then◌else◌}

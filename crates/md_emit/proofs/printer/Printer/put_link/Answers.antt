@@ -1,5 +1,5 @@
--- The way that proves it, and no other: a wrong body is refused by it sooner than where all that
--- is known is tried.
+-- The one search that proves it: it refuses a mutant sooner than a search over all known facts
+-- does.
 use Rattle.std.proofs.Common.{arith}
 use Rattle.std.proofs.lemmas.Grind.{common_steps}
 use Rattle.md_emit.proofs.printer.Printer.put_link.Goals as goal
