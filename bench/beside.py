@@ -3,8 +3,9 @@
 
     python3 bench/beside.py PROGRAM [--picture FILE] [--runs R] [--shapes NAME,..|none]
 
-PROGRAM is the built `mdevents`. The original is built from a folder beside the clone; if the folder
-is missing, this says so, and `bench/bench.py` measures the program alone. valgrind, if it is
+PROGRAM is the built `mdevents`. The folder that BIVDRAZO_ORIGINAL names has `compare.py`, which
+builds the original; without it this says so, and `bench/bench.py` measures the program alone.
+valgrind, if it is
 installed, counts instructions, which are steady on a busy machine. The realistic script is that of
 the folder's examples, in sequence; `reader` is the same script with an invalid line before its
 document, `compile` the rest. Times are the minimum of some runs, in ms; the runs alternate between
@@ -20,17 +21,17 @@ import sys
 import tempfile
 
 TOP = os.path.dirname(os.path.dirname(os.path.abspath(__file__)))
-SHARED = os.path.join(os.path.dirname(TOP), "shared", "speed")
+ORIGINAL = os.environ.get("BIVDRAZO_ORIGINAL", "")
 SIZES = (5000, 10000, 20000, 40000)
 SLOW = 3.0  # seconds; after a longer run no greater size of that shape is run
 CHECK = "md_tree::grammar::read_events"  # the function of the program that reads all events
 
 
 def beside():
-    """The module that builds the original and measures, or None if it isn't beside the clone."""
-    if not os.path.isfile(os.path.join(SHARED, "compare.py")):
+    """The module that builds the original and measures, or None if its folder isn't known."""
+    if not os.path.isfile(os.path.join(ORIGINAL, "compare.py")):
         return None
-    sys.path.insert(0, SHARED)
+    sys.path.insert(0, ORIGINAL)
     import compare
 
     return compare
@@ -217,7 +218,7 @@ def main():
     given = parser.parse_args()
     compare = beside()
     if compare is None:
-        print(f"The original isn't beside this clone ({SHARED} is missing), so there is nothing to "
+        print(f"The original isn't beside this clone ({ORIGINAL} is missing), so there is nothing to "
               "compare with.")
         print("bench/bench.py measures the program alone.")
         return 0

@@ -82,11 +82,11 @@ def of_python(text):
     before = tokenize.NEWLINE
     for token in tokenize.generate_tokens(io.StringIO(text).readline):
         is_text = token.type == tokenize.STRING and before in (
-            tokenize.NEWLINE, tokenize.INDENT, tokenize.NL, tokenize.DEDENT)
+            tokenize.NEWLINE, tokenize.INDENT, tokenize.DEDENT)
         if token.type == tokenize.COMMENT or is_text:
             for at, line in enumerate(token.string.strip("#\"").split("\n"), token.start[0] - 1):
                 lines[at] = line.strip()
-        if token.type not in (tokenize.COMMENT, tokenize.ENCODING):
+        if token.type not in (tokenize.COMMENT, tokenize.NL, tokenize.ENCODING):
             before = token.type
     return SPAN.sub(lambda span: "X" + blank(span), "\n".join(lines))
 

@@ -99,8 +99,8 @@ bivdrazo_answer bivdrazo_compile_attributed(const bivdrazo_event *events, size_t
 /*
  * As bivdrazo_compile(), under safe options and without a link in a link: then the HTML Standard's
  * tree construction builds the tree of the text's reading. Otherwise the status is
- * BIVDRAZO_UNSAFE or BIVDRAZO_NESTED. Links are also automatic ones that are none by letters alone,
- * and calls of footnotes; a link in an image counts as none.
+ * BIVDRAZO_UNSAFE or BIVDRAZO_NESTED. Autolinks, except literal ones, and calls of footnotes are
+ * links too; a link in an image counts as none.
  */
 bivdrazo_answer bivdrazo_compile_unnested(const bivdrazo_event *events, size_t events_length,
                                           const uint8_t *bytes, size_t bytes_length,

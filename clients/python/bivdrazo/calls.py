@@ -160,8 +160,8 @@ def compile_unnested(
     >>> compile_unnested([Event.enter(Name.DATA, 0), Event.exit(Name.DATA, 6)], b"Hi <b>")
     'Hi &lt;b&gt;'
 
-    Links are also automatic ones that are none by letters alone, and footnote calls; a link in an
-    image doesn't count.
+    Autolinks, except literal ones, and calls of footnotes are links too; a link in an image doesn't
+    count.
 
     Raises the same errors as compile, Nested for a link in a link, and ValueError if the options
     aren't safe.

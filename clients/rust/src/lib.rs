@@ -94,8 +94,8 @@ pub fn compile(
 /// Compiles events as [`compile`] does, under safe options and without a link in a link: then the
 /// HTML Standard's tree construction builds the tree of the text's reading.
 ///
-/// Links are also automatic ones that are none by letters alone, and footnote calls; a link in an
-/// image doesn't count.
+/// Autolinks, except literal ones, and calls of footnotes are links too; a link in an image doesn't
+/// count.
 ///
 /// # Errors
 ///
