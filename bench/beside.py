@@ -5,12 +5,11 @@
 
 PROGRAM is the built `mdevents`. The folder that BIVDRAZO_ORIGINAL names has `compare.py`, which
 builds the original; without it this says so, and `bench/bench.py` measures the program alone.
-valgrind, if it is
-installed, counts instructions, which are steady on a busy machine. The realistic script is that of
-the folder's examples, in sequence; `reader` is the same script with an invalid line before its
-document, `compile` the rest. Times are the minimum of some runs, in ms; the runs alternate between
-both scripts and both programs. The picture shows the times of the shapes, and is drawn if
-matplotlib is installed.
+valgrind, if it is installed, counts instructions, which are steady on a busy machine. The realistic
+script is that of the folder's examples, in sequence; `reader` is the same script with an invalid
+line before its document, `compile` the rest. Times are the minimum of some runs, in ms; the runs
+alternate between both scripts and both programs. The picture shows the times of the shapes, and is
+drawn if matplotlib is installed.
 """
 
 import argparse
@@ -218,8 +217,8 @@ def main():
     given = parser.parse_args()
     compare = beside()
     if compare is None:
-        print(f"The original isn't beside this clone ({ORIGINAL} is missing), so there is nothing to "
-              "compare with.")
+        print("BIVDRAZO_ORIGINAL names no folder with the original, so there is nothing to compare "
+              "with.")
         print("bench/bench.py measures the program alone.")
         return 0
     commands = [[os.path.abspath(given.program)], [compare.original_path()]]
