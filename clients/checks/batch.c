@@ -238,7 +238,7 @@ static void write_changed(const struct document *document, uint64_t *state) {
         buffer = memory(wanted + GUARD);
         answer = compile_guarded(document, &options, wanted, buffer);
         if (answer.status != BIVDRAZO_OK || answer.length != wanted)
-            stop("a length that was told isn't the text's");
+            stop("a reported length isn't the text's");
     }
     write_frame(&answer, buffer);
     free(buffer);

@@ -45,7 +45,7 @@ def rows():
         ("footnotes in the order of their calls", {},
          [paragraph(call("b"), call("a")), note("a", "x"), note("b", "y")]),
         ("ten footnotes with ten calls each", {}, ten_with_ten_calls()),
-        ("call in an image (It is counted and prints nothing, so a way back leads nowhere)", {},
+        ("call in an image (It is counted and prints nothing: a backreference has no target)", {},
          [paragraph(image([data("i"), call("b")], "u"), call("c"), call("b")), note("c", "y"),
           note("b", "x")]),
         ("call in a dropped cell", {}, dropped_cell()),

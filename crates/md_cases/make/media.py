@@ -157,7 +157,7 @@ def rows():
         ("image without a protocol", "", [image(a, "b?c:d")]),
         ("image in a link", "What lets an image lead anywhere lets no link do so",
          [link([image(a, "data:x")], "data:y")]),
-        ("link in an image", "In an image a link is its label, and leads nowhere",
+        ("link in an image", "In an image a link is its label, and has no target",
          [image([link(a, "data:y")], "data:x")]),
         ("image in an image", "", [image([image(a, "data:y")], "data:x")]),
         ("link with markup", "The label, the destination and the title of a link are no HTML",
