@@ -41,8 +41,7 @@ HEAD = 300
 def kept():
     """The paths that git tracks."""
     listed = subprocess.check_output(["git", "-C", ROOT, "ls-files", "-z"], text=True)
-    paths = (path for path in listed.split("\0") if (ROOT / path).is_file())
-    return [path for path in paths if not (ROOT / path).is_symlink()]
+    return [path for path in listed.split("\0") if (ROOT / path).is_file()]
 
 
 def parameters(source, place):

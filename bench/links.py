@@ -3,8 +3,7 @@
 
     bench/links.py
 
-A page is a `.md` file in git; a symbolic link isn't a page of its own, but must point to one. In
-each page:
+A page is a `.md` file in git. In each page:
 
 - A link points to an existing file or folder, and its `#` to a heading.
 - Words quoted after a link (`[CALLS](CALLS.md), "Within limits"`) begin a heading or an item there.
@@ -193,11 +192,8 @@ def broken(page):
 
 
 def main():
-    found = sorted(path for path in files() if path.endswith(".md"))
-    pages = [path for path in found if not (ROOT / path).is_symlink()]
+    pages = sorted(path for path in files() if path.endswith(".md"))
     faults = [f"{page}: {fault}" for page in pages for fault in broken(page)]
-    faults += [f"{path}: it points to no page" for path in found
-               if (ROOT / path).is_symlink() and not (ROOT / path).is_file()]
     print("\n".join(faults) if faults else f"links: {len(pages)} pages")
     return bool(faults)
 

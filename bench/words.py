@@ -126,8 +126,7 @@ def listed(paths):
     done = subprocess.run(["git", "ls-files", "-z", "--", *paths], cwd=ROOT, check=True,
                           capture_output=True, text=True)
     return [path for path in done.stdout.split("\0")
-            if path and path != PAGE and not path.startswith(FIXED)
-            and not (ROOT / path).is_symlink()]
+            if path and path != PAGE and not path.startswith(FIXED)]
 
 
 def main():
