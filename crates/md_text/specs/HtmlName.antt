@@ -1,6 +1,6 @@
 -- The names of tags and attributes in the HTML grammar.
 use Rattle.md_base.specs.Identifier.{is_nonempty}
-use Rattle.std.proofs.Common.{ℕ, ◌==◌, Bool, ◌&&◌, ◌||◌, List}
+use Rattle.std.specs.Prelude.{ℕ, ◌==◌, Bool, ◌&&◌, ◌||◌, List}
 use Rattle.std.specs.List.{list_all}
 use Rattle.md_text.specs.Bytes.{is_between}
 
