@@ -1,6 +1,6 @@
 -- One more event is read: the walk, the pass and the first line ending match all events so far, or
 -- the event stops the walk and is refused.
-use Rattle.std.proofs.Common.{◌≡◌, ℕ, suc, add-one, List, Option, Some, sym, ap, ◌∙◌, subst, take}
+use Rattle.std.proofs.Common.{◌≡◌, ℕ, suc, add-one, List, Some, sym, ap, ◌∙◌, subst, take}
 use Rattle.std.specs.Prelude.{slice_get}
 use Rattle.std.proofs.lemmas.Option.{slice_get_within, get_or_from_slice_get}
 use Rattle.md_base.specs.declared.event.Event.{Event}
