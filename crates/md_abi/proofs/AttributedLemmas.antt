@@ -177,7 +177,8 @@ built-from given text of (Ok made) h built = λ b. h (built b)
 built-from given text of (Err why) h built = tt
 
 -- the requested attributes are those that were read
-asked_is : (given : CText) (read : Option (List ℕ)) → text_of given ≡ Some read → asked given ≡ read
+pub asked_is : (given : CText) (read : Option (List ℕ)) → text_of given ≡ Some read →
+    asked given ≡ read
 asked_is given read stands = ap (option_and_then (λ text. text)) stands
 
 pub made_text :

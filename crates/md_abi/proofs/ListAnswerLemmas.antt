@@ -40,7 +40,7 @@ list_handed claim whole start old new answer holds listed =
 abbrev told_so : ℕ → ℕ → ℕ → Answer
 told_so status start size = record { status = status; rule = 0; index = start; length = size }
 
-abbrev moved : ℕ → Answer → Answer
+abbrev pub moved : ℕ → Answer → Answer
 moved start answer = record answer { index = start }
 
 so-plain : (status start size : ℕ) → status ≤ 1 → start ≤ size →

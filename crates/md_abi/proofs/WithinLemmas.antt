@@ -8,7 +8,7 @@ use Rattle.md_base.specs.Reference.{name_table}
 use Rattle.md_base.specs.declared.event.Event.{Event}
 use Rattle.md_base.specs.Tree.{Forest}
 use Rattle.md_tree.specs.Grammar.{Handed, handed, IsChecked}
-use Rattle.md_tree.specs.Refusal.{IsRefusal, IsOutside, IsOrder, IsMdx, IsOfNode, IsLost}
+use Rattle.md_tree.specs.Refusal.{IsRefusal}
 use Rattle.md_text.specs.declared.options.CompileOptions.{CompileOptions}
 use Rattle.md_depth.specs.Depth.{depth, height}
 use Rattle.md_depth.proofs.Nodes.{events-nest}
@@ -34,15 +34,6 @@ use Rattle.md_abi.specs.declared.within.WithinFailure.TheVariants.{Failed}
 use Rattle.md_abi.proofs.GivenLemmas.{told_of, IsRead, rendered, explained}
 
 -- ---- the failure for a compiler's error
-
-pub refusal_within : (given : Handed) (why : WithinError) → OfWithin (IsOrder given) why →
-    OfWithin (IsMdx given) why → OfWithin (IsOfNode given) why → OfWithin (IsLost given) why →
-    OfWithin (IsOutside given) why → OfWithin (IsRefusal given) why
-refusal_within given within.TooLong order mdx of_node lost outside = tt
-refusal_within given within.TooMuch order mdx of_node lost outside = tt
-refusal_within given within.TooDeep order mdx of_node lost outside = tt
-refusal_within given (within.Compile cause) order mdx of_node lost outside =
-    record { order = order; mdx = mdx; of_node = of_node; lost = lost; outside = outside }
 
 failure_within : (given : Handed) (options : CompileOptions) (limits : Limits) (why : WithinError) →
     IsTooDeepFor given.events limits.depth why → IsTooMuchFor options given limits.work why →

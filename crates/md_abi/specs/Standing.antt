@@ -1,11 +1,6 @@
 -- Lists of C's input, and what they encode.
 use Rattle.std.specs.Prelude.{◌≡◌, ℕ, List, ◌∷◌, ◌++◌, length, map, Option, Some, None}
-use Rattle.std.specs.Prelude.{option_and_then}
-
--- the result of a function for a value, if there is one
-infixl 10 ◌>>=◌
-abbrev pub ◌>>=◌ : {A B : Type 0} → Option A → (A → Option B) → Option B
-value >>= next = option_and_then next value
+pub use Rattle.md_script.specs.Line.{◌>>=◌}
 
 -- each item of a list encodes one of the other, in order
 abbrev pub StandFor : {A B : Type 0} → (A → Option B) → List A → List B → Type 0

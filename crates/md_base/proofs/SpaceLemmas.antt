@@ -61,7 +61,7 @@ is_utf8-padded before after bytes =
 
 -- ---- the result of `serialize`
 
-abbrev chosen : List ℕ → Bool → Option (List ℕ)
+abbrev pub chosen : List ℕ → Bool → Option (List ℕ)
 chosen bytes test = cond test (Some bytes) None
 
 pub padded_none : (before after : ℕ) (bytes : List ℕ) → None ≡ text_when true bytes →

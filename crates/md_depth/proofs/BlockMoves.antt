@@ -38,6 +38,7 @@ use Rattle.md_safe.proofs.Laid.{adds-weaker}
 use Rattle.md_safe.proofs.RawElements.{IsRaw, IsInfo, code_tag, math_tag}
 use Rattle.md_safe.proofs.Spot.{Setting, IsFitAt, Prints, Inside}
 use Rattle.md_safe.proofs.FlowNodes.{is_flow, setext-fits}
+use Rattle.md_safe.proofs.BlockNodes.{is_tabular}
 use Rattle.md_depth.proofs.Machine.{Leads, leads-open, leads-close, leads-append, leads-quiet}
 use Rattle.md_depth.proofs.Moves as moves
 use Rattle.md_depth.proofs.Moves.{Moves, ◌▸◌, none, needed, forced, adds-quiet, more, laid, plain}
@@ -242,16 +243,6 @@ cells-moves e n a h in_head room [] = none e n a
 cells-moves e n a h in_head room (kind ∷ kinds) =
     cell-moves e n a 0 h in_head [] (leads-quiet 0 0 [] refl) (omega (arith, room)) kind
     ▸ cells-moves e n a h in_head room kinds
-
-abbrev pub is_tabular : Name → Bool
-is_tabular name = elim name [
-  | GfmTable ↦ true
-  | GfmTableHead ↦ true
-  | GfmTableBody ↦ true
-  | GfmTableRow ↦ true
-  | GfmTableCell ↦ true
-  | _ ↦ false
-]
 
 pub table-moves : (s : Setting) (t : At) (m n : ℕ) → Room m n → (name : Name) →
     is_tabular name ≡ true → (inner : List Piece) → Below s m name inner →

@@ -18,9 +18,9 @@ use Rattle.md_meaning.specs.Meaning.At.{Footnote, Before, At, identifier_of}
 use Rattle.md_meaning.specs.Meaning.Layout.{layout, when}
 use Rattle.md_meaning.specs.Meaning.Nodes.{Outcome, found_at, before_next, outcome}
 use Rattle.md_shape.specs.Built.{Blocks, is_part, is_source, may_stand, content_of}
-use Rattle.md_shape.specs.Built.{content_inside, content_after_node, content_past, content_after}
+use Rattle.md_shape.specs.Built.{content_inside}
 use Rattle.md_shape.specs.Built.{IsBuilt}
-use Rattle.md_safe.proofs.Contents.{stays-after}
+use Rattle.md_safe.proofs.Contents.{after-blocks}
 use Rattle.md_safe.proofs.Insides.{is_blocks}
 use Rattle.md_safe.proofs.Following.{second}
 use Rattle.md_safe.proofs.Nodes.{not_part}
@@ -72,13 +72,6 @@ pub record Fits (d : Document) (around : Surroundings) (before : Before) (n : �
   pub ready : Ready (read_in d) around before Blocks
   pub waits : Waits n before.heading
   pub room : 2 * height forest ≤ n
-
-after-blocks : (name : Name) (children : Forest) → content_after_node Blocks name children ≡ Blocks
-after-blocks name children =
-    cond_both (is_transparent name) (content_after Blocks children) Blocks (λ c. c ≡ Blocks)
-    (λ _. stays-after (λ content. content ≡ Blocks)
-    (λ content name e. ap (λ content. content_past content name) e)
-    Blocks children refl) (λ _. refl)
 
 waits-both : (n : ℕ) (later first : Option (List ℕ)) → WaitsIn n later → WaitsIn n first →
     WaitsIn n (or_else later first)

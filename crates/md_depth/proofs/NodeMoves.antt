@@ -15,19 +15,12 @@ use Rattle.md_safe.proofs.Spot.{Setting, IsFitAt, IsGoodTarget, Inside}
 use Rattle.md_safe.proofs.StringNodes.{is_text, text-node}
 use Rattle.md_safe.proofs.SpanNodes.{is_shown}
 use Rattle.md_safe.proofs.FlowNodes.{is_flow, is_leaf, leaf-escaped}
-use Rattle.md_safe.proofs.BlockNodes.{is_hidden, hidden-prints, is_silent, silent-prints}
-use Rattle.md_safe.proofs.BlockNodes.{silent-block}
+use Rattle.md_safe.proofs.BlockNodes.{is_hidden, hidden-prints, is_silent, silent-prints, is_marked}
+use Rattle.md_safe.proofs.BlockNodes.{silent-block, is_tabular}
 use Rattle.md_depth.proofs.Machine.{Leads}
 use Rattle.md_depth.proofs.Moves.{Moves, none, more, adds-escaped}
 use Rattle.md_depth.proofs.SpanMoves.{Room, Below, span-moves, autolink-moves}
-use Rattle.md_depth.proofs.BlockMoves.{flow-moves, is_tabular, table-moves}
-
--- a name that is transparent, occurs only in other nodes, or prints more or less than its children
-abbrev is_marked : Name → Bool
-is_marked name =
-    is_transparent name || ((is_part name || is_source name) || (is_text name || (is_shown name
-    || (is_autolink name || (is_flow name || (is_leaf name || (is_hidden name
-    || is_tabular name)))))))
+use Rattle.md_depth.proofs.BlockMoves.{flow-moves, table-moves}
 
 marks : (name : Name) → is_silent name ≡ not (is_marked name)
 marks name = refl

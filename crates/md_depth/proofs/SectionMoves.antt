@@ -17,16 +17,17 @@ use Rattle.md_meaning.specs.Meaning.Footnotes.{option_or, id_of, call_id, backre
 use Rattle.md_meaning.specs.Meaning.Footnotes.{backreferences, unended_length, body, item}
 use Rattle.md_meaning.specs.Meaning.Footnotes.{section_start, section, distinct, place_among}
 use Rattle.md_meaning.specs.Meaning.Footnotes.{count_of}
+use Rattle.md_meaning.specs.FootnoteHeading.{tag_of, attributes_of}
 use Rattle.md_safe.proofs.Texts.{Escaped, decimal-escaped}
 use Rattle.md_safe.proofs.Calls.{label-escaped, id-escaped, call_id-escaped}
-use Rattle.md_safe.proofs.Section.{tag_of, attributes_of, heading_label_of, text_among}
+use Rattle.md_safe.proofs.Section.{heading_label_of, text_among}
 use Rattle.md_text.proofs.HtmlNames.{escaped-angle}
 use Rattle.md_depth.proofs.Machine.{Leads, leads-quiet, leads-append, leads-open, leads-close}
 use Rattle.md_depth.proofs.Machine.{run}
 use Rattle.md_depth.proofs.Moves as moves
 use Rattle.md_depth.proofs.Moves.{Moves, ◌▸◌, none, needed, forced, plain, part, open_tag}
 use Rattle.md_depth.proofs.Moves.{close_tag}
-use Rattle.md_depth.proofs.Moves.{open_line, close_line, kept}
+use Rattle.md_depth.proofs.Moves.{close_line, kept}
 use Rattle.md_depth.proofs.Insertion.{leads-put}
 use Rattle.md_depth.proofs.ForestMoves.{TextsLead}
 

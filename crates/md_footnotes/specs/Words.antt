@@ -8,6 +8,7 @@ use Rattle.md_meaning.specs.Meaning.Layout.{Piece, Text, Forced, on_own_line}
 use Rattle.md_meaning.specs.Meaning.At.{Footnote}
 use Rattle.md_meaning.specs.Meaning.Footnotes.{option_or, id_of, call_id, unended_length, body}
 use Rattle.md_meaning.specs.Meaning.Footnotes.{backreferences}
+pub use Rattle.md_meaning.specs.FootnoteHeading.{tag_of, attributes_of}
 
 -- a call of the footnote with this number, with its occurrence
 abbrev pub tags : CompileOptions → List ℕ → ℕ → ℕ → List Piece
@@ -28,15 +29,6 @@ item_of options identifier number count text =
     Forced ∷ Text (codes "<li id=\"") ∷ Text (id_of options (codes "fn-") identifier number)
     ∷ Text (codes "\">") ∷ Forced
     ∷ (body text (backreferences options identifier number count) ++ on_own_line (codes "</li>"))
-
--- the tag name of the section's heading, and below its other options
-abbrev pub tag_of : CompileOptions → List ℕ
-tag_of options =
-    option_or (option_map string_bytes options.gfm_footnote_label_tag_name) (codes "h2")
-
-abbrev pub attributes_of : CompileOptions → List ℕ
-attributes_of options =
-    option_map_or string_bytes options.gfm_footnote_label_attributes (codes "class=\"sr-only\"")
 
 abbrev pub heading_of : CompileOptions → List ℕ
 heading_of options =

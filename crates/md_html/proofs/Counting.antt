@@ -5,12 +5,8 @@ use Rattle.std.proofs.Common.{◌∙◌}
 use Rattle.std.specs.Prelude.{if◌then◌else◌}
 use Rattle.std.proofs.Math.Nat.{min-eq_left, add-zero}
 use Rattle.md_base.specs.declared.event.Event.{Event}
-use Rattle.md_html.specs.Work.{is_read, covered_from, is_definition, before_definition}
+use Rattle.md_html.specs.Work.{is_definition, before_definition}
 use Rattle.md_html.specs.Counting.{capped}
-
--- the way on through the document, of the nodes that are read
-abbrev pub read_from : ℕ → ℕ → List Event → ℕ
-read_from index depth events = covered_from is_read index depth events
 
 -- what is counted is all
 pub all-added : (counted later whole : ℕ) → counted ≤ 2 ^ 128 - 1 → later ≡ 0 →

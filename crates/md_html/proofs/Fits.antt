@@ -10,11 +10,11 @@ use Rattle.md_base.specs.declared.event.Name.{Name}
 use Rattle.md_base.specs.declared.event.Point.{Point}
 use Rattle.md_base.specs.Tree.{Forest, Empty, Node, flatten, entering, exiting}
 use Rattle.md_base.specs.Children.{is_empty}
-use Rattle.md_told.proofs.Running.{noticed-length}
 use Rattle.md_shape.specs.Run.{Noticed, noticed, passes}
 use Rattle.md_shape.specs.State.{told_of}
 use Rattle.md_shape.specs.Steps.{is_passed}
 use Rattle.md_shape.specs.State.{captures}
+use Rattle.md_shape.proofs.Running.{noticed-length}
 use Rattle.md_html.specs.Fits.{may_end, captured_after, fits}
 use Rattle.md_html.proofs.FirstText.{one_less}
 

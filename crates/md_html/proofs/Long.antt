@@ -4,10 +4,10 @@ use Rattle.std.proofs.Common.{arith}
 use Rattle.md_base.specs.Tree.{Forest, flatten}
 use Rattle.md_meaning.specs.Meaning.At.{Given}
 use Rattle.md_meaning.specs.Meaning.Footnotes.{section}
-use Rattle.md_told.proofs.Running.{noticed-length}
 use Rattle.md_shape.specs.Run.{noticed, run}
 use Rattle.md_shape.specs.State.{State}
 use Rattle.md_shape.specs.Steps.{beginning}
+use Rattle.md_shape.proofs.Running.{noticed-length}
 use Rattle.md_emit.specs.Supplies.{Supplies}
 use Rattle.md_emit.specs.declared.given.Given.{Given as Supplied}
 use Rattle.md_html.specs.Windows.{window}

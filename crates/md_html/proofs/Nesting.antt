@@ -3,6 +3,7 @@ use Rattle.std.proofs.Common.{◌≡◌, ℕ, suc, Bool, true, false, ◌&&◌, 
 use Rattle.std.proofs.Common.{ap, sym, ◌∙◌, append_assoc}
 use Rattle.std.specs.Prelude.{◌||◌, if◌then◌else◌}
 use Rattle.std.proofs.lemmas.Bool.{true≢false}
+use Rattle.std.proofs.Math.Bool.{or-false}
 use Rattle.md_base.specs.declared.event.Event.{Event}
 use Rattle.md_base.specs.declared.event.Name.{Name}
 use Rattle.md_base.specs.declared.event.Name.TheVariants.{Image, Link}
@@ -141,10 +142,6 @@ nested (Node name start end children rest) in_link after =
     || not (is Image name) && has_nested_link (link || in_link) children)
     || has_nested_link in_link rest) || nests in_link 0 after) (sym (is_link-is name))
 
-or_false : (b : Bool) → b || false ≡ b
-or_false true = refl
-or_false false = refl
-
 append_nil : (events : List Event) → events ++ [] ≡ events
 append_nil [] = refl
 append_nil (event ∷ events) = ap (λ es. event ∷ es) (append_nil events)
@@ -153,7 +150,7 @@ told_of_document : (document : Forest) (events : List Event) → flatten documen
     nests false 0 events ≡ has_nested_link false document
 told_of_document document events flat =
     ap (λ es. nests false 0 es) (sym flat ∙ sym (append_nil (flatten document)))
-    ∙ nested document false [] ∙ or_false (has_nested_link false document)
+    ∙ nested document false [] ∙ or-false (has_nested_link false document)
 
 -- ---- at an iteration of the loop
 

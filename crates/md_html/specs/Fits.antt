@@ -7,6 +7,7 @@ use Rattle.md_base.specs.declared.event.Kind.TheVariants.{Enter, Exit}
 use Rattle.md_shape.specs.Run.{Noticed, passes}
 use Rattle.md_shape.specs.State.{captures}
 use Rattle.md_shape.specs.Steps.{is_passed}
+use Rattle.md_html.specs.Nesting.{is_none}
 
 -- an event begins a captured text, or ends one
 abbrev pub begins : Event → Bool
@@ -25,10 +26,6 @@ may_end event (suc captured) = true
 abbrev pub captured_after : Event → ℕ → ℕ
 captured_after event captured =
     if begins event then suc captured else (if ends event then captured - 1 else captured)
-
-abbrev pub is_none : ℕ → Bool
-is_none zero = true
-is_none (suc count) = false
 
 -- so at each of some events, after so many that are skipped, and at their end no text is captured
 abbrev pub fits : ℕ → ℕ → List Event → List Noticed → Bool

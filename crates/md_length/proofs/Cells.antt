@@ -23,11 +23,11 @@ use Rattle.md_shape.specs.Content.{Content, Blocks, Spans, Strings, Html, Lines,
 use Rattle.md_shape.specs.Content.{BeforeLabel, AfterLabel, Sources, Rows, Cells, Parts, Nothing}
 use Rattle.md_shape.specs.Content.{Childless, Fits, is_allowed, content_inside, content_past}
 use Rattle.md_shape.specs.Content.{content_after, content_after_node}
+use Rattle.md_shape.proofs.Standing.{picked}
 use Rattle.md_length.specs.Costs.{nodes}
 use Rattle.md_length.specs.Uses.{cells, columns_in}
 use Rattle.md_length.specs.Work.{is_row, is_column, exits, columns_after}
 use Rattle.md_length.specs.Work.{cells as counted}
-use Rattle.md_length.proofs.Strings.{picked}
 
 -- ---- where no table stands
 abbrev pub is_inner : Content → Bool

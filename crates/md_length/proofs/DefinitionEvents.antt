@@ -19,9 +19,10 @@ use Rattle.md_shape.specs.Built.{Content, Blocks, Sources, Strings, Nothing, IsB
 use Rattle.md_shape.specs.Built.{content_inside}
 use Rattle.md_shape.specs.Built.{content_after, content_after_node, content_past, may_stand}
 use Rattle.md_shape.proofs.Grammatical.{grammatical-built}
+use Rattle.md_shape.proofs.Staying.{one_or_other}
+use Rattle.md_shape.proofs.Standing.{picked}
 use Rattle.md_length.specs.Reuse.{definition_length, definition_lengths}
 use Rattle.md_length.specs.Work.{before_definition, read_length}
-use Rattle.md_length.proofs.Strings.{picked}
 
 -- ---- the events of a definition
 -- no definition stands there
@@ -74,10 +75,6 @@ past-low Sources name h = refl
 past-low Strings name h = refl
 past-low Nothing name h = refl
 past-low _ name h = lie h
-
-one_or_other : {A : Type 0} (b : Bool) {x y z : A} → x ≡ z → y ≡ z → (if b then x else y) ≡ z
-one_or_other true h k = h
-one_or_other false h k = k
 
 after-low : (content : Content) (forest : Forest) → is_low content ≡ true →
     content_after content forest ≡ content

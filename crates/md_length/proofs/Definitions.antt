@@ -26,12 +26,14 @@ use Rattle.md_shape.specs.Built.{Content, Sources, IsBuilt, content_inside, cont
 use Rattle.md_shape.specs.Built.{may_stand, content_of, content_after}
 use Rattle.md_shape.specs.Claim.{inner_of, at_node, node_of, next_before}
 use Rattle.md_shape.specs.Leads.{first_of}
+use Rattle.md_shape.proofs.Staying.{one_or_other}
+use Rattle.md_shape.proofs.Standing.{picked}
 use Rattle.md_length.specs.Costs.{cost}
 use Rattle.md_length.specs.Reuse.{length_at}
 use Rattle.md_length.specs.Uses.{weight}
 use Rattle.md_length.proofs.Kept.{kept, both-kept, target-kept}
 use Rattle.md_length.proofs.Pieces.{size, layout-short}
-use Rattle.md_length.proofs.Strings.{around_in, strings-short, has_strings, picked}
+use Rattle.md_length.proofs.Strings.{around_in, strings-short, has_strings}
 
 -- ---- the content of a definition
 abbrev is_sources : Content → Bool
@@ -74,10 +76,6 @@ solid-strings name may solid =
         then has_strings (content_inside Sources name) else true) ≡ true
     each Definition = refl
     each _ = refl
-
-one_or_other : {A : Type 0} (b : Bool) {x y z : A} → x ≡ z → y ≡ z → (if b then x else y) ≡ z
-one_or_other true h k = h
-one_or_other false h k = k
 
 after-sources : (forest : Forest) → content_after Sources forest ≡ Sources
 after-sources Empty = refl

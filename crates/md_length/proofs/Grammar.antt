@@ -1,6 +1,6 @@
 -- What the lengths ask of a document holds of each document of the grammar.
 use Rattle.std.proofs.Common.{◌≡◌, ℕ, ◌≤◌, Bool, true, false, ◌||◌, cond}
-use Rattle.std.proofs.Common.{List, [], ◌∷◌, length, refl, sym, ap, ◌∙◌, subst, arith, Option, Some}
+use Rattle.std.proofs.Common.{List, [], ◌∷◌, length, refl, sym, ap, subst, arith, Option, Some}
 use Rattle.std.proofs.Common.{None, lit≤, bytes_eq}
 use Rattle.std.specs.Prelude.{if◌then◌else◌, is_some}
 use Rattle.std.specs.Option.{option_map_or}
@@ -37,14 +37,15 @@ use Rattle.md_meaning.specs.Meaning.At.{text_in}
 use Rattle.md_meaning.specs.Meaning.Finds.{first_ending}
 use Rattle.md_shape.specs.Content.{Content, Blocks, Spans, Sources, Fits, is_allowed}
 use Rattle.md_shape.specs.Content.{content_inside}
-use Rattle.md_shape.specs.Content.{content_past, content_after, content_after_node, content_of}
+use Rattle.md_shape.specs.Content.{content_past, content_after_node, content_of}
 use Rattle.md_shape.specs.Leads.{Everywhere}
 use Rattle.md_shape.proofs.ContentFits.{shaped-fits}
 use Rattle.md_shape.proofs.FineNodes.{fine, IsFine, AreFine}
 use Rattle.md_shape.proofs.RanksAndNumbers.{text_fits}
 use Rattle.md_shape.proofs.TextsThere.{everywhere}
+use Rattle.md_shape.proofs.Staying.{node-stays}
+use Rattle.md_shape.proofs.Standing.{picked}
 use Rattle.md_length.specs.Sound.{IsSound}
-use Rattle.md_length.proofs.Strings.{picked}
 
 -- ---- no resource stands in a label or a prefix
 abbrev is_aside : Content → Bool
@@ -77,21 +78,6 @@ past-aside : (content : Content) → is_aside content ≡ true → content_past 
 past-aside Spans h = refl
 past-aside Sources h = refl
 past-aside _ h = lie h
-
-one_or_other : {A : Type 0} (b : Bool) {x y z : A} → x ≡ z → y ≡ z → (if b then x else y) ≡ z
-one_or_other true h k = h
-one_or_other false h k = k
-
-stays : (content : Content) (forest : Forest) → content_past content ≡ content →
-    content_after content forest ≡ content
-stays content Empty h = refl
-stays content (Node name start end children rest) h =
-    ap (λ c. content_after c rest) (one_or_other (is_transparent name) (stays content children h) h)
-    ∙ stays content rest h
-
-node-stays : (content : Content) (name : Name) (children : Forest) →
-    content_past content ≡ content → content_after_node content name children ≡ content
-node-stays content name children h = one_or_other (is_transparent name) (stays content children h) h
 
 node-unresourced : (name : Name) (children : Forest) (start end : Point) (left : Referral) →
     leads name ≡ false → (is_transparent name ≡ true →

@@ -20,17 +20,15 @@ use Rattle.md_pattern.specs.declared.kinds.Role.{Role}
 use Rattle.md_pattern.specs.Spine.{spine, shown}
 use Rattle.md_pattern.specs.Shape.{AreShaped, IsStanding}
 use Rattle.md_pattern.specs.Standing.{standing_of}
-use Rattle.md_shape.specs.Content.{Rows, Cells, Parts, Childless, Fits, is_allowed}
+use Rattle.md_shape.specs.Content.{Rows, Cells, Parts, Fits, is_allowed}
 use Rattle.md_shape.specs.Content.{content_inside, content_after, content_after_node, content_of}
+use Rattle.md_shape.proofs.Staying.{one_or_other, childless}
 use Rattle.md_length.specs.Uses.{cells, columns_in}
 use Rattle.md_length.proofs.Cells.{no-cells}
 use Rattle.md_length.proofs.Spined.{spined, after, after-append, spined-split, still, is_first_row}
 use Rattle.md_length.proofs.Spined.{in_head, paid, paid-twice}
 
 -- ---- the rows of a head
-pub childless : (forest : Forest) → Fits Childless forest → forest ≡ Empty
-childless Empty fits = refl
-childless (Node name start end children rest) fits = lie fits.0
 
 -- what is shown of a node, of its children
 abbrev pub shows : Name → Forest → List Symbol
@@ -75,10 +73,6 @@ own-rows false columns GfmTableHead start end children around before may fits st
 own-rows true columns GfmTableBody start end children around before may fits stands h inner = lie h
 own-rows false columns GfmTableBody start end children around before may fits stands h inner = lie h
 own-rows begun columns _ start end children around before may fits stands h inner = lie may
-
-one_or_other : {A : Type 0} (b : Bool) {x y z : A} → x ≡ z → y ≡ z → (if b then x else y) ≡ z
-one_or_other true h k = h
-one_or_other false h k = k
 
 after-rows : (forest : Forest) → content_after Rows forest ≡ Rows
 after-rows Empty = refl

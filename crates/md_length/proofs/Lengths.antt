@@ -12,7 +12,7 @@ use Rattle.md_length.specs.Work.{is_read, read_length, covered_from}
 use Rattle.md_length.specs.Lengths.{lengths, GoesForward}
 
 -- the length of what is read from an index, if this many nodes that are read are open
-abbrev read_from : ℕ → ℕ → List Event → ℕ
+abbrev pub read_from : ℕ → ℕ → List Event → ℕ
 read_from index depth events = covered_from is_read index depth events
 
 -- where the last event of nodes stands, or what is before them

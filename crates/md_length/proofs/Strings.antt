@@ -27,15 +27,11 @@ use Rattle.md_shape.specs.Claim.{inner_of, at_node, next_before}
 use Rattle.md_shape.specs.Built.{Content, Strings, Nothing}
 use Rattle.md_shape.specs.Built.{may_stand, is_string, content_inside, content_past, content_after}
 use Rattle.md_shape.specs.Built.{content_after_node, IsBuilt}
+use Rattle.md_shape.proofs.Standing.{picked}
 use Rattle.md_length.specs.Longest.{longest}
 use Rattle.md_length.specs.Costs.{own, cost}
 use Rattle.md_length.proofs.Pieces.{size, size-append}
 use Rattle.md_length.proofs.PrintedTexts.{escaped-short, reference-short, line_ending-short}
-
--- a fact computed for all names that pass a test, for one of them
-pub picked : {A : Type 0} (b : Bool) (x y : A) → (if b then x else y) ≡ y → b ≡ true → x ≡ y
-picked true x y h e = h
-picked false x y h e = lie e
 
 both_of : {a b : Bool} → (a && b) ≡ true → (a ≡ true) × (b ≡ true)
 both_of {a} {b} h = and_parts a b h

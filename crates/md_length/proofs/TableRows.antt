@@ -26,13 +26,14 @@ use Rattle.md_pattern.specs.Shape.{AreShaped, IsStanding, inner_role, inner_befo
 use Rattle.md_pattern.specs.Standing.{standing_of}
 use Rattle.md_shape.specs.Content.{Rows, Fits, is_allowed}
 use Rattle.md_shape.specs.Content.{content_inside}
+use Rattle.md_shape.proofs.Staying.{childless}
 use Rattle.md_length.specs.Uses.{cells, columns_in}
 use Rattle.md_length.specs.Work.{is_column, cells as counted}
 use Rattle.md_length.proofs.Cells.{values, aligned-few, rows-counted}
 use Rattle.md_length.proofs.Spined.{spined, after, after-append, spined-split, still, is_head}
 use Rattle.md_length.proofs.Spined.{in_table, is_first_row, table-spined, head-spined, paid}
 use Rattle.md_length.proofs.Spined.{paid-twice, own_alignments}
-use Rattle.md_length.proofs.HeadRows.{childless, shows, next-rows, inner-rows, goes_on, head-rows}
+use Rattle.md_length.proofs.HeadRows.{shows, next-rows, inner-rows, goes_on, head-rows}
 
 -- ---- the rows of a table
 -- after a head no columns follow

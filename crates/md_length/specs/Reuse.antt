@@ -7,8 +7,9 @@ use Rattle.std.specs.Option.{option_map_or}
 use Rattle.std.specs.declared.alloc.Global.{Global}
 use Rattle.md_base.specs.declared.event.Event.{Event}
 use Rattle.md_base.specs.declared.event.Name.{Name}
-use Rattle.md_base.specs.declared.event.Name.TheVariants.{Image, Link, GfmFootnoteCall}
+use Rattle.md_base.specs.declared.event.Name.TheVariants.{Image, Link}
 use Rattle.md_base.specs.Tree.{Forest, flatten}
+pub use Rattle.md_base.specs.NameTests.{is_call}
 use Rattle.md_pattern.specs.Partners.{definition_entries}
 use Rattle.md_text.specs.declared.options.CompileOptions.{CompileOptions}
 use Rattle.md_tree.specs.declared.mention.Mention.{Mention}
@@ -47,9 +48,6 @@ referred bytes document =
 
 abbrev pub is_media : Name → Bool
 is_media name = elim name [ Link ↦ true | Image ↦ true | _ ↦ false ]
-
-abbrev pub is_call : Name → Bool
-is_call name = elim name [ GfmFootnoteCall ↦ true | _ ↦ false ]
 
 -- how many events enter a node whose name passes a test
 abbrev pub entries : (Name → Bool) → List Event → ℕ

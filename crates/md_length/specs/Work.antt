@@ -6,9 +6,10 @@ use Rattle.md_base.specs.declared.event.Event.{Event}
 use Rattle.md_base.specs.declared.event.Kind.TheVariants.{Enter, Exit}
 use Rattle.md_base.specs.declared.event.Name.{Name}
 use Rattle.md_base.specs.declared.event.Name.TheVariants.{Definition}
-use Rattle.md_base.specs.declared.event.Name.TheVariants.{GfmTable, GfmTableDelimiterCellValue}
-use Rattle.md_base.specs.declared.event.Name.TheVariants.{GfmTableRow}
+use Rattle.md_base.specs.declared.event.Name.TheVariants.{GfmTableDelimiterCellValue}
+pub use Rattle.md_base.specs.NameTests.{is_table}
 use Rattle.md_tree.specs.Texts.{is_text_name, is_identifier_name}
+pub use Rattle.md_shape.specs.Steps.{is_row}
 
 -- the text of a node of this name is read, or the node has an identifier
 abbrev pub is_read : Name → Bool
@@ -52,14 +53,8 @@ before_definition [] = []
 before_definition (event ∷ events) =
     if is_definition event.name then [] else event ∷ before_definition events
 
-abbrev pub is_table : Name → Bool
-is_table name = elim name [ GfmTable ↦ true | _ ↦ false ]
-
 abbrev pub is_column : Name → Bool
 is_column name = elim name [ GfmTableDelimiterCellValue ↦ true | _ ↦ false ]
-
-abbrev pub is_row : Name → Bool
-is_row name = elim name [ GfmTableRow ↦ true | _ ↦ false ]
 
 -- how many columns of the open table are known after an event
 abbrev pub columns_after : ℕ → Event → ℕ

@@ -1,13 +1,9 @@
 -- A document that is shown as it is written.
 use Rattle.std.specs.Prelude.{ℕ, true, List, ◌++◌, codes}
 use Rattle.md_text.specs.Encode.{encoded}
-use Rattle.md_base.specs.declared.event.Point.{Point}
 use Rattle.md_base.specs.declared.event.Name.TheVariants.{Paragraph, Data}
 use Rattle.md_base.specs.Tree.{Forest, Empty, Node}
-
--- the point after so many bytes
-abbrev pub at : ℕ → Point
-at index = record { line = 1; column = 1; index = index; vs = 0 }
+pub use Rattle.md_meaning.specs.Trees.{at}
 
 -- one paragraph, whose text is a document of so many bytes
 abbrev pub plain : ℕ → Forest

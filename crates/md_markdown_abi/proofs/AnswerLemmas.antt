@@ -7,6 +7,7 @@ use Rattle.md_abi.specs.declared.answer.Answer.{Answer}
 use Rattle.md_abi.specs.declared.failure.Failure.{Failure}
 use Rattle.md_abi.specs.declared.failure.Failure.TheVariants as failure
 use Rattle.md_abi.proofs.AnswerLemmas.{never, failure_hands_over, failed}
+use Rattle.md_abi.proofs.ListAnswerLemmas.{moved}
 use Rattle.md_markdown_abi.specs.Text.{IsRead}
 use Rattle.md_markdown_abi.specs.Failures.{tell, answer_of_markdown, ExplainsFault}
 use Rattle.md_markdown_abi.specs.Failures.{ExplainsMarkdown}
@@ -187,9 +188,6 @@ text_of_markdown status start size few within = record {
   no_place = λ more _. absurd (omega (arith, more, few));
   no_length = λ many _. absurd (omega (arith, many, few));
 }
-
-abbrev moved : ℕ → Answer → Answer
-moved start answer = record answer { index = start }
 
 pub text_fields : (whole : List ℕ) (start : ℕ) (old new : List ℕ) (answer : Answer) →
     start ≤ length whole → IsListHandedOver whole start old new answer → IsOfMarkdown answer

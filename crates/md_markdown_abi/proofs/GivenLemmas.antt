@@ -2,7 +2,7 @@
 use Rattle.std.proofs.Common.{◌+◌, ◌*◌, ◌≡◌, ℕ, ◌≤◌, Bool, true, List, Option, Some, Result, Ok, Err}
 use Rattle.std.proofs.Common.{take, [], ◌∷◌, ◌++◌, IfErr, is_some, refl, sym, ap, ◌∙◌}
 use Rattle.std.proofs.Common.{subst}
-use Rattle.std.specs.Prelude.{None, IsErrAnd, option_and_then, option_map, slice_get}
+use Rattle.std.specs.Prelude.{None, IsErrAnd, option_map, slice_get}
 use Rattle.std.specs.Prelude.{string_bytes}
 use Rattle.md_text.specs.Ids.{HasDistinctIds}
 use Rattle.md_safe.specs.Token.{Token, EndOfFile}
@@ -17,9 +17,9 @@ use Rattle.md_abi.specs.Options.{flag_of, text_of}
 use Rattle.md_abi.specs.Attributes.{asked, with_rel}
 use Rattle.md_abi.specs.Attributed.{IsListedAfter}
 use Rattle.md_abi.specs.Failures.{IsFaultOf}
-use Rattle.md_abi.specs.declared.option.CText.{CText}
 use Rattle.md_abi.specs.declared.failure.Failure.{Failure}
 use Rattle.md_abi.specs.declared.failure.Failure.TheVariants as failure
+use Rattle.md_abi.proofs.AttributedLemmas.{asked_is}
 use Rattle.md_depth.specs.Levels.{NestsWithin}
 use Rattle.md_markdown.specs.Depth.{most_depth}
 use Rattle.md_markdown.specs.Made.{IsMadeOf}
@@ -42,11 +42,6 @@ use variant.{NoVersion, InputTooLong, NotUtf8, OutputTooLong, TooMuchWork, Faile
 pub is_on : (value : Option Bool) (flag : Bool) → value ≡ Some flag → value ≡ Some true →
     flag ≡ true
 is_on value flag is on = cc
-
--- the requested attributes are those that were read
-pub asked_is : (given : CText) (read : Option (List ℕ)) → text_of given ≡ Some read →
-    asked given ≡ read
-asked_is given read stands = ap (option_and_then (λ text. text)) stands
 
 -- C requests a base if there is one
 pub base_is : (given : CMarkdownOptions) (options : MarkdownOptions) →

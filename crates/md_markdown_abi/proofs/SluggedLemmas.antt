@@ -19,10 +19,10 @@ use Rattle.md_page.proofs.Forests.{read-built}
 use Rattle.md_page.proofs.Rules.{attributed}
 use Rattle.md_abi.specs.Options.{text_of}
 use Rattle.md_abi.specs.Attributes.{with_rel, listing}
+use Rattle.md_abi.proofs.AttributedLemmas.{asked_is}
 use Rattle.md_markdown_abi.specs.Text.{IsPlainOf}
 use Rattle.md_markdown_abi.specs.Slugged.{IsSluggedText, IsSluggedAfter, id_listing}
 use Rattle.md_markdown_abi.specs.declared.option.CMarkdownOptions.{CMarkdownOptions}
-use Rattle.md_markdown_abi.proofs.GivenLemmas.{asked_is}
 
 -- ---- lists after a text
 pub listed-slugs : (text whole : List ℕ) (start : ℕ) (ids : List (List ℕ)) (x : List Token) →

@@ -5,4 +5,5 @@ pub mod Surroundings
 pub mod Given
 pub mod Places
 pub mod Meaning
+pub mod FootnoteHeading
 pub mod Trees

@@ -1,11 +1,11 @@
 -- The text of a heading by its bytes is that by its tokens.
 use Rattle.std.specs.Str.{bytes_eq}
 use Rattle.std.proofs.Common.{◌≡◌, ℕ, ◌==◌, Bool, true, false, not, ◌&&◌, cond, List, [], ◌∷◌, ◌++◌}
-use Rattle.std.proofs.Common.{map, length, drop, refl, sym, ap, ap₂, ◌∙◌, subst, append_assoc}
-use Rattle.std.proofs.Common.{codes, ne_eqb, eqb, eq-eqb}
+use Rattle.std.proofs.Common.{map, drop, refl, sym, ap, ap₂, ◌∙◌, subst, append_assoc}
+use Rattle.std.proofs.Common.{codes, ne_eqb, eq-eqb}
 use Rattle.std.specs.List.{list_all}
 use Rattle.std.specs.Cmp.Lexicographic.{bytes_decides}
-use Rattle.std.proofs.lemmas.Bool.{and_parts, and_from, not-true, eqb-true}
+use Rattle.std.proofs.lemmas.Bool.{and_parts, and_from, not-true}
 use Rattle.md_base.proofs.Lies.{lie}
 use Rattle.md_text.specs.Bytes.{is_one_of, is_between}
 use Rattle.md_text.specs.Encode.{encoded}
@@ -14,10 +14,11 @@ use Rattle.md_text.specs.Html.{written_attributes}
 use Rattle.md_text.proofs.EncodeLaws.{read_back-other}
 use Rattle.md_text.proofs.EncodeLemmas.{encoded-append, encoded_byte-plain}
 use Rattle.md_text.proofs.HtmlSplit.{split}
+use Rattle.md_text.proofs.HtmlReading.{tail_of}
 use Rattle.md_safe.specs.Input.{with_line_feeds, begins_with_line_feed}
 use Rattle.md_safe.specs.Token.{Token, Character}
 use Rattle.md_safe.specs.Tokens.{seen}
-use Rattle.md_safe.proofs.EscapedCases.{by_escaped}
+use Rattle.md_safe.proofs.EscapedCases.{by_escaped, begins-is}
 use Rattle.md_safe.proofs.LineFeeds.{line_feeds-escaped}
 use Rattle.md_safe.proofs.Steps.{past}
 use Rattle.md_page.specs.Added.{characters_before}
@@ -138,18 +139,6 @@ no_slash (b ∷ name) tail digit h =
   where
     slash_letter : (b : ℕ) → is_between 97 122 b ≡ true → (47 == b) ≡ false
     slash_letter b h = ne_eqb 47 b (λ e. lie (ap (is_between 97 122) e ∙ h))
-
-tail_of : (b c : ℕ) (x y : List ℕ) → b ∷ x ≡ c ∷ y → x ≡ y
-tail_of b c x y e = cc
-
--- a text that begins so is that and what follows it
-begins-is : (start text : List ℕ) → begins_with start text ≡ true →
-    text ≡ start ++ drop (length start) text
-begins-is [] text h = refl
-begins-is (s ∷ start) [] h = cc
-begins-is (s ∷ start) (b ∷ text) h =
-    let p = and_parts (eqb s b) (begins_with start text) h in
-    ap₂ (λ c x. c ∷ x) (sym (eqb-true s b p.0)) (begins-is start text p.1)
 
 -- an end tag is the heading's exactly if it has its name
 closes-name : (digit : ℕ) (name r : List ℕ) → is_name_byte digit ≡ true →

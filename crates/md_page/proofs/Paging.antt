@@ -10,41 +10,23 @@ use Rattle.md_text.proofs.EncodeLaws.{is_escaped-encoded}
 use Rattle.md_safe.specs.Input.{with_line_feeds}
 use Rattle.md_safe.specs.Token.{Token, Doctype, Character, StartTag, EndTag, EndOfFile}
 use Rattle.md_safe.specs.TokenizerStates.{Data, Rcdata}
-use Rattle.md_safe.specs.Tokenizer.{IsRun, IsTokenized}
+use Rattle.md_safe.specs.Tokenizer.{IsTokenized}
 use Rattle.md_safe.specs.Tokens.{seen}
 use Rattle.md_safe.specs.PageTokens.{charset as charset_seen, page_text, plain_tag}
 use Rattle.md_safe.specs.SafeTokens.{has_safe_links, has_safe_images}
 use Rattle.md_safe.proofs.LineFeeds.{line_feeds-append, line_feeds-escaped}
-use Rattle.md_safe.proofs.Steps.{quiet, loud, along, rcdata-runs}
+use Rattle.md_safe.proofs.Steps.{loud, along, rcdata-runs}
 use Rattle.md_safe.proofs.TagRuns.{element-runs, void-runs, end-runs}
 use Rattle.md_safe.proofs.OneRun.{one_run}
 use Rattle.md_safe.proofs.TokenTests.{all-append, all-characters}
 use Rattle.md_safe.proofs.SafeTokens.{links-pass, images-pass}
+use Rattle.md_safe.proofs.PageRuns.{doctype, title_begins, title_ends}
 use Rattle.md_page.specs.Added.{shown}
 use Rattle.md_page.specs.PageAround.{after_body, going_on, page_around, IsSafePage}
 use Rattle.md_page.specs.Pieces.{Piece, all_written, all_tokens, are_sound, IsWritten}
 use Rattle.md_page.proofs.PieceRuns.{pieces-before}
 use Rattle.md_page.proofs.Rules.{attributed}
 use Rattle.md_page.proofs.LinkRule.{seen-encoded}
-
--- `<!doctype html>`
-doctype : (r : List ℕ) (t : List Token) → IsRun Data r t →
-    IsRun Data (codes "<!doctype html>" ++ r) (Doctype (codes "html") ∷ t)
-doctype r t h =
-    quiet refl (quiet refl (quiet refl (quiet refl (quiet refl (quiet refl (quiet refl (quiet refl
-    (loud (Doctype (codes "html")) refl h))))))))
-
-title_begins : (r : List ℕ) (t : List Token) → IsRun Rcdata r t →
-    IsRun Data (codes "<title>" ++ r) (plain_tag (codes "title") ∷ t)
-title_begins r t h =
-    quiet refl (quiet refl (quiet refl (quiet refl (quiet refl (quiet refl (quiet refl
-    (loud (plain_tag (codes "title")) refl h)))))))
-
-title_ends : (r : List ℕ) (t : List Token) → IsRun Data r t →
-    IsRun Rcdata (codes "</title>" ++ r) (EndTag (codes "title") ∷ t)
-title_ends r t h =
-    quiet refl (quiet refl (quiet refl (quiet refl (quiet refl (quiet refl (quiet refl (quiet refl
-    (loud (EndTag (codes "title")) refl h))))))))
 
 page-runs : (title : List ℕ) (x : List Piece) → is_escaped title ≡ true → are_sound x ≡ true →
     IsTokenized (page_text title (all_written x)) (page_around (seen title) (all_tokens x))

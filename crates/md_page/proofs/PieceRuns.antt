@@ -1,7 +1,6 @@
 -- Sound pieces are tokenized as their tokens.
 use Rattle.std.proofs.Common.{◌≡◌, ℕ, true, false, not, List, [], ◌∷◌, ◌++◌, map, refl, sym, ap}
 use Rattle.std.proofs.Common.{◌∙◌, subst, append_assoc, append-nil}
-use Rattle.std.specs.List.{list_all}
 use Rattle.std.proofs.lemmas.Bool.{and_parts}
 use Rattle.md_base.proofs.Lies.{lie}
 use Rattle.md_text.specs.Bytes.{is_one_of}
@@ -13,22 +12,16 @@ use Rattle.md_safe.specs.Token.{Token, Character, StartTag, EndTag, EndOfFile}
 use Rattle.md_safe.specs.TokenizerStates.{Data}
 use Rattle.md_safe.specs.Tokenizer.{IsTokenized}
 use Rattle.md_safe.specs.Tokens.{seen, seen_attributes}
-use Rattle.md_safe.proofs.LineFeeds.{line_feeds-append, line_feeds-name, line_feeds-escaped}
-use Rattle.md_safe.proofs.GoodNames.{is_good_byte, is_good_name, begins_tag, are_good}
+use Rattle.md_safe.proofs.LineFeeds.{line_feeds-append, line_feeds-escaped}
+use Rattle.md_safe.proofs.GoodNames.{is_good_name, are_good}
 use Rattle.md_safe.proofs.Steps.{along, text-runs}
-use Rattle.md_safe.proofs.TagNames.{good-no_return}
 use Rattle.md_safe.proofs.TagRuns.{lined, line_feeds-attributes, element-runs}
 use Rattle.md_safe.proofs.TagRuns.{void-runs, end-runs}
+use Rattle.md_safe.proofs.ForestRuns.{good-line_feeds}
 use Rattle.md_page.specs.Pieces.{Piece, Words, Opening, Single, Closing, all_written, all_tokens}
 use Rattle.md_page.specs.Pieces.{are_sound, are_plain, is_tag_name, void_names, begins_with_words}
 use Rattle.md_page.specs.PageAround.{going_on}
 use Rattle.md_page.proofs.Plain.{good_name, good_attributes, void-name}
-
-good-line_feeds : (name r : List ℕ) → is_good_name name ≡ true →
-    with_line_feeds (name ++ r) ≡ name ++ with_line_feeds r
-good-line_feeds name r g =
-    let p = and_parts (begins_tag name) _ g in
-    line_feeds-name name r (good-no_return name (and_parts (list_all is_good_byte name) _ p.1).0)
 
 -- a tag's name and its attributes, and what follows them
 tag-line_feeds : (name : List ℕ) (x : List Attribute) (r : List ℕ) →

@@ -5,10 +5,7 @@ use Rattle.md_safe.specs.Token.{Token, Doctype, Character, StartTag, EndTag, End
 use Rattle.md_safe.specs.Tokenizer.{IsTokenized}
 use Rattle.md_safe.specs.PageTokens.{charset, plain_tag}
 use Rattle.md_safe.specs.SafeTokens.{has_safe_links, has_safe_images}
-
--- the tokens of a page after those of its body
-abbrev pub after_body : List Token
-after_body = EndTag (codes "body") ∷ EndTag (codes "html") ∷ Character 10 ∷ EndOfFile ∷ []
+pub use Rattle.md_safe.specs.PageTokens.{after_body}
 
 -- the tokens of a body, with these in place of the end of file
 abbrev pub going_on : List Token → List Token → List Token

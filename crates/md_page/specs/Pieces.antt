@@ -1,13 +1,13 @@
 -- The pieces of such a text, which its type promises. The public contracts that cite it are the
 -- clause `written` of the trait `Html`, and the promises to C about a text with attributes.
 use Rattle.std.specs.Str.{bytes_eq}
-use Rattle.std.specs.Prelude.{◌≡◌, ℕ, ◌==◌, Bool, true, false, not, IsTrue, ◌&&◌, ◌||◌, List, []}
+use Rattle.std.specs.Prelude.{◌≡◌, ℕ, Bool, true, false, not, IsTrue, ◌&&◌, List, []}
 use Rattle.std.specs.Prelude.{◌∷◌, ◌++◌, map, codes}
 use Rattle.std.specs.List.{list_any, list_all}
-use Rattle.md_base.specs.Identifier.{is_nonempty}
 use Rattle.md_text.specs.Bytes.{is_between, is_one_of}
 use Rattle.md_text.specs.References.{is_escaped}
 use Rattle.md_text.specs.Html.{Attribute, written_attributes}
+pub use Rattle.md_text.specs.HtmlName.{is_name_byte, is_name}
 use Rattle.md_safe.specs.Token.{Token, Character, StartTag, EndTag, EndOfFile}
 use Rattle.md_safe.specs.TokenizerStates.{switching}
 use Rattle.md_safe.specs.Tokens.{seen, seen_attributes}
@@ -40,14 +40,6 @@ all_tokens (Opening name attributes ∷ more) =
 all_tokens (Single name attributes ∷ more) =
     StartTag name (seen_attributes attributes) true ∷ all_tokens more
 all_tokens (Closing name ∷ more) = EndTag name ∷ all_tokens more
-
--- a lower-case letter, a digit or a hyphen
-abbrev pub is_name_byte : ℕ → Bool
-is_name_byte b = is_between 97 122 b || is_between 48 57 b || (b == 45)
-
--- one or more of these bytes
-abbrev pub is_name : List ℕ → Bool
-is_name name = is_nonempty name && list_all is_name_byte name
 
 -- begins with a lower-case letter
 abbrev pub begins_with_letter : List ℕ → Bool

@@ -54,7 +54,7 @@ is_hidden name = is_delimiter_row name || elim name [
 ]
 
 -- tables and their parts
-abbrev is_tabular : Name → Bool
+abbrev pub is_tabular : Name → Bool
 is_tabular name = elim name [
   | GfmTable ↦ true
   | GfmTableHead ↦ true
@@ -65,7 +65,7 @@ is_tabular name = elim name [
 ]
 
 -- a name that is transparent, occurs only in other nodes, or prints more or less than its children
-abbrev is_marked : Name → Bool
+abbrev pub is_marked : Name → Bool
 is_marked name =
     is_transparent name || ((is_part name || is_source name) || (is_text name || (is_shown name
     || (is_autolink name || (is_flow name || (is_leaf name || (is_hidden name

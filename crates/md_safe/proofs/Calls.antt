@@ -121,11 +121,11 @@ adds-call p ending options test identifier number occurrence passes =
     (decimal-escaped number))
 
 -- which of its footnote's calls it is, from the second on
-abbrev occurrence_mark : ℕ → List ℕ
+abbrev pub occurrence_mark : ℕ → List ℕ
 occurrence_mark occurrence =
     cond (occurrence == 1) [] (codes "<sup>" ++ (decimal occurrence ++ codes "</sup>"))
 
-abbrev arrow : List ℕ
+abbrev pub arrow : List ℕ
 arrow = 226 ∷ 134 ∷ 169 ∷ []
 
 mark-read : (p : Attribute → Bool) (occurrence : ℕ) → HasReadingWith p (occurrence_mark occurrence)
@@ -135,7 +135,7 @@ mark-read p occurrence =
     (λ _. element-read (reading p) (codes "sup") [] (decimal occurrence) refl refl
     (text p (decimal occurrence) (decimal-escaped occurrence)))
 
-a_back : (v t : List ℕ) → Escaped v → Escaped t →
+pub a_back : (v t : List ℕ) → Escaped v → Escaped t →
     is_tag elements (codes "a") (attribute (codes "href") (35 ∷ v)
     ∷ attribute (codes "data-footnote-backref") [] ∷ attribute (codes "aria-label") t
     ∷ attribute (codes "class") (codes "data-footnote-backref") ∷ []) ≡ true

@@ -18,7 +18,7 @@ use Rattle.md_safe.proofs.Tags.{adds-escaped}
 use Rattle.md_safe.proofs.Media.{pass_one}
 
 -- a cell's texts
-abbrev cell_texts : Bool → AlignKind → List ℕ → List Piece
+abbrev pub cell_texts : Bool → AlignKind → List ℕ → List Piece
 cell_texts in_head kind x =
     Text (cond in_head (codes "<th") (codes "<td")) ∷ Text (align_attribute kind)
     ∷ Text (codes ">") ∷ Text x ∷ Text (cond in_head (codes "</th>") (codes "</td>")) ∷ []

@@ -1,13 +1,13 @@
 -- The cells and rows of tables print the content of a row and of a table.
-use Rattle.std.proofs.Common.{ℕ, Bool, true, false, cond, List, [], ◌∷◌, ◌++◌, refl, subst}
+use Rattle.std.proofs.Common.{ℕ, Bool, true, false, List, [], ◌∷◌, ◌++◌, refl, subst}
 use Rattle.std.proofs.Common.{append_assoc, codes}
 use Rattle.std.specs.Prelude.{Option, Some, None}
 use Rattle.std.specs.Option.{option_map_or}
 use Rattle.std.specs.List.{flat_map}
 use Rattle.md_base.specs.declared.event.AlignKind.{AlignKind}
 use Rattle.md_base.specs.declared.event.AlignKind.TheVariants as align
-use Rattle.md_meaning.specs.Meaning.Layout.{Piece, Text, Needed, on_own_line}
-use Rattle.md_meaning.specs.Meaning.Tables.{align_attribute, cell_of}
+use Rattle.md_meaning.specs.Meaning.Layout.{Piece, Needed, on_own_line}
+use Rattle.md_meaning.specs.Meaning.Tables.{cell_of}
 use Rattle.md_safe.proofs.Tags.{attribute}
 use Rattle.md_safe.proofs.Costs.{Document}
 use Rattle.md_safe.specs.Contents.{Phrasing, Rows, Cells}
@@ -15,12 +15,7 @@ use Rattle.md_safe.proofs.Stands.{Stands, stands-nothing, stands-tag, turns-plai
 use Rattle.md_safe.proofs.ContainedLaid.{lays-white, lays-nothing, lays-both, white-needed}
 use Rattle.md_safe.proofs.SpanContents.{Prints, flat}
 use Rattle.md_safe.proofs.OwnLines.{block-pair}
-
--- a cell's texts
-abbrev cell_texts : Bool → AlignKind → List ℕ → List Piece
-cell_texts in_head kind x =
-    Text (cond in_head (codes "<th") (codes "<td")) ∷ Text (align_attribute kind)
-    ∷ Text (codes ">") ∷ Text x ∷ Text (cond in_head (codes "</th>") (codes "</td>")) ∷ []
+use Rattle.md_safe.proofs.Cells.{cell_texts}
 
 cell-flat : (nested : Bool) (d : Document) (in_head : Bool) (kind : AlignKind) (x : List ℕ) →
     Stands nested Phrasing x →

@@ -15,6 +15,7 @@ use Rattle.md_safe.proofs.Laid.{Adds, adds-append, adds-text}
 use Rattle.md_safe.proofs.Tags.{attribute}
 use Rattle.md_safe.proofs.Elements.{code_closing}
 use Rattle.md_safe.proofs.RawElements.{IsInfo, code_tag, math_tag}
+use Rattle.md_safe.proofs.RawElements.{code_class, info_regrouped, raw_regrouped}
 use Rattle.md_safe.proofs.Costs.{Document}
 use Rattle.md_safe.specs.Contents.{Flow, Preformatted, Characters}
 use Rattle.md_safe.proofs.Stands.{Stands, stands-join, stands-text, stands-white, Turns, turns-tag}
@@ -70,15 +71,6 @@ fenced-end d t w =
     (blank-white d (list_any is_chunk (spine_names t.children)) w))
     (blank-white d (is_unclosed t) w)))
 
-code_class : (v : List ℕ) → Escaped v → is_tag elements (codes "code")
-    (attribute (codes "class") (codes "language-" ++ v) ∷ []) ≡ true
-code_class v h = rw h refl
-
-info_regrouped : (v : List ℕ) → codes "<pre>" ++ opening_tag (codes "code")
-    (attribute (codes "class") (codes "language-" ++ v) ∷ []) ≡ code_tag
-    ++ ((codes " class=\"language-" ++ (v ++ codes "\"")) ++ (62 ∷ []))
-info_regrouped v = simp append_assoc
-
 -- the tag of fenced code, with what is said in it
 pub turns-info : (nested : Bool) (x : List ℕ) → IsInfo code_tag x →
     Turns nested Characters Flow (code_tag ++ (x ++ (62 ∷ []))) code_closing
@@ -104,11 +96,6 @@ turns-math nested x info = elim info [
 abbrev pub IsOpened : (nested : Bool) → List ℕ → List ℕ → Type 0
 IsOpened nested tag x = (attributes body : List ℕ) × (x ≡ attributes ++ (62 ∷ body)) × Escaped body
     × Turns nested Characters Flow (tag ++ (attributes ++ (62 ∷ []))) code_closing
-
-raw_regrouped : (e tag w y g c h : List ℕ) →
-    e ++ (((tag ++ (w ++ (62 ∷ []))) ++ ((y ++ g) ++ c)) ++ h) ≡ (e ++ tag)
-    ++ ((w ++ (62 ∷ y)) ++ (g ++ (c ++ h)))
-raw_regrouped e tag w y g c h = simp append_assoc
 
 -- white space and a tag's beginning
 abbrev IsBegun : List ℕ → List ℕ → Type 0

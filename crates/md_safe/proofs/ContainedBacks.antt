@@ -1,29 +1,20 @@
 -- The ways back from a footnote to its calls are phrasing content.
-use Rattle.std.proofs.Common.{◌≡◌, ℕ, zero, suc, ◌==◌, Bool, true, false, cond, List, [], ◌∷◌, ◌++◌}
+use Rattle.std.proofs.Common.{ℕ, zero, suc, ◌==◌, Bool, true, false, cond, List, [], ◌∷◌, ◌++◌}
 use Rattle.std.proofs.Common.{refl, codes}
 use Rattle.std.specs.Prelude.{Option, Some, None, option_map, string_bytes}
 use Rattle.std.specs.Fmt.{decimal}
 use Rattle.std.proofs.lemmas.Bool.{cond_both}
-use Rattle.md_text.specs.Html.{is_tag, elements}
 use Rattle.md_text.proofs.EncodeLaws.{is_escaped-encoded}
 use Rattle.md_text.specs.declared.options.CompileOptions.{CompileOptions}
 use Rattle.md_meaning.specs.Meaning.Footnotes.{option_or, call_id, backreference, backreferences}
 use Rattle.md_safe.proofs.Texts.{Escaped, decimal-escaped}
 use Rattle.md_safe.proofs.Tags.{attribute}
-use Rattle.md_safe.proofs.Calls.{call_id-escaped}
+use Rattle.md_safe.proofs.Calls.{call_id-escaped, occurrence_mark, arrow, a_back}
 use Rattle.md_safe.specs.Contents.{Phrasing, Linked}
 use Rattle.md_safe.proofs.Stands.{Stands, stands-join, stands-nothing, stands-tag}
 use Rattle.md_safe.proofs.Linking.{in_link}
 use Rattle.md_safe.proofs.SpanContents.{phrase}
 use Rattle.md_safe.proofs.LinksAndImages.{linked-text}
-
--- which of its footnote's calls it is, from the second on
-abbrev occurrence_mark : ℕ → List ℕ
-occurrence_mark occurrence =
-    cond (occurrence == 1) [] (codes "<sup>" ++ (decimal occurrence ++ codes "</sup>"))
-
-abbrev arrow : List ℕ
-arrow = 226 ∷ 134 ∷ 169 ∷ []
 
 mark-stands : (nested : Bool) (occurrence : ℕ) →
     Stands nested (in_link nested) (occurrence_mark occurrence)
@@ -37,12 +28,6 @@ mark-stands nested occurrence =
         (linked-text true (decimal occurrence) (decimal-escaped occurrence))
     by false = stands-tag false Linked Linked (codes "sup") [] (decimal occurrence) refl refl
         (linked-text false (decimal occurrence) (decimal-escaped occurrence))
-
-a_back : (v t : List ℕ) → Escaped v → Escaped t →
-    is_tag elements (codes "a") (attribute (codes "href") (35 ∷ v)
-    ∷ attribute (codes "data-footnote-backref") [] ∷ attribute (codes "aria-label") t
-    ∷ attribute (codes "class") (codes "data-footnote-backref") ∷ []) ≡ true
-a_back v t h g = rw (h, g) refl
 
 back-stands : (nested : Bool) (v t m : List ℕ) → Escaped v → Escaped t →
     Stands nested (in_link nested) m

@@ -41,8 +41,9 @@ use Rattle.md_safe.proofs.SpanContents.{Prints, Known, Own}
 use Rattle.md_safe.proofs.Spans.{Spanning}
 use Rattle.md_safe.proofs.Blocks.{solid-node}
 use Rattle.md_safe.proofs.FlowFindings.{IsHeading, AreFlow, flow-append, heading-found, note-found}
-use Rattle.md_safe.proofs.FlowFindings.{still-outside, is_blocks-same, after-blocks, heading-both}
+use Rattle.md_safe.proofs.FlowFindings.{still-outside, is_blocks-same, heading-both}
 use Rattle.md_safe.proofs.FlowFindings.{heading-next, heading-inside}
+use Rattle.md_safe.proofs.Contents.{after-blocks}
 
 -- what nodes mean, where their content stands
 pub record Means (nested : Bool) (d : Document) (content : Content) (means : Outcome) : Type 0 where

@@ -1,7 +1,7 @@
 -- What pieces add to a text stands as some content: white space, and tags with white
 -- space around them.
 use Rattle.std.proofs.Common.{◌≡◌, ℕ, Bool, true, false, cond, List, [], ◌∷◌, ◌++◌, refl, sym, ap}
-use Rattle.std.proofs.Common.{◌∙◌, subst, append_assoc, append-nil}
+use Rattle.std.proofs.Common.{◌∙◌, subst, append-nil}
 use Rattle.std.specs.List.{list_all}
 use Rattle.std.proofs.lemmas.Bool.{and_from}
 use Rattle.std.proofs.lemmas.List.Folds.{list_all-append}
@@ -12,6 +12,7 @@ use Rattle.md_safe.specs.Contents.{Content, Flow, Phrasing, is_space}
 use Rattle.md_safe.proofs.Stands.{Stands, stands-join, stands-nothing, stands-white}
 use Rattle.md_safe.proofs.Wider.{stands-wider}
 use Rattle.md_safe.proofs.Stands.{IsWhite, is_spaced, Turns}
+use Rattle.md_safe.proofs.Tags.{regrouped}
 
 -- what pieces add stands as this content
 abbrev pub Lays : (nested : Bool) → List ℕ → Content → List Piece → Type 0
@@ -119,10 +120,6 @@ spaced-needed ending c h = spaced-after ending c (Needed ∷ []) (white-needed e
 pub spaced-forced : (ending c : List ℕ) → IsWhite ending →
     Adds ending (IsSpaced c) (Forced ∷ Text c ∷ [])
 spaced-forced ending c h = spaced-after ending c (Forced ∷ []) (white-forced ending h)
-
-regrouped : (e o f y g c h : List ℕ) → e ++ ((o ++ (((f ++ y) ++ g) ++ c)) ++ h) ≡ (e ++ (o ++ f))
-    ++ (y ++ (g ++ (c ++ h)))
-regrouped e o f y g c h = simp append_assoc
 
 enclosed : (nested : Bool) (held content : Content) (o c x y z : List ℕ) → is_spaced held ≡ true →
     is_spaced content ≡ true →

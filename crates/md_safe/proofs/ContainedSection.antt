@@ -14,13 +14,14 @@ use Rattle.md_meaning.specs.Meaning.Layout.{Piece, Text, Needed, Forced}
 use Rattle.md_meaning.specs.Meaning.Footnotes.{option_or, id_of, backreferences, unended_length}
 use Rattle.md_meaning.specs.Meaning.Footnotes.{body, item, section_start, section, distinct}
 use Rattle.md_meaning.specs.Meaning.Footnotes.{place_among, count_of}
+use Rattle.md_meaning.specs.FootnoteHeading.{tag_of, attributes_of}
 use Rattle.md_safe.proofs.Texts.{Escaped}
 use Rattle.md_safe.proofs.Laid.{Adds, adds-text}
 use Rattle.md_safe.proofs.Tags.{attribute, adds-flat, flat as flattened}
 use Rattle.md_safe.proofs.Calls.{id-escaped, label-escaped}
 use Rattle.md_safe.proofs.FootnoteBodies.{rest-ends}
-use Rattle.md_safe.proofs.Section.{tag_of, attributes_of, heading_label_of, heading_text}
-use Rattle.md_safe.proofs.Section.{text_among, section_end, li_id}
+use Rattle.md_safe.proofs.Section.{heading_label_of, heading_text}
+use Rattle.md_safe.proofs.Section.{text_among, section_end, li_id, head_texts}
 use Rattle.md_safe.proofs.Costs.{Document}
 use Rattle.md_safe.specs.Contents.{Flow, Phrasing, Items}
 use Rattle.md_safe.proofs.Stands.{Stands, stands-join, stands-nothing, stands-tag}
@@ -185,14 +186,6 @@ section-turns nested options no_tag no_attributes =
     (subst (λ attributes. Turns nested Flow Flow
     (heading_text (codes "h2") attributes (heading_label_of options)) (codes "</section>"))
     (sym attributes) (heading-turns nested (heading_label_of options) (label-escaped options)))
-
--- the beginning of the section
-abbrev head_texts : CompileOptions → List Piece
-head_texts options =
-    Text (codes "<section data-footnotes=\"\" class=\"footnotes\"><") ∷ Text (tag_of options)
-    ∷ Text (codes " id=\"footnote-label\" ") ∷ Text (attributes_of options) ∷ Text (codes ">")
-    ∷ Text (heading_label_of options)
-    ∷ Text (codes "</") ∷ Text (tag_of options) ∷ Text (codes ">") ∷ []
 
 section-around : (nested : Bool) (d : Document) → IsWhite d.given.ending →
     d.given.options.gfm_footnote_label_tag_name ≡ None →

@@ -1,5 +1,6 @@
 -- What holds of the text of each content, in which surroundings it stands and after which names.
-use Rattle.std.proofs.Common.{◌≡◌, ℕ, Bool, true, false, cond, List, [], ◌∷◌, ◌++◌, refl, sym, inl}
+use Rattle.std.proofs.Common.{◌≡◌, ℕ, Bool, true, false, cond, List, [], ◌∷◌, ◌++◌, refl, sym, ap}
+use Rattle.std.proofs.Common.{inl}
 use Rattle.std.specs.List.{list_any}
 use Rattle.std.proofs.lemmas.Bool.{cond_both}
 use Rattle.md_base.proofs.Lies.{lie}
@@ -10,7 +11,7 @@ use Rattle.md_base.specs.NameTests.{is_transparent, is_fence as fence_name}
 use Rattle.md_base.specs.Children.{spine_names}
 use Rattle.md_shape.specs.Built.{Content, Blocks, Spans, Strings, FirstFence, FirstMathFence}
 use Rattle.md_shape.specs.Built.{Chunks, InfoAndMeta, MetaAlone, Done, Nothing, Sources}
-use Rattle.md_shape.specs.Built.{content_past, content_after}
+use Rattle.md_shape.specs.Built.{content_past, content_after, content_after_node}
 use Rattle.md_safe.proofs.Texts.{Escaped}
 use Rattle.md_safe.proofs.Claim.{Claim}
 use Rattle.md_safe.proofs.Elements.{IsDone}
@@ -82,3 +83,12 @@ stays-after Q past content (Node name start end children rest) h =
     (cond (is_transparent name) (content_after content children) (content_past content name)) rest
     (cond_both (is_transparent name) (content_after content children) (content_past content name) Q
     (λ _. stays-after Q past content children h) (λ _. past content name h))
+
+-- after each node in blocks the content is still blocks
+pub after-blocks : (name : Name) (children : Forest) →
+    content_after_node Blocks name children ≡ Blocks
+after-blocks name children =
+    cond_both (is_transparent name) (content_after Blocks children) Blocks (λ c. c ≡ Blocks)
+    (λ _. stays-after (λ content. content ≡ Blocks)
+    (λ content name e. ap (λ content. content_past content name) e)
+    Blocks children refl) (λ _. refl)

@@ -4,7 +4,7 @@
 use Rattle.std.proofs.Common.{◌≡◌, ℕ, ◌+◌, Bool, true, false, ◌||◌, cond, List, [], refl, ap, ◌∙◌}
 use Rattle.std.proofs.Common.{subst, arith}
 use Rattle.std.specs.Prelude.{Option, Some, None, unwrap_or}
-use Rattle.std.proofs.lemmas.Bool.{or_parts, cond_both}
+use Rattle.std.proofs.lemmas.Bool.{or_parts}
 use Rattle.md_base.specs.declared.event.Name.{Name}
 use Rattle.md_base.specs.declared.event.Name.TheVariants as name_variants
 use name_variants.{GfmFootnoteDefinition}
@@ -18,9 +18,9 @@ use Rattle.md_meaning.specs.Meaning.At.{Before, At}
 use Rattle.md_meaning.specs.Meaning.Nodes.{Outcome, before_next, outcome}
 use Rattle.md_shape.specs.Underlined.{waits_past, waits_after, IsUnderlined}
 use Rattle.md_shape.specs.Built.{Blocks, is_part, is_source, may_stand, content_of, content_inside}
-use Rattle.md_shape.specs.Built.{content_after_node, content_past, content_after, IsBuilt}
+use Rattle.md_shape.specs.Built.{IsBuilt}
 use Rattle.md_safe.proofs.Laid.{adds-append, adds-nothing}
-use Rattle.md_safe.proofs.Contents.{stays-after}
+use Rattle.md_safe.proofs.Contents.{after-blocks}
 use Rattle.md_safe.proofs.Insides.{is_blocks}
 use Rattle.md_safe.proofs.Following.{second}
 use Rattle.md_safe.proofs.Nodes.{not_part}
@@ -66,14 +66,6 @@ solid-spent d w p name waits m k awaited h b =
     by true is blocks of = special-spent d w p name waits m is awaited h b
     by false is true of = around-blocks d w p name waits m k (plain is) of (b (same ∙ of))
     by false is false of = around-others d w p name waits m k (plain is) (same ∙ of) h
-
--- blocks stay blocks
-after-blocks : (name : Name) (children : Forest) → content_after_node Blocks name children ≡ Blocks
-after-blocks name children =
-    cond_both (is_transparent name) (content_after Blocks children) Blocks (λ c. c ≡ Blocks)
-    (λ _. stays-after (λ content. content ≡ Blocks)
-    (λ content name e. ap (λ content. content_past content name) e)
-    Blocks children refl) (λ _. refl)
 
 -- the heading after two
 heading-both : (later first : Option (List ℕ)) (before : List ℕ) →

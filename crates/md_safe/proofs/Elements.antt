@@ -35,7 +35,7 @@ bracket-code p = bracket-two p (codes "<pre>") (codes "</pre>") (codes "<code>")
     (bracket-plain p (codes "pre") refl) (bracket-plain p (codes "code") refl)
 
 -- a heading of a rank from 1 to 6
-heading_name : ℕ → List ℕ
+unfoldable pub heading_name : ℕ → List ℕ
 heading_name rank = 104 ∷ decimal rank
 
 pub bracket-heading : (p : Claim) (rank : ℕ) → (1 ≤ rank) × (rank ≤ 6) →
@@ -80,7 +80,7 @@ pub record IsOpening (p : Claim) (ending : List ℕ) (close : List ℕ)
   pub adds : Adds ending (IsFramed open_tag) pieces
   pub bracket : Bracket p open_tag close
 
-ol_start : (n : List ℕ) → Escaped n →
+pub ol_start : (n : List ℕ) → Escaped n →
     is_tag elements (codes "ol") (attribute (codes "start") n ∷ []) ≡ true
 ol_start n h = rw h refl
 

@@ -1,15 +1,13 @@
 -- What is found among blocks: phrasing content as a heading's text, flow content of footnotes.
-use Rattle.std.proofs.Common.{◌≡◌, ℕ, Bool, true, false, cond, List, [], ◌∷◌, ◌++◌, refl, sym, ap}
+use Rattle.std.proofs.Common.{◌≡◌, ℕ, Bool, true, false, cond, List, [], ◌∷◌, ◌++◌, refl, sym}
 use Rattle.std.proofs.Common.{subst}
 use Rattle.std.specs.Prelude.{Option, Some, None, unwrap_or}
-use Rattle.std.proofs.lemmas.Bool.{cond_both}
 use Rattle.md_base.proofs.Lies.{lie}
 use Rattle.md_base.specs.declared.event.Name.{Name}
 use Rattle.md_base.specs.declared.event.Name.TheVariants as name_variants
 use name_variants.{Other, BlockQuotePrefix, SpaceOrTab, Image, HeadingSetextText}
 use name_variants.{GfmFootnoteDefinition}
 use Rattle.md_base.specs.Is.{is as named}
-use Rattle.md_base.specs.Tree.{Forest}
 use Rattle.md_base.specs.NameTests.{is_transparent}
 use Rattle.md_base.specs.Children.{or_else}
 use Rattle.md_text.specs.declared.options.CompileOptions.{CompileOptions}
@@ -18,10 +16,8 @@ use Rattle.md_meaning.specs.Meaning.Around.{inside}
 use Rattle.md_meaning.specs.Meaning.At.{Footnote, At}
 use Rattle.md_meaning.specs.Meaning.Layout.{layout}
 use Rattle.md_meaning.specs.Meaning.Nodes.{Outcome, found_at}
-use Rattle.md_shape.specs.Built.{Content as Grammatical, Blocks, content_inside, content_after_node}
-use Rattle.md_shape.specs.Built.{content_past, content_after}
+use Rattle.md_shape.specs.Built.{Content as Grammatical, Blocks, content_inside}
 use Rattle.md_safe.proofs.Laid.{adds-alone}
-use Rattle.md_safe.proofs.Contents.{stays-after}
 use Rattle.md_safe.proofs.Insides.{is_blocks}
 use Rattle.md_safe.proofs.Costs.{Document}
 use Rattle.md_safe.specs.Contents.{Content, Flow, Phrasing}
@@ -87,14 +83,6 @@ still-outside options loose _ around blocks out = out
 pub is_blocks-same : (content : Grammatical) → is_blocks content ≡ true → content ≡ Blocks
 is_blocks-same Blocks h = refl
 is_blocks-same _ h = lie h
-
-pub after-blocks : (name : Name) (children : Forest) →
-    content_after_node Blocks name children ≡ Blocks
-after-blocks name children =
-    cond_both (is_transparent name) (content_after Blocks children) Blocks (λ c. c ≡ Blocks)
-    (λ _. stays-after (λ content. content ≡ Blocks)
-    (λ content name e. ap (λ content. content_past content name) e)
-    Blocks children refl) (λ _. refl)
 
 pub heading-both : (nested : Bool) (first later : Option (List ℕ)) → IsHeading nested first →
     IsHeading nested later →

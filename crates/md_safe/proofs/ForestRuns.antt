@@ -23,7 +23,7 @@ use Rattle.md_safe.proofs.TagRuns.{lined, line_feeds-attributes, element-runs}
 use Rattle.md_safe.proofs.TagRuns.{void-runs, end-runs}
 
 -- after a text no line feed comes, unless it comes after all
-after_text : (f : Forest) (r : List ℕ) → not (begins_with_text f) ≡ true →
+pub after_text : (f : Forest) (r : List ℕ) → not (begins_with_text f) ≡ true →
     begins_with_line_feed r ≡ false →
     begins_with_line_feed (forest_before f r) ≡ false
 after_text Empty r h n = n
@@ -31,7 +31,7 @@ after_text (Text bytes rest) r h n = lie h
 after_text (Void name attributes rest) r h n = refl
 after_text (Element name attributes children rest) r h n = refl
 
-good-line_feeds : (name r : List ℕ) → is_good_name name ≡ true →
+pub good-line_feeds : (name r : List ℕ) → is_good_name name ≡ true →
     with_line_feeds (name ++ r) ≡ name ++ with_line_feeds r
 good-line_feeds name r g =
     let p = and_parts (begins_tag name) _ g in

@@ -5,7 +5,7 @@ use Rattle.std.proofs.Common.{codes, ne_eqb}
 use Rattle.std.specs.Prelude.{Option, Some, None, bytes_eq}
 use Rattle.std.specs.Option.{option_map_or}
 use Rattle.std.specs.List.{list_all}
-use Rattle.std.specs.Fmt.{decimal, digits}
+use Rattle.std.specs.Fmt.{digits}
 use Rattle.std.proofs.lemmas.Bool.{agree_below_at, not_from_false}
 use Rattle.md_base.proofs.Lies.{lie}
 use Rattle.md_base.specs.declared.event.Position.{Position}
@@ -25,10 +25,9 @@ use Rattle.md_safe.proofs.Stands.{Turns, turns-tag, turns-plain, IsWhite}
 use Rattle.md_safe.proofs.ContainedLaid.{lays-turned, IsSpaced, spaced, spaced-text, spaced-needed}
 use Rattle.md_safe.proofs.ContainedLaid.{spaced-forced, white-nil, white-needed}
 use Rattle.md_safe.proofs.SpanContents.{Prints}
+use Rattle.md_safe.proofs.Elements.{heading_name, ol_start}
 
 -- ---- headings
-heading_name : ℕ → List ℕ
-heading_name rank = 104 ∷ decimal rank
 
 holds_phrasing : Option Content → Bool
 holds_phrasing held =
@@ -67,9 +66,6 @@ heading-node nested d rank w fits inner a =
     (spaced-text d.given.ending (heading_tag (codes "</h") rank))
 
 -- ---- lists
-ol_start : (n : List ℕ) → Escaped n →
-    is_tag elements (codes "ol") (attribute (codes "start") n ∷ []) ≡ true
-ol_start n h = rw h refl
 
 -- texts after pieces that add white space
 spaced-flat : (ending : List ℕ) (xs zs : List Piece) → are_texts zs ≡ true →

@@ -1,8 +1,7 @@
 -- The facts about the content of a node that follow from the node being allowed in some content:
 -- computed once for each content, for all names.
-use Rattle.std.proofs.Common.{◌≡◌, Bool, true, false, not, ◌&&◌, ◌||◌, cond, refl}
+use Rattle.std.proofs.Common.{◌≡◌, Bool, true, false, not, ◌&&◌, ◌||◌, refl}
 use Rattle.std.proofs.lemmas.Bool.{and_parts, not-true}
-use Rattle.md_base.proofs.Lies.{lie}
 use Rattle.md_base.specs.declared.event.Name.{Name}
 use Rattle.md_base.specs.declared.event.Name.TheVariants.{Image}
 use Rattle.md_base.specs.Is.{is as named}
@@ -10,6 +9,7 @@ use Rattle.md_base.specs.NameTests.{is_fence}
 use Rattle.md_shape.specs.Built.{Content, Blocks, Spans, Strings, FirstFence, FirstMathFence}
 use Rattle.md_shape.specs.Built.{Chunks, InfoAndMeta, MetaAlone, Done, Nothing, Sources, is_source}
 use Rattle.md_shape.specs.Built.{may_stand, content_of}
+use Rattle.md_shape.proofs.Standing.{implies, follows}
 use Rattle.md_safe.proofs.Contents.{is_first}
 
 -- blocks
@@ -38,13 +38,6 @@ asks_escaping content = elim content [
 -- a node whose children begin with a first fence, wherever it stands
 abbrev pub is_raw : Name → Bool
 is_raw name = is_first (content_of name Blocks)
-
-abbrev implies : Bool → Bool → Bool
-implies test holds = cond test holds true
-
-follows : (test holds : Bool) → implies test holds ≡ true → test ≡ true → holds ≡ true
-follows true holds h t = h
-follows false holds h t = lie t
 
 -- of a name that may stand in the content `c`, and what may stand in it, `i`
 abbrev tells : Content → Name → Content → Bool

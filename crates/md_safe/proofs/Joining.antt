@@ -1,11 +1,12 @@
 -- Some steps, and then others.
 use Rattle.std.proofs.Common.{◌≡◌, ℕ, List, [], ◌++◌, refl, sym, ap, ◌∙◌, subst, append_assoc}
-use Rattle.std.proofs.Common.{Option, Some, None, option_map, zero, suc}
+use Rattle.std.proofs.Common.{Some, option_map, zero, suc}
 use Rattle.md_safe.specs.Token.{Token}
 use Rattle.md_safe.specs.TokenizerStates.{State, Data, Step, Goes, Stops, Stuck}
 use Rattle.md_safe.specs.Tokenizer.{step, run, after_step}
 use Rattle.md_safe.specs.Tokenizer.{IsRun}
 use Rattle.md_safe.specs.Leads.{Leads, emitted_before, and_then, steps}
+use Rattle.md_safe.proofs.OneRun.{map_some}
 
 from_state : (a b : State) (x y : List ℕ) (s t : List Token) → Goes s a x ≡ Goes t b y → a ≡ b
 from_state a b x y s t e = cc
@@ -96,17 +97,6 @@ pub runs-on : (state : State) (input mid : List ℕ) (t u : List Token) → Lead
 runs-on state input mid t u h k = back IsRun run-back mid u k h.count state input t h.goes
 
 -- ---- a run begins with the steps that there are
-
-map_none : (out x : List Token) → option_map (λ later. out ++ later) None ≡ Some x → ⊥
-map_none out x e = cc
-
-map_some : (out : List Token) (o : Option (List Token)) (x : List Token) →
-    option_map (λ later. out ++ later) o ≡ Some x → (y : List Token) × (o ≡ Some y) × (x ≡ out ++ y)
-map_some out None x e = absurd (map_none out x e)
-map_some out (Some y) x e = (y, refl, part (out ++ y) x e)
-  where
-    part : (y x : List Token) → Some y ≡ Some x → x ≡ y
-    part y x e = cc
 
 -- the rest of a run
 abbrev Rest : List ℕ → List Token → List Token → Type 0

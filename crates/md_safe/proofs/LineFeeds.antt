@@ -12,7 +12,7 @@ abbrev pub no_return : ℕ → Bool
 no_return b = not (b == 13)
 
 -- one byte before what follows it
-abbrev one : ℕ → Bool → List ℕ → List ℕ
+abbrev pub one : ℕ → Bool → List ℕ → List ℕ
 one b feed later = cond (b == 13) (cond feed later (10 ∷ later)) (b ∷ later)
 
 begins-append : (x r : List ℕ) → begins_with_line_feed r ≡ false →

@@ -4,7 +4,6 @@ use Rattle.std.proofs.Common.{codes}
 use Rattle.std.specs.Prelude.{Option, Some, None}
 use Rattle.std.proofs.lemmas.Bool.{cond_both}
 use Rattle.md_text.specs.Encode.{encoded}
-use Rattle.md_text.specs.Html.{is_tag, elements, void_tags}
 use Rattle.md_text.proofs.EncodeLaws.{is_escaped-encoded}
 use Rattle.md_meaning.specs.Meaning.At.{Target, At, text_in}
 use Rattle.md_meaning.specs.Meaning.Layout.{said}
@@ -12,30 +11,12 @@ use Rattle.md_meaning.specs.Meaning.Media.{href, src, anchor, picture, autolink}
 use Rattle.md_safe.proofs.Texts.{Escaped}
 use Rattle.md_safe.proofs.Tags.{attribute}
 use Rattle.md_safe.proofs.Media.{href-escaped, src-escaped, IsEscapedTitle}
+use Rattle.md_safe.proofs.Media.{a_href, a_href_title, img, img_title}
 use Rattle.md_safe.proofs.Costs.{Document}
 use Rattle.md_safe.specs.Contents.{Content, Phrasing, Linked}
 use Rattle.md_safe.proofs.Linking.{in_link}
 use Rattle.md_safe.proofs.Stands.{Stands, stands-text, stands-void, stands-tag}
 use Rattle.md_safe.proofs.SpanContents.{Prints, flat, AreSpans, prints-escaped}
-
-a_href : (v : List ℕ) → Escaped v →
-    is_tag elements (codes "a") (attribute (codes "href") v ∷ []) ≡ true
-a_href v h = rw h refl
-
-a_href_title : (v t : List ℕ) → Escaped v → Escaped t →
-    is_tag elements (codes "a") (attribute (codes "href") v
-    ∷ attribute (codes "title") t ∷ []) ≡ true
-a_href_title v t h g = rw (h, g) refl
-
-img : (v t : List ℕ) → Escaped v → Escaped t →
-    is_tag void_tags (codes "img") (attribute (codes "src") v
-    ∷ attribute (codes "alt") t ∷ []) ≡ true
-img v t h g = rw (h, g) refl
-
-img_title : (v t u : List ℕ) → Escaped v → Escaped t → Escaped u →
-    is_tag void_tags (codes "img") (attribute (codes "src") v ∷ attribute (codes "alt") t
-    ∷ attribute (codes "title") u ∷ []) ≡ true
-img_title v t u h g k = rw (h, g, k) refl
 
 pub link : (nested : Bool) (d : Document) (target : Target) (label : List ℕ) →
     IsEscapedTitle target.title →

@@ -26,21 +26,21 @@ src-escaped options x =
     (λ _. sanitized_with-escaped image_protocols x)
 
 -- tags with these attributes are of the table, where their values are escaped
-a_href : (v : List ℕ) → Escaped v →
+pub a_href : (v : List ℕ) → Escaped v →
     is_tag elements (codes "a") (attribute (codes "href") v ∷ []) ≡ true
 a_href v h = rw h refl
 
-a_href_title : (v t : List ℕ) → Escaped v → Escaped t →
+pub a_href_title : (v t : List ℕ) → Escaped v → Escaped t →
     is_tag elements (codes "a") (attribute (codes "href") v
     ∷ attribute (codes "title") t ∷ []) ≡ true
 a_href_title v t h g = rw (h, g) refl
 
-img : (v t : List ℕ) → Escaped v → Escaped t →
+pub img : (v t : List ℕ) → Escaped v → Escaped t →
     is_tag void_tags (codes "img") (attribute (codes "src") v
     ∷ attribute (codes "alt") t ∷ []) ≡ true
 img v t h g = rw (h, g) refl
 
-img_title : (v t u : List ℕ) → Escaped v → Escaped t → Escaped u →
+pub img_title : (v t u : List ℕ) → Escaped v → Escaped t → Escaped u →
     is_tag void_tags (codes "img") (attribute (codes "src") v ∷ attribute (codes "alt") t
     ∷ attribute (codes "title") u ∷ []) ≡ true
 img_title v t u h g k = rw (h, g, k) refl

@@ -1,20 +1,18 @@
 -- A value without a protocol has no scheme.
 use Rattle.std.proofs.Common.{◌≡◌, ℕ, ◌==◌, Bool, true, false, not, ◌&&◌, ◌||◌, cond, List, [], ◌∷◌}
-use Rattle.std.proofs.Common.{◌++◌, refl, sym, ap, ap₂, ◌∙◌, inl, inr, Option, Some, None}
-use Rattle.std.proofs.Common.{option_map, ne_eqb}
+use Rattle.std.proofs.Common.{◌++◌, refl, sym, ap, ap₂, ◌∙◌, inl, inr, Some, None}
+use Rattle.std.proofs.Common.{option_map}
 use Rattle.std.specs.List.{list_all}
 use Rattle.std.proofs.lemmas.Bool.{and_parts, or_from, cond_both, cases_Bool, not-true}
-use Rattle.md_base.proofs.Lies.{lie}
 use Rattle.md_text.specs.Bytes.{is_letter, lower}
 use Rattle.md_text.specs.Url.{protocol_of}
+use Rattle.md_text.proofs.ProtocolLemmas.{ends_protocol, some_none, map_none}
+use Rattle.md_text.proofs.HtmlRead.{passes_not}
 use Rattle.md_safe.specs.Input.{with_line_feeds, begins_with_line_feed}
 use Rattle.md_safe.specs.Scheme.{is_control_or_space, without_leading, without_trailing}
 use Rattle.md_safe.specs.Scheme.{is_tab_or_newline, without_newlines, is_scheme_byte, in_scheme}
 use Rattle.md_safe.specs.Scheme.{in_scheme_start, scheme_of}
 use Rattle.md_safe.proofs.Steps.{past, here}
-
-abbrev pub ends_protocol : ℕ → Bool
-ends_protocol b = (b == 63) || (b == 35) || (b == 47)
 
 abbrev pub goes_on : ℕ → Bool
 goes_on b = not (b == 58) && not (ends_protocol b)
@@ -33,25 +31,6 @@ pub protocol_of-end : (b : ℕ) (rest : List ℕ) → (b == 58) ≡ false → en
     protocol_of (b ∷ rest) ≡ None
 protocol_of-end b rest e f = past _ e (here _ f refl)
 
-some_none : (q : List ℕ) → Some q ≡ None → ⊥
-some_none q e = cc
-
-pub none_some : (q : List ℕ) → None ≡ Some q → ⊥
-none_some q e = cc
-
-map_none : (b : ℕ) (o : Option (List ℕ)) → option_map (λ before. b ∷ before) o ≡ None → o ≡ None
-map_none b None e = refl
-map_none b (Some q) e = cc
-
-pub map_some : (b : ℕ) (o : Option (List ℕ)) (q : List ℕ) →
-    option_map (λ before. b ∷ before) o ≡ Some q →
-    (p : List ℕ) × (o ≡ Some p) × (q ≡ b ∷ p)
-map_some b None q e = absurd (none_some q e)
-map_some b (Some p) q e = (p, refl, sym (some_part (b ∷ p) q e))
-  where
-    some_part : (x y : List ℕ) → Some x ≡ Some y → x ≡ y
-    some_part x y e = cc
-
 -- if there is none, the rest after a byte that doesn't end a protocol has none
 none-drop : (b : ℕ) (rest : List ℕ) → goes_on b ≡ true → protocol_of (b ∷ rest) ≡ None →
     protocol_of rest ≡ None
@@ -69,9 +48,6 @@ none-keep b x y f h = elim (cases_Bool (b == 58)) [
         protocol_of-goes_on b y g ∙ ap (option_map (λ before. b ∷ before)) (f (none-drop b x g h)))
   ]
 ]
-
-pub passes_not : (t : ℕ → Bool) (b n : ℕ) → t n ≡ false → t b ≡ true → (b == n) ≡ false
-passes_not t b n no_n yes_b = ne_eqb b n (λ e. lie (sym no_n ∙ ap t (sym e) ∙ yes_b))
 
 goes_on-by : (t : ℕ → Bool) → t 58 ≡ false → t 63 ≡ false → t 35 ≡ false → t 47 ≡ false →
     (b : ℕ) → t b ≡ true →

@@ -5,10 +5,10 @@ use Rattle.md_safe.specs.Token.{Token}
 use Rattle.md_safe.specs.TokenizerStates.{State, Step, Goes, Stops, Stuck}
 use Rattle.md_safe.specs.Tokenizer.{step, run, after_step, IsRun}
 
-map_none : (out x : List Token) → option_map (λ later. out ++ later) None ≡ Some x → ⊥
+pub map_none : (out x : List Token) → option_map (λ later. out ++ later) None ≡ Some x → ⊥
 map_none out x e = cc
 
-map_some : (out : List Token) (o : Option (List Token)) (x : List Token) →
+pub map_some : (out : List Token) (o : Option (List Token)) (x : List Token) →
     option_map (λ later. out ++ later) o ≡ Some x → (y : List Token) × (o ≡ Some y) × (x ≡ out ++ y)
 map_some out None x e = absurd (map_none out x e)
 map_some out (Some y) x e = (y, refl, part (out ++ y) x e)

@@ -11,7 +11,7 @@ use Rattle.md_safe.specs.TokenizerStates.{Data, Rcdata}
 use Rattle.md_safe.specs.Tokenizer.{IsRun, IsTokenized}
 use Rattle.md_safe.specs.Tokens.{seen, tokens}
 use Rattle.md_safe.specs.PageTokens.{charset as charset_seen, page_text, page_tokens, plain_tag}
-use Rattle.md_safe.specs.PageTokens.{IsTokenizedPage}
+use Rattle.md_safe.specs.PageTokens.{IsTokenizedPage, after_body}
 use Rattle.md_safe.specs.SafeTokens.{has_safe_links, has_safe_images}
 use Rattle.md_safe.proofs.LineFeeds.{line_feeds-append, line_feeds-escaped}
 use Rattle.md_safe.proofs.Steps.{quiet, loud, along, rcdata-runs}
@@ -22,19 +22,19 @@ use Rattle.md_safe.proofs.TokenTests.{all-append, all-characters, all-tokens}
 use Rattle.md_safe.proofs.SafeTokens.{links-pass, images-pass}
 
 -- `<!doctype html>`
-doctype : (r : List ℕ) (t : List Token) → IsRun Data r t →
+pub doctype : (r : List ℕ) (t : List Token) → IsRun Data r t →
     IsRun Data (codes "<!doctype html>" ++ r) (Doctype (codes "html") ∷ t)
 doctype r t h =
     quiet refl (quiet refl (quiet refl (quiet refl (quiet refl (quiet refl (quiet refl (quiet refl
     (loud (Doctype (codes "html")) refl h))))))))
 
-title_begins : (r : List ℕ) (t : List Token) → IsRun Rcdata r t →
+pub title_begins : (r : List ℕ) (t : List Token) → IsRun Rcdata r t →
     IsRun Data (codes "<title>" ++ r) (plain_tag (codes "title") ∷ t)
 title_begins r t h =
     quiet refl (quiet refl (quiet refl (quiet refl (quiet refl (quiet refl (quiet refl
     (loud (plain_tag (codes "title")) refl h)))))))
 
-title_ends : (r : List ℕ) (t : List Token) → IsRun Data r t →
+pub title_ends : (r : List ℕ) (t : List Token) → IsRun Data r t →
     IsRun Rcdata (codes "</title>" ++ r) (EndTag (codes "title") ∷ t)
 title_ends r t h =
     quiet refl (quiet refl (quiet refl (quiet refl (quiet refl (quiet refl (quiet refl (quiet refl
@@ -81,9 +81,6 @@ page-runs title body e h =
     ∷ meta_tokens) (loud (Character 10) refl html)
 
 -- ---- a safe body
-
-abbrev after_body : List Token
-after_body = EndTag (codes "body") ∷ EndTag (codes "html") ∷ Character 10 ∷ EndOfFile ∷ []
 
 abbrev after_title : Forest → List Token
 after_title body =

@@ -34,7 +34,7 @@ pub record IsRaw (p : Claim) (tag x : List ℕ) : Type 0 where
   pub bracket : Bracket p (tag ++ (attributes ++ (62 ∷ []))) code_closing
   pub escaped : Escaped body
 
-raw_regrouped : (e tag w y g c h : List ℕ) →
+pub raw_regrouped : (e tag w y g c h : List ℕ) →
     e ++ (((tag ++ (w ++ (62 ∷ []))) ++ ((y ++ g) ++ c)) ++ h) ≡ (e ++ tag)
     ++ ((w ++ (62 ∷ y)) ++ (g ++ (c ++ h)))
 raw_regrouped e tag w y g c h = simp append_assoc
@@ -88,11 +88,11 @@ IsInCode p x = IsInfo code_tag x × Bracket p (code_tag ++ (x ++ (62 ∷ []))) c
 pub bare-in_code : (p : Claim) → IsInCode p []
 bare-in_code p = (inl refl, bracket-code p)
 
-code_class : (v : List ℕ) → Escaped v → is_tag elements (codes "code")
+pub code_class : (v : List ℕ) → Escaped v → is_tag elements (codes "code")
     (attribute (codes "class") (codes "language-" ++ v) ∷ []) ≡ true
 code_class v h = rw h refl
 
-info_regrouped : (v : List ℕ) → codes "<pre>" ++ opening_tag (codes "code")
+pub info_regrouped : (v : List ℕ) → codes "<pre>" ++ opening_tag (codes "code")
     (attribute (codes "class") (codes "language-" ++ v) ∷ []) ≡ code_tag
     ++ ((codes " class=\"language-" ++ (v ++ codes "\"")) ++ (62 ∷ []))
 info_regrouped v = simp append_assoc

@@ -16,17 +16,19 @@ use Rattle.md_text.specs.References.{is_escaped, read_back}
 use Rattle.md_text.specs.Url.{protocol_of, link_protocols, image_protocols}
 use Rattle.md_text.specs.Safe.{is_safe_value}
 use Rattle.md_text.proofs.EncodeLaws.{read_back-other}
+use Rattle.md_text.proofs.ProtocolLemmas.{ends_protocol, none_some, map_some}
+use Rattle.md_text.proofs.HtmlRead.{passes_not}
 use Rattle.md_safe.specs.Input.{with_line_feeds, begins_with_line_feed}
 use Rattle.md_safe.specs.Tokens.{seen}
 use Rattle.md_safe.specs.Scheme.{is_control_or_space, without_leading, without_trailing}
 use Rattle.md_safe.specs.Scheme.{is_tab_or_newline, without_newlines, is_scheme_byte, in_scheme}
 use Rattle.md_safe.specs.Scheme.{in_scheme_start, scheme_of, has_permitted_scheme}
 use Rattle.md_safe.proofs.EscapedCases.{IsPlain, by_escaped}
-use Rattle.md_safe.proofs.LineFeeds.{no_return, line_feeds-name}
+use Rattle.md_safe.proofs.LineFeeds.{no_return, line_feeds-name, one}
 use Rattle.md_safe.proofs.Steps.{past, here}
-use Rattle.md_safe.proofs.NoProtocol.{ends_protocol, goes_on, protocol_of-goes_on}
-use Rattle.md_safe.proofs.NoProtocol.{protocol_of-colon, protocol_of-end, none_some, map_some}
-use Rattle.md_safe.proofs.NoProtocol.{passes_not, scheme_of-none}
+use Rattle.md_safe.proofs.NoProtocol.{goes_on, protocol_of-goes_on}
+use Rattle.md_safe.proofs.NoProtocol.{protocol_of-colon, protocol_of-end}
+use Rattle.md_safe.proofs.NoProtocol.{scheme_of-none}
 
 -- ---- line feeds and references
 
@@ -34,9 +36,6 @@ use Rattle.md_safe.proofs.NoProtocol.{passes_not, scheme_of-none}
 abbrev ReadsAlike : List ℕ → Type 0
 ReadsAlike x = (read_back (with_line_feeds x) ≡ with_line_feeds (read_back x))
     × (begins_with_line_feed (read_back x) ≡ begins_with_line_feed x)
-
-abbrev one : ℕ → Bool → List ℕ → List ℕ
-one b feed later = cond (b == 13) (cond feed later (10 ∷ later)) (b ∷ later)
 
 one-read : (b : ℕ) (feed : Bool) (later : List ℕ) → IsPlain b →
     read_back (one b feed later) ≡ one b feed (read_back later)

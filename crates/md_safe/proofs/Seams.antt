@@ -3,10 +3,7 @@ use Rattle.std.proofs.Common.{◌≡◌, ℕ, ◌==◌, Bool, true, false, ◌&&
 use Rattle.std.proofs.Common.{refl, ap, ◌∙◌}
 use Rattle.md_safe.specs.Input.{begins_with_line_feed, with_line_feeds}
 use Rattle.md_safe.specs.Embedded.{splits_newline}
-
--- one byte before what follows it
-abbrev one : ℕ → Bool → List ℕ → List ℕ
-one b feed later = cond (b == 13) (cond feed later (10 ∷ later)) (b ∷ later)
+use Rattle.md_safe.proofs.LineFeeds.{one}
 
 one-append : (b : ℕ) (feed : Bool) (x r : List ℕ) → one b feed (x ++ r) ≡ one b feed x ++ r
 one-append b feed x r = by (b == 13) feed

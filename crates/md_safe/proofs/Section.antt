@@ -14,6 +14,7 @@ use Rattle.md_meaning.specs.Meaning.Layout.{Piece, Text, Needed, Forced}
 use Rattle.md_meaning.specs.Meaning.Footnotes.{option_or, id_of, backreferences, body, item}
 use Rattle.md_meaning.specs.Meaning.Footnotes.{section_start, section, distinct, place_among}
 use Rattle.md_meaning.specs.Meaning.Footnotes.{count_of}
+use Rattle.md_meaning.specs.FootnoteHeading.{tag_of, attributes_of}
 use Rattle.md_safe.proofs.Texts.{Escaped}
 use Rattle.md_safe.proofs.Claim.{Claim, plain_of}
 use Rattle.md_safe.proofs.Laid.{adds-append, adds-nothing, adds-needed, adds-forced}
@@ -41,15 +42,6 @@ turn-after p q o c h bracket grows x rx =
 bracket-after : (p : Claim) (o c h : List ℕ) → Bracket p o c → HasReadingWith p.test h →
     Bracket p (o ++ h) c
 bracket-after p o c h bracket r = turn-after p p o c h bracket (λ x rx. p.before h x r rx)
-
--- what the options write of the section's heading
-abbrev pub tag_of : CompileOptions → List ℕ
-tag_of options =
-    option_or (option_map string_bytes options.gfm_footnote_label_tag_name) (codes "h2")
-
-abbrev pub attributes_of : CompileOptions → List ℕ
-attributes_of options =
-    option_map_or string_bytes options.gfm_footnote_label_attributes (codes "class=\"sr-only\"")
 
 abbrev pub heading_label_of : CompileOptions → List ℕ
 heading_label_of options =
@@ -190,7 +182,7 @@ items-print s whole footnotes (identifier ∷ identifiers) h =
     (items-print s whole footnotes identifiers h)
 
 -- the beginning of the section
-abbrev head_texts : CompileOptions → List Piece
+abbrev pub head_texts : CompileOptions → List Piece
 head_texts options =
     Text (codes "<section data-footnotes=\"\" class=\"footnotes\"><") ∷ Text (tag_of options)
     ∷ Text (codes " id=\"footnote-label\" ") ∷ Text (attributes_of options) ∷ Text (codes ">")

@@ -44,7 +44,7 @@ along state x y s t e f h = record {
   emits = ap (run h.steps state) (sym e) ∙ h.emits ∙ ap (λ t. Some t) f;
 }
 
-plain-ne : (b : ℕ) → IsPlain b → b ≡ 38 → ⊥
+pub plain-ne : (b : ℕ) → IsPlain b → b ≡ 38 → ⊥
 plain-ne b p = eqb-false b 38 p.no_and
 
 -- ---- a text
@@ -53,7 +53,7 @@ abbrev TextRuns : List ℕ → Type 0
 TextRuns x = (r : List ℕ) (t : List Token) → IsRun Data r t →
     IsRun Data (x ++ r) (map Character (read_back x) ++ t)
 
-plain_step : (b : ℕ) (rest : List ℕ) → (b == 38) ≡ false → (b == 60) ≡ false →
+pub plain_step : (b : ℕ) (rest : List ℕ) → (b == 38) ≡ false → (b == 60) ≡ false →
     step Data (b ∷ rest) ≡ Goes (Character b ∷ []) Data rest
 plain_step b rest e38 e60 = simp (e38, e60)
 
@@ -125,7 +125,7 @@ ValueRuns x = (tag : List ℕ) (earlier : List TokenAttribute) (name value : Lis
     (t : List Token) → IsRun (AtValue tag earlier name (value ++ read_back x)) r t →
     IsRun (AtValue tag earlier name value) (x ++ r) t
 
-value_step : (tag : Tag) (b : ℕ) (rest : List ℕ) → (b == 34) ≡ false →
+pub value_step : (tag : Tag) (b : ℕ) (rest : List ℕ) → (b == 34) ≡ false →
     (b == 38) ≡ false → (b == 0) ≡ false →
     step (AttributeValueDoubleQuoted tag) (b ∷ rest)
     ≡ Goes [] (AttributeValueDoubleQuoted (with_value tag (b ∷ []))) rest

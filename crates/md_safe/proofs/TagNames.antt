@@ -25,7 +25,7 @@ pub record IsGoodByte (b : ℕ) : Type 0 where
   pub no_nul : (b == 0) ≡ false
   pub no_return : (b == 13) ≡ false
 
-good_parts : (b : ℕ) → is_good_byte b ≡ true → IsGoodByte b
+pub good_parts : (b : ℕ) → is_good_byte b ≡ true → IsGoodByte b
 good_parts b h =
     let p = and_parts (not (is_space b)) _ h in
     let q = and_parts (not (b == 47)) _ p.1 in
@@ -58,7 +58,7 @@ lower-good b e = past _ e refl
 in_name-good : (b : ℕ) → IsGoodByte b → in_name b ≡ b ∷ []
 in_name-good b g = ap in_value (lower-good b g.no_upper) ∙ past _ g.no_nul refl
 
-tag_name_step : (tag : Tag) (b : ℕ) (rest : List ℕ) → IsGoodByte b →
+pub tag_name_step : (tag : Tag) (b : ℕ) (rest : List ℕ) → IsGoodByte b →
     step (TagName tag) (b ∷ rest) ≡ Goes [] (TagName (with_tag_name tag (b ∷ []))) rest
 tag_name_step tag b rest g =
     past _ g.no_space (past _ g.no_slash (past _ g.no_angle
@@ -78,7 +78,7 @@ tag_name-runs is_end before (b ∷ name) r t g h =
     (subst (λ n. IsRun (TagName (tag_with is_end n [])) r t)
     (sym (append_assoc before (b ∷ []) name)) h))
 
-attribute_name_step : (tag : Tag) (b : ℕ) (rest : List ℕ) → IsGoodByte b →
+pub attribute_name_step : (tag : Tag) (b : ℕ) (rest : List ℕ) → IsGoodByte b →
     step (AttributeName tag) (b ∷ rest) ≡ Goes [] (AttributeName (with_name tag (b ∷ []))) rest
 attribute_name_step tag b rest g =
     past _ (or_from (is_space b || (b == 47)) (b == 62)
@@ -86,7 +86,7 @@ attribute_name_step tag b rest g =
     (ap (λ bytes. Goes [] (AttributeName (with_name tag bytes)) rest) (in_name-good b g)))
 
 -- where an attribute's name is read, up to here
-abbrev AtName : List ℕ → List TokenAttribute → List ℕ → State
+abbrev pub AtName : List ℕ → List TokenAttribute → List ℕ → State
 AtName tag earlier name = AttributeName (tag_with false tag (attribute name [] ∷ earlier))
 
 attribute_name-runs :

@@ -45,7 +45,7 @@ line_feeds-attributes (a ∷ x) r g =
     ∙ ap (λ y. with_line_feeds a.value ++ (34 ∷ y)) (line_feeds-attributes x r s.1)))
 
 -- more attributes, the last one first
-abbrev onto : List TokenAttribute → List Attribute → List TokenAttribute
+abbrev pub onto : List TokenAttribute → List Attribute → List TokenAttribute
 onto earlier [] = earlier
 onto earlier (a ∷ rest) = onto (attribute a.name (seen a.value) ∷ earlier) rest
 
@@ -127,7 +127,7 @@ tag-begins is_end name r t g h =
     let p = and_parts (begins_tag name) _ g in
     tag_name-runs is_end [] name r t (and_parts (list_all is_good_byte name) _ p.1).0 h
 
-opens : (name r : List ℕ) → begins_tag name ≡ true →
+pub opens : (name r : List ℕ) → begins_tag name ≡ true →
     step TagOpen (name ++ r) ≡ Goes [] (TagName (tag_with false [] [])) (name ++ r)
 opens [] r g = lie g
 opens (b ∷ name) r g =
@@ -135,7 +135,7 @@ opens (b ∷ name) r g =
     let q = and_parts (not (b == 47)) (is_letter b) p.1 in
     past _ (not-true (b == 33) p.0) (past _ (not-true (b == 47) q.0) (here _ q.1 refl))
 
-closes : (name r : List ℕ) → begins_tag name ≡ true →
+pub closes : (name r : List ℕ) → begins_tag name ≡ true →
     step EndTagOpen (name ++ r) ≡ Goes [] (TagName (tag_with true [] [])) (name ++ r)
 closes [] r g = lie g
 closes (b ∷ name) r g =
@@ -154,12 +154,13 @@ start-runs name x r t n g h k =
     (tag-begins false name (attributes_before (lined x) r) t n (after_name-runs name x r t g h k)))
 
 -- what is kept is all
-all-kept : (name : List ℕ) (x : List Attribute) (flag : Bool) (t : List Token) → are_good x ≡ true →
+pub all-kept : (name : List ℕ) (x : List Attribute) (flag : Bool) (t : List Token) →
+    are_good x ≡ true →
     StartTag name (kept (onto [] x)) flag ∷ t ≡ StartTag name (seen_attributes x) flag ∷ t
 all-kept name x flag t g = ap (λ y. StartTag name y flag ∷ t) (kept-onto [] x g (fresh-none x))
 
 -- a tag with such a name is emitted, and the data state stays
-good-emitted : (name : List ℕ) (x : List Attribute) (flag : Bool) (r : List ℕ) →
+pub good-emitted : (name : List ℕ) (x : List Attribute) (flag : Bool) (r : List ℕ) →
     is_good_name name ≡ true →
     emitted (tag_with false name (onto [] x)) flag r
     ≡ Goes (StartTag name (kept (onto [] x)) flag ∷ []) Data r

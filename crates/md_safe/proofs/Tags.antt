@@ -82,7 +82,8 @@ pub record IsFramed (c x : List ℕ) : Type 0 where
   pub escaped_before : Escaped before
   pub escaped_after : Escaped after
 
-regrouped : (e o f y g c h : List ℕ) → e ++ ((o ++ (((f ++ y) ++ g) ++ c)) ++ h) ≡ (e ++ (o ++ f))
+pub regrouped : (e o f y g c h : List ℕ) →
+    e ++ ((o ++ (((f ++ y) ++ g) ++ c)) ++ h) ≡ (e ++ (o ++ f))
     ++ (y ++ (g ++ (c ++ h)))
 regrouped e o f y g c h = simp append_assoc
 

@@ -1,16 +1,15 @@
 -- Step by step: the way to the data state from a state, by the way from the state after its first
 -- step.
-use Rattle.std.proofs.Common.{◌≡◌, ℕ, ◌==◌, false, cond, List, [], ◌∷◌, ◌++◌, map, refl, sym, ap}
+use Rattle.std.proofs.Common.{◌≡◌, ℕ, false, List, [], ◌∷◌, ◌++◌, map, refl, sym, ap}
 use Rattle.std.proofs.Common.{◌∙◌, subst, suc, append-nil, append_assoc, true}
-use Rattle.std.proofs.lemmas.Bool.{eqb-false}
 use Rattle.md_text.specs.References.{is_escaped, read_back}
 use Rattle.md_text.proofs.EncodeLaws.{read_back-other}
 use Rattle.md_safe.specs.Token.{Token, Character, TokenAttribute}
-use Rattle.md_safe.specs.Tag.{Tag, with_value}
-use Rattle.md_safe.specs.TokenizerStates.{State, Data, AttributeValueDoubleQuoted, Goes}
+use Rattle.md_safe.specs.TokenizerStates.{State, Data, Goes}
 use Rattle.md_safe.specs.Tokenizer.{step}
 use Rattle.md_safe.proofs.EscapedCases.{IsPlain, by_escaped}
-use Rattle.md_safe.proofs.Steps.{past, tag_with, attribute, AtValue}
+use Rattle.md_safe.proofs.Steps.{tag_with, attribute, AtValue}
+use Rattle.md_safe.proofs.Steps.{plain-ne, plain_step, value_step}
 use Rattle.md_safe.specs.Leads.{Leads, emitted_before, and_then, steps}
 
 -- with the rest of the input first
@@ -42,18 +41,11 @@ pub along : {left : List ℕ} (state : State) (x y : List ℕ) (s t : List Token
 along {left = left} state x y s t e f h =
     subst (λ u. To left state y u) f (subst (λ u. To left state u s) e h)
 
-plain-ne : (b : ℕ) → IsPlain b → b ≡ 38 → ⊥
-plain-ne b p = eqb-false b 38 p.no_and
-
 -- ---- a text
 
 abbrev TextLeads : List ℕ → List ℕ → Type 0
 TextLeads left x = (r : List ℕ) (t : List Token) → To left Data r t →
     To left Data (x ++ r) (map Character (read_back x) ++ t)
-
-plain_step : (b : ℕ) (rest : List ℕ) → (b == 38) ≡ false → (b == 60) ≡ false →
-    step Data (b ∷ rest) ≡ Goes (Character b ∷ []) Data rest
-plain_step b rest e38 e60 = simp (e38, e60)
 
 plain-leads : (left : List ℕ) (b : ℕ) (rest : List ℕ) → IsPlain b → TextLeads left rest →
     TextLeads left (b ∷ rest)
@@ -79,15 +71,6 @@ abbrev ValueLeads : List ℕ → List ℕ → Type 0
 ValueLeads left x = (tag : List ℕ) (earlier : List TokenAttribute) (name value : List ℕ)
     (r : List ℕ) (t : List Token) → To left (AtValue tag earlier name (value ++ read_back x)) r t →
     To left (AtValue tag earlier name value) (x ++ r) t
-
-value_step : (tag : Tag) (b : ℕ) (rest : List ℕ) → (b == 34) ≡ false →
-    (b == 38) ≡ false → (b == 0) ≡ false →
-    step (AttributeValueDoubleQuoted tag) (b ∷ rest)
-    ≡ Goes [] (AttributeValueDoubleQuoted (with_value tag (b ∷ []))) rest
-value_step tag b rest e34 e38 e0 =
-    past _ e34 (past _ e38 (ap (λ c.
-    Goes [] (AttributeValueDoubleQuoted (with_value tag (cond c (239 ∷ 191 ∷ 189 ∷ []) (b ∷ []))))
-    rest) e0))
 
 -- the value with one more byte
 more_value : (left : List ℕ) (tag : List ℕ) (earlier : List TokenAttribute) (name value : List ℕ)

@@ -22,6 +22,10 @@ charset = record { name = codes "charset"; value = codes "utf-8" }
 abbrev pub plain_tag : List ℕ → Token
 plain_tag name = StartTag name [] false
 
+-- the tokens of a page after those of its body
+abbrev pub after_body : List Token
+after_body = EndTag (codes "body") ∷ EndTag (codes "html") ∷ Character 10 ∷ EndOfFile ∷ []
+
 -- the tokens of a page whose title has these characters and whose body is this forest
 abbrev pub page_tokens : List ℕ → Forest → List Token
 page_tokens title body =

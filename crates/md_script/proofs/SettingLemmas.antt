@@ -12,6 +12,7 @@ use Rattle.std.proofs.lemmas.Bool.{cases_Bool, and_parts, eqb-true}
 use Rattle.std.proofs.lemmas.Str.{IsUtf8-from_is_utf8, is_utf8-from_IsUtf8}
 use Rattle.md_base.specs.Place.{text_when}
 use Rattle.md_base.specs.declared.event.Event.{Event}
+use Rattle.md_base.proofs.SpaceLemmas.{chosen}
 use Rattle.md_text.specs.declared.options.CompileOptions.{CompileOptions}
 use Rattle.md_text.specs.declared.line_ending.LineEnding.TheVariants.{LineFeed}
 use Rattle.md_script.specs.Line.{event_of}
@@ -20,9 +21,6 @@ use Rattle.md_script.specs.Setting.{text_given, value_of, is_new, ending_named, 
 use Rattle.md_script.specs.Setting.{HasOptions}
 
 -- ---- bytes as a text
-
-abbrev chosen : List ℕ → Bool → Option (List ℕ)
-chosen bytes test = cond test (Some bytes) None
 
 pub read_text : {E : Type 0} (bytes : List ℕ) (Fault : E → Type 0) (r : Result (Bor (List ℕ)) E) →
     MatchResult r (λ s. (s.now ≡ bytes) × IsUtf8 bytes) (λ e. (¬ IsUtf8 bytes) × Fault e) →

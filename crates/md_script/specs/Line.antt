@@ -19,6 +19,7 @@ is_line_feed byte = byte == 10
 abbrev pub lines_of : List ℕ → List (List ℕ)
 lines_of input = slice_split is_line_feed input
 
+-- the result of a function for a value, if there is one
 infixl 10 ◌>>=◌
 abbrev pub ◌>>=◌ : {A B : Type 0} → Option A → (A → Option B) → Option B
 value >>= next = option_and_then next value

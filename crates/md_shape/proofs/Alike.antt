@@ -22,10 +22,7 @@ use Rattle.md_tree.proofs.Labels.{footnoted-texts}
 use Rattle.md_meaning.specs.Meaning.At.{Defined, identifier_of}
 use Rattle.md_shape.specs.Leads.{Everywhere, LeadsAlike, defined_in, footnotes_defined_in, first_of}
 use Rattle.md_shape.specs.Leads.{found_at}
-use Rattle.md_shape.proofs.Identifiers.{definitions-known, footnotes-known}
-
-abbrev known : Option (List ℕ) → List ℕ
-known identifier = unwrap_or identifier []
+use Rattle.md_shape.proofs.Identifiers.{definitions-known, footnotes-known, known}
 
 which_first : (identifiers : List (List ℕ)) (wanted : List ℕ) →
     which (map Some identifiers) (Some wanted) ≡ first_of identifiers wanted

@@ -12,11 +12,11 @@ use Rattle.md_pattern.specs.declared.kinds.Role.TheVariants as role
 use Rattle.md_pattern.specs.declared.kinds.Standing.{Standing}
 use Rattle.md_pattern.specs.declared.kinds.Standing.TheVariants.{Through, Space, Solid, Mdx}
 use Rattle.md_pattern.specs.Standing.{standing_of}
-use Rattle.md_base.specs.NameTests.{is_transparent}
+use Rattle.md_base.specs.NameTests.{is_transparent, is_label_text, is_label}
 use Rattle.md_shape.specs.Content.{Content, Blocks, Spans, Strings, Html, Lines, Fences}
 use Rattle.md_shape.specs.Content.{BeforeLabel, AfterLabel, Sources, Rows, Cells, Parts, Nothing}
-use Rattle.md_shape.specs.Content.{Childless, is_string, is_span, is_block, is_label_text}
-use Rattle.md_shape.specs.Content.{is_code_data, is_html, is_line, is_said_by_fence, is_label}
+use Rattle.md_shape.specs.Content.{Childless, is_string, is_span, is_block}
+use Rattle.md_shape.specs.Content.{is_code_data, is_html, is_line, is_said_by_fence}
 use Rattle.md_shape.specs.Content.{is_after_label, is_source, is_in_table, may_be_cell, is_part}
 use Rattle.md_shape.specs.Content.{may_stand, content_of, content_past}
 use Rattle.md_shape.proofs.SymbolTests as built

@@ -1,11 +1,12 @@
 -- What is counted where a node is left, and the mark of a reference: cells, fences and chunks.
 use Rattle.std.proofs.Common.{◌≡◌, ℕ, ◌+◌, Bool, true, false, not, ◌||◌, cond, List, [], ◌∷◌, ◌++◌}
-use Rattle.std.proofs.Common.{Some, refl, ap, sym, ◌∙◌, arith, unwrap_or}
+use Rattle.std.proofs.Common.{refl, ap, sym, ◌∙◌, arith}
 use Rattle.std.specs.Prelude.{if◌then◌else◌, count_by}
 use Rattle.std.specs.Option.{option_map_or}
 use Rattle.std.specs.List.{list_any}
 use Rattle.std.proofs.lemmas.List.Sums.{sum_by-append}
 use Rattle.std.proofs.lemmas.List.Folds.{list_any-append}
+use Rattle.std.proofs.Math.Bool.{or-false}
 use Rattle.md_base.specs.declared.event.Name.{Name}
 use Rattle.md_base.specs.declared.event.Name.TheVariants as name_variants
 use name_variants.{SpaceOrTab, BlockQuotePrefix, Other, GfmTableCell}
@@ -15,8 +16,7 @@ use Rattle.md_base.specs.Children.{spine_names}
 use Rattle.md_base.specs.Tree.{Forest}
 use Rattle.md_base.specs.NameTests.{is_transparent, is_fence, is_chunk, is_cell}
 use Rattle.md_meaning.specs.Meaning.Spans.{marker}
-use Rattle.md_meaning.specs.Surroundings.{last_of}
-use Rattle.md_shape.proofs.LastNames.{last-got}
+use Rattle.md_shape.proofs.LastNames.{last-got, last-push}
 use Rattle.md_shape.specs.Content.{Content, Lines, Cells, content_inside, content_past}
 use Rattle.md_shape.specs.Content.{content_after, content_after_node}
 use Rattle.md_shape.specs.Steps.{cells_after, is_row, is_raw}
@@ -25,9 +25,6 @@ use Rattle.md_shape.specs.Claim.{keeps_lines}
 use Rattle.md_shape.proofs.Standing.{Facts}
 
 -- ---- the mark of a reference
-last-push : (names : List Name) (n : Name) → last_of (names ++ n ∷ []) ≡ Some n
-last-push [] n = refl
-last-push (other ∷ names) n = ap (λ o. Some (unwrap_or o other)) (last-push names n)
 
 pub mark-push : (spine : List Name) (name : Name) → mark_after (spine ++ name ∷ []) ≡ marker name
 mark-push spine name =
@@ -113,14 +110,10 @@ or_comm true false = refl
 or_comm false true = refl
 or_comm false false = refl
 
-or_false : (b : Bool) → b || false ≡ b
-or_false true = refl
-or_false false = refl
-
 chunk-push : (p : Name → Bool) (xs : List Name) (x : Name) →
     list_any p (xs ++ x ∷ []) ≡ p x || list_any p xs
 chunk-push p xs x =
-    list_any-append p xs (x ∷ []) ∙ ap (λ b. list_any p xs || b) (or_false (p x))
+    list_any-append p xs (x ∷ []) ∙ ap (λ b. list_any p xs || b) (or-false (p x))
     ∙ or_comm (list_any p xs) (p x)
 
 in-lines : (c : Content) (name : Name) (spine : List Name) (fences inner : ℕ)

@@ -33,7 +33,7 @@ abbrev pub is_solid : Standing → Bool
 is_solid (Solid seen usual reading) = true
 is_solid _ = false
 
-last-push : (names : List Name) (n : Name) → last_of (names ++ n ∷ []) ≡ Some n
+pub last-push : (names : List Name) (n : Name) → last_of (names ++ n ∷ []) ≡ Some n
 last-push [] n = refl
 last-push (other ∷ names) n = ap (λ o. Some (unwrap_or o other)) (last-push names n)
 

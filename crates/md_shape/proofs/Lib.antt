@@ -35,11 +35,11 @@ mod Places
 mod ResourceFound
 mod EachSide
 mod Sides
-mod Standing
-mod Staying
+pub mod Standing
+pub mod Staying
 mod Noted
 mod Inside
-mod Counting
+pub mod Counting
 mod Targets
 mod Leaving
 mod Quiet
@@ -52,4 +52,5 @@ mod Runs
 mod AlikeStrings
 mod BlocksApart
 mod Defined
+pub mod Running
 mod Whole

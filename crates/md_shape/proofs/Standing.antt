@@ -4,9 +4,9 @@ use Rattle.std.proofs.Common.{◌≡◌, Bool, true, false, not, ◌&&◌, refl}
 use Rattle.std.specs.Prelude.{if◌then◌else◌}
 use Rattle.std.proofs.lemmas.Bool.{and_parts}
 use Rattle.md_base.specs.declared.event.Name.{Name}
-use Rattle.md_base.specs.declared.event.Name.TheVariants.{Data, Label}
+use Rattle.md_base.specs.declared.event.Name.TheVariants.{Data}
 use Rattle.md_base.proofs.Lies.{lie}
-use Rattle.md_base.specs.NameTests.{is_transparent, is_fence, is_chunk, is_call, is_cell}
+use Rattle.md_base.specs.NameTests.{is_transparent, is_fence, is_chunk, is_call, is_cell, is_label}
 use Rattle.md_base.specs.NameTests.{is_footnote_definition}
 use Rattle.md_shape.specs.Content.{Content, Blocks, Spans, Strings, Html, Lines, Fences}
 use Rattle.md_shape.specs.Content.{BeforeLabel, AfterLabel, Sources, Rows, Cells, Parts, Nothing}
@@ -44,9 +44,6 @@ is_set_aside name = is_source name && captures name
 -- nothing is printed in these
 abbrev pub is_quiet : Name → Bool
 is_quiet name = is_nothing (content_of name) && not (is_transparent name)
-
-abbrev pub is_label : Name → Bool
-is_label name = elim name [ Label ↦ true | _ ↦ false ]
 
 abbrev pub implies : Bool → Bool → Bool
 implies test holds = if test then holds else true

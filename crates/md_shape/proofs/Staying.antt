@@ -9,7 +9,7 @@ use Rattle.md_shape.specs.Content.{Content, BeforeLabel, Childless, Fits, conten
 use Rattle.md_shape.specs.Content.{content_after, content_after_node}
 use Rattle.md_shape.specs.Claim.{is_laid, keeps_cells, keeps_lines, has_marks}
 
-one_or_other : {A : Type 0} (b : Bool) {x y z : A} → x ≡ z → y ≡ z → (if b then x else y) ≡ z
+pub one_or_other : {A : Type 0} (b : Bool) {x y z : A} → x ≡ z → y ≡ z → (if b then x else y) ≡ z
 one_or_other true h k = h
 one_or_other false h k = k
 

@@ -9,7 +9,7 @@ use Rattle.md_base.proofs.Lies.{lie}
 use Rattle.md_base.specs.Is.{is}
 use Rattle.md_base.specs.Children.{or_else}
 use Rattle.md_base.specs.Tree.{Forest}
-use Rattle.md_base.specs.NameTests.{is_transparent}
+use Rattle.md_base.specs.NameTests.{is_transparent, is_label}
 use Rattle.md_meaning.specs.Meaning.At.{Target, At, Found, target_in}
 use Rattle.md_meaning.specs.Meaning.Nodes.{found_at}
 use Rattle.md_shape.specs.Content.{Content, Strings, BeforeLabel, AfterLabel, Sources, Nothing}
@@ -18,7 +18,7 @@ use Rattle.md_shape.specs.Content.{content_after, content_after_node}
 use Rattle.md_shape.specs.Steps.{target_after, resource_after, nowhere, begins_target, is_labelled}
 use Rattle.md_shape.specs.Claim.{KnowsResource, TargetAfter, ResourceAfter}
 use Rattle.md_shape.proofs.Past.{or_else-none}
-use Rattle.md_shape.proofs.Standing.{is_set_aside, Facts, keeps_target, is_label, picked}
+use Rattle.md_shape.proofs.Standing.{is_set_aside, Facts, keeps_target, picked}
 use Rattle.md_shape.proofs.Counting.{when_not}
 
 pub kept-target : (c : Content) (found : Found) (one other : Target) → keeps_target c ≡ true →

@@ -1,12 +1,11 @@
 -- The steps over a whole document: over its events, and what they print.
 use Rattle.std.proofs.Common.{◌≡◌, ℕ, zero, suc, ◌+◌, Bool, true, false, ◌&&◌, List, [], ◌∷◌, ◌++◌}
-use Rattle.std.proofs.Common.{length, refl, ap, sym, ◌∙◌, append_assoc, append-nil}
+use Rattle.std.proofs.Common.{refl, ap, sym, ◌∙◌, append-nil}
 use Rattle.std.specs.Prelude.{if◌then◌else◌}
-use Rattle.std.proofs.lemmas.List.{length-append}
 use Rattle.md_base.specs.declared.event.Event.{Event}
 use Rattle.md_base.specs.declared.event.Name.TheVariants.{Definition, GfmFootnoteCall}
 use Rattle.md_base.specs.Is.{is}
-use Rattle.md_base.specs.Tree.{Forest, Empty, Node, flatten, exiting}
+use Rattle.md_base.specs.Tree.{Forest, Empty, Node, flatten}
 use Rattle.md_base.specs.Children.{is_empty}
 use Rattle.md_pattern.specs.Looseness.{is_loose}
 use Rattle.md_tree.specs.Grammar.{IsGrammatical}
@@ -34,88 +33,7 @@ use Rattle.md_shape.proofs.ContentFits.{shaped-fits}
 use Rattle.md_shape.proofs.Past.{past-calls}
 use Rattle.md_shape.proofs.Runs.{nodes, begins}
 use Rattle.md_shape.proofs.Defined.{defined-known}
-
--- ---- the events in sequence
-
-noticed-length : (bytes : List ℕ) (outermost : Bool) (forest : Forest) →
-    length (noticed bytes outermost forest) ≡ length (flatten forest)
-noticed-length bytes outermost Empty = refl
-noticed-length bytes outermost (Node name start end children rest) =
-    let here : Noticed = record {
-      told = told_of bytes (outermost && is_empty rest) children start end;
-      inside = suc (length (flatten children));
-    }
-    in
-    ap (λ n. suc n)
-    (length-append (noticed bytes false children) (here ∷ noticed bytes outermost rest)
-    ∙ ap (λ n. n + suc (length (noticed bytes outermost rest)))
-    (noticed-length bytes false children)
-    ∙ ap (λ n. length (flatten children) + suc n) (noticed-length bytes outermost rest)
-    ∙ sym (length-append (flatten children) (exiting name end ∷ flatten rest)))
-
--- events that are skipped
-run-passes : (given : Given) (events : List Event) (seen : List Noticed) (tail : List Event)
-    (more : List Noticed) (state : State) → length seen ≡ length events →
-    run given (length events) (events ++ tail) (seen ++ more) state ≡ run given 0 tail more state
-run-passes given [] [] tail more state same = refl
-run-passes given [] (one ∷ seen) tail more state same = cc
-run-passes given (event ∷ events) [] tail more state same = cc
-run-passes given (event ∷ events) (one ∷ seen) tail more state same =
-    run-passes given events seen tail more state cc
-
-run-over :
-    (given : Given) (outermost : Bool) (forest : Forest) (tail : List Event) (more : List Noticed)
-    (state : State) →
-    run given 0 (flatten forest ++ tail) (noticed given.bytes outermost forest ++ more) state
-    ≡ run given 0 tail more (over given outermost forest state)
-run-over given outermost Empty tail more state = refl
-run-over given outermost (Node name start end children rest) tail more state =
-    let told : Told = told_of given.bytes (outermost && is_empty rest) children start end in
-    let here : Noticed = record { told = told; inside = suc (length (flatten children)) } in
-    let begun : State = entered given told name state in
-    let done : State = exited given told name (over given false children begun) in
-    elim (is_passed name) as (λ b. run given (if b then suc (length (flatten children)) else 0)
-    ((flatten children ++ exiting name end ∷ flatten rest) ++ tail)
-    ((noticed given.bytes false children ++ here ∷ noticed given.bytes outermost rest) ++ more)
-    (if b then passed state else begun)
-    ≡ run given 0 tail more (over given outermost rest (if b then passed state else done))) [
-      | true ↦
-          ap (λ es. run given (suc (length (flatten children))) es
-          ((noticed given.bytes false children ++ here ∷ noticed given.bytes outermost rest)
-          ++ more) (passed state))
-          (append_assoc (flatten children) (exiting name end ∷ flatten rest) tail
-          ∙ sym (append_assoc (flatten children) (exiting name end ∷ []) (flatten rest ++ tail)))
-          ∙ ap (λ ts. run given (suc (length (flatten children)))
-          ((flatten children ++ exiting name end ∷ []) ++ (flatten rest ++ tail)) ts (passed state))
-          (append_assoc (noticed given.bytes false children)
-          (here ∷ noticed given.bytes outermost rest) more ∙ sym (append_assoc (noticed given.bytes
-          false children) (here ∷ []) (noticed given.bytes outermost rest ++ more)))
-          ∙ ap (λ n. run given n ((flatten children ++ exiting name end ∷ [])
-          ++ (flatten rest ++ tail)) ((noticed given.bytes false children ++ here ∷ [])
-          ++ (noticed given.bytes outermost rest ++ more))
-          (passed state)) (sym (one_more (flatten children) (exiting name end)))
-          ∙ run-passes given (flatten children ++ exiting name end ∷ [])
-          (noticed given.bytes false children ++ here ∷ [])
-          (flatten rest ++ tail) (noticed given.bytes outermost rest ++ more) (passed state)
-          (one_more (noticed given.bytes false children) here
-          ∙ ap (λ n. suc n) (noticed-length given.bytes false children)
-          ∙ sym (one_more (flatten children) (exiting name end)))
-          ∙ run-over given outermost rest tail more (passed state)
-      | false ↦
-          ap (λ es. run given 0 es
-          ((noticed given.bytes false children ++ here ∷ noticed given.bytes outermost rest)
-          ++ more) begun) (append_assoc (flatten children) (exiting name end ∷ flatten rest) tail)
-          ∙ ap (λ ts. run given 0 (flatten children ++ exiting name end ∷ (flatten rest ++ tail)) ts
-          begun) (append_assoc (noticed given.bytes false children)
-          (here ∷ noticed given.bytes outermost rest) more)
-          ∙ run-over given false children (exiting name end ∷ (flatten rest ++ tail))
-          (here ∷ (noticed given.bytes outermost rest ++ more)) begun
-          ∙ run-over given outermost rest tail more done
-    ]
-  where
-    one_more : {A : Type 0} (xs : List A) (x : A) → length (xs ++ x ∷ []) ≡ suc (length xs)
-    one_more [] x = refl
-    one_more (y ∷ xs) x = ap (λ n. suc n) (one_more xs x)
+use Rattle.md_shape.proofs.Running.{run-over}
 
 -- ---- a document
 

@@ -24,7 +24,7 @@ use name_variants.{GfmTableDelimiterMarker, Emphasis, Strong, GfmStrikethrough}
 use name_variants.{GfmTaskListItemCheck, GfmTaskListItemValueChecked, HardBreakEscape}
 use name_variants.{HardBreakTrailing, Paragraph, ThematicBreak, Frontmatter}
 use Rattle.md_base.specs.Tree.{Forest, Empty, Node}
-use Rattle.md_base.specs.NameTests.{is_transparent}
+use Rattle.md_base.specs.NameTests.{is_transparent, is_label_text, is_label}
 
 -- the kinds of content: blocks, and spans between them; spans; strings; lines of HTML; lines of
 -- code, and fences; the texts of a fence; a label, and what comes after it; targets and labels;
@@ -107,9 +107,6 @@ is_block name = elim name [
   | _ ↦ false
 ]
 
-abbrev pub is_label_text : Name → Bool
-is_label_text name = elim name [ LabelText ↦ true | _ ↦ false ]
-
 abbrev pub is_code_data : Name → Bool
 is_code_data name = elim name [ CodeTextData ↦ true | MathTextData ↦ true | _ ↦ false ]
 
@@ -140,9 +137,6 @@ is_said_by_fence name = elim name [
   | MathFlowFenceMeta ↦ true
   | _ ↦ false
 ]
-
-abbrev pub is_label : Name → Bool
-is_label name = elim name [ Label ↦ true | _ ↦ false ]
 
 abbrev pub is_after_label : Name → Bool
 is_after_label name = elim name [ Resource ↦ true | ReferenceString ↦ true | _ ↦ false ]

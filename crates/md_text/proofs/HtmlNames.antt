@@ -2,22 +2,15 @@
 -- boundary.
 use Rattle.std.specs.Str.{bytes_eq}
 use Rattle.md_base.proofs.Lies.{lie}
-use Rattle.md_base.specs.Identifier.{is_nonempty}
-use Rattle.std.proofs.Common.{◌≡◌, ℕ, ◌==◌, Bool, true, not, ◌&&◌, ◌||◌, List, [], ◌∷◌, refl, sym}
+use Rattle.std.proofs.Common.{◌≡◌, ℕ, ◌==◌, Bool, true, not, ◌&&◌, List, [], ◌∷◌, refl, sym}
 use Rattle.std.proofs.Common.{ap, subst, inl, inr, ne_eqb}
 use Rattle.std.specs.List.{list_all, list_any}
 use Rattle.std.specs.Cmp.Lexicographic.{bytes_decides}
 use Rattle.std.proofs.lemmas.Bool.{and_parts, or_cases, and_from, cases_eq}
-use Rattle.md_text.specs.Bytes.{is_between, is_one_of}
+use Rattle.md_text.specs.Bytes.{is_one_of}
 use Rattle.md_text.specs.References.{is_escaped, is_escaped_byte}
 use Rattle.md_text.specs.Html.{Attribute, is_tag, are_attributes, elements, void_tags}
-
--- a lower-case letter, a digit or a hyphen
-abbrev pub is_name_byte : ℕ → Bool
-is_name_byte b = is_between 97 122 b || is_between 48 57 b || (b == 45)
-
-abbrev pub is_name : List ℕ → Bool
-is_name name = is_nonempty name && list_all is_name_byte name
+pub use Rattle.md_text.specs.HtmlName.{is_name_byte, is_name}
 
 abbrev pub no_angle : ℕ → Bool
 no_angle b = not (b == 60)

@@ -24,7 +24,7 @@ use Rattle.md_text.proofs.HtmlReader.{past_attributes, with_attributes_read, ele
 use Rattle.md_text.proofs.HtmlReader.{past_children, void_from, text_from, read_forest}
 
 -- ---- the reader finds what is written
-passes_not : (t : ℕ → Bool) (b n : ℕ) → t n ≡ false → t b ≡ true → (b == n) ≡ false
+pub passes_not : (t : ℕ → Bool) (b n : ℕ) → t n ≡ false → t b ≡ true → (b == n) ≡ false
 passes_not t b n no_n yes_b = ne_eqb b n (λ e. lie (sym no_n ∙ ap t (sym e) ∙ yes_b))
 
 past_space-name : (go : List ℕ → Left (List Attribute)) (name tail : List ℕ) → is_name name ≡ true →

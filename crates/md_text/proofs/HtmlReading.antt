@@ -22,7 +22,7 @@ IsEnd r = (r ≡ []) ⊎ ((more : List ℕ) × (r ≡ 60 ∷ 47 ∷ more))
 nil_or : (b : ℕ) (x : List ℕ) → [] ≡ b ∷ x → ⊥
 nil_or b x e = cc
 
-tail_of : (b c : ℕ) (x y : List ℕ) → b ∷ x ≡ c ∷ y → x ≡ y
+pub tail_of : (b c : ℕ) (x y : List ℕ) → b ∷ x ≡ c ∷ y → x ≡ y
 tail_of b c x y e = cc
 
 -- a tag doesn't begin where a forest ends

@@ -15,7 +15,7 @@ kept-stays html b h = (bytes_decides (encoded_byte html b) (b ∷ [])).0 h
 pub stays-kept : (html : Bool) (b : ℕ) → encoded_byte html b ≡ b ∷ [] → is_kept html b ≡ true
 stays-kept html b h = (bytes_decides (encoded_byte html b) (b ∷ [])).1 h
 
-next : (n : ℕ) → suc n ≡ 1 + n
+pub next : (n : ℕ) → suc n ≡ 1 + n
 next n = omega arith
 
 -- the bytes before the first that doesn't stay

@@ -17,10 +17,10 @@ use Rattle.md_text.specs.Kept.{is_kept, is_plain, begins_triple, begins_kept, Ar
 use Rattle.md_text.specs.Url.{stays_anywhere, stays, is_triple_byte, completes_triple, hex_digit}
 use Rattle.md_text.specs.Url.{percent, normalized_byte, normalized_url, sanitized}
 use Rattle.md_text.proofs.EncodeLemmas.{encoded-append}
-use Rattle.md_text.proofs.KeptLemmas.{kept-stays}
+use Rattle.md_text.proofs.KeptLemmas.{kept-stays, next}
 use Rattle.md_text.specs.Laws.{AreAscii}
 use Rattle.md_text.proofs.UrlLemmas.{encoded_byte-stays, stays-ascii, stays-high}
-use Rattle.md_text.proofs.UrlLaws.{high_digit, low_digit}
+use Rattle.md_text.proofs.UrlLaws.{high_digit, low_digit, IsAsciiByte}
 
 -- the first byte of a URL and the others
 sanitized-first : (b : ℕ) (rest : List ℕ) →
@@ -80,9 +80,6 @@ sanitized-four-of a (b ∷ []) l fits la ha hb hc hd = absurd (omega arith)
 sanitized-four-of a (b ∷ c ∷ []) l fits la ha hb hc hd = absurd (omega arith)
 sanitized-four-of a (b ∷ c ∷ d ∷ rest) l fits la ha hb hc hd =
     sanitized-four a b c d rest ha hb hc hd la (fits 0).fits (fits 1).fits (fits 2).fits
-
-abbrev IsAsciiByte : ℕ → Type 0
-IsAsciiByte b = b < 128
 
 -- a plain byte is ASCII
 plain-ascii : (b : ℕ) → is_plain b ≡ true → b < 128
@@ -152,9 +149,6 @@ kept-join bs n m front later =
           ∙ ap (λ x. take n bs ++ x) later.2
           ∙ front.2,
     )
-
-next : (n : ℕ) → suc n ≡ 1 + n
-next n = omega arith
 
 -- where the plain bytes end, and no triple begins
 pub kept-ends : (bs : List ℕ) → begins_triple (drop (prefix_len is_plain bs) bs) ≡ false →

@@ -19,10 +19,11 @@ use Rattle.md_text.specs.Url.{protocol_of, has_permitted_protocol, sanitized, sa
 use Rattle.md_text.specs.Url.{link_protocols, image_protocols}
 use Rattle.md_text.specs.Safe.{is_safe_value}
 use Rattle.md_text.proofs.EncodeLaws.{read_back-other}
+use Rattle.md_text.proofs.KeptLemmas.{next}
 use Rattle.md_base.proofs.Lies.{lie}
 
 -- `?`, `#` or `/`, which end the place where a protocol may stand
-abbrev ends_protocol : ℕ → Bool
+abbrev pub ends_protocol : ℕ → Bool
 ends_protocol b = (b == 63) || (b == 35) || (b == 47)
 
 pub protocol_of-goes_on : (b : ℕ) (rest : List ℕ) → goes_on b ≡ true →
@@ -47,9 +48,6 @@ both : (b : ℕ) → (b == 58) ≡ false → ends_protocol b ≡ false → goes_
 both b e f = ap₂ (λ s t. not s && not t) e f
 
 -- where bytes that go on end
-next : (n : ℕ) → suc n ≡ 1 + n
-next n = omega arith
-
 pub protocol_of-colon_at : (url : List ℕ) → prefix_len goes_on url < length url →
     (get_or url (prefix_len goes_on url) 0 == 58) ≡ true →
     protocol_of url ≡ Some (take (prefix_len goes_on url) url)
@@ -127,17 +125,17 @@ referenced-goes_on rest =
     cond_both (begins_with (codes "gt;") rest) (Some (codes "gt;", 62)) None P
     (λ _. refl) (λ _. refl))))
 
-some_none : (q : List ℕ) → Some q ≡ None → ⊥
+pub some_none : (q : List ℕ) → Some q ≡ None → ⊥
 some_none q e = cc
 
-none_some : (q : List ℕ) → None ≡ Some q → ⊥
+pub none_some : (q : List ℕ) → None ≡ Some q → ⊥
 none_some q e = cc
 
-map_none : (b : ℕ) (o : Option (List ℕ)) → option_map (λ before. b ∷ before) o ≡ None → o ≡ None
+pub map_none : (b : ℕ) (o : Option (List ℕ)) → option_map (λ before. b ∷ before) o ≡ None → o ≡ None
 map_none b None e = refl
 map_none b (Some q) e = cc
 
-map_some : (b : ℕ) (o : Option (List ℕ)) (q : List ℕ) →
+pub map_some : (b : ℕ) (o : Option (List ℕ)) (q : List ℕ) →
     option_map (λ before. b ∷ before) o ≡ Some q →
     (p : List ℕ) × (o ≡ Some p) × (q ≡ b ∷ p)
 map_some b None q e = absurd (none_some q e)

@@ -77,7 +77,7 @@ url_stays b u = elim (or_cases (stays_anywhere b) (b == 37) u) [
       or_right (stays_anywhere b) ((b == 37) && true) (and_from (b == 37) true percent refl)
 ]
 
-abbrev IsAsciiByte : ℕ → Type 0
+abbrev pub IsAsciiByte : ℕ → Type 0
 IsAsciiByte b = b < 128
 
 encoded_byte-ascii : (b : ℕ) → is_url_byte b ≡ true → AreAscii (encoded_byte true b)

@@ -9,6 +9,7 @@ pub mod Url
 pub mod Filter
 pub mod References
 pub mod Html
+pub mod HtmlName
 pub mod Safe
 pub mod Ids
 pub mod Laws

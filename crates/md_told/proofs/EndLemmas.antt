@@ -79,7 +79,11 @@ after-first : (before tail : List Event) (x : Event) →
 after-first [] tail x = refl
 after-first (y ∷ before) tail x = after-first before tail x
 
-one-more : (n : ℕ) → n + 1 ≡ suc n
+-- a place that is found twice is one place
+pub same-place : (o : Option ℕ) (one other : ℕ) → o ≡ Some one → o ≡ Some other → one ≡ other
+same-place o one other e f = cc
+
+pub one-more : (n : ℕ) → n + 1 ≡ suc n
 one-more n = omega arith
 
 -- where the event after an entry exits, nothing stands between them

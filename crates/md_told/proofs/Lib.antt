@@ -8,6 +8,5 @@ pub mod FoundLemmas
 pub mod Labelled
 pub mod Undefined
 pub mod Leading
-pub mod Running
 pub mod Picked
 pub mod Own

@@ -18,12 +18,12 @@ use Rattle.md_tree.specs.Grammar.{Handed, IsChecked}
 use Rattle.md_shape.specs.State.{State, told_of}
 use Rattle.md_shape.specs.Steps.{entered, is_passed, over, beginning}
 use Rattle.md_shape.specs.Run.{Noticed, noticed, run, defined}
+use Rattle.md_shape.proofs.Running.{noticed-length, run-over}
 use Rattle.md_told.specs.Told.{IsNoticedAt}
 use Rattle.md_told.specs.Definitions.{within, own_defined}
 use Rattle.md_told.proofs.FoundLemmas.{grammatical-there}
 use Rattle.md_told.proofs.Nodes.{NodeAt, node-of, row-paired}
 use Rattle.md_told.proofs.Noticed.{noticed_in, noticed-same}
-use Rattle.md_told.proofs.Running.{noticed-length, run-over}
 use Rattle.md_told.proofs.Rows.{Row, row_of, rows_of}
 use Rattle.md_told.proofs.PairedRows.{Paired}
 use Rattle.md_told.proofs.Undefined.{Free, IsFreeInside, built-frees}

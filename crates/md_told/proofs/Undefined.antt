@@ -18,6 +18,7 @@ use Rattle.md_shape.specs.Leads.{Everywhere, defined_in}
 use Rattle.md_shape.specs.State.{told_of}
 use Rattle.md_shape.specs.Steps.{is_passed, over, entered, beginning}
 use Rattle.md_shape.specs.Run.{defined}
+use Rattle.md_shape.proofs.Symbols.{implies}
 
 -- no definition is among some nodes, at any depth
 abbrev pub Free : Forest → Type 0
@@ -34,10 +35,6 @@ low Sources = true
 low Strings = true
 low Nothing = true
 low _ = false
-
-abbrev implies : Bool → Bool → Bool
-implies true holds = holds
-implies false holds = true
 
 implied : (a b : Bool) → implies a b ≡ true → a ≡ true → b ≡ true
 implied true b h k = h

@@ -6,7 +6,6 @@ use Rattle.std.specs.Prelude.{map, slice_get}
 use Rattle.std.specs.List.{All}
 use Rattle.std.proofs.Math.Seq.{take-suc}
 use Rattle.std.proofs.lemmas.Option.{slice_get_cases, get_or_from_slice_get}
-use Rattle.md_base.specs.declared.event.Point.{Point}
 use Rattle.md_base.specs.declared.event.Name.TheVariants.{Data}
 use Rattle.md_base.specs.declared.event.Event.{Event}
 use Rattle.md_tree.specs.declared.mention.Mention.{Mention}
@@ -31,6 +30,7 @@ use Rattle.md_pattern.specs.Facts.{facts_at}
 use Rattle.md_tree.specs.Numbers.{numbered, number_for, facts_with}
 use Rattle.md_tree.proofs.NumbersPut.{numbered-listed}
 use Rattle.md_tree.proofs.Endings.{LeaveOpen-undone, outside-undone, IsWalked}
+use Rattle.md_tree.proofs.LeastNodes.{somewhere}
 
 -- ---- one event more
 pub Runs-more : (holds : Reads) (events : List Event) (index : ℕ) (d : Event) (from to : Course) →
@@ -59,10 +59,6 @@ IsRefusal-undone given course runs undone = record {
 }
 
 -- ---- unresolved mentions
-
--- any point
-somewhere : Point
-somewhere = record { line = 1; column = 1; index = 0; vs = 0 }
 
 -- a document of the same events is the one that was read
 document_one : (given : Handed) (mentions : List Mentioned) (walked : IsWalked given mentions)

@@ -14,6 +14,7 @@ use Rattle.md_base.specs.NameTests.{is_transparent, is_heading_mark, is_item, is
 use Rattle.md_base.specs.NameTests.{is_item_value, is_label, is_label_text, is_reference}
 use Rattle.md_base.specs.NameTests.{is_definition_label, is_footnote_prefix, is_footnote_label}
 use Rattle.md_base.specs.Children.{or_else, first_on_spine}
+use Rattle.md_base.proofs.Lies.{lie}
 use Rattle.md_tree.specs.Rules.{place}
 use Rattle.md_pattern.specs.Seeking.{wanted_by}
 use Rattle.md_tree.specs.Reads.{first_place, number_in, label_in, reads, is_reader}
@@ -89,9 +90,6 @@ place_found test forest =
 abbrev pub found_in : Name → Forest → Option Position
 found_in name children = unwrap_or (reference (wanted_by name) children)
     (unwrap_or (spot (wanted_by name) children) None)
-
-pub lie : false ≡ true → ⊥
-lie h = cc
 
 in_item : (name : Name) (children : Forest) → is_item name ≡ true →
     found_in name children ≡ number_in children

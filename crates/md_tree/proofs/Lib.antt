@@ -20,6 +20,7 @@ pub mod SettledPatterns
 pub mod TakenFits
 pub mod Greedy
 pub mod OneMoreIdentifier
+pub mod OneMoreEvent
 pub mod Numbering
 pub mod MentionsLed
 pub mod NumbersPut

@@ -1,6 +1,6 @@
 -- What is kept of a document's events: what is found at them, with a number at each
 -- exit of a mention.
-use Rattle.std.proofs.Common.{◌≡◌, ℕ, zero, suc, true, false, Option, Some, None, List, [], ◌∷◌}
+use Rattle.std.proofs.Common.{◌≡◌, ℕ, zero, suc, true, Option, Some, None, List, [], ◌∷◌}
 use Rattle.std.proofs.Common.{◌++◌, length, refl, sym, ap, ◌∙◌, subst}
 use Rattle.std.specs.Prelude.{map, slice_get, option_map}
 use Rattle.md_base.specs.declared.event.Name.{Name}
@@ -14,6 +14,7 @@ use Rattle.md_pattern.specs.Facts.{tables_after}
 use Rattle.md_pattern.proofs.Passing.{facts-flatten}
 use Rattle.md_pattern.specs.Standing.{standing_of}
 use Rattle.md_base.specs.Tree.{Forest, Empty, Node, flatten, entering, exiting}
+use Rattle.md_base.proofs.Lies.{lie}
 use Rattle.md_tree.specs.declared.mention.Referral.{Referral}
 use Rattle.md_tree.specs.declared.mention.Referral.TheVariants.{Missing, Resource, Label}
 use Rattle.md_tree.specs.declared.mention.Mention.{Mention}
@@ -173,9 +174,6 @@ kept-number (suc place) fact none = refl
 pub place-number : (place : Option ℕ) → place_of (number_of place) ≡ place
 place-number None = refl
 place-number (Some place) = refl
-
-lie : false ≡ true → ⊥
-lie h = cc
 
 pub number-definition :
     (bytes : List ℕ) (mentions : List Mention) (name : Name) (target : Referral) →

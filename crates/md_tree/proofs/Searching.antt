@@ -13,6 +13,7 @@ use Rattle.md_base.specs.Tree.{Forest, Empty, Node}
 use Rattle.md_base.specs.NameTests.{is_transparent, is_heading_mark, is_item, is_item_prefix}
 use Rattle.md_base.specs.NameTests.{is_item_value, is_label, is_label_text, is_reference}
 use Rattle.md_base.specs.NameTests.{is_definition_label, is_footnote_prefix, is_footnote_label}
+use Rattle.md_base.proofs.Lies.{lie}
 use Rattle.md_tree.specs.Rules.{place}
 use Rattle.md_pattern.specs.Partners.{index_after}
 use Rattle.md_pattern.specs.Seeking.{wanted_by, search_of, seen}
@@ -20,7 +21,7 @@ use Rattle.md_pattern.specs.Facts.{sought_inside, sought_after, sought_over}
 use Rattle.md_tree.specs.Reads.{reads, is_reader}
 use Rattle.md_tree.proofs.SearchSteps.{seeks, refers, At, spot, reference, Searched, finds}
 use Rattle.md_tree.proofs.SearchSteps.{solid_step, joined, nothing}
-use Rattle.md_tree.proofs.FoundPlaces.{lie, found_in, held, reader_finds}
+use Rattle.md_tree.proofs.FoundPlaces.{found_in, held, reader_finds}
 
 -- a transparent node is nothing that is sought
 record Unsought (name : Name) : Type 0 where

@@ -1,5 +1,5 @@
 -- The spine of shaped nodes is the same by names and by symbols.
-use Rattle.std.proofs.Common.{◌≡◌, Bool, true, false, cond, Option, List, [], ◌∷◌, ◌++◌, refl, sym}
+use Rattle.std.proofs.Common.{◌≡◌, Bool, cond, Option, List, [], ◌∷◌, ◌++◌, refl, sym}
 use Rattle.std.proofs.Common.{ap, ◌∙◌, append_assoc}
 use Rattle.md_base.specs.declared.event.Name.{Name}
 use Rattle.md_base.specs.declared.event.Name.TheVariants.{BlockQuotePrefix, SpaceOrTab, Other}
@@ -14,12 +14,7 @@ use Rattle.md_pattern.specs.Shape.{IsStanding, AreShaped}
 use Rattle.md_base.specs.NameTests.{is_transparent}
 use Rattle.md_base.specs.Children.{spine_names}
 use Rattle.md_tree.specs.Laws.{symbols_of}
-
--- a class is transparent
-abbrev is_through : Standing → Bool
-is_through Through = true
-is_through Space = true
-is_through _ = false
+use Rattle.md_tree.proofs.OneLevel.{is_through}
 
 looked_through : (name : Name) → is_transparent name ≡ is_through (standing_of name)
 looked_through BlockQuotePrefix = refl

@@ -1,12 +1,11 @@
 -- Worked trees of the identifiers and ids of footnotes.
-use Rattle.std.specs.Prelude.{ℕ, true, List, [], ◌∷◌, ◌++◌, codes}
+use Rattle.std.specs.Prelude.{ℕ, List, [], ◌∷◌, ◌++◌, codes}
 use Rattle.md_base.specs.declared.event.Name.TheVariants as name_variants
 use name_variants.{Data, GfmFootnoteCall, GfmFootnoteDefinition, GfmFootnoteDefinitionLabelString}
 use name_variants.{GfmFootnoteDefinitionPrefix, Label, LabelText, Paragraph}
 use Rattle.md_base.specs.Tree.{Forest, Empty, Node}
-use Rattle.md_text.specs.Defaults.{default_options}
-use Rattle.md_text.specs.declared.options.CompileOptions.{CompileOptions}
 use Rattle.md_meaning.specs.Trees.{at, call_tag, section_head, way_back, numbered_way_back}
+pub use Rattle.md_meaning.specs.Trees.Options.{ids_by_number}
 
 -- an identifier with a capital letter and white space: the tree, its bytes and its text
 abbrev pub folded_identifier : Forest
@@ -46,10 +45,6 @@ empty_identifier_text =
     ++ codes "<p>x " ++ way_back ""
     ++ codes "</p>" ++ (10 ∷ []) ++ codes "</li>" ++ (10 ∷ []) ++ codes "</ol>" ++ (10 ∷ [])
     ++ codes "</section>" ++ (10 ∷ [])
-
--- ids by number: the options
-abbrev pub ids_by_number : CompileOptions
-ids_by_number = record default_options { gfm_footnote_number_ids = true }
 
 -- a footnote with its ids by number: its text
 abbrev pub footnote_by_number_text : List ℕ

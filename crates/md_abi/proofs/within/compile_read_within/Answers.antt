@@ -1,8 +1,9 @@
 -- The compiler's error stays true as the failure that `?` converts it to. The search alone doesn't
 -- combine the clauses of a text and of an error.
 use Rattle.md_tree.specs.Grammar.{handed}
-use Rattle.md_abi.proofs.WithinLemmas.{refusal_within, told_within}
+use Rattle.md_abi.proofs.WithinLemmas.{told_within}
 use Rattle.md_abi.proofs.within.compile_read_within.Goals as goal
+use Rattle.md_script.proofs.WithinLemmas.{refusal_within}
 
 pub returns-in_err-compile_within-clause-err : goal.returns-in_err-compile_within-clause-err
 returns-in_err-compile_within-clause-err c =

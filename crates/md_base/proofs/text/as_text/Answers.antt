@@ -1,12 +1,10 @@
 -- Bytes are a text exactly where they are UTF-8.
-use Rattle.std.proofs.Common.{ℕ, Bool, cond, List, Option, Some, None, sym, ap, ◌∙◌, inl, inr}
+use Rattle.std.proofs.Common.{Some, sym, ap, ◌∙◌, inl, inr}
 use Rattle.std.specs.Str.{is_utf8}
 use Rattle.std.proofs.lemmas.Bool.{cases_Bool, both_ways}
 use Rattle.std.proofs.lemmas.Str.{IsUtf8-from_is_utf8, is_utf8-from_IsUtf8}
 use Rattle.md_base.proofs.text.as_text.Goals as goal
-
-abbrev chosen : List ℕ → Bool → Option (List ℕ)
-chosen bytes test = cond test (Some bytes) None
+use Rattle.md_base.proofs.SpaceLemmas.{chosen}
 
 pub returns-then-are_utf8 : goal.returns-then-are_utf8
 returns-then-are_utf8 c =

@@ -3,10 +3,10 @@ use Rattle.std.proofs.Common.{◌≡◌, true, length, refl, sym, ap, ◌∙◌}
 use Rattle.md_meaning.specs.Meaning.Footnotes.{section}
 use Rattle.md_meaning.specs.Meaning.Layout.{laid_after}
 use Rattle.md_base.specs.Tree.{flatten}
-use Rattle.md_told.proofs.Running.{noticed-length}
 use Rattle.md_shape.specs.Run.{noticed, run}
 use Rattle.md_shape.specs.State.{State}
 use Rattle.md_shape.specs.Steps.{beginning}
+use Rattle.md_shape.proofs.Running.{noticed-length}
 use Rattle.md_emit.specs.Supplies.{Supplies}
 use Rattle.md_html.specs.Windows.{window}
 use Rattle.md_html.proofs.Owns.{window-all}

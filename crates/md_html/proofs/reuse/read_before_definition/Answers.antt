@@ -2,8 +2,9 @@
 use Rattle.std.proofs.Common.{ap, sym, ◌∙◌}
 use Rattle.std.proofs.lemmas.List.{nil_from_length}
 use Rattle.md_html.specs.Work.{before_definition, read_length}
-use Rattle.md_html.proofs.Counting.{all-added, none-before, read_from}
+use Rattle.md_html.proofs.Counting.{all-added, none-before}
 use Rattle.md_html.proofs.reuse.read_before_definition.Goals as goal
+use Rattle.md_length.proofs.Lengths.{read_from}
 
 pub returns-then-is_link_definition : goal.returns-then-is_link_definition
 returns-then-is_link_definition c =

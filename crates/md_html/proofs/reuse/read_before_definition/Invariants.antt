@@ -3,8 +3,8 @@
 use Rattle.std.proofs.Common.{◌≡◌, ◌+◌, ◌-◌, ◌^◌, ◌≤◌, length}
 use Rattle.md_html.specs.Work.{before_definition, read_length}
 use Rattle.md_html.specs.Counting.{capped}
-use Rattle.md_html.proofs.Counting.{read_from}
 use Rattle.md_html.proofs.reuse.read_before_definition.Given as goal
+use Rattle.md_length.proofs.Lengths.{read_from}
 
 abbrev pub invariant-loop-event : goal.invariant-loop-event
 invariant-loop-event l = record {

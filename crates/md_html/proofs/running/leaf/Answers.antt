@@ -1,12 +1,10 @@
 -- A node whose exit comes right after its entry has no children.
-use Rattle.std.proofs.Common.{◌≡◌, ◌+◌, ℕ, suc, refl, sym, subst, arith}
+use Rattle.std.proofs.Common.{refl, sym, subst}
 use Rattle.std.specs.Prelude.{Result, Ok, Err, IfOk}
 use Rattle.md_tree.specs.Texts.{EntersAt, ExitsAt}
 use Rattle.md_told.specs.Told.{IsNoticedAt}
+use Rattle.md_told.proofs.EndLemmas.{one-more}
 use Rattle.md_html.proofs.running.leaf.Goals as goal
-
-one-more : (n : ℕ) → n + 1 ≡ suc n
-one-more n = omega arith
 
 pub is_leaf_before-requires-clause-enters : goal.is_leaf_before-requires-clause-enters
 is_leaf_before-requires-clause-enters c =

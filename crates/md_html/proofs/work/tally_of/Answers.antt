@@ -2,10 +2,11 @@
 use Rattle.std.proofs.Common.{rules, arith, ap, sym, ◌∙◌, max}
 use Rattle.std.proofs.lemmas.List.{nil_from_length}
 use Rattle.md_html.specs.Work.{read_length, cells}
-use Rattle.md_html.proofs.Counting.{all-added, read_from}
+use Rattle.md_html.proofs.Counting.{all-added}
 use Rattle.md_depth.specs.Depth.{opened_after, deepest}
 use Rattle.md_depth.proofs.Nodes.{one-more}
 use Rattle.md_html.proofs.work.tally_of.Goals as goal
+use Rattle.md_length.proofs.Lengths.{read_from}
 
 pub returns-clause-read : goal.returns-clause-read
 returns-clause-read c =

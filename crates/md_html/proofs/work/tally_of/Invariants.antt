@@ -5,8 +5,8 @@ use Rattle.md_html.specs.Work.{read_length, cells}
 use Rattle.md_html.specs.Reuse.{entries, is_call}
 use Rattle.md_html.specs.Counting.{capped}
 use Rattle.md_depth.specs.Depth.{deepest, depth}
-use Rattle.md_html.proofs.Counting.{read_from}
 use Rattle.md_html.proofs.work.tally_of.Given as goal
+use Rattle.md_length.proofs.Lengths.{read_from}
 
 abbrev pub invariant-loop-event : goal.invariant-loop-event
 invariant-loop-event l = record {

@@ -8,12 +8,7 @@ use Rattle.md_page.specs.PageAround.{page_around, IsSafePage}
 use Rattle.md_page.proofs.Paging.{page-emitted}
 use Rattle.md_page.proofs.PagesAround.{page-around-built}
 use Rattle.md_page.proofs.around.page_around.Goals as goal
-
-abbrev before_title : List ℕ
-before_title = codes "<!doctype html>\n<html><head><meta charset=\"utf-8\" /><title>"
-
-abbrev before_body : List ℕ
-before_body = codes "</title></head><body>"
+use Rattle.md_page.proofs.Pages.{before_title, before_body}
 
 abbrev end_text : List ℕ
 end_text = codes "</body></html>\n"

@@ -1,9 +1,9 @@
 -- The partner of an entry is the exit of its node, at which the same is noticed.
-use Rattle.std.proofs.Common.{◌≡◌, ◌≤◌, ◌+◌, ℕ, Option, Some, subst}
+use Rattle.std.proofs.Common.{◌≡◌, ◌≤◌, ◌+◌, subst}
 use Rattle.md_tree.specs.Texts.{ExitsAt}
 use Rattle.md_told.specs.Told.{IsNoticedAt}
 use Rattle.md_told.proofs.Noticed.{partner-entered}
-use Rattle.md_told.proofs.EndLemmas.{some-there}
+use Rattle.md_told.proofs.EndLemmas.{some-there, same-place}
 use Rattle.md_told.proofs.ends.exit_of.Goals as goal
 
 pub unwrap-requires : goal.unwrap-requires
@@ -11,9 +11,6 @@ unwrap-requires c =
     let found = partner-entered c.args.checked.now c.args.index c.requires.0 c.partner.result
     c.requires.1 c.partner.ensures in
     some-there c.partner.result found.0 found.1
-
-same-place : (o : Option ℕ) (one other : ℕ) → o ≡ Some one → o ≡ Some other → one ≡ other
-same-place o one other e f = cc
 
 pub returns-clause-later : goal.returns-clause-later
 returns-clause-later c =

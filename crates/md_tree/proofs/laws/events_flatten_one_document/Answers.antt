@@ -1,12 +1,8 @@
 -- The law is `flatten_one`, by induction over both trees, which no search makes.
 use Rattle.md_base.specs.declared.event.Name.TheVariants.{Data}
-use Rattle.md_base.specs.declared.event.Point.{Point}
 use Rattle.md_tree.proofs.OneTree.{flatten_one}
 use Rattle.md_tree.proofs.laws.events_flatten_one_document.Goals as goal
-
--- any point
-somewhere : Point
-somewhere = record { line = 1; column = 1; index = 0; vs = 0 }
+use Rattle.md_tree.proofs.LeastNodes.{somewhere}
 
 pub returns : goal.returns
 returns c = λ one other e. flatten_one Data somewhere one other e

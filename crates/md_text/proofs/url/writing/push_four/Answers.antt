@@ -1,10 +1,8 @@
 -- Triples are ASCII.
-use Rattle.std.proofs.Common.{◌<◌, ℕ, [], ◌∷◌, lit<}
+use Rattle.std.proofs.Common.{◌<◌, [], ◌∷◌, lit<}
 use Rattle.std.proofs.lemmas.List.Elements.{All-from_recursion}
 use Rattle.md_text.proofs.url.writing.push_four.Goals as goal
-
-abbrev IsAsciiByte : ℕ → Type 0
-IsAsciiByte b = b < 128
+use Rattle.md_text.proofs.UrlLaws.{IsAsciiByte}
 
 pub push_ascii-requires : goal.push_ascii-requires
 push_ascii-requires c = All-from_recursion IsAsciiByte (37 ∷ c.hex_digit.result

@@ -1,9 +1,10 @@
 -- Where the node lies that a name reads: for each such name the fact has the place that was
 -- sought, which is the defined one. The search doesn't go through the names, nor make the
 -- induction of `Searching`.
-use Rattle.std.proofs.Common.{◌≡◌, ℕ, suc, true, false, refl, ap, ◌∙◌}
+use Rattle.std.proofs.Common.{◌≡◌, ℕ, suc, true, refl, ap, ◌∙◌}
 use Rattle.md_base.specs.declared.event.Name.{Name}
 use Rattle.md_base.specs.declared.event.Name.TheVariants as name_variants
+use Rattle.md_base.proofs.Lies.{lie}
 use name_variants.{HeadingAtx, ListOrdered, Link, Image, GfmFootnoteCall, Definition}
 use name_variants.{GfmFootnoteDefinition}
 use Rattle.md_pattern.specs.declared.facts.Fact.{Fact}
@@ -19,9 +20,6 @@ use Rattle.md_tree.proofs.Numbers.{at-with}
 use Rattle.md_tree.proofs.Placing.{children-placed}
 use Rattle.md_tree.proofs.Searching.{reads-found}
 use Rattle.md_tree.proofs.checked.Checked.reads.Goals as goal
-
-lie : false ≡ true → ⊥
-lie h = cc
 
 reader_place : (name : Name) (tables contributing : ℕ) (sought : Sought) → is_reader name ≡ true →
     read_at_of name tables contributing sought ≡ sought.read_at

@@ -1,0 +1,128 @@
+#!/usr/bin/env python3
+"""Finds definitions and lemmas that stand word for word in two files.
+
+    bench/twins.py
+
+It reads each file .antt below crates/*/specs and crates/*/proofs that git has, and compares its
+definitions and lemmas: their statements and their clauses, without comments, line breaks, `pub` and
+`abbrev`. It prints each one that stands in more than one file, with the files, and then its status
+is 1.
+
+Two with the same words aren't the same if a name in them is that of another definition of this
+repository: names are looked up in the file and in what it imports. Goals aren't compared, since the
+prover names them and each function needs its own answer. They stand in the files Answers.antt,
+Invariants.antt and Proof.antt, beside lemmas, which are compared.
+"""
+
+import collections
+import pathlib
+import re
+import subprocess
+import sys
+
+ROOT = pathlib.Path(__file__).resolve().parents[1]
+ANSWERS = {"Answers.antt", "Invariants.antt", "Proof.antt"}
+GOAL = re.compile(r"returns|decreases-|invariant|loop-|overflow_|.*-requires|.*-(preserved|init)\b")
+WORDS = r"(?:(?:pub|abbrev|unfoldable) )*"
+BEGINNING = re.compile(WORDS + r"(?:(?:record|data) (\S+)|(\S+) :(?: |$))")
+IMPORT = re.compile(r"(pub )?use (\S+)\.\{(.*)\}$")
+OTHER = re.compile(r"(pub )?(use|mod) |infix|unfolding ")
+NAME = re.compile(r"[^\s(){};,.\[\]]+")
+
+
+class File:
+    """The definitions of a file, and what it imports."""
+
+    def __init__(self, path):
+        self.definitions = []
+        self.imports = {}
+        sections = []
+        text = None
+        for line in path.read_text(encoding="utf-8").splitlines():
+            code = line.strip()
+            if not code or code.startswith("--"):
+                continue
+            depth = len(line) - len(line.lstrip())
+            imported = IMPORT.match(line)
+            if imported:
+                for item in imported[3].split(","):
+                    name, _, alias = item.strip().partition(" as ")
+                    self.imports[alias or name] = (imported[2], name)
+            while sections and depth <= sections[-1][0]:
+                sections.pop()
+            # A section's definitions are indented by two columns more than its first line.
+            first = sections[-1][0] + 2 if sections else 0
+            if depth == first and code.startswith("module _"):
+                text = []
+                sections.append((depth, text))
+            elif depth == first and not OTHER.match(code) and BEGINNING.match(code):
+                begins = BEGINNING.match(code)
+                text = []
+                self.definitions.append((begins[1] or begins[2], [head for _, head in sections],
+                                         text))
+            if text is not None and not imported:
+                text.append(re.sub("^" + WORDS, "", code) if depth == first else code)
+        self.definitions = [(name, " ".join(" ".join(lines) for lines in [*heads, text]))
+                            for name, heads, text in self.definitions]
+        self.texts = dict(self.definitions)
+
+
+def module(file):
+    """The name by which other files import a file."""
+    return "Rattle." + file.removeprefix("crates/").removesuffix(".antt").replace("/", ".")
+
+
+def meant(files, name, where):
+    """The text of the definition that a name stands for in a file, if it's in this repository."""
+    for _ in range(9):
+        file = files.get(where)
+        if file is None:
+            return None
+        if name in file.texts:
+            return file.texts[name]
+        if name not in file.imports:
+            return None
+        where, name = file.imports[name]
+    return None
+
+
+def are_same(files, text, one, other):
+    """Whether no name in a text stands for two definitions."""
+    for name in set(NAME.findall(text)):
+        here, there = meant(files, name, one), meant(files, name, other)
+        if here is not None and there is not None and here != there:
+            return False
+    return True
+
+
+def main():
+    """Compares all definitions."""
+    listed = subprocess.run(["git", "-C", ROOT, "ls-files", "crates/*.antt"], check=True,
+                            capture_output=True, text=True).stdout.split()
+    paths = {module(file): file for file in listed if (ROOT / file).exists()}
+    files = {where: File(ROOT / file) for where, file in paths.items()}
+    places = collections.defaultdict(list)
+    count = 0
+    for where, file in files.items():
+        for name, text in file.definitions:
+            if pathlib.Path(paths[where]).name in ANSWERS and GOAL.match(name):
+                continue
+            count += 1
+            places[text].append((name, where))
+    twins = 0
+    for text, found in places.items():
+        name, first = found[0]
+        same = [where for _, where in found[1:]
+                if where != first and are_same(files, text, first, where)]
+        if same:
+            twins += 1
+            print(f"twins: {name} stands in", *(paths[where] for where in [first, *same]))
+    if twins:
+        print(f"twins: {twins} among {count} definitions stand in more than one file")
+        return 1
+    print(f"twins: none among {count} definitions")
+    return 0
+
+
+if __name__ == "__main__":
+    sys.exit(main())
