@@ -80,8 +80,8 @@ fn named(path: &str, source: &Path, tree: &Tree) -> Named {
     };
     let index = found.join("index.md");
     let has_index = tree.pages.contains(&index);
-    let last = path.rsplit('/').next().unwrap_or("");
-    if matches!(last, "" | "." | "..") {
+    let last = decoded(path.rsplit('/').next().unwrap_or(""));
+    if matches!(&last[..], b"" | b"." | b"..") {
         return match tree.folders.contains(&found) {
             _ if has_index => Named::Page(index),
             true => Named::Folder,

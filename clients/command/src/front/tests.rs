@@ -73,7 +73,7 @@ fn ends() {
         ("---\n\nA: b\n", None),
         ("---\nA b: c\n", None),
         ("---\n", None),
-        ("---\ntitle:\n---\n", None),
+        ("---\ntitle:\n---\n", Some(EMPTY_TITLE)),
         ("---\nb: c\n---\n", None),
         ("---\n# b\n---\n", None),
         ("A: b\n", None),
@@ -154,9 +154,6 @@ fn yaml_titles() {
     for text in [
         "",
         "# a",
-        "title:",
-        "title: ",
-        "title: # a",
         "titles: a",
         "Title: a",
         "a: {title: b}",
@@ -170,6 +167,7 @@ fn yaml_titles() {
 fn yaml_faults() {
     let at = |line, why: &str| format!("the front matter isn't valid YAML: line {line}: {why}");
     let is = |what: &str| format!("the title in the front matter is {what}");
+    let begins_with_mark = is("empty: a value that begins with # needs quotes");
     for (text, fault) in [
         ("title: [a]", is("a list")),
         ("title:\n- a", is("a list")),
@@ -182,6 +180,19 @@ fn yaml_faults() {
         ("title: !!int 7", is("of a type that isn't known")),
         ("title: !a b", is("of a type that isn't known")),
         ("title: ''", is("empty")),
+        ("title:", is("empty")),
+        ("title: \na: b", is("empty")),
+        ("title:\na: '#'", is("empty")),
+        ("title: !!str", is("empty")),
+        ("title: &a", is("empty")),
+        ("title: &a # b", is("empty")),
+        ("a: &a\ntitle: *a", is("empty")),
+        ("? title", is("empty")),
+        ("? title\n:", is("empty")),
+        ("{title: , a: b}", is("empty")),
+        ("{title, a: b}", is("empty")),
+        ("title: # a", begins_with_mark.clone()),
+        ("a: b\n\"title\" : #1 in the charts", begins_with_mark),
         ("title: \" \\n\"", is("empty")),
         ("title: a\nb: c\n\"title\": d", at(4, "a second title")),
         ("title: a\ntitle:", at(3, "a second title")),

@@ -3,7 +3,7 @@
 //! Events come one by one, so that nesting takes no stack, and an alias isn't expanded: a title may
 //! be an alias of a text, and no other value is looked at.
 
-use super::{invalid_at, no_text, too_deep, MOST_DEPTH};
+use super::{invalid_at, no_text, too_deep, EMPTY_TITLE, MOST_DEPTH};
 use std::collections::HashMap;
 use std::rc::Rc;
 use std::str::Chars;
@@ -19,6 +19,9 @@ const NO_END: &str = "the reader of YAML finds no end: please report it";
 /// What yaml-rust says of `a: b: c`, and what a writer can do about it.
 const MANY_COLONS: &str = "mapping values are not allowed in this context";
 pub const QUOTE_IT: &str = "a value with a colon and a space needs quotes";
+
+/// The cause of a title without a value, if a comment follows its key.
+const QUOTE_MARK: &str = "a value that begins with # needs quotes";
 
 /// The tags that a text may have: none, or those of a string.
 const STRINGS: [(&str, &str); 3] = [("!!", "str"), ("", "tag:yaml.org,2002:str"), ("", "!")];
@@ -76,7 +79,7 @@ impl Reader<'_> {
         if self.next()?.0 == Event::StreamEnd {
             return Ok(None);
         }
-        let found = match self.next()? {
+        let (found, at) = match self.next()? {
             (Event::MappingStart(_), mark) => self.mapping(mark)?,
             (_, mark) => return Err(self.error(mark, "no key, such as title:")),
         };
@@ -89,8 +92,9 @@ impl Reader<'_> {
         }
         match found {
             Some(Value::Text(title)) => Ok(Some(title.to_string())),
+            None => Ok(None),
             Some(Value::Tilde(mark)) if self.is_at(mark, '~') => Err(no_text("null")),
-            None | Some(Value::Nothing | Value::Tilde(_)) => Ok(None),
+            Some(Value::Nothing | Value::Tilde(_)) => Err(self.empty(at)),
             Some(Value::Null) => Err(no_text("null")),
             Some(Value::Tagged) => Err(no_text("of a type that isn't known")),
             Some(Value::List) => Err(no_text("a list")),
@@ -98,9 +102,20 @@ impl Reader<'_> {
         }
     }
 
-    /// The title in the outermost mapping, whose start was read.
-    fn mapping(&mut self, start: Marker) -> Result<Option<Value>, String> {
-        let mut found = None;
+    /// The error of a title without a value, whose key ends at or after this place.
+    fn empty(&self, key: usize) -> String {
+        let line = self.text.chars().skip(key).take_while(|&each| each != '\n');
+        let line: String = line.collect();
+        let value = line.split_once(':').map_or("", |(_, value)| value);
+        match value.trim_start().starts_with('#') {
+            true => format!("{EMPTY_TITLE}: {QUOTE_MARK}"),
+            false => EMPTY_TITLE.to_string(),
+        }
+    }
+
+    /// The title in the outermost mapping, whose start was read, and the place of its key.
+    fn mapping(&mut self, start: Marker) -> Result<(Option<Value>, usize), String> {
+        let (mut found, mut place) = (None, 0);
         let mut merged = None;
         let is_block = !self.is_at(start, '{');
         loop {
@@ -120,6 +135,7 @@ impl Reader<'_> {
                     if found.replace(value).is_some() {
                         return Err(self.error(mark, "a second title"));
                     }
+                    place = mark.index();
                 }
                 Value::Text(key) if &*key == MERGE => merged = Some(mark),
                 _ => {}
@@ -129,7 +145,7 @@ impl Reader<'_> {
             Some(mark) if found.is_none() => {
                 Err(self.error(mark, "a merge key (<<), which isn't supported"))
             }
-            _ => Ok(found),
+            _ => Ok((found, place)),
         }
     }
 
