@@ -2,7 +2,7 @@
 //!
 //! The library finds the text between two lines of `---`. This module also finds YAML that ends
 //! with a line `...`, and TOML between two lines `+++`. The title is read by a library for YAML and
-//! one for TOML. A title that can't be read is a fault, and so is front matter that isn't valid.
+//! one for TOML. A title that can't be read is a fault, and so is front matter that can't be read.
 
 mod toml;
 mod yaml;
@@ -102,18 +102,24 @@ fn no_text(what: &str) -> String {
     format!("the title in the front matter is {what}")
 }
 
-/// The fault of front matter that isn't valid at a line, which counts from 1 in the front matter
+/// The fault of front matter that can't be read at a line, which counts from 1 in the front matter
 /// without the line of marks.
-fn invalid_at(language: &str, text: &str, line: usize, why: &str) -> String {
-    let line = line.clamp(1, text.lines().count().max(1)) + 1;
-    invalid(language, &format!("line {line}: {why}"))
+fn unread_at(language: &str, text: &str, line: usize, why: &str) -> String {
+    unread(language, &at_line(text, line, why))
 }
 
-/// The fault of front matter that isn't valid.
-fn invalid(language: &str, why: &str) -> String {
+/// A reason with its line.
+fn at_line(text: &str, line: usize, why: &str) -> String {
+    let line = line.clamp(1, text.lines().count().max(1)) + 1;
+    format!("line {line}: {why}")
+}
+
+/// The fault of front matter that the library for its language can't read: that library may refuse
+/// what is valid.
+fn unread(language: &str, why: &str) -> String {
     let why: String = why.chars().take(MOST_SHOWN).collect();
     let why = why.replace(char::is_control, "\u{fffd}");
-    format!("the front matter isn't valid {language}: {why}")
+    format!("the front matter can't be read as {language}: {why}")
 }
 
 fn too_deep() -> String {

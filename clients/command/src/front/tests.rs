@@ -1,6 +1,6 @@
 //! Titles, and faults.
 
-use super::yaml::QUOTE_IT;
+use super::yaml::{MANY_COLONS, QUOTE_IT};
 use super::*;
 use std::time::{Duration, Instant};
 
@@ -91,11 +91,11 @@ fn broken() {
     let front = front_matter("---\na: b\ntitle: \"A\n---\nc\n");
     assert_eq!((front.title, front.end), (None, 23));
     let why = "while scanning a quoted scalar, found unexpected end of stream";
-    let fault = format!("the front matter isn't valid YAML: line 3: {why}");
+    let fault = format!("the front matter can't be read as YAML: line 3: {why}");
     assert_eq!(front.fault, Some(fault));
     let front = front_matter("+++\na = 1\ntitle = 'A\n+++\nc\n");
     assert_eq!((front.title, front.end), (None, 25));
-    let fault = "the front matter isn't valid TOML: line 3: newline in string found";
+    let fault = "the front matter can't be read as TOML: line 3: newline in string found";
     assert_eq!(front.fault.as_deref(), Some(fault));
 }
 
@@ -114,6 +114,11 @@ fn yaml_titles() {
                 "a \"b\" \\ éA\u{1f600}",
             ),
             ("title: 'it''s \\x' # c", "it's \\x"),
+            ("title: \"a\\/b \\\\/ \\\\\\/ \\\"\\/\"", "a/b \\/ \\/ \"/"),
+            ("title: a\\/b \"c\\/\"", "a\\/b \"c\\/\""),
+            ("title: '\\/a\\\\/'", "\\/a\\\\/"),
+            ("title: |\n  a\\/b", "a\\/b"),
+            ("{\"url\":\"\\/\",\"ti\\u0074le\":\"<\\/a>\"}", "</a>"),
             ("title: a\n  b\n\n  c\nd: e", "a b c"),
             ("title:\n  a\n  b", "a b"),
             ("title: \"a\n  b \\\n  c\"", "a b c"),
@@ -165,7 +170,8 @@ fn yaml_titles() {
 
 #[test]
 fn yaml_faults() {
-    let at = |line, why: &str| format!("the front matter isn't valid YAML: line {line}: {why}");
+    let at =
+        |line, why: &str| format!("the front matter can't be read as YAML: line {line}: {why}");
     let is = |what: &str| format!("the title in the front matter is {what}");
     let begins_with_mark = is("empty: a value that begins with # needs quotes");
     for (text, fault) in [
@@ -197,7 +203,9 @@ fn yaml_faults() {
         ("title: a\nb: c\n\"title\": d", at(4, "a second title")),
         ("title: a\ntitle:", at(3, "a second title")),
         ("title: a: b", at(2, QUOTE_IT)),
-        ("title: a\n  b: c", at(3, QUOTE_IT)),
+        ("title: a\n  b: c: d", at(3, QUOTE_IT)),
+        ("title: a\n  b: c", at(3, MANY_COLONS)),
+        ("x: 1\n title: y", at(3, MANY_COLONS)),
         (
             "title: \"\\q\"",
             at(
@@ -263,9 +271,10 @@ fn toml_titles() {
 
 #[test]
 fn toml_faults() {
-    let at = |line, why: &str| format!("the front matter isn't valid TOML: line {line}: {why}");
+    let at =
+        |line, why: &str| format!("the front matter can't be read as TOML: line {line}: {why}");
     let is = |what: &str| format!("the title in the front matter is {what}");
-    let duplicate = "the front matter isn't valid TOML: duplicate key: `title`".to_string();
+    let duplicate = "the front matter can't be read as TOML: duplicate key: `title`".to_string();
     for (text, fault) in [
         ("title = 2024", is("a number without quotes")),
         ("title = 1.5", is("a number without quotes")),

@@ -3,7 +3,8 @@
 //! Events come one by one, so that nesting takes no stack, and an alias isn't expanded: a title may
 //! be an alias of a text, and no other value is looked at.
 
-use super::{invalid_at, no_text, too_deep, EMPTY_TITLE, MOST_DEPTH};
+use super::{no_text, too_deep, unread_at, EMPTY_TITLE, MOST_DEPTH};
+use std::borrow::Cow;
 use std::collections::HashMap;
 use std::rc::Rc;
 use std::str::Chars;
@@ -16,9 +17,16 @@ const MERGE: &str = "<<";
 
 const NO_END: &str = "the reader of YAML finds no end: please report it";
 
-/// What yaml-rust says of `a: b: c`, and what a writer can do about it.
-const MANY_COLONS: &str = "mapping values are not allowed in this context";
+/// What yaml-rust says of `a: b: c`, what a writer can do about it, and what such a line has twice.
+/// yaml-rust says the same of wrong indentation.
+pub const MANY_COLONS: &str = "mapping values are not allowed in this context";
 pub const QUOTE_IT: &str = "a value with a colon and a space needs quotes";
+const COLON: &str = ": ";
+
+/// The escape in double quotes that yaml-rust doesn't know, and what it reads instead: a character
+/// that front matter can't have is in the place of the backslash.
+const ESCAPED_SLASH: &str = "\\/";
+const MARKED_SLASH: &str = "\u{ffff}/";
 
 /// The cause of a title without a value, if a comment follows its key.
 const QUOTE_MARK: &str = "a value that begins with # needs quotes";
@@ -55,8 +63,9 @@ struct Reader<'a> {
 pub fn title(text: &str) -> Result<Option<String>, String> {
     if let Some(at) = text.find(is_unprintable) {
         let line = text[..at].matches('\n').count() + 1;
-        return Err(invalid_at("YAML", text, line, "a control character"));
+        return Err(unread_at("YAML", text, line, "a control character"));
     }
+    let text = &*with_marked_slashes(text);
     let mut reader = Reader {
         text,
         parser: Parser::new(text.chars()),
@@ -70,6 +79,26 @@ pub fn title(text: &str) -> Result<Option<String>, String> {
 fn is_unprintable(each: char) -> bool {
     (each.is_control() && !matches!(each, '\t' | '\n' | '\u{85}'))
         || matches!(each, '\u{fffe}' | '\u{ffff}')
+}
+
+/// A text with a mark in the place of each backslash that escapes a slash in double quotes, and of
+/// each that would do so there.
+fn with_marked_slashes(text: &str) -> Cow<'_, str> {
+    if !text.contains(ESCAPED_SLASH) {
+        return text.into();
+    }
+    let mut marked = String::with_capacity(2 * text.len());
+    let mut is_escape = false;
+    for each in text.chars() {
+        if is_escape && each == '/' {
+            marked.pop();
+            marked.push_str(MARKED_SLASH);
+        } else {
+            marked.push(each);
+        }
+        is_escape = each == '\\' && !is_escape;
+    }
+    marked.into()
 }
 
 impl Reader<'_> {
@@ -228,12 +257,14 @@ impl Reader<'_> {
         self.left = self.left.checked_sub(1).ok_or(NO_END)?;
         self.parser.next().map_err(|error| {
             let line = error.marker().line();
-            invalid_at("YAML", self.text, line, &reason(&error))
+            let written = self.text.lines().nth(line.saturating_sub(1));
+            let why = reason(&error, written.unwrap_or(""));
+            unread_at("YAML", self.text, line, &why)
         })
     }
 
     fn error(&self, mark: Marker, why: &str) -> String {
-        invalid_at("YAML", self.text, mark.line(), why)
+        unread_at("YAML", self.text, mark.line(), why)
     }
 }
 
@@ -243,6 +274,11 @@ fn scalar(text: &str, style: TScalarStyle, tag: Option<&TokenType>, mark: Marker
         Some(TokenType::Tag(handle, suffix)) => STRINGS.contains(&(handle, suffix)),
         _ => false,
     };
+    let slash = match style {
+        TScalarStyle::DoubleQuoted => "/",
+        _ => ESCAPED_SLASH,
+    };
+    let text = &*text.replace(MARKED_SLASH, slash);
     match text {
         _ if tag.is_some() && !is_string => Value::Tagged,
         _ if is_string || style != TScalarStyle::Plain => Value::Text(text.into()),
@@ -253,14 +289,14 @@ fn scalar(text: &str, style: TScalarStyle, tag: Option<&TokenType>, mark: Marker
     }
 }
 
-/// The reason of an error, without the place that its text ends with.
-fn reason(error: &ScanError) -> String {
+/// The reason of an error at a line, without the place that its text ends with.
+fn reason(error: &ScanError, line: &str) -> String {
     let text = error.to_string();
     let reason = text
         .rsplit_once(" at line ")
         .map_or(&*text, |(reason, _)| reason);
     match reason {
-        MANY_COLONS => QUOTE_IT.to_string(),
+        MANY_COLONS if line.matches(COLON).count() > 1 => QUOTE_IT.to_string(),
         _ => reason.to_string(),
     }
 }
