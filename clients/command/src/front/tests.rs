@@ -1,6 +1,6 @@
 //! Titles, and faults.
 
-use super::yaml::{MANY_COLONS, QUOTE_IT};
+use super::yaml::{MANY_COLONS, QUOTE_IT, TAB};
 use super::*;
 use std::time::{Duration, Instant};
 
@@ -240,6 +240,43 @@ fn yaml_faults() {
         ),
     ] {
         assert_eq!(yaml(text), Err(fault), "{text:?}");
+    }
+}
+
+/// A tab isn't indentation, but may begin a line in a scalar, and in a map in braces.
+#[test]
+fn yaml_tabs() {
+    all_say(
+        yaml,
+        &[
+            ("title: \"a\n\tb\"\nc: d", "a b"),
+            ("title: \"a \\\"\n\tb\\\n\tc\"\nd: e", "a \" bc"),
+            ("title: 'a''\n\tb'\nc: d", "a' b"),
+            ("title: a\nb: &c \"d\n\te\"", "a"),
+            ("title: a\nb: 'c\n\td\n\n\te'\n", "a"),
+            ("title: |\n  a\n  \tb\nc: d", "a b"),
+            ("title: >-\n  a\n  \tb", "a b"),
+            ("title:\ta\nb:\n-\tc\nd: e\t", "a"),
+            ("{\n\t\"title\": \"a\",\n\t\"b\": [\n\t\t\"c\"\n\t]\n}", "a"),
+        ],
+    );
+    assert_eq!(yaml("b: |\n  c\n  \td\n"), Ok(None));
+    let at = |line| format!("the front matter can't be read as YAML: line {line}: {TAB}");
+    for (text, line) in [
+        ("\ttitle: a", 2),
+        (" \ttitle: a", 2),
+        ("\t# a\ntitle: b", 2),
+        ("\t\ntitle: b", 2),
+        ("title:\n\ta: 1", 3),
+        ("title: a\nb:\n\tc: 1", 4),
+        ("title: a\nb:\n\t- c", 4),
+        ("title: a\n \tb", 3),
+        ("title: a\nb: [\n\tc\n]", 4),
+        ("title: \"a\n\tb\"\n\tc: d", 4),
+        ("title: 'a'\n\tb: 'c'", 3),
+        ("title: |\n  a\nb:\n\tc: d", 5),
+    ] {
+        assert_eq!(yaml(text), Err(at(line)), "{text:?}");
     }
 }
 

@@ -5,7 +5,7 @@
 
 use super::{no_text, too_deep, unread_at, EMPTY_TITLE, MOST_DEPTH};
 use std::borrow::Cow;
-use std::collections::HashMap;
+use std::collections::{HashMap, HashSet};
 use std::rc::Rc;
 use std::str::Chars;
 use yaml_rust::parser::{Event, Parser};
@@ -27,6 +27,9 @@ const COLON: &str = ": ";
 /// that front matter can't have is in the place of the backslash.
 const ESCAPED_SLASH: &str = "\\/";
 const MARKED_SLASH: &str = "\u{ffff}/";
+
+/// What yaml-rust accepts, though YAML doesn't: it makes a tab part of the key that follows.
+pub const TAB: &str = "a tab in the indentation";
 
 /// The cause of a title without a value, if a comment follows its key.
 const QUOTE_MARK: &str = "a value that begins with # needs quotes";
@@ -52,11 +55,17 @@ enum Value {
 
 struct Reader<'a> {
     text: &'a str,
+    /// The same text.
+    chars: Vec<char>,
     parser: Parser<Chars<'a>>,
     /// The values with an anchor, by the number of that.
     anchors: HashMap<usize, Value>,
     /// How many events may follow: a text has fewer than four for each byte.
     left: usize,
+    /// The lines that begin in a quoted scalar or in a block scalar, from 1.
+    inner: HashSet<usize>,
+    /// The line of a block scalar's mark, until the next event shows where the scalar ends.
+    block: Option<usize>,
 }
 
 /// The title in a text.
@@ -68,9 +77,12 @@ pub fn title(text: &str) -> Result<Option<String>, String> {
     let text = &*with_marked_slashes(text);
     let mut reader = Reader {
         text,
+        chars: text.chars().collect(),
         parser: Parser::new(text.chars()),
         anchors: HashMap::new(),
         left: 4 * text.len() + 16,
+        inner: HashSet::new(),
+        block: None,
     };
     reader.document()
 }
@@ -108,16 +120,21 @@ impl Reader<'_> {
         if self.next()?.0 == Event::StreamEnd {
             return Ok(None);
         }
-        let (found, at) = match self.next()? {
-            (Event::MappingStart(_), mark) => self.mapping(mark)?,
-            (_, mark) => return Err(self.error(mark, "no key, such as title:")),
-        };
+        let (event, start) = self.next()?;
+        if !matches!(event, Event::MappingStart(_)) {
+            return Err(self.error(start, "no key, such as title:"));
+        }
+        let is_block = !self.is_at(start, '{');
+        let (found, at) = self.mapping(is_block)?;
         loop {
             match self.next()? {
                 (Event::StreamEnd, _) => break,
                 (Event::DocumentStart, mark) => return Err(self.error(mark, "a second document")),
                 _ => {}
             }
+        }
+        if is_block {
+            self.check_tabs()?;
         }
         match found {
             Some(Value::Text(title)) => Ok(Some(title.to_string())),
@@ -133,7 +150,7 @@ impl Reader<'_> {
 
     /// The error of a title without a value, whose key ends at or after this place.
     fn empty(&self, key: usize) -> String {
-        let line = self.text.chars().skip(key).take_while(|&each| each != '\n');
+        let line = self.chars[key..].iter().take_while(|&&each| each != '\n');
         let line: String = line.collect();
         let value = line.split_once(':').map_or("", |(_, value)| value);
         match value.trim_start().starts_with('#') {
@@ -143,10 +160,9 @@ impl Reader<'_> {
     }
 
     /// The title in the outermost mapping, whose start was read, and the place of its key.
-    fn mapping(&mut self, start: Marker) -> Result<(Option<Value>, usize), String> {
+    fn mapping(&mut self, is_block: bool) -> Result<(Option<Value>, usize), String> {
         let (mut found, mut place) = (None, 0);
         let mut merged = None;
-        let is_block = !self.is_at(start, '{');
         loop {
             let (event, mark) = self.next()?;
             if event == Event::MappingEnd {
@@ -238,7 +254,7 @@ impl Reader<'_> {
 
     /// Whether a character is at a place.
     fn is_at(&self, mark: Marker, wanted: char) -> bool {
-        self.text.chars().nth(mark.index()) == Some(wanted)
+        self.chars.get(mark.index()) == Some(&wanted)
     }
 
     /// Whether an event is a scalar in a line, and not a value that is missing.
@@ -255,16 +271,78 @@ impl Reader<'_> {
     /// The next event.
     fn next(&mut self) -> Result<(Event, Marker), String> {
         self.left = self.left.checked_sub(1).ok_or(NO_END)?;
-        self.parser.next().map_err(|error| {
+        let next = self.parser.next();
+        let (event, mark) = next.map_err(|error| {
             let line = error.marker().line();
-            let written = self.text.lines().nth(line.saturating_sub(1));
-            let why = reason(&error, written.unwrap_or(""));
+            let why = reason(&error, self.line(line));
             unread_at("YAML", self.text, line, &why)
-        })
+        })?;
+        if let Some(line) = self.block.take() {
+            let is_end = mark.index() >= self.chars.len();
+            self.inner
+                .extend(line + 1..mark.line() + usize::from(is_end));
+        }
+        match event {
+            Event::Scalar(_, TScalarStyle::Literal | TScalarStyle::Foled, ..) => {
+                self.block = Some(mark.line());
+            }
+            Event::Scalar(_, TScalarStyle::SingleQuoted | TScalarStyle::DoubleQuoted, ..) => {
+                let breaks = self.breaks_in_quotes(mark);
+                self.inner.extend(mark.line() + 1..=mark.line() + breaks);
+            }
+            _ => {}
+        }
+        Ok((event, mark))
+    }
+
+    /// How many line endings a quoted scalar has that begins at a place.
+    fn breaks_in_quotes(&self, mark: Marker) -> usize {
+        let mut rest = self.chars[mark.index()..].iter().peekable();
+        let quote = rest.next();
+        let mut breaks = 0;
+        while let Some(each) = rest.next() {
+            match each {
+                '\n' => breaks += 1,
+                '\\' if quote == Some(&'"') => {
+                    breaks += usize::from(rest.next() == Some(&'\n'));
+                }
+                // Two single quotes are one in the scalar.
+                '\'' if quote == Some(&'\'') && rest.next_if_eq(&&'\'').is_some() => {}
+                _ if Some(each) == quote => break,
+                _ => {}
+            }
+        }
+        breaks
+    }
+
+    /// Fails if a line begins with white space that holds a tab, unless it begins in a scalar in
+    /// which white space isn't indentation.
+    fn check_tabs(&self) -> Result<(), String> {
+        let mut numbered = (1..).zip(self.text.lines());
+        match numbered.find(|(number, line)| self.has_tab(*number, line)) {
+            Some((number, _)) => Err(unread_at("YAML", self.text, number, TAB)),
+            None => Ok(()),
+        }
+    }
+
+    fn has_tab(&self, number: usize, line: &str) -> bool {
+        let rest = line.trim_start_matches(' ');
+        rest.starts_with('\t') && !self.inner.contains(&number)
+    }
+
+    /// The line with a number, from 1.
+    fn line(&self, number: usize) -> &str {
+        let line = self.text.lines().nth(number.saturating_sub(1));
+        line.unwrap_or("")
     }
 
     fn error(&self, mark: Marker, why: &str) -> String {
-        unread_at("YAML", self.text, mark.line(), why)
+        let number = mark.line();
+        let why = match self.has_tab(number, self.line(number)) {
+            true => TAB,
+            false => why,
+        };
+        unread_at("YAML", self.text, number, why)
     }
 }
 
