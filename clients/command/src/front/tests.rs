@@ -70,19 +70,58 @@ fn ends() {
         ("---\ntitle: A\n", Some(NO_END)),
         ("---\n\"title\": A\n", Some(NO_END)),
         ("+++\ntitle = \"A\"\n", Some(NO_END)),
-        ("---\n\nA: b\n", None),
+        ("---\n\nA: b\n", Some(NO_END)),
+        ("---\nA b: c\n\n'd-e_f' :\n", Some(NO_END)),
+        ("---\r# a\r  b: c", Some(NO_END)),
+        ("---\n- a\r\n\tb:\r\n", Some(NO_END)),
+        ("+++\n\n\"a\" . b-c=1\n", Some(NO_END)),
+        ("+++\n# a\n[b.'c'] # d\n", Some(NO_END)),
+        ("+++\n[[b]]\n", Some(NO_END)),
         ("---\nA b: c\n", None),
+        ("---\n: c\n'': c\nhttp://a.b\n[a]\na = b\n", None),
+        ("+++\na: b\na b = c\n= d\na. = d\n[a b]\n[]\n[a](b)\n", None),
         ("---\n", None),
         ("---\ntitle:\n---\n", Some(EMPTY_TITLE)),
         ("---\nb: c\n---\n", None),
-        ("---\n# b\n---\n", None),
         ("A: b\n", None),
+        ("---\n\n\n---\na\n", None),
+        ("---\n\nText: with colon.\n\n---\na\n", None),
+        ("---\n\nA text: with colon.\n\n---\na\n", None),
     ] {
         assert_eq!(
             front_matter(document).fault.as_deref(),
             fault,
             "{document:?}"
         );
+    }
+}
+
+/// Only the first lines are searched for a key.
+#[test]
+fn searched() {
+    let fault = |lines| front_matter(&format!("---\n{}a: b\n", "c\n".repeat(lines))).fault;
+    assert_eq!(fault(19).as_deref(), Some(NO_END));
+    assert_eq!(fault(20), None);
+}
+
+/// What isn't a map is reported, since it isn't printed.
+#[test]
+fn no_maps() {
+    for (inner, line, why) in [
+        ("# Title\n\n", 2, "only comments, which begin with #"),
+        ("\n  # a\n# b\n", 3, "only comments, which begin with #"),
+        ("\nA text.\n\n", 3, "no key, such as title:"),
+        ("- a: b\n", 2, "no key, such as title:"),
+        ("~\n", 2, "no key, such as title:"),
+        ("[a]\n", 2, "no key, such as title:"),
+        ("'a: b'\n", 2, "no key, such as title:"),
+    ] {
+        for end in ["---", "..."] {
+            let front = front_matter(&format!("---\n{inner}{end}\nc\n"));
+            let fault = format!("the front matter isn't a map, so it isn't printed: line {line}: ");
+            assert_eq!(front.fault, Some(fault + why), "{inner:?}");
+            assert_eq!(front.end, inner.len() + 8);
+        }
     }
 }
 
@@ -158,7 +197,7 @@ fn yaml_titles() {
     );
     for text in [
         "",
-        "# a",
+        "\n \n",
         "titles: a",
         "Title: a",
         "a: {title: b}",
@@ -228,8 +267,6 @@ fn yaml_faults() {
             "a: &a {title: b}\n<<: *a",
             at(3, "a merge key (<<), which isn't supported"),
         ),
-        ("title:a", at(2, "no key, such as title:")),
-        ("- title: a", at(2, "no key, such as title:")),
         ("title: a\n--- b", at(3, "a second document")),
         ("a: b\ntitle: c\0d", at(3, "a control character")),
         ("title: &a [*a]", is("a list")),

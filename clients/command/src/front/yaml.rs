@@ -3,7 +3,7 @@
 //! Events come one by one, so that nesting takes no stack, and an alias isn't expanded: a title may
 //! be an alias of a text, and no other value is looked at.
 
-use super::{no_text, too_deep, unread_at, EMPTY_TITLE, MOST_DEPTH};
+use super::{no_map, no_text, too_deep, unread_at, EMPTY_TITLE, MOST_DEPTH};
 use std::borrow::Cow;
 use std::collections::{HashMap, HashSet};
 use std::rc::Rc;
@@ -27,6 +27,10 @@ const COLON: &str = ": ";
 /// that front matter can't have is in the place of the backslash.
 const ESCAPED_SLASH: &str = "\\/";
 const MARKED_SLASH: &str = "\u{ffff}/";
+
+/// Why front matter isn't a map.
+const ONLY_COMMENTS: &str = "only comments, which begin with #";
+const NO_KEY: &str = "no key, such as title:";
 
 /// What yaml-rust accepts, though YAML doesn't: it makes a tab part of the key that follows.
 pub const TAB: &str = "a tab in the indentation";
@@ -118,11 +122,15 @@ impl Reader<'_> {
     fn document(&mut self) -> Result<Option<String>, String> {
         self.next()?;
         if self.next()?.0 == Event::StreamEnd {
-            return Ok(None);
+            let mut lines = self.text.lines();
+            let comment = lines.position(|line| !line.trim().is_empty());
+            let comments = |line| no_map(self.text, line + 1, ONLY_COMMENTS);
+            return comment.map_or(Ok(None), |line| Err(comments(line)));
         }
         let (event, start) = self.next()?;
         if !matches!(event, Event::MappingStart(_)) {
-            return Err(self.error(start, "no key, such as title:"));
+            self.check_tab(start)?;
+            return Err(no_map(self.text, start.line(), NO_KEY));
         }
         let is_block = !self.is_at(start, '{');
         let (found, at) = self.mapping(is_block)?;
@@ -325,6 +333,15 @@ impl Reader<'_> {
         }
     }
 
+    /// Fails if the line of that place does.
+    fn check_tab(&self, mark: Marker) -> Result<(), String> {
+        let number = mark.line();
+        match self.has_tab(number, self.line(number)) {
+            true => Err(unread_at("YAML", self.text, number, TAB)),
+            false => Ok(()),
+        }
+    }
+
     fn has_tab(&self, number: usize, line: &str) -> bool {
         let rest = line.trim_start_matches(' ');
         rest.starts_with('\t') && !self.inner.contains(&number)
@@ -337,12 +354,10 @@ impl Reader<'_> {
     }
 
     fn error(&self, mark: Marker, why: &str) -> String {
-        let number = mark.line();
-        let why = match self.has_tab(number, self.line(number)) {
-            true => TAB,
-            false => why,
-        };
-        unread_at("YAML", self.text, number, why)
+        match self.check_tab(mark) {
+            Err(tab) => tab,
+            Ok(()) => unread_at("YAML", self.text, mark.line(), why),
+        }
     }
 }
 
