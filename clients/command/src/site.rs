@@ -55,7 +55,6 @@ pub fn make(
 ) -> Result<Outcome, Failure> {
     let named = |error| -> Failure { format!("{}: {error}", folder.display()).into() };
     let (tree, failed) = Tree::of(folder, site).map_err(named)?;
-    let count = tree.pages.len() + failed.len();
     let mut site = Site::of(arguments, page, folder, site, tree);
     site.changed = changed;
     let mut outcome = Outcome::of(failed);
@@ -78,7 +77,7 @@ pub fn make(
     done.for_each(|one| outcome.add(one));
     site.copy_all(&copied, &mut outcome);
     site.bar.finish_and_clear();
-    outcome.several = count + copied.len() != 1;
+    outcome.is_summed = true;
     Ok(outcome)
 }
 
