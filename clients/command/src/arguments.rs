@@ -205,9 +205,11 @@ impl Arguments {
             let message = "--lang and --css need --page, --page-template or a folder";
             end(&Arguments::command().error(ErrorKind::MissingRequiredArgument, message));
         }
-        if arguments.watch && !arguments.is_site {
-            let message = "--watch needs a folder";
-            end(&Arguments::command().error(ErrorKind::MissingRequiredArgument, message));
+        for (option, is_given) in [("--all", arguments.all), ("--watch", arguments.watch)] {
+            if is_given && !arguments.is_site {
+                let message = format!("{option} needs a folder");
+                end(&Arguments::command().error(ErrorKind::MissingRequiredArgument, message));
+            }
         }
         if let Some(option) = arguments.of_another_parser() {
             let message = format!("{option} can't be used with this --parser");
