@@ -43,10 +43,15 @@ pub fn print(texts: &[&str]) -> io::Result<()> {
     output.flush()
 }
 
-/// Prints a message on standard error; if that fails too, only the status reports it.
+/// Prints a message on standard error, in one line; if that fails too, only the status reports it.
 pub fn report(message: &str) {
-    let line = format!("bivdrazo-render: {message}\n");
+    let line = format!("bivdrazo-render: {}\n", in_one_line(message));
     let _ = io::stderr().write_all(line.as_bytes());
+}
+
+/// A text with U+FFFD for each control character: the name of a file can have these.
+pub fn in_one_line(text: &str) -> String {
+    text.replace(char::is_control, "\u{fffd}")
 }
 
 fn write_all(output: &mut impl Write, texts: &[&str]) -> io::Result<()> {
