@@ -60,6 +60,9 @@ pub fn make(
     let mut outcome = Outcome::of(failed);
     let sources = site.tree.sources();
     let is_clear = site.collisions(&site.tree.files).is_empty();
+    if is_clear {
+        site.remove_parts();
+    }
     let mut read = site.look(&sources, is_clear, &mut outcome);
     let copied = read.iter_mut().flat_map(|one| one.found.take_files());
     let copied: BTreeSet<PathBuf> = copied.collect();
@@ -69,6 +72,7 @@ pub fn make(
             outcome.failed.extend(collisions);
             return Ok(outcome);
         }
+        site.remove_parts();
         let sources: Vec<&Path> = read.iter().map(|one| one.source).collect();
         read = site.look(&sources, true, &mut outcome);
     }
@@ -112,6 +116,14 @@ impl<'a> Site<'a> {
             made: Mutex::default(),
             changed: None,
             bar,
+        }
+    }
+
+    /// Removes the new files that killed runs left in the site's folders; only in the first run.
+    fn remove_parts(&self) {
+        if self.changed.is_none() {
+            let folders = self.tree.folders.iter();
+            folders.for_each(|folder| files::remove_parts(&self.site.join(folder)));
         }
     }
 
