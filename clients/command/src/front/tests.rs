@@ -426,6 +426,15 @@ fn bombs() {
         (aliases, true),
         ("a: |\n".to_string() + &" b\n".repeat(million / 3), true),
         ("a: \"".to_string() + &"\\\n".repeat(million / 2), true),
+        ("a: \"".to_string() + &"\\/".repeat(million / 2), true),
+        (
+            "a:\n".to_string() + &"- \"\n\t\"\n".repeat(million / 7),
+            true,
+        ),
+        (
+            "a:\n".to_string() + &"- |\n  \t\n".repeat(million / 8),
+            true,
+        ),
         ("&a ".repeat(million / 3), true),
         ("[a,".repeat(million / 3), true),
         ("a: b\n".repeat(million / 5), true),
