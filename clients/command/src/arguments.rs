@@ -6,6 +6,7 @@ use bivdrazo::{default_work, Attributes, DocumentHtml, Limits, MarkdownOptions, 
 use clap::error::ErrorKind;
 use clap::{value_parser, CommandFactory, Parser, ValueEnum, ValueHint};
 use clap_complete::Shell;
+use std::env;
 use std::path::{Path, PathBuf};
 use std::process;
 
@@ -192,7 +193,12 @@ pub enum Html {
 impl Arguments {
     /// Reads the arguments. Exits if they are invalid, or only ask for help or the version.
     pub fn read() -> Arguments {
-        let mut arguments = Arguments::try_parse().unwrap_or_else(|error| end(&error));
+        let mut arguments = Arguments::try_parse().unwrap_or_else(|error| {
+            // An error shows arguments, which can be names of files with control characters.
+            let shown = env::args_os().map(|each| files::in_one_line(&each.to_string_lossy()));
+            let shown = Arguments::try_parse_from(shown);
+            end(&shown.err().unwrap_or(error))
+        });
         arguments.is_site = match (&arguments.files[..], &arguments.out_dir) {
             ([folder], Some(_)) => folder.is_dir(),
             _ => false,
@@ -205,9 +211,11 @@ impl Arguments {
             let message = "--lang and --css need --page, --page-template or a folder";
             end(&Arguments::command().error(ErrorKind::MissingRequiredArgument, message));
         }
-        if arguments.watch && !arguments.is_site {
-            let message = "--watch needs a folder";
-            end(&Arguments::command().error(ErrorKind::MissingRequiredArgument, message));
+        for (option, is_given) in [("--all", arguments.all), ("--watch", arguments.watch)] {
+            if is_given && !arguments.is_site {
+                let message = format!("{option} needs a folder");
+                end(&Arguments::command().error(ErrorKind::MissingRequiredArgument, message));
+            }
         }
         if let Some(option) = arguments.of_another_parser() {
             let message = format!("{option} can't be used with this --parser");

@@ -2,14 +2,19 @@
 
 use crate::failures::Failure;
 use std::collections::HashMap;
-use std::fs::{self, File, OpenOptions};
+use std::fs::{self, DirEntry, File, Metadata, OpenOptions};
 use std::io::{self, BufWriter, Read, Write};
+use std::os::unix::ffi::OsStrExt;
 use std::path::{Path, PathBuf};
 use std::process;
 use std::sync::atomic::{AtomicUsize, Ordering};
+use std::time::Duration;
 
 /// The most bytes of a text that are written at once.
 const BUFFER: usize = 1 << 16;
+
+/// A new file that isn't renamed after this time was left by a run that was killed.
+const OLDEST_PART: Duration = Duration::from_secs(60 * 60);
 
 /// Reads a file, or standard input, which may have at most `limit` bytes.
 pub fn read(path: &Path, limit: Option<usize>) -> Result<String, Failure> {
@@ -43,10 +48,15 @@ pub fn print(texts: &[&str]) -> io::Result<()> {
     output.flush()
 }
 
-/// Prints a message on standard error; if that fails too, only the status reports it.
+/// Prints a message on standard error, in one line; if that fails too, only the status reports it.
 pub fn report(message: &str) {
-    let line = format!("bivdrazo-render: {message}\n");
+    let line = format!("bivdrazo-render: {}\n", in_one_line(message));
     let _ = io::stderr().write_all(line.as_bytes());
+}
+
+/// A text with U+FFFD for each control character: the name of a file can have these.
+pub fn in_one_line(text: &str) -> String {
+    text.replace(char::is_control, "\u{fffd}")
 }
 
 fn write_all(output: &mut impl Write, texts: &[&str]) -> io::Result<()> {
@@ -135,7 +145,39 @@ fn fill(path: &Path, write: impl FnOnce(&mut File) -> io::Result<()>) -> io::Res
     written
 }
 
-/// Makes a new file in the same folder, with a short name.
+/// Removes the files of a folder that a killed run left: those with the name of a new file and old
+/// enough that no run writes to them. What can't be removed stays.
+pub fn remove_parts(folder: &Path) {
+    let entries = fs::read_dir(folder).into_iter().flatten().flatten();
+    let named = entries.filter(|entry| is_part(entry.file_name().as_bytes()));
+    for entry in named.filter(is_old) {
+        let _ = fs::remove_file(entry.path());
+    }
+}
+
+/// Whether a name is a dot, digits, `-`, digits and `.part`, as `new_beside` makes it.
+fn is_part(name: &[u8]) -> bool {
+    let numbers = name
+        .strip_prefix(b".")
+        .and_then(|name| name.strip_suffix(b".part"));
+    let mut parts = numbers.unwrap_or(b"").split(|&byte| byte == b'-');
+    let mut is_number = || {
+        parts.next().map_or(false, |part| {
+            !part.is_empty() && part.iter().all(u8::is_ascii_digit)
+        })
+    };
+    is_number() && is_number() && parts.next().is_none()
+}
+
+/// Whether a directory entry is a file that nobody wrote to for an hour.
+fn is_old(entry: &DirEntry) -> bool {
+    let found = entry.metadata().ok().filter(Metadata::is_file);
+    let written = found.and_then(|found| found.modified().ok());
+    let age = written.and_then(|written| written.elapsed().ok());
+    age.map_or(false, |age| age > OLDEST_PART)
+}
+
+/// Makes a new file in the same folder, with a short name that `is_part` knows.
 fn new_beside(path: &Path) -> io::Result<(PathBuf, File)> {
     static NUMBER: AtomicUsize = AtomicUsize::new(0);
     path.file_name().ok_or(io::ErrorKind::InvalidInput)?;
@@ -149,6 +191,34 @@ fn new_beside(path: &Path) -> io::Result<(PathBuf, File)> {
         {
             Err(error) if error.kind() == io::ErrorKind::AlreadyExists => {}
             made => return made.map(|file| (beside, file)),
+        }
+    }
+}
+
+#[cfg(test)]
+mod tests {
+    use super::*;
+
+    #[test]
+    fn parts() {
+        for name in [".1-0.part", ".1332-980.part"] {
+            assert!(is_part(name.as_bytes()), "{name}");
+        }
+        for name in [
+            "",
+            ".part",
+            "1-0.part",
+            ".1.part",
+            ".-.part",
+            ".1-.part",
+            ".-1.part",
+            ".1-0-2.part",
+            ".1-a.part",
+            ".1-0.part.html",
+            ".1-0.PART",
+            "..1-0.part",
+        ] {
+            assert!(!is_part(name.as_bytes()), "{name}");
         }
     }
 }

@@ -125,8 +125,7 @@ fn hash(id: &str) -> u64 {
     hasher.finish()
 }
 
-/// A URL in a warning: in one line, and cut if it is long.
+/// A URL in a warning: cut if it is long.
 fn short(url: &str) -> String {
-    let url: String = url.chars().take(MOST_SHOWN).collect();
-    url.replace(char::is_control, "\u{fffd}")
+    url.chars().take(MOST_SHOWN).collect()
 }

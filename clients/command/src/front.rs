@@ -2,7 +2,7 @@
 //!
 //! The library finds the text between two lines of `---`. This module also finds YAML that ends
 //! with a line `...`, and TOML between two lines `+++`. The title is read by a library for YAML and
-//! one for TOML. A title that can't be read is a fault, and so is front matter that isn't valid.
+//! one for TOML. A title that can't be read is a fault, and so is front matter that can't be read.
 
 mod toml;
 mod yaml;
@@ -14,6 +14,9 @@ use bivdrazo::front_matter_of;
 const YAML: &str = "---";
 const YAML_END: &str = "...";
 const TOML: &str = "+++";
+
+/// How many lines after the first one are searched for a key if front matter has no end.
+const MOST_SEARCHED: usize = 20;
 
 /// The most bytes of front matter that are read. The libraries are fast up to there.
 const MOST_BYTES: usize = 1 << 16;
@@ -63,9 +66,9 @@ pub fn front_matter(document: &str) -> Front {
                 fault,
             }
         }
-        // A line of marks with no key below it is a thematic break.
+        // A line of marks with no key below it is a thematic break, or text.
         None => Front {
-            fault: is_key(cut_line(rest).0, is_yaml).then(|| NO_END.to_string()),
+            fault: has_key(rest, is_yaml).then(|| NO_END.to_string()),
             ..Front::default()
         },
     }
@@ -102,30 +105,76 @@ fn no_text(what: &str) -> String {
     format!("the title in the front matter is {what}")
 }
 
-/// The fault of front matter that isn't valid at a line, which counts from 1 in the front matter
+/// The fault of front matter that can't be read at a line, which counts from 1 in the front matter
 /// without the line of marks.
-fn invalid_at(language: &str, text: &str, line: usize, why: &str) -> String {
-    let line = line.clamp(1, text.lines().count().max(1)) + 1;
-    invalid(language, &format!("line {line}: {why}"))
+fn unread_at(language: &str, text: &str, line: usize, why: &str) -> String {
+    unread(language, &at_line(text, line, why))
 }
 
-/// The fault of front matter that isn't valid.
-fn invalid(language: &str, why: &str) -> String {
+/// The fault of front matter whose root isn't a map, at a line.
+fn no_map(text: &str, line: usize, why: &str) -> String {
+    let why = at_line(text, line, why);
+    format!("the front matter isn't a map, so it isn't printed: {why}")
+}
+
+/// A reason with its line.
+fn at_line(text: &str, line: usize, why: &str) -> String {
+    let line = line.clamp(1, text.lines().count().max(1)) + 1;
+    format!("line {line}: {why}")
+}
+
+/// The fault of front matter that the library for its language can't read: that library may refuse
+/// what is valid.
+fn unread(language: &str, why: &str) -> String {
     let why: String = why.chars().take(MOST_SHOWN).collect();
     let why = why.replace(char::is_control, "\u{fffd}");
-    format!("the front matter isn't valid {language}: {why}")
+    format!("the front matter can't be read as {language}: {why}")
 }
 
 fn too_deep() -> String {
     format!("the front matter nests deeper than {MOST_DEPTH}")
 }
 
-/// Whether a line begins with a key.
-fn is_key(line: &str, is_yaml: bool) -> bool {
-    let mark = if is_yaml { ':' } else { '=' };
-    let key = line.split_once(mark).map_or("", |(key, _)| key.trim_end());
-    let is_part = |each: char| each.is_alphanumeric() || "_-\"'".contains(each);
-    !key.is_empty() && key.chars().all(is_part)
+/// Whether one of a text's first lines looks like a key.
+fn has_key(text: &str, is_yaml: bool) -> bool {
+    let mut rest = text;
+    (0..MOST_SEARCHED).any(|_| {
+        let (line, next) = cut_line(rest);
+        rest = next;
+        match is_yaml {
+            true => is_yaml_key(line.trim()),
+            false => is_toml_key(line.trim()),
+        }
+    })
+}
+
+/// Whether a line begins with a word and a colon, and a space or nothing follows.
+fn is_yaml_key(line: &str) -> bool {
+    line.split_once(':').map_or(false, |(key, value)| {
+        is_word(key) && !value.starts_with(|first: char| !first.is_whitespace())
+    })
+}
+
+/// Whether a line begins with words between dots and `=`, or is the name of a table.
+fn is_toml_key(line: &str) -> bool {
+    let table = line.strip_prefix('[').and_then(|line| {
+        let (name, rest) = line.split_once(']')?;
+        let rest = rest.trim_start_matches(']').trim_start();
+        let is_all = rest.is_empty() || rest.starts_with('#');
+        is_all.then(|| name.trim_start_matches('['))
+    });
+    let key = line.split_once('=').map(|(key, _)| key);
+    let key = table.or(key).unwrap_or("");
+    key.split('.').all(is_word)
+}
+
+/// Whether a part of a key is a word, in quotes or without.
+fn is_word(part: &str) -> bool {
+    let part = part.trim();
+    let inner = |quote| part.strip_prefix(quote)?.strip_suffix(quote);
+    let word = inner('"').or_else(|| inner('\'')).unwrap_or(part);
+    let is_part = |each: char| each.is_alphanumeric() || "_-".contains(each);
+    !word.is_empty() && word.chars().all(is_part)
 }
 
 /// A text's first line, and what follows it.

@@ -20,32 +20,35 @@ pub enum Target {
     Nothing,
 }
 
+/// What the path of a URL names.
+enum Named {
+    /// The source of a page.
+    Source(PathBuf),
+    /// A page, by its own name or as the index.md of a folder that ends in `/`; this is its source.
+    Page(PathBuf),
+    /// A file that isn't rendered.
+    File(PathBuf),
+    /// A folder with an index.md, as a name without `/`: some servers serve another page there.
+    Index,
+    /// A folder without index.md.
+    Folder,
+    /// Nothing.
+    Nothing,
+}
+
 /// The target of a URL in the page of that source.
 pub fn target(url: &str, source: &Path, tree: &Tree) -> Target {
     let end = url.find(&['?', '#'][..]).unwrap_or(url.len());
     let (path, rest) = url.split_at(end);
-    if path.is_empty() || path.starts_with('/') || has_scheme(path) {
+    if !is_relative(path) {
         return Target::Other;
     }
-    let found = match read_from(source.parent().unwrap_or_else(|| Path::new("")), path) {
-        Some(found) => found,
-        None => return Target::Nothing,
-    };
-    let last = path.rsplit('/').next().unwrap_or("");
-    let is_folder = matches!(last, "" | "." | "..");
-    if !is_folder && tree.pages.contains(&found) {
-        return Target::Page(format!("{}.{PAGE_ENDING}{rest}", without_ending(path)));
-    }
-    if !is_folder && tree.files.contains(&found) {
-        return Target::File(found);
-    }
-    let is_page = !is_folder
-        && found.extension() == Some(OsStr::new(PAGE_ENDING))
-        && tree.pages.contains(&found.with_extension(SOURCE_ENDING));
-    match tree.folders.contains(&found) {
-        _ if is_page || tree.pages.contains(&found.join("index.md")) => Target::Other,
-        true => Target::Folder,
-        false => Target::Nothing,
+    match named(path, source, tree) {
+        Named::Source(_) => Target::Page(format!("{}.{PAGE_ENDING}{rest}", without_ending(path))),
+        Named::Page(_) | Named::Index => Target::Other,
+        Named::File(found) => Target::File(found),
+        Named::Folder => Target::Folder,
+        Named::Nothing => Target::Nothing,
     }
 }
 
@@ -60,18 +63,51 @@ pub fn anchor(url: &str, source: &Path, tree: &Tree) -> Option<(PathBuf, String)
     if path.is_empty() {
         return Some((source.to_path_buf(), id));
     }
-    if path.starts_with('/') || has_scheme(path) {
+    if !is_relative(path) {
         return None;
     }
-    let found = read_from(source.parent().unwrap_or_else(|| Path::new("")), path)?;
-    let named = [
-        found.clone(),
-        found.with_extension(SOURCE_ENDING),
-        found.join("index.md"),
-    ];
-    let is_source = |page: &PathBuf| tree.pages.contains(page);
-    let page = named.into_iter().find(is_source)?;
-    Some((page, id))
+    match named(path, source, tree) {
+        Named::Source(page) | Named::Page(page) => Some((page, id)),
+        _ => None,
+    }
+}
+
+/// What a relative path in the page of that source names.
+fn named(path: &str, source: &Path, tree: &Tree) -> Named {
+    let found = match read_from(source.parent().unwrap_or_else(|| Path::new("")), path) {
+        Some(found) => found,
+        None => return Named::Nothing,
+    };
+    let index = found.join("index.md");
+    let has_index = tree.pages.contains(&index);
+    let last = decoded(path.rsplit('/').next().unwrap_or(""));
+    if matches!(&last[..], b"" | b"." | b"..") {
+        return match tree.folders.contains(&found) {
+            _ if has_index => Named::Page(index),
+            true => Named::Folder,
+            false => Named::Nothing,
+        };
+    }
+    if tree.pages.contains(&found) {
+        return Named::Source(found);
+    }
+    if tree.files.contains(&found) {
+        return Named::File(found);
+    }
+    let page = found.with_extension(SOURCE_ENDING);
+    if found.extension() == Some(OsStr::new(PAGE_ENDING)) && tree.pages.contains(&page) {
+        return Named::Page(page);
+    }
+    match tree.folders.contains(&found) {
+        _ if has_index => Named::Index,
+        true => Named::Folder,
+        false => Named::Nothing,
+    }
+}
+
+/// Whether a path is relative: it isn't empty, and has no scheme and no `/` at its beginning.
+fn is_relative(path: &str) -> bool {
+    !path.is_empty() && !path.starts_with('/') && !has_scheme(path)
 }
 
 /// Whether a path begins with a scheme (RFC 3986, 3.1).

@@ -70,7 +70,7 @@ fn run(arguments: &Arguments) -> Result<Outcome, Failure> {
             });
             let done: Vec<Result<Done, Failed>> = done.collect();
             bar.finish_and_clear();
-            outcome.several = targets.len() > 1;
+            outcome.is_summed = targets.len() > 1;
             done.into_iter().for_each(|one| outcome.add(one));
         }
         None => {

@@ -144,9 +144,15 @@ fn pieces_of(template: &str, lang: &str, style: &str) -> Result<Vec<Piece>, Stri
         rest = after;
     }
     pieces.push(Piece::Text(rest.to_string()));
-    match pieces.contains(&Piece::Content) {
-        true => Ok(pieces),
-        false => Err("the place {{content}} is missing".to_string()),
+    // A second text would have the same ids.
+    match pieces
+        .iter()
+        .filter(|piece| **piece == Piece::Content)
+        .count()
+    {
+        0 => Err("the place {{content}} is missing".to_string()),
+        1 => Ok(pieces),
+        _ => Err("the place {{content}} is used twice".to_string()),
     }
 }
 
@@ -202,6 +208,10 @@ mod tests {
         for (template, error) in [
             ("", "the place {{content}} is missing"),
             ("{{title}} {content}", "the place {{content}} is missing"),
+            (
+                "{{content}}{{title}}{{ content }}",
+                "the place {{content}} is used twice",
+            ),
             ("{{content}} {{a\nb}}", "there is no place {{a\u{fffd}b}}"),
             ("{{content}} {{}}", "there is no place {{}}"),
             ("{{content}} {{{title}}}", "there is no place {{{title}}"),

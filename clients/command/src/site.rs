@@ -55,12 +55,14 @@ pub fn make(
 ) -> Result<Outcome, Failure> {
     let named = |error| -> Failure { format!("{}: {error}", folder.display()).into() };
     let (tree, failed) = Tree::of(folder, site).map_err(named)?;
-    let count = tree.pages.len() + failed.len();
     let mut site = Site::of(arguments, page, folder, site, tree);
     site.changed = changed;
     let mut outcome = Outcome::of(failed);
     let sources = site.tree.sources();
     let is_clear = site.collisions(&site.tree.files).is_empty();
+    if is_clear {
+        site.remove_parts();
+    }
     let mut read = site.look(&sources, is_clear, &mut outcome);
     let copied = read.iter_mut().flat_map(|one| one.found.take_files());
     let copied: BTreeSet<PathBuf> = copied.collect();
@@ -70,6 +72,7 @@ pub fn make(
             outcome.failed.extend(collisions);
             return Ok(outcome);
         }
+        site.remove_parts();
         let sources: Vec<&Path> = read.iter().map(|one| one.source).collect();
         read = site.look(&sources, true, &mut outcome);
     }
@@ -78,7 +81,7 @@ pub fn make(
     done.for_each(|one| outcome.add(one));
     site.copy_all(&copied, &mut outcome);
     site.bar.finish_and_clear();
-    outcome.several = count + copied.len() != 1;
+    outcome.is_summed = true;
     Ok(outcome)
 }
 
@@ -113,6 +116,14 @@ impl<'a> Site<'a> {
             made: Mutex::default(),
             changed: None,
             bar,
+        }
+    }
+
+    /// Removes the new files that killed runs left in the site's folders; only in the first run.
+    fn remove_parts(&self) {
+        if self.changed.is_none() {
+            let folders = self.tree.folders.iter();
+            folders.for_each(|folder| files::remove_parts(&self.site.join(folder)));
         }
     }
 

@@ -23,8 +23,8 @@ pub struct Outcome {
     pub failed: Vec<Failed>,
     /// Warnings about pages that were written: links without a target, errors in front matter.
     pub warnings: Vec<String>,
-    /// Whether the number of files isn't 1.
-    pub several: bool,
+    /// Whether there is a summary: for several files, and for a folder.
+    pub is_summed: bool,
 }
 
 impl Outcome {
@@ -44,9 +44,9 @@ impl Outcome {
         }
     }
 
-    /// The summary; none for a single file.
+    /// The summary; none for a file that is named alone.
     pub fn summary(&self) -> Option<String> {
-        if !self.several {
+        if !self.is_summed {
             return None;
         }
         let count = |wanted| self.done.iter().filter(|&&done| done == wanted).count();
@@ -80,7 +80,7 @@ mod tests {
     fn lines() {
         let mut outcome = Outcome::default();
         assert_eq!(outcome.summary(), None);
-        outcome.several = true;
+        outcome.is_summed = true;
         assert_eq!(outcome.summary().as_deref(), Some("0 pages written"));
         outcome.add(Ok(Done::Kept));
         outcome.add(Ok(Done::Copied));

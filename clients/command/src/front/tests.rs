@@ -1,6 +1,6 @@
 //! Titles, and faults.
 
-use super::yaml::QUOTE_IT;
+use super::yaml::{MANY_COLONS, QUOTE_IT, TAB};
 use super::*;
 use std::time::{Duration, Instant};
 
@@ -70,13 +70,23 @@ fn ends() {
         ("---\ntitle: A\n", Some(NO_END)),
         ("---\n\"title\": A\n", Some(NO_END)),
         ("+++\ntitle = \"A\"\n", Some(NO_END)),
-        ("---\n\nA: b\n", None),
+        ("---\n\nA: b\n", Some(NO_END)),
+        ("---\nA b: c\n\n'd-e_f' :\n", Some(NO_END)),
+        ("---\r# a\r  b: c", Some(NO_END)),
+        ("---\n- a\r\n\tb:\r\n", Some(NO_END)),
+        ("+++\n\n\"a\" . b-c=1\n", Some(NO_END)),
+        ("+++\n# a\n[b.'c'] # d\n", Some(NO_END)),
+        ("+++\n[[b]]\n", Some(NO_END)),
         ("---\nA b: c\n", None),
+        ("---\n: c\n'': c\nhttp://a.b\n[a]\na = b\n", None),
+        ("+++\na: b\na b = c\n= d\na. = d\n[a b]\n[]\n[a](b)\n", None),
         ("---\n", None),
-        ("---\ntitle:\n---\n", None),
+        ("---\ntitle:\n---\n", Some(EMPTY_TITLE)),
         ("---\nb: c\n---\n", None),
-        ("---\n# b\n---\n", None),
         ("A: b\n", None),
+        ("---\n\n\n---\na\n", None),
+        ("---\n\nText: with colon.\n\n---\na\n", None),
+        ("---\n\nA text: with colon.\n\n---\na\n", None),
     ] {
         assert_eq!(
             front_matter(document).fault.as_deref(),
@@ -86,16 +96,45 @@ fn ends() {
     }
 }
 
+/// Only the first lines are searched for a key.
+#[test]
+fn searched() {
+    let fault = |lines| front_matter(&format!("---\n{}a: b\n", "c\n".repeat(lines))).fault;
+    assert_eq!(fault(19).as_deref(), Some(NO_END));
+    assert_eq!(fault(20), None);
+}
+
+/// What isn't a map is reported, since it isn't printed.
+#[test]
+fn no_maps() {
+    for (inner, line, why) in [
+        ("# Title\n\n", 2, "only comments, which begin with #"),
+        ("\n  # a\n# b\n", 3, "only comments, which begin with #"),
+        ("\nA text.\n\n", 3, "no key, such as title:"),
+        ("- a: b\n", 2, "no key, such as title:"),
+        ("~\n", 2, "no key, such as title:"),
+        ("[a]\n", 2, "no key, such as title:"),
+        ("'a: b'\n", 2, "no key, such as title:"),
+    ] {
+        for end in ["---", "..."] {
+            let front = front_matter(&format!("---\n{inner}{end}\nc\n"));
+            let fault = format!("the front matter isn't a map, so it isn't printed: line {line}: ");
+            assert_eq!(front.fault, Some(fault + why), "{inner:?}");
+            assert_eq!(front.end, inner.len() + 8);
+        }
+    }
+}
+
 #[test]
 fn broken() {
     let front = front_matter("---\na: b\ntitle: \"A\n---\nc\n");
     assert_eq!((front.title, front.end), (None, 23));
     let why = "while scanning a quoted scalar, found unexpected end of stream";
-    let fault = format!("the front matter isn't valid YAML: line 3: {why}");
+    let fault = format!("the front matter can't be read as YAML: line 3: {why}");
     assert_eq!(front.fault, Some(fault));
     let front = front_matter("+++\na = 1\ntitle = 'A\n+++\nc\n");
     assert_eq!((front.title, front.end), (None, 25));
-    let fault = "the front matter isn't valid TOML: line 3: newline in string found";
+    let fault = "the front matter can't be read as TOML: line 3: newline in string found";
     assert_eq!(front.fault.as_deref(), Some(fault));
 }
 
@@ -114,6 +153,11 @@ fn yaml_titles() {
                 "a \"b\" \\ éA\u{1f600}",
             ),
             ("title: 'it''s \\x' # c", "it's \\x"),
+            ("title: \"a\\/b \\\\/ \\\\\\/ \\\"\\/\"", "a/b \\/ \\/ \"/"),
+            ("title: a\\/b \"c\\/\"", "a\\/b \"c\\/\""),
+            ("title: '\\/a\\\\/'", "\\/a\\\\/"),
+            ("title: |\n  a\\/b", "a\\/b"),
+            ("{\"url\":\"\\/\",\"ti\\u0074le\":\"<\\/a>\"}", "</a>"),
             ("title: a\n  b\n\n  c\nd: e", "a b c"),
             ("title:\n  a\n  b", "a b"),
             ("title: \"a\n  b \\\n  c\"", "a b c"),
@@ -153,10 +197,7 @@ fn yaml_titles() {
     );
     for text in [
         "",
-        "# a",
-        "title:",
-        "title: ",
-        "title: # a",
+        "\n \n",
         "titles: a",
         "Title: a",
         "a: {title: b}",
@@ -168,8 +209,10 @@ fn yaml_titles() {
 
 #[test]
 fn yaml_faults() {
-    let at = |line, why: &str| format!("the front matter isn't valid YAML: line {line}: {why}");
+    let at =
+        |line, why: &str| format!("the front matter can't be read as YAML: line {line}: {why}");
     let is = |what: &str| format!("the title in the front matter is {what}");
+    let begins_with_mark = is("empty: a value that begins with # needs quotes");
     for (text, fault) in [
         ("title: [a]", is("a list")),
         ("title:\n- a", is("a list")),
@@ -182,11 +225,26 @@ fn yaml_faults() {
         ("title: !!int 7", is("of a type that isn't known")),
         ("title: !a b", is("of a type that isn't known")),
         ("title: ''", is("empty")),
+        ("title:", is("empty")),
+        ("title: \na: b", is("empty")),
+        ("title:\na: '#'", is("empty")),
+        ("title: !!str", is("empty")),
+        ("title: &a", is("empty")),
+        ("title: &a # b", is("empty")),
+        ("a: &a\ntitle: *a", is("empty")),
+        ("? title", is("empty")),
+        ("? title\n:", is("empty")),
+        ("{title: , a: b}", is("empty")),
+        ("{title, a: b}", is("empty")),
+        ("title: # a", begins_with_mark.clone()),
+        ("a: b\n\"title\" : #1 in the charts", begins_with_mark),
         ("title: \" \\n\"", is("empty")),
         ("title: a\nb: c\n\"title\": d", at(4, "a second title")),
         ("title: a\ntitle:", at(3, "a second title")),
         ("title: a: b", at(2, QUOTE_IT)),
-        ("title: a\n  b: c", at(3, QUOTE_IT)),
+        ("title: a\n  b: c: d", at(3, QUOTE_IT)),
+        ("title: a\n  b: c", at(3, MANY_COLONS)),
+        ("x: 1\n title: y", at(3, MANY_COLONS)),
         (
             "title: \"\\q\"",
             at(
@@ -209,8 +267,6 @@ fn yaml_faults() {
             "a: &a {title: b}\n<<: *a",
             at(3, "a merge key (<<), which isn't supported"),
         ),
-        ("title:a", at(2, "no key, such as title:")),
-        ("- title: a", at(2, "no key, such as title:")),
         ("title: a\n--- b", at(3, "a second document")),
         ("a: b\ntitle: c\0d", at(3, "a control character")),
         ("title: &a [*a]", is("a list")),
@@ -221,6 +277,43 @@ fn yaml_faults() {
         ),
     ] {
         assert_eq!(yaml(text), Err(fault), "{text:?}");
+    }
+}
+
+/// A tab isn't indentation, but may begin a line in a scalar, and in a map in braces.
+#[test]
+fn yaml_tabs() {
+    all_say(
+        yaml,
+        &[
+            ("title: \"a\n\tb\"\nc: d", "a b"),
+            ("title: \"a \\\"\n\tb\\\n\tc\"\nd: e", "a \" bc"),
+            ("title: 'a''\n\tb'\nc: d", "a' b"),
+            ("title: a\nb: &c \"d\n\te\"", "a"),
+            ("title: a\nb: 'c\n\td\n\n\te'\n", "a"),
+            ("title: |\n  a\n  \tb\nc: d", "a b"),
+            ("title: >-\n  a\n  \tb", "a b"),
+            ("title:\ta\nb:\n-\tc\nd: e\t", "a"),
+            ("{\n\t\"title\": \"a\",\n\t\"b\": [\n\t\t\"c\"\n\t]\n}", "a"),
+        ],
+    );
+    assert_eq!(yaml("b: |\n  c\n  \td\n"), Ok(None));
+    let at = |line| format!("the front matter can't be read as YAML: line {line}: {TAB}");
+    for (text, line) in [
+        ("\ttitle: a", 2),
+        (" \ttitle: a", 2),
+        ("\t# a\ntitle: b", 2),
+        ("\t\ntitle: b", 2),
+        ("title:\n\ta: 1", 3),
+        ("title: a\nb:\n\tc: 1", 4),
+        ("title: a\nb:\n\t- c", 4),
+        ("title: a\n \tb", 3),
+        ("title: a\nb: [\n\tc\n]", 4),
+        ("title: \"a\n\tb\"\n\tc: d", 4),
+        ("title: 'a'\n\tb: 'c'", 3),
+        ("title: |\n  a\nb:\n\tc: d", 5),
+    ] {
+        assert_eq!(yaml(text), Err(at(line)), "{text:?}");
     }
 }
 
@@ -252,9 +345,10 @@ fn toml_titles() {
 
 #[test]
 fn toml_faults() {
-    let at = |line, why: &str| format!("the front matter isn't valid TOML: line {line}: {why}");
+    let at =
+        |line, why: &str| format!("the front matter can't be read as TOML: line {line}: {why}");
     let is = |what: &str| format!("the title in the front matter is {what}");
-    let duplicate = "the front matter isn't valid TOML: duplicate key: `title`".to_string();
+    let duplicate = "the front matter can't be read as TOML: duplicate key: `title`".to_string();
     for (text, fault) in [
         ("title = 2024", is("a number without quotes")),
         ("title = 1.5", is("a number without quotes")),
@@ -332,6 +426,15 @@ fn bombs() {
         (aliases, true),
         ("a: |\n".to_string() + &" b\n".repeat(million / 3), true),
         ("a: \"".to_string() + &"\\\n".repeat(million / 2), true),
+        ("a: \"".to_string() + &"\\/".repeat(million / 2), true),
+        (
+            "a:\n".to_string() + &"- \"\n\t\"\n".repeat(million / 7),
+            true,
+        ),
+        (
+            "a:\n".to_string() + &"- |\n  \t\n".repeat(million / 8),
+            true,
+        ),
         ("&a ".repeat(million / 3), true),
         ("[a,".repeat(million / 3), true),
         ("a: b\n".repeat(million / 5), true),

@@ -2,7 +2,7 @@
 //!
 //! That crate nests calls as its input nests brackets and dots in keys, so these are counted first.
 
-use super::{invalid, invalid_at, no_text, too_deep, MOST_DEPTH};
+use super::{no_text, too_deep, unread, unread_at, MOST_DEPTH};
 use std::iter::Peekable;
 use std::str::Chars;
 use toml::Value;
@@ -39,7 +39,7 @@ pub fn title(text: &str) -> Result<Option<String>, String> {
     }
 }
 
-/// The fault of a text that isn't TOML.
+/// The fault of a text that the crate can't read.
 fn fault(error: &toml::de::Error, text: &str) -> String {
     let reason = error.to_string();
     let reason = reason
@@ -48,9 +48,9 @@ fn fault(error: &toml::de::Error, text: &str) -> String {
     match error.line_col() {
         // The place of a second key is that of its table.
         Some((line, _)) if !reason.starts_with(DUPLICATE) => {
-            invalid_at("TOML", text, line + 1, reason)
+            unread_at("TOML", text, line + 1, reason)
         }
-        _ => invalid("TOML", reason),
+        _ => unread("TOML", reason),
     }
 }
 

@@ -11,14 +11,16 @@ fn tree() -> Tree {
         "a?#.md",
         "c/index.md",
         "c/d.md",
+        "d.md",
+        "d/index.md",
         "e/f.md",
     ];
     tree.pages.extend(pages.map(PathBuf::from));
     let odd = OsStr::from_bytes(b"n\xff.md");
     tree.pages.insert(PathBuf::from(odd));
-    let files = ["i.png", "c/i.png", "g.html"];
+    let files = ["i.png", "c/i.png", "d.pdf", "g.html"];
     tree.files.extend(files.map(PathBuf::from));
-    tree.folders.extend(["", "c", "e"].map(PathBuf::from));
+    tree.folders.extend(["", "c", "d", "e"].map(PathBuf::from));
     tree
 }
 
@@ -88,6 +90,9 @@ fn others() {
         "./",
         "c/d.html?b",
         "c/..",
+        "d",
+        "d/",
+        "d.html",
     ] {
         check("a.md", &[(url, Target::Other)]);
     }
@@ -100,6 +105,7 @@ fn nothing() {
         "A.md",
         "a.md/",
         "a.md/.",
+        "a.md/%2e",
         "..",
         "../a.md",
         "c%2Fd.md",
@@ -147,6 +153,24 @@ fn anchors() {
         ("../a.md#%C3%A9", Some(("a.md", "\u{e9}"))),
         ("../a.html?q#b#c", Some(("a.md", "b#c"))),
         ("./#b", Some(("c/index.md", "b"))),
+        (".#b", Some(("c/index.md", "b"))),
+        ("../c/../#b", Some(("index.md", "b"))),
+        ("..#b", Some(("index.md", "b"))),
+        ("%2E%2e#b", Some(("index.md", "b"))),
+        ("index.html#b", Some(("c/index.md", "b"))),
+        ("../d/#b", Some(("d/index.md", "b"))),
+        ("../d.md#b", Some(("d.md", "b"))),
+        ("../d.html?q#b", Some(("d.md", "b"))),
+        ("../d#b", None),
+        ("../a/#b", None),
+        ("../a#b", None),
+        ("../a.md/#b", None),
+        ("../a.html/#b", None),
+        ("../d.pdf#b", None),
+        ("../a.txt#b", None),
+        ("../a.MD#b", None),
+        ("../a.HTML#b", None),
+        ("../e/#b", None),
         ("#", None),
         ("#Top", None),
         ("../a.md", None),
