@@ -33,6 +33,8 @@ TESTS = re.compile(r"crates/md_(bench|cases)/")
 WORDS = r"(?m)^( *)(?:pub(?:\(\w+\))? )?(?:const )?(?:unsafe )?(?:extern \"C\" )?"
 FUNCTION = re.compile(WORDS + r"fn (\w+)(?:<(?:[^<>]|->|<[^<>]*>)*>)?\(")
 BODY = re.compile(r"(?m)^(\{|[^ \n].* \{)$|\}$")
+CLAUSE = re.compile(r" +(?:requires|ensures)\b")
+MATCH = re.compile(r"\bmatch (?:\w+\.)*name \{")
 COLUMNS, LINES, PARAMETERS, SHOWN = 100, 300, 5, 5
 # The number of characters at the beginning of a file that say whether a script writes it.
 HEAD = 300
@@ -100,6 +102,38 @@ def say(what, count, wanted=None):
     print(f"{what}: {count}" + (f" (wanted: {wanted})" if wanted else ""))
 
 
+def lines_below(texts, part, ending):
+    """The number of lines in the files of the crates' folders of this name, without the benchmark
+    and the tests.
+    """
+    return sum(source.count("\n") for path, source in texts.items()
+               if path.endswith(ending) and f"/{part}/" in path and not TESTS.match(path))
+
+
+def lines_of_contracts(source):
+    """The number of lines of `requires` and `ensures`."""
+    count = depth = 0
+    for line in source.splitlines():
+        if depth or CLAUSE.match(line):
+            count += 1
+            depth = max(0, depth + line.count("{") - line.count("}"))
+    return count
+
+
+def say_proofs(texts):
+    """Says how much is code, definitions, proof and contract."""
+    code, specs, proofs = (lines_below(texts, part, ending) for part, ending in
+                           (("src", ".rt"), ("specs", ".antt"), ("proofs", ".antt")))
+    say("lines of code", f"{code:,}, of definitions {specs:,}, of proof {proofs:,}")
+    say("lines of proof for a line of code", f"{proofs / code:.1f}", "2.6 at most")
+    calls = [source for path, source in texts.items() if path.startswith("crates/md_html/src/")]
+    say("lines of contracts in md_html, of private functions too",
+        sum(map(lines_of_contracts, calls)))
+    printer = [source for path, source in texts.items() if path.startswith("crates/md_emit/src/")]
+    say("matches on a name in the printer", sum(len(MATCH.findall(source)) for source in printer),
+        "3 at most")
+
+
 def is_benchmark(path):
     return path.startswith(BENCHMARK)
 
@@ -132,6 +166,7 @@ def main():
         say(f"lines of {page}", texts[page].count("\n"), "140 at most")
 
     say_lengths(texts)
+    say_proofs(texts)
     counts = {f"{path} {found.group(2)}": parameters(source, found.end())
               for path, source in code.items() for found in FUNCTION.finditer(source)}
     counts, promised = parted(counts, PROMISED.fullmatch)
