@@ -7,16 +7,16 @@ use md_base::{Event, Kind};
 
 /// How deep the events so far nest.
 #[derive(Clone, Copy)]
-pub(crate) struct Levels {
+pub struct Levels {
     /// The number of open nodes.
-    pub(crate) opened: usize,
+    pub opened: usize,
     /// The maximum number of open nodes.
-    pub(crate) deepest: usize,
+    pub deepest: usize,
 }
 
 impl Levels {
     /// The state before any event.
-    pub(crate) fn new() -> Levels
+    pub fn new() -> Levels
         ensures opened { result.opened ≡ 0 }
         ensures deepest { result.deepest ≡ 0 }
     {
@@ -28,7 +28,7 @@ impl Levels {
 
     /// The state after one more event.
     #[inline(always)]
-    pub(crate) fn after(self, event: &Event) -> Levels
+    pub fn after(self, event: &Event) -> Levels
         requires { self.opened < 2 ^ 63 }
         ensures opened { result.opened ≡ opened_after self.opened event.now }
         ensures deepest { result.deepest ≡ max self.deepest (opened_after self.opened event.now) }

@@ -1,24 +1,24 @@
 //! Iterates over events, and adds the lengths of their nodes.
 
 ghost use Rattle.std.specs.Prelude.{◌≡◌, ◌+◌, ◌-◌, ◌*◌, ◌^◌, ◌<◌};
-ghost use Rattle.md_html.specs.Counting.{capped, moved};
+ghost use Rattle.md_measure.specs.Counting.{capped, moved};
 
 use md_base::{Event, Kind};
 
 /// The state of the iteration.
 #[derive(Clone, Copy)]
-pub(crate) struct Progress {
+pub struct Progress {
     /// The index of the last event's point.
-    pub(crate) index: usize,
+    pub index: usize,
     /// How many counted nodes are open there.
-    pub(crate) depth: usize,
+    pub depth: usize,
     /// The sum of their lengths so far.
-    pub(crate) length: u128,
+    pub length: u128,
 }
 
 impl Progress {
     /// The state before any event.
-    pub(crate) fn new() -> Progress
+    pub fn new() -> Progress
         ensures index { result.index ≡ 0 }
         ensures depth { result.depth ≡ 0 }
         ensures length { result.length ≡ 0 }
@@ -32,7 +32,7 @@ impl Progress {
 
     /// The state after one more event, of a node that counts or doesn't.
     #[inline(always)]
-    pub(crate) fn after(self, event: &Event, counts: bool) -> Progress
+    pub fn after(self, event: &Event, counts: bool) -> Progress
         requires { self.depth < 2 ^ 63 }
         ensures index { result.index ≡ event.now.point.index }
         ensures depth { result.depth ≡ moved self.depth event.now.kind counts }

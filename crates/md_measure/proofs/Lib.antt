@@ -1,0 +1,2 @@
+-- One event more, for each measure.
+pub mod Measuring
