@@ -156,7 +156,7 @@ pub fn compile_checked(
     checked: &Checked,
     options: &CompileOptions,
 ) -> Result<String, AllocError>
-    ensures { IfOk result (λ text. Promises options.now checked.now (string_bytes text)) }
+    ensures promises { IfOk result (λ text. Promises options.now checked.now (string_bytes text)) }
 {
     let counted = count_checked(alloc, checked, options)?;
     Ok(counted.text)
