@@ -142,8 +142,7 @@ pub fn compile_within(
         (OfTooLong (IsLonger options.now (handed events.now bytes.now names.now) limits.text)) }
     ensures long_grammatical { IfErr result
         (OfTooLong (IsChecked (handed events.now bytes.now names.now))) }
-    ensures refused { IfErr result
-        (OfWithin (IsRefusal (handed events.now bytes.now names.now))) }
+    ensures refused { IfErr result (OfWithin (IsRefusal (handed events.now bytes.now names.now))) }
 {
     let measured = measure(events);
     if measured.depth > limits.depth {
