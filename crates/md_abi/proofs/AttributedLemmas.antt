@@ -11,7 +11,7 @@ use Rattle.md_text.specs.Html.{any_attribute, HasOneReadingWith}
 use Rattle.md_text.proofs.HtmlReading.{one_reading, all-any}
 use Rattle.md_text.specs.declared.options.CompileOptions.{CompileOptions}
 use Rattle.md_tree.specs.Grammar.{Handed}
-use Rattle.md_tree.specs.Refusal.{IsOutside, IsOrder, IsMdx, IsOfNode, IsLost}
+use Rattle.md_tree.specs.Refusal.{IsRefusal}
 use Rattle.md_safe.specs.Token.{Token, EndOfFile}
 use Rattle.md_safe.specs.Tokens.{tokens}
 use Rattle.md_safe.specs.Tokenizer.{IsTokenized}
@@ -213,18 +213,12 @@ made_text events bytes options names attributes rel prefix plain whole start giv
 pub safe_told : {T : Type 0} (given : Handed) (options : CompileOptions) (why : SafeError)
     (r : Result T Refusal) →
     IsErrAnd r (λ made. made ≡ refusal_of why) → IsRefusedFor options why →
-    OfCompile (IsOutside given) why →
-    OfCompile (IsOrder given) why → OfCompile (IsMdx given) why → OfCompile (IsOfNode given) why →
-    OfCompile (IsLost given) why → IfErr r (IsRefusalFor given options)
-safe_told given options why (Ok x) same refused outside order mdx of_node lost = tt
-safe_told given options why (Err made) same refused outside order mdx of_node lost =
-    subst (IsRefusalFor given options) (sym same) (of why refused outside order mdx of_node lost)
+    OfCompile (IsRefusal given) why → IfErr r (IsRefusalFor given options)
+safe_told given options why (Ok x) same unsafe refused = tt
+safe_told given options why (Err made) same unsafe refused =
+    subst (IsRefusalFor given options) (sym same) (of why unsafe refused)
   where
-    of : (why : SafeError) → IsRefusedFor options why → OfCompile (IsOutside given) why →
-        OfCompile (IsOrder given) why → OfCompile (IsMdx given) why →
-        OfCompile (IsOfNode given) why →
-        OfCompile (IsLost given) why → IsRefusalFor given options (refusal_of why)
-    of wrong.Options refused outside order mdx of_node lost = refused
-    of (wrong.Compile cause) refused outside order mdx of_node lost =
-        told_of given cause
-        (record { order = order; mdx = mdx; of_node = of_node; lost = lost; outside = outside })
+    of : (why : SafeError) → IsRefusedFor options why → OfCompile (IsRefusal given) why →
+        IsRefusalFor given options (refusal_of why)
+    of wrong.Options unsafe refused = unsafe
+    of (wrong.Compile cause) unsafe refused = told_of given cause refused

@@ -7,7 +7,7 @@ use Rattle.std.specs.Borrow.{Bor}
 use Rattle.md_base.specs.Reference.{name_table}
 use Rattle.md_base.specs.declared.event.Event.{Event}
 use Rattle.md_tree.specs.Grammar.{Handed, handed, IsChecked}
-use Rattle.md_tree.specs.Refusal.{IsOutside, IsOrder, IsMdx, IsOfNode, IsLost}
+use Rattle.md_tree.specs.Refusal.{IsRefusal}
 use Rattle.md_text.specs.declared.options.CompileOptions.{CompileOptions}
 use Rattle.md_html.specs.Safe.{IsRefusedFor, OfCompile}
 use Rattle.md_html.specs.Unnested.{AreNested, OfSafe, OfNested}
@@ -42,30 +42,23 @@ use Rattle.md_abi.proofs.AnswerLemmas.{failure_says, text_of_compile}
 
 fault_of : (given : Handed) (options : CompileOptions) (why : UnnestedError) →
     OfNested (AreNested given.events) why → OfNested (IsChecked given) why →
-    OfSafe (IsRefusedFor options) why → OfSafe (OfCompile (IsOutside given)) why →
-    OfSafe (OfCompile (IsOrder given)) why → OfSafe (OfCompile (IsMdx given)) why →
-    OfSafe (OfCompile (IsOfNode given)) why → OfSafe (OfCompile (IsLost given)) why →
+    OfSafe (IsRefusedFor options) why → OfSafe (OfCompile (IsRefusal given)) why →
     IsUnnestedFault given options (unnested_failure_of why)
-fault_of given options unnested.Nested nests checked refused outside order mdx of_node lost =
-    (checked, nests)
-fault_of given options (unnested.Safe cause) nests checked refused outside order mdx of_node lost =
+fault_of given options unnested.Nested nests checked unsafe refused = (checked, nests)
+fault_of given options (unnested.Safe cause) nests checked unsafe refused =
     let made : Result ℕ Refusal = Err (refusal_of cause) in
-    safe_told given options cause made refl refused outside order mdx of_node lost
+    safe_told given options cause made refl unsafe refused
 
 -- what its conversion gives
 pub told_unnested : {T : Type 0} (given : Handed) (options : CompileOptions) (why : UnnestedError)
     (r : Result T UnnestedFailure) → IsErrAnd r (λ made. made ≡ unnested_failure_of why) →
     OfNested (AreNested given.events) why → OfNested (IsChecked given) why →
-    OfSafe (IsRefusedFor options) why → OfSafe (OfCompile (IsOutside given)) why →
-    OfSafe (OfCompile (IsOrder given)) why → OfSafe (OfCompile (IsMdx given)) why →
-    OfSafe (OfCompile (IsOfNode given)) why → OfSafe (OfCompile (IsLost given)) why →
+    OfSafe (IsRefusedFor options) why → OfSafe (OfCompile (IsRefusal given)) why →
     IfErr r (IsUnnestedFault given options)
-told_unnested given options why (Ok x) same nests checked refused outside order mdx of_node lost =
-    tt
-told_unnested given options why (Err made) same nests checked refused outside order mdx of_node
-    lost =
+told_unnested given options why (Ok x) same nests checked unsafe refused = tt
+told_unnested given options why (Err made) same nests checked unsafe refused =
     subst (IsUnnestedFault given options) (sym same)
-    (fault_of given options why nests checked refused outside order mdx of_node lost)
+    (fault_of given options why nests checked unsafe refused)
 
 -- ---- the converted input, passed as slices
 

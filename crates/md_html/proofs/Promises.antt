@@ -15,16 +15,13 @@ use Rattle.md_shape.specs.Built.{IsBuilt, Blocks}
 use Rattle.md_shape.specs.Underlined.{IsUnderlined}
 use Rattle.md_shape.proofs.Grammatical.{grammatical-built}
 use Rattle.md_shape.proofs.Underlines.{grammatical-underlined}
-use Rattle.md_safe.specs.Links.{has_nested_link}
-use Rattle.md_safe.specs.Options.{KeepsGrammar, KeepsLinks, KeepsImages, KeepsIds}
+use Rattle.md_safe.specs.Options.{KeepsGrammar, KeepsLinks, KeepsImages}
 use Rattle.md_safe.proofs.Whole.{one-reading, safe-links, safe-images}
 use Rattle.md_safe.proofs.WholeIds.{distinct-ids}
 use Rattle.md_safe.proofs.ContainedWhole.{meaning-contained, meaning-unnested}
-use Rattle.md_safe.specs.Built.{IsBuiltAsRead}
 use Rattle.md_safe.specs.Contents.{IsContained, IsUnnested}
-use Rattle.md_safe.specs.SafeTokens.{has_safe_links, has_safe_images}
-use Rattle.md_safe.specs.Tokenized.{HasTokensWith, IsTokenizedAsRead}
 use Rattle.md_safe.proofs.Tokenized.{read-tokenized, link-tokens, image-tokens}
+use Rattle.md_safe.proofs.Tokenized.{safely-tokenized}
 use Rattle.md_safe.proofs.WholeTrees.{text-built}
 use Rattle.md_length.specs.Bound.{text_bound}
 use Rattle.md_length.proofs.Bounded.{text-bounded, bound-grows}
@@ -32,23 +29,10 @@ use Rattle.md_depth.specs.Depth.{depth, height}
 use Rattle.md_depth.specs.Levels.{NestsWithin}
 use Rattle.md_depth.proofs.Nodes.{events-nest}
 use Rattle.md_depth.proofs.WholeMoves.{elements-nest}
+use Rattle.md_html.specs.Promises.{Promises, SafePromises}
 use Rattle.md_html.specs.Reuse.{reuse}
 use Rattle.md_html.specs.Within.{IsReuseWithin}
 use Rattle.md_html.specs.Work.{work}
-
--- what is promised of a text
-pub record Promises (options : CompileOptions) (given : Handed) (text : List ℕ) : Type 0 where
-  pub one_reading : KeepsGrammar options → HasOneReadingWith any_attribute text
-  pub safe_links : KeepsLinks options → HasOneReadingWith is_safe_link text
-  pub safe_images : KeepsImages options → HasOneReadingWith is_safe_image text
-  pub contained : KeepsGrammar options → IsContained text
-  pub tree : (document : Forest) → flatten document ≡ given.events →
-      has_nested_link false document ≡ false →
-      KeepsGrammar options → IsBuiltAsRead text
-  pub tokenized : KeepsGrammar options → IsTokenizedAsRead text
-  pub safe_link_tokens : KeepsLinks options → HasTokensWith has_safe_links text
-  pub safe_image_tokens : KeepsImages options → HasTokensWith has_safe_images text
-  pub distinct_ids : KeepsIds options → HasDistinctIds text
 
 -- a point
 start : Point
@@ -75,6 +59,8 @@ promises options given text read few meant =
     subst (λ t. HasOneReadingWith is_safe_image t) same
     (safe-images given.bytes given.names options read.0 built keeps) in
     record {
+      grammatical = read;
+      meaning = meant;
       one_reading = one;
       safe_links = links;
       safe_images = images;
@@ -92,6 +78,20 @@ promises options given text read few meant =
       distinct_ids = λ keeps. subst HasDistinctIds same
           (distinct-ids given.bytes given.names options read.0 built underlined keeps fewer);
     }
+
+-- a safe text's, under safe options
+pub safe_promises : (options : CompileOptions) (given : Handed) (text : List ℕ) →
+    KeepsImages options → Promises options given text → SafePromises options given text
+safe_promises options given text keeps kept = record {
+  safe = keeps;
+  grammatical = kept.grammatical;
+  meaning = kept.meaning;
+  tokens = safely-tokenized text (kept.safe_links keeps.links) (kept.safe_images keeps);
+  contained = kept.contained keeps.links.grammar;
+  tree = λ document flat unnested. kept.tree document flat unnested keeps.links.grammar;
+  distinct_ids = λ by_number.
+      kept.distinct_ids (record { grammar = keeps.links.grammar; by_number = by_number });
+}
 
 -- how long it is, where work and what is used again are within a limit
 pub bounded : (options : CompileOptions) (given : Handed) (text : List ℕ) (limit : ℕ) →

@@ -1,6 +1,7 @@
--- The definition of a safe text, and which options are refused; how much work events are and how
--- much a document uses again, and why there is no text within limits; and definitions that only
--- contracts of private functions cite.
+-- What is promised of a text; the definition of a safe text, and which options are refused; how
+-- much work events are and how much a document uses again, and why there is no text within limits;
+-- and definitions that only contracts of private functions cite.
+pub mod Promises
 pub mod Safe
 pub mod SafeHtml
 pub mod Nesting
@@ -11,8 +12,8 @@ pub mod Lengths
 pub mod Within
 pub mod SafeWithin
 pub mod Counting
--- The events between two indices, the step at one of them, and the text of all: only contracts of
--- private functions cite these.
+-- The events between two indices, the steps at them, and the text of all: only contracts of private
+-- functions cite these.
 pub mod Windows
 pub mod Fits
 pub mod Stepping

@@ -1,4 +1,4 @@
--- The step at one event, as the steps over the events do it.
+-- The step at one event, as the steps over the events do it, and the steps at several.
 use Rattle.std.specs.Prelude.{◌≡◌, ◌<◌, ◌≤◌, ℕ, suc, true, if◌then◌else◌, length}
 use Rattle.md_base.specs.declared.event.Event.{Event}
 use Rattle.md_base.specs.declared.event.Kind.TheVariants.{Enter}
@@ -38,6 +38,14 @@ pub record Leafs (code : Supplied) (index to : ℕ) (event : Event)
   pub noticed : (one : Noticed) → IsNoticedAt code.checked.now index one →
       IsNoticedAt code.checked.now (suc index) one
   pub left : Leaves code index event.name before after
+
+-- the steps at the events from one index up to another
+abbrev pub Runs : Supplied → ℕ → ℕ → State → State → Type 0
+Runs code from to before after =
+    (at : Given) (document : Forest) → Supplies code at →
+    flatten document ≡ code.checked.now.events →
+    after ≡ run at 0 (window from to code.checked.now.events)
+    (window from to (noticed code.checked.now.bytes true document)) before
 
 -- up to any end at or after `to`, continuing from one event has the same result as continuing from
 -- an earlier one; and if each captured text that ended there had begun, the same holds here

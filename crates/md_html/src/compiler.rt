@@ -5,7 +5,7 @@ ghost use Rattle.std.specs.Prelude.{length, ◌*◌};
 ghost use Rattle.md_base.specs.Reference.{name_table};
 ghost use Rattle.md_base.specs.Tree.{Forest, flatten};
 ghost use Rattle.md_tree.specs.Grammar.{IsChecked, handed};
-ghost use Rattle.md_tree.specs.Refusal.{IsOutside, IsOrder, IsMdx, IsOfNode, IsLost};
+ghost use Rattle.md_tree.specs.Refusal.{IsOutside, IsOrder, IsMdx, IsOfNode, IsLost, IsRefusal};
 ghost use Rattle.md_meaning.specs.Meaning.{meaning};
 ghost use Rattle.md_text.specs.Html.{any_attribute, HasOneReadingWith};
 ghost use Rattle.md_text.specs.Safe.{is_safe_link, is_safe_image};
@@ -16,6 +16,7 @@ ghost use Rattle.md_safe.specs.Contents.{IsContained};
 ghost use Rattle.md_safe.specs.Links.{has_nested_link};
 ghost use Rattle.md_safe.specs.Built.{IsBuiltAsRead};
 ghost use Rattle.md_safe.specs.Options.{KeepsGrammar, KeepsLinks, KeepsImages, KeepsIds};
+ghost use Rattle.md_html.specs.Promises.{Promises};
 
 use crate::rendering::render;
 use md_base::Event;
@@ -125,37 +126,13 @@ pub fn compile_counted(
     options: &CompileOptions,
     names: &[(&str, &str)],
 ) -> Result<Counted, CompileError>
-    ensures grammatical { OnOk result (IsChecked (handed events.now bytes.now names.now)) }
-    ensures meaning { IfOk result (λ counted. (document : Forest) → flatten document ≡ events.now →
-        string_bytes counted.text ≡ meaning options.now (name_table names.now) bytes.now document) }
-    ensures one_reading { IfOk result (λ counted. KeepsGrammar options.now
-        → HasOneReadingWith any_attribute (string_bytes counted.text)) }
-    ensures safe_links { IfOk result (λ counted. KeepsLinks options.now
-        → HasOneReadingWith is_safe_link (string_bytes counted.text)) }
-    ensures safe_images { IfOk result (λ counted. KeepsImages options.now
-        → HasOneReadingWith is_safe_image (string_bytes counted.text)) }
-    ensures contained { IfOk result
-        (λ counted. KeepsGrammar options.now → IsContained (string_bytes counted.text)) }
-    ensures tree { IfOk result (λ counted. (document : Forest) → flatten document ≡ events.now
-        → has_nested_link false document ≡ false → KeepsGrammar options.now
-        → IsBuiltAsRead (string_bytes counted.text)) }
-    ensures tokenized { IfOk result
-        (λ counted. KeepsGrammar options.now → IsTokenizedAsRead (string_bytes counted.text)) }
-    ensures safe_link_tokens { IfOk result (λ counted. KeepsLinks options.now
-        → HasTokensWith has_safe_links (string_bytes counted.text)) }
-    ensures safe_image_tokens { IfOk result (λ counted. KeepsImages options.now
-        → HasTokensWith has_safe_images (string_bytes counted.text)) }
-    ensures distinct_ids { IfOk result
-        (λ counted. KeepsIds options.now → HasDistinctIds (string_bytes counted.text)) }
+    ensures promises { IfOk result (λ counted. Promises options.now
+        (handed events.now bytes.now names.now) (string_bytes counted.text)) }
     ensures least { IfOk result (λ counted. 2 * length events.now ≤ counted.visits) }
     ensures most { IfOk result (λ counted. counted.visits ≤ 3 * length events.now) }
     ensures exact { IfOk result (λ counted. counted.visits ≡ 2 * length events.now) }
 
-    ensures outside { IfErr result (IsOutside (handed events.now bytes.now names.now)) }
-    ensures order { IfErr result (IsOrder (handed events.now bytes.now names.now)) }
-    ensures mdx { IfErr result (IsMdx (handed events.now bytes.now names.now)) }
-    ensures of_node { IfErr result (IsOfNode (handed events.now bytes.now names.now)) }
-    ensures lost { IfErr result (IsLost (handed events.now bytes.now names.now)) }
+    ensures refused { IfErr result (IsRefusal (handed events.now bytes.now names.now)) }
 {
     let checked = check(alloc, events, bytes, names)?;
     let counted = count_checked(alloc, &checked, options)?;
@@ -179,28 +156,7 @@ pub fn compile_checked(
     checked: &Checked,
     options: &CompileOptions,
 ) -> Result<String, AllocError>
-    ensures meaning { IfOk result
-        (λ text. (document : Forest) → flatten document ≡ checked.now.events →
-        string_bytes text ≡ meaning options.now checked.now.names checked.now.bytes document) }
-    ensures one_reading { IfOk result (λ text. KeepsGrammar options.now
-        → HasOneReadingWith any_attribute (string_bytes text)) }
-    ensures safe_links { IfOk result (λ text. KeepsLinks options.now
-        → HasOneReadingWith is_safe_link (string_bytes text)) }
-    ensures safe_images { IfOk result (λ text. KeepsImages options.now
-        → HasOneReadingWith is_safe_image (string_bytes text)) }
-    ensures contained { IfOk result
-        (λ text. KeepsGrammar options.now → IsContained (string_bytes text)) }
-    ensures tree { IfOk result (λ text. (document : Forest) → flatten document ≡ checked.now.events
-        → has_nested_link false document ≡ false → KeepsGrammar options.now
-        → IsBuiltAsRead (string_bytes text)) }
-    ensures tokenized { IfOk result
-        (λ text. KeepsGrammar options.now → IsTokenizedAsRead (string_bytes text)) }
-    ensures safe_link_tokens { IfOk result (λ text. KeepsLinks options.now
-        → HasTokensWith has_safe_links (string_bytes text)) }
-    ensures safe_image_tokens { IfOk result (λ text. KeepsImages options.now
-        → HasTokensWith has_safe_images (string_bytes text)) }
-    ensures distinct_ids { IfOk result
-        (λ text. KeepsIds options.now → HasDistinctIds (string_bytes text)) }
+    ensures promises { IfOk result (λ text. Promises options.now checked.now (string_bytes text)) }
 {
     let counted = count_checked(alloc, checked, options)?;
     Ok(counted.text)
@@ -213,30 +169,8 @@ fn count_checked(
     checked: &Checked,
     options: &CompileOptions,
 ) -> Result<Counted, AllocError>
-    ensures meaning { IfOk result
-        (λ counted. (document : Forest) → flatten document ≡ checked.now.events →
-        string_bytes counted.text
-        ≡ meaning options.now checked.now.names checked.now.bytes document) }
-    ensures one_reading { IfOk result (λ counted. KeepsGrammar options.now
-        → HasOneReadingWith any_attribute (string_bytes counted.text)) }
-    ensures safe_links { IfOk result (λ counted. KeepsLinks options.now
-        → HasOneReadingWith is_safe_link (string_bytes counted.text)) }
-    ensures safe_images { IfOk result (λ counted. KeepsImages options.now
-        → HasOneReadingWith is_safe_image (string_bytes counted.text)) }
-    ensures contained { IfOk result
-        (λ counted. KeepsGrammar options.now → IsContained (string_bytes counted.text)) }
-    ensures tree { IfOk result
-        (λ counted. (document : Forest) → flatten document ≡ checked.now.events
-        → has_nested_link false document ≡ false → KeepsGrammar options.now
-        → IsBuiltAsRead (string_bytes counted.text)) }
-    ensures tokenized { IfOk result
-        (λ counted. KeepsGrammar options.now → IsTokenizedAsRead (string_bytes counted.text)) }
-    ensures safe_link_tokens { IfOk result (λ counted. KeepsLinks options.now
-        → HasTokensWith has_safe_links (string_bytes counted.text)) }
-    ensures safe_image_tokens { IfOk result (λ counted. KeepsImages options.now
-        → HasTokensWith has_safe_images (string_bytes counted.text)) }
-    ensures distinct_ids { IfOk result
-        (λ counted. KeepsIds options.now → HasDistinctIds (string_bytes counted.text)) }
+    ensures promises { IfOk result
+        (λ counted. Promises options.now checked.now (string_bytes counted.text)) }
     ensures exact { IfOk result (λ counted. counted.visits ≡ 2 * length checked.now.events) }
 {
     let text = render(alloc, checked, options)?;

@@ -1,16 +1,13 @@
 //! The targets of definitions, each printed only from its own events.
 
-ghost use Rattle.std.specs.Prelude.{◌≡◌, OnOk, IfOk, true, map};
-ghost use Rattle.md_base.specs.Tree.{Forest, flatten};
+ghost use Rattle.std.specs.Prelude.{◌≡◌, OnOk, IfOk};
 ghost use Rattle.md_base.specs.declared.event.Name.TheVariants as name;
 ghost use Rattle.md_meaning.specs.Meaning.At as At;
 ghost use Rattle.md_tree.specs.Grammar.{IsChecked};
 ghost use Rattle.md_tree.specs.Texts.{EntersAt};
-ghost use Rattle.md_shape.specs.Run as steps;
-ghost use Rattle.md_shape.specs.Steps.{beginning, entered};
-ghost use Rattle.md_told.specs.Told.{IsNoticedAt};
-ghost use Rattle.md_told.specs.Definitions.{within, own_defined};
+ghost use Rattle.md_shape.specs.Steps.{beginning};
 ghost use Rattle.md_emit.specs.Supplies.{Supplies};
+ghost use Rattle.md_html.specs.Printed.{AreTargets, IsTargetAt, IsRunAt};
 
 use crate::running::run_events;
 use md_base::Name;
@@ -26,9 +23,7 @@ use std::alloc::AllocError;
 /// Returns an error only if memory runs out.
 pub(crate) fn targets(given: &Given) -> Result<Vec<Target>, AllocError>
     requires supplied { (at : At.Given) × Supplies given.now at }
-    ensures { IfOk result (λ targets. (at : At.Given) (document : Forest) → Supplies given.now at
-        → flatten document ≡ given.now.checked.now.events
-        → targets.items ≡ map (λ (d : At.Defined). d.target) (steps.defined at document)) }
+    ensures { IfOk result (λ targets. AreTargets given.now targets.items) }
 {
     let mut printer = Printer::new(given.alloc);
     let targets = gathered(&mut printer, given);
@@ -39,9 +34,7 @@ pub(crate) fn targets(given: &Given) -> Result<Vec<Target>, AllocError>
 /// The same, with one printer for all definitions.
 fn gathered<'a>(printer: &mut Printer<'a>, given: &Given<'a>) -> Result<Vec<Target>, AllocError>
     requires supplied { (at : At.Given) × Supplies given.now at }
-    ensures { IfOk result (λ targets. (at : At.Given) (document : Forest) → Supplies given.now at
-        → flatten document ≡ given.now.checked.now.events
-        → targets.items ≡ map (λ (d : At.Defined). d.target) (steps.defined at document)) }
+    ensures { IfOk result (λ targets. AreTargets given.now targets.items) }
 {
     grammatical(given.checked);
     let mut targets = Vec::new(given.alloc);
@@ -61,12 +54,7 @@ fn target_at<'a>(
 ) -> Result<Target, AllocError>
     requires supplied { (at : At.Given) × Supplies given.now at }
     requires enters { EntersAt given.now.checked.now.events index name.Definition }
-    ensures { IfOk result
-        (λ target. (at : At.Given) (document : Forest) (one : steps.Noticed) → Supplies given.now at
-        → flatten document ≡ given.now.checked.now.events
-        → IsNoticedAt given.now.checked.now index one
-        → target ≡ (own_defined at given.now.checked.now.events
-        (steps.noticed given.now.checked.now.bytes true document) index one).target) }
+    ensures { IfOk result (λ target. IsTargetAt given.now index target) }
 {
     printer.restart(given.alloc);
     run_definition(printer, given, index)?;
@@ -82,12 +70,7 @@ fn run_definition<'a>(
     requires supplied { (at : At.Given) × Supplies given.now at }
     requires enters { EntersAt given.now.checked.now.events index name.Definition }
     requires new { printer.old ≡ beginning }
-    ensures { OnOk result ((at : At.Given) (document : Forest) (one : steps.Noticed)
-        → Supplies given.now at → flatten document ≡ given.now.checked.now.events
-        → IsNoticedAt given.now.checked.now index one
-        → printer.new ≡ steps.run at 0 (within index one.inside given.now.checked.now.events)
-        (within index one.inside (steps.noticed given.now.checked.now.bytes true document))
-        (entered at one.told name.Definition beginning)) }
+    ensures { OnOk result (IsRunAt given.now index printer.new) }
 {
     let _events = given.checked.events();
     printer.enter(given, index, Name::Definition)?;

@@ -1,12 +1,9 @@
 //! Compiles events to HTML.
 
-ghost use Rattle.std.specs.Prelude.{◌≡◌, IfOk, string_bytes};
-ghost use Rattle.md_base.specs.Tree.{Forest, flatten};
-ghost use Rattle.md_meaning.specs.Meaning.{meaning};
+ghost use Rattle.std.specs.Prelude.{IfOk, string_bytes};
 ghost use Rattle.md_meaning.specs.Meaning.At as At;
-ghost use Rattle.md_meaning.specs.Meaning.Layout.{laid_after};
 ghost use Rattle.md_emit.specs.Supplies.{Supplies};
-ghost use Rattle.md_html.specs.Printed.{text_of};
+ghost use Rattle.md_html.specs.Printed.{IsMeant, IsPrinted};
 
 use crate::definitions::targets;
 use crate::ending::ending_of;
@@ -34,9 +31,7 @@ pub fn render(
     checked: &Checked,
     options: &CompileOptions,
 ) -> Result<String, AllocError>
-    ensures meaning { IfOk result
-        (λ text. (document : Forest) → flatten document ≡ checked.now.events
-        → string_bytes text ≡ meaning options.now checked.now.names checked.now.bytes document) }
+    ensures meaning { IfOk result (λ text. IsMeant options.now checked.now (string_bytes text)) }
 {
     steps_print_what_is_meant();
     let ending = ending_of(checked, options);
@@ -64,8 +59,7 @@ pub fn render(
 /// The text of all events and of the footnotes' section.
 fn print(given: &Given) -> Result<String, AllocError>
     requires supplied { (at : At.Given) × Supplies given.now at }
-    ensures { IfOk result (λ text. (at : At.Given) (document : Forest) → Supplies given.now at →
-        flatten document ≡ given.now.checked.now.events → string_bytes text ≡ text_of at document) }
+    ensures { IfOk result (λ text. IsPrinted given.now (string_bytes text)) }
 {
     let mut printer = Printer::new(given.alloc);
     printer.reserve(given.checked.bytes().len());

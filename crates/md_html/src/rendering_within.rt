@@ -1,14 +1,12 @@
 //! Compiles events to HTML, if it doesn't exceed a limit.
 
-ghost use Rattle.std.specs.Prelude.{◌≡◌, ◌≤◌, ◌<◌, IfOk, IfSome, None, true, false, length};
+ghost use Rattle.std.specs.Prelude.{◌≡◌, ◌≤◌, IfOk, IfSome, None, true, false, length};
 ghost use Rattle.std.specs.Prelude.{string_bytes};
-ghost use Rattle.md_base.specs.Tree.{Forest, flatten};
-ghost use Rattle.md_meaning.specs.Meaning.{meaning};
 ghost use Rattle.md_meaning.specs.Meaning.At as At;
-ghost use Rattle.md_shape.specs.Run as steps;
 ghost use Rattle.md_shape.specs.Steps.{beginning};
 ghost use Rattle.md_emit.specs.Supplies.{Supplies};
-ghost use Rattle.md_html.specs.Printed.{text_of};
+ghost use Rattle.md_html.specs.Printed.{IsMeant, IsPrinted, IsPrintedOver, IsRun, IsRunOver};
+ghost use Rattle.md_html.specs.Within.{IsLonger};
 
 use crate::definitions::targets;
 use crate::ending::ending_of;
@@ -44,14 +42,12 @@ pub fn render_within(
     options: &CompileOptions,
     limit: usize,
 ) -> Result<Option<String>, AllocError>
-    ensures meaning { IfOk result (λ answer. IfSome answer (λ text. (document : Forest)
-        → flatten document ≡ checked.now.events
-        → string_bytes text ≡ meaning options.now checked.now.names checked.now.bytes document)) }
+    ensures meaning { IfOk result
+        (λ answer. IfSome answer (λ text. IsMeant options.now checked.now (string_bytes text))) }
     ensures within { IfOk result
         (λ answer. IfSome answer (λ text. length (string_bytes text) ≤ limit)) }
-    ensures too_long { IfOk result (λ answer. answer ≡ None → (document : Forest)
-        → flatten document ≡ checked.now.events
-        → limit < length (meaning options.now checked.now.names checked.now.bytes document)) }
+    ensures too_long { IfOk result
+        (λ answer. answer ≡ None → IsLonger options.now checked.now limit) }
 {
     steps_print_what_is_meant();
     let ending = ending_of(checked, options);
@@ -79,14 +75,11 @@ pub fn render_within(
 /// The text of all events and of the footnotes' section, if it doesn't exceed a limit.
 fn print_within(given: &Given, limit: usize) -> Result<Option<String>, AllocError>
     requires supplied { (at : At.Given) × Supplies given.now at }
-    ensures text { IfOk result (λ answer. IfSome answer (λ text. (at : At.Given) (document : Forest)
-        → Supplies given.now at → flatten document ≡ given.now.checked.now.events
-        → string_bytes text ≡ text_of at document)) }
+    ensures text { IfOk result
+        (λ answer. IfSome answer (λ text. IsPrinted given.now (string_bytes text))) }
     ensures within { IfOk result
         (λ answer. IfSome answer (λ text. length (string_bytes text) ≤ limit)) }
-    ensures too_long { IfOk result (λ answer. answer ≡ None → (at : At.Given) (document : Forest)
-        → Supplies given.now at → flatten document ≡ given.now.checked.now.events
-        → limit < length (text_of at document)) }
+    ensures too_long { IfOk result (λ answer. answer ≡ None → IsPrintedOver given.now limit) }
 {
     let mut printer = Printer::new(given.alloc);
     printer.reserve(given.checked.bytes().len());
@@ -110,13 +103,8 @@ fn run_events_within<'a>(
 ) -> Result<bool, AllocError>
     requires supplied { (at : At.Given) × Supplies given.now at }
     requires new { printer.old ≡ beginning }
-    ensures whole { IfOk result (λ whole. whole ≡ true → (at : At.Given) (document : Forest)
-        → Supplies given.now at → flatten document ≡ given.now.checked.now.events → printer.new
-        ≡ steps.run at 0 (flatten document) (steps.noticed at.bytes true document) beginning) }
-    ensures too_long { IfOk result (λ whole. whole ≡ false → (at : At.Given) (document : Forest)
-        → Supplies given.now at → flatten document ≡ given.now.checked.now.events
-        → limit < length (steps.run at 0 (flatten document)
-        (steps.noticed at.bytes true document) beginning).text) }
+    ensures whole { IfOk result (λ whole. whole ≡ true → IsRun given.now printer.new) }
+    ensures too_long { IfOk result (λ whole. whole ≡ false → IsRunOver given.now limit) }
 {
     let count = given.checked.events().len();
     let mut index = 0;

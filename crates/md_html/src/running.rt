@@ -2,18 +2,15 @@
 
 ghost use Rattle.std.specs.Prelude.{◌≡◌, ◌≤◌, ◌<◌, ◌^◌, OnOk, IfOk, Some, true, false, length};
 ghost use Rattle.std.specs.Prelude.{slice_get, suc};
-ghost use Rattle.md_base.specs.Tree.{Forest, flatten};
 ghost use Rattle.md_base.specs.declared.event.Name.{Name as AnyName};
 ghost use Rattle.md_meaning.specs.Meaning.At as At;
 ghost use Rattle.md_tree.specs.Found.{EntersSome};
 ghost use Rattle.md_tree.specs.Texts.{EntersAt, ExitsAt};
-ghost use Rattle.md_shape.specs.Run as steps;
 ghost use Rattle.md_shape.specs.Run.{Noticed};
 ghost use Rattle.md_shape.specs.Steps.{is_passed};
 ghost use Rattle.md_told.specs.Told.{IsNoticedAt};
 ghost use Rattle.md_emit.specs.Supplies.{Supplies};
-ghost use Rattle.md_html.specs.Windows.{window};
-ghost use Rattle.md_html.specs.Stepping.{Steps, Opens, Leafs, Goes};
+ghost use Rattle.md_html.specs.Stepping.{Steps, Opens, Leafs, Runs, Goes};
 
 use md_base::{Event, Kind, Name};
 use md_emit::{Given, Printer};
@@ -42,10 +39,7 @@ pub(crate) fn run_events<'a>(
     ensures cells { IfOk result (λ next. printer.new.cells ≤ next) }
     ensures fences { IfOk result (λ next. printer.new.fences ≤ next) }
     ensures goes { IfOk result (λ next. Goes given.now from next to printer.old printer.new) }
-    ensures ran { OnOk result ((at : At.Given) (document : Forest) → Supplies given.now at
-        → flatten document ≡ given.now.checked.now.events
-        → printer.new ≡ steps.run at 0 (window from to given.now.checked.now.events)
-        (window from to (steps.noticed given.now.checked.now.bytes true document)) printer.old) }
+    ensures ran { OnOk result (Runs given.now from to printer.old printer.new) }
 {
     let events = given.checked.events();
     let mut index = from;

@@ -1,17 +1,10 @@
 //! Texts that may be inserted into a page.
 
-ghost use Rattle.std.specs.Prelude.{◌≡◌, ◌↔◌, OnOk, IfOk, IfErr, IsTrue, true, false};
-ghost use Rattle.md_base.specs.Reference.{name_table};
-ghost use Rattle.md_base.specs.Tree.{Forest, flatten};
-ghost use Rattle.md_tree.specs.Grammar.{IsChecked, handed};
-ghost use Rattle.md_tree.specs.Refusal.{IsOutside, IsOrder, IsMdx, IsOfNode, IsLost};
-ghost use Rattle.md_meaning.specs.Meaning.{meaning};
-ghost use Rattle.md_safe.specs.Contents.{IsContained};
-ghost use Rattle.md_safe.specs.Links.{has_nested_link};
-ghost use Rattle.md_safe.specs.Built.{IsBuiltAsRead};
+ghost use Rattle.std.specs.Prelude.{◌↔◌, IfOk, IfErr, IsTrue};
+ghost use Rattle.md_tree.specs.Grammar.{handed};
+ghost use Rattle.md_tree.specs.Refusal.{IsRefusal};
 ghost use Rattle.md_safe.specs.Options.{KeepsImages};
-ghost use Rattle.md_text.specs.Ids.{HasDistinctIds};
-ghost use Rattle.md_safe.specs.Tokenized.{IsSafelyTokenized};
+ghost use Rattle.md_html.specs.Promises.{SafePromises};
 ghost use Rattle.md_html.specs.Safe.{IsRefusedFor, OfCompile};
 
 use crate::compiler::compile;
@@ -132,23 +125,11 @@ pub fn compile_safe(
     options: &CompileOptions,
     names: &[(&str, &str)],
 ) -> Result<SafeHtml, SafeError>
-    ensures safe { OnOk result (KeepsImages options.now) }
-    ensures options { IfErr result (IsRefusedFor options.now) }
-    ensures grammatical { OnOk result (IsChecked (handed events.now bytes.now names.now)) }
-    ensures meaning { IfOk result (λ html. (document : Forest) → flatten document ≡ events.now →
-        html ≡ meaning options.now (name_table names.now) bytes.now document) }
-    ensures tokens { IfOk result (λ html. IsSafelyTokenized html) }
-    ensures contained { IfOk result (λ html. IsContained html) }
-    ensures tree { IfOk result (λ html. (document : Forest) → flatten document ≡ events.now
-        → has_nested_link false document ≡ false → IsBuiltAsRead html) }
-    ensures distinct_ids { IfOk result
-        (λ html. options.now.gfm_footnote_number_ids ≡ true → HasDistinctIds html) }
+    ensures promises { IfOk result (λ html.
+        SafePromises options.now (handed events.now bytes.now names.now) html) }
 
-    ensures outside { IfErr result (OfCompile (IsOutside (handed events.now bytes.now names.now))) }
-    ensures order { IfErr result (OfCompile (IsOrder (handed events.now bytes.now names.now))) }
-    ensures mdx { IfErr result (OfCompile (IsMdx (handed events.now bytes.now names.now))) }
-    ensures of_node { IfErr result (OfCompile (IsOfNode (handed events.now bytes.now names.now))) }
-    ensures lost { IfErr result (OfCompile (IsLost (handed events.now bytes.now names.now))) }
+    ensures options { IfErr result (IsRefusedFor options.now) }
+    ensures refused { IfErr result (OfCompile (IsRefusal (handed events.now bytes.now names.now))) }
 {
     if !are_safe(options) {
         return Err(SafeError::Options);

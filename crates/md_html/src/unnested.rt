@@ -1,18 +1,14 @@
 //! Safe texts of documents in which no link contains a link: a browser builds for them the tree of
 //! their reading.
 
-ghost use Rattle.std.specs.Prelude.{◌≡◌, ◌<◌, ◌^◌, OnOk, IfOk, IfErr, true, false};
-ghost use Rattle.md_base.specs.Reference.{name_table};
+ghost use Rattle.std.specs.Prelude.{◌≡◌, ◌<◌, ◌^◌, OnOk, IfOk, IfErr, false};
 ghost use Rattle.md_base.specs.Tree.{Forest, flatten};
 ghost use Rattle.md_tree.specs.Grammar.{IsChecked, handed};
-ghost use Rattle.md_tree.specs.Refusal.{IsOutside, IsOrder, IsMdx, IsOfNode, IsLost};
-ghost use Rattle.md_meaning.specs.Meaning.{meaning};
-ghost use Rattle.md_safe.specs.Contents.{IsContained};
+ghost use Rattle.md_tree.specs.Refusal.{IsRefusal};
 ghost use Rattle.md_safe.specs.Links.{has_nested_link, prints_link};
 ghost use Rattle.md_safe.specs.Built.{IsBuiltAsRead};
 ghost use Rattle.md_safe.specs.Options.{KeepsImages};
-ghost use Rattle.md_text.specs.Ids.{HasDistinctIds};
-ghost use Rattle.md_safe.specs.Tokenized.{IsSafelyTokenized};
+ghost use Rattle.md_html.specs.Promises.{SafePromises};
 ghost use Rattle.md_html.specs.Safe.{IsRefusedFor, OfCompile};
 ghost use Rattle.md_html.specs.Nesting.{is_nested, is_link, is_image, link_after, images_after};
 ghost use Rattle.md_html.specs.Nesting.{bears_on_links};
@@ -82,30 +78,16 @@ pub fn compile_unnested(
 ) -> Result<SafeHtml, UnnestedError>
     ensures unnested { OnOk result (AreUnnested events.now) }
     ensures tree { IfOk result (λ html. IsBuiltAsRead html) }
-    ensures safe { OnOk result (KeepsImages options.now) }
-    ensures grammatical { OnOk result (IsChecked (handed events.now bytes.now names.now)) }
-    ensures meaning { IfOk result (λ html. (document : Forest) → flatten document ≡ events.now →
-        html ≡ meaning options.now (name_table names.now) bytes.now document) }
-    ensures tokens { IfOk result (λ html. IsSafelyTokenized html) }
-    ensures contained { IfOk result (λ html. IsContained html) }
-    ensures distinct_ids { IfOk result
-        (λ html. options.now.gfm_footnote_number_ids ≡ true → HasDistinctIds html) }
+    ensures promises { IfOk result (λ html.
+        SafePromises options.now (handed events.now bytes.now names.now) html) }
 
     ensures nested { IfErr result (OfNested (AreNested events.now)) }
     ensures nested_safe { IfErr result (OfNested (KeepsImages options.now)) }
     ensures nested_grammatical { IfErr result
         (OfNested (IsChecked (handed events.now bytes.now names.now))) }
     ensures options { IfErr result (OfSafe (IsRefusedFor options.now)) }
-    ensures outside { IfErr result
-        (OfSafe (OfCompile (IsOutside (handed events.now bytes.now names.now)))) }
-    ensures order { IfErr result
-        (OfSafe (OfCompile (IsOrder (handed events.now bytes.now names.now)))) }
-    ensures mdx { IfErr result
-        (OfSafe (OfCompile (IsMdx (handed events.now bytes.now names.now)))) }
-    ensures of_node { IfErr result
-        (OfSafe (OfCompile (IsOfNode (handed events.now bytes.now names.now)))) }
-    ensures lost { IfErr result
-        (OfSafe (OfCompile (IsLost (handed events.now bytes.now names.now)))) }
+    ensures refused { IfErr result
+        (OfSafe (OfCompile (IsRefusal (handed events.now bytes.now names.now)))) }
 {
     let html = compile_safe(alloc, events, bytes, options, names)?;
     if has_nested_link(events) {

@@ -1,24 +1,14 @@
 //! Texts within limits: on their length, on their work, and on how deep their events nest.
 
-ghost use Rattle.std.specs.Prelude.{◌≡◌, ◌+◌, ◌*◌, ◌≤◌, ◌<◌, OnOk, IfOk, IfErr, true, false, length};
-ghost use Rattle.std.specs.Prelude.{string_bytes};
+ghost use Rattle.std.specs.Prelude.{◌≡◌, ◌+◌, ◌*◌, ◌≤◌, OnOk, IfOk, IfErr, length, string_bytes};
 ghost use Rattle.md_base.specs.Reference.{name_table};
-ghost use Rattle.md_base.specs.Tree.{Forest, flatten};
 ghost use Rattle.md_tree.specs.Grammar.{IsChecked, handed};
-ghost use Rattle.md_tree.specs.Refusal.{IsOutside, IsOrder, IsMdx, IsOfNode, IsLost};
-ghost use Rattle.md_meaning.specs.Meaning.{meaning};
-ghost use Rattle.md_text.specs.Html.{any_attribute, HasOneReadingWith};
-ghost use Rattle.md_text.specs.Safe.{is_safe_link, is_safe_image};
-ghost use Rattle.md_text.specs.Ids.{HasDistinctIds};
-ghost use Rattle.md_safe.specs.SafeTokens.{has_safe_links, has_safe_images};
-ghost use Rattle.md_safe.specs.Tokenized.{HasTokensWith, IsTokenizedAsRead, IsSafelyTokenized};
-ghost use Rattle.md_safe.specs.Contents.{IsContained};
-ghost use Rattle.md_safe.specs.Links.{has_nested_link};
-ghost use Rattle.md_safe.specs.Built.{IsBuiltAsRead};
-ghost use Rattle.md_safe.specs.Options.{KeepsGrammar, KeepsLinks, KeepsImages, KeepsIds};
+ghost use Rattle.md_tree.specs.Refusal.{IsRefusal};
+ghost use Rattle.md_safe.specs.Options.{KeepsGrammar};
 ghost use Rattle.md_length.specs.Bound.{text_bound};
 ghost use Rattle.md_depth.specs.Depth.{depth};
 ghost use Rattle.md_depth.specs.Levels.{NestsWithin};
+ghost use Rattle.md_html.specs.Promises.{Promises, SafePromises};
 ghost use Rattle.md_html.specs.Work.{work};
 ghost use Rattle.md_html.specs.Within.{IsLonger, IsReuseWithin, OfTooLong, IsTooMuchFor, OfWithin};
 ghost use Rattle.md_html.specs.Within.{IsTooDeepFor};
@@ -142,28 +132,8 @@ pub fn compile_within(
         (handed events.now bytes.now names.now) limits.work) }
     ensures bounded { IfOk result (λ text. length (string_bytes text) ≤ text_bound options.now
         (name_table names.now) (length events.now) (2 * limits.work)) }
-    ensures grammatical { OnOk result (IsChecked (handed events.now bytes.now names.now)) }
-    ensures meaning { IfOk result (λ text. (document : Forest) → flatten document ≡ events.now →
-        string_bytes text ≡ meaning options.now (name_table names.now) bytes.now document) }
-    ensures one_reading { IfOk result (λ text. KeepsGrammar options.now
-        → HasOneReadingWith any_attribute (string_bytes text)) }
-    ensures safe_links { IfOk result (λ text. KeepsLinks options.now
-        → HasOneReadingWith is_safe_link (string_bytes text)) }
-    ensures safe_images { IfOk result (λ text. KeepsImages options.now
-        → HasOneReadingWith is_safe_image (string_bytes text)) }
-    ensures contained { IfOk result
-        (λ text. KeepsGrammar options.now → IsContained (string_bytes text)) }
-    ensures tree { IfOk result (λ text. (document : Forest) → flatten document ≡ events.now
-        → has_nested_link false document ≡ false → KeepsGrammar options.now
-        → IsBuiltAsRead (string_bytes text)) }
-    ensures tokenized { IfOk result
-        (λ text. KeepsGrammar options.now → IsTokenizedAsRead (string_bytes text)) }
-    ensures safe_link_tokens { IfOk result (λ text. KeepsLinks options.now
-        → HasTokensWith has_safe_links (string_bytes text)) }
-    ensures safe_image_tokens { IfOk result (λ text. KeepsImages options.now
-        → HasTokensWith has_safe_images (string_bytes text)) }
-    ensures distinct_ids { IfOk result
-        (λ text. KeepsIds options.now → HasDistinctIds (string_bytes text)) }
+    ensures promises { IfOk result (λ text.
+        Promises options.now (handed events.now bytes.now names.now) (string_bytes text)) }
 
     ensures too_deep { IfErr result (IsTooDeepFor events.now limits.depth) }
     ensures too_much { IfErr result (IsTooMuchFor options.now
@@ -172,11 +142,7 @@ pub fn compile_within(
         (OfTooLong (IsLonger options.now (handed events.now bytes.now names.now) limits.text)) }
     ensures long_grammatical { IfErr result
         (OfTooLong (IsChecked (handed events.now bytes.now names.now))) }
-    ensures outside { IfErr result (OfWithin (IsOutside (handed events.now bytes.now names.now))) }
-    ensures order { IfErr result (OfWithin (IsOrder (handed events.now bytes.now names.now))) }
-    ensures mdx { IfErr result (OfWithin (IsMdx (handed events.now bytes.now names.now))) }
-    ensures of_node { IfErr result (OfWithin (IsOfNode (handed events.now bytes.now names.now))) }
-    ensures lost { IfErr result (OfWithin (IsLost (handed events.now bytes.now names.now))) }
+    ensures refused { IfErr result (OfWithin (IsRefusal (handed events.now bytes.now names.now))) }
 {
     let measured = measure(events);
     if measured.depth > limits.depth {
@@ -259,18 +225,10 @@ pub fn compile_safe_within(
         (handed events.now bytes.now names.now) limits.work) }
     ensures bounded { IfOk result (λ html. length html ≤ text_bound options.now
         (name_table names.now) (length events.now) (2 * limits.work)) }
-    ensures safe { OnOk result (KeepsImages options.now) }
-    ensures options { IfErr result (IsUnsafeFor options.now) }
-    ensures grammatical { OnOk result (IsChecked (handed events.now bytes.now names.now)) }
-    ensures meaning { IfOk result (λ html. (document : Forest) → flatten document ≡ events.now →
-        html ≡ meaning options.now (name_table names.now) bytes.now document) }
-    ensures tokens { IfOk result (λ html. IsSafelyTokenized html) }
-    ensures contained { IfOk result (λ html. IsContained html) }
-    ensures tree { IfOk result (λ html. (document : Forest) → flatten document ≡ events.now
-        → has_nested_link false document ≡ false → IsBuiltAsRead html) }
-    ensures distinct_ids { IfOk result
-        (λ html. options.now.gfm_footnote_number_ids ≡ true → HasDistinctIds html) }
+    ensures promises { IfOk result (λ html.
+        SafePromises options.now (handed events.now bytes.now names.now) html) }
 
+    ensures options { IfErr result (IsUnsafeFor options.now) }
     ensures too_deep { IfErr result (OfLimits (IsTooDeepFor events.now limits.depth)) }
     ensures too_much { IfErr result (OfLimits (IsTooMuchFor options.now
         (handed events.now bytes.now names.now) limits.work)) }
@@ -278,16 +236,8 @@ pub fn compile_safe_within(
         (handed events.now bytes.now names.now) limits.text))) }
     ensures long_grammatical { IfErr result (OfLimits (OfTooLong (IsChecked
         (handed events.now bytes.now names.now)))) }
-    ensures outside { IfErr result
-        (OfLimits (OfWithin (IsOutside (handed events.now bytes.now names.now)))) }
-    ensures order { IfErr result
-        (OfLimits (OfWithin (IsOrder (handed events.now bytes.now names.now)))) }
-    ensures mdx { IfErr result
-        (OfLimits (OfWithin (IsMdx (handed events.now bytes.now names.now)))) }
-    ensures of_node { IfErr result
-        (OfLimits (OfWithin (IsOfNode (handed events.now bytes.now names.now)))) }
-    ensures lost { IfErr result
-        (OfLimits (OfWithin (IsLost (handed events.now bytes.now names.now)))) }
+    ensures refused { IfErr result
+        (OfLimits (OfWithin (IsRefusal (handed events.now bytes.now names.now)))) }
 {
     if !are_safe(options) {
         return Err(SafeWithinError::Options);

@@ -23,7 +23,7 @@ use Rattle.md_text.specs.Encode.{encoded}
 use Rattle.md_text.specs.declared.options.CompileOptions.{CompileOptions}
 use Rattle.md_tree.specs.Grammar.{Handed, IsChecked, IsReadAs, IsGrammatical, handed}
 use Rattle.md_tree.specs.Mentions.{IsResolved, mentions_of}
-use Rattle.md_tree.specs.Refusal.{IsOutside}
+use Rattle.md_tree.specs.Refusal.{IsRefusal}
 use Rattle.md_tree.specs.Rules.{broken_by}
 use Rattle.md_tree.specs.declared.mention.Mention.{Mention}
 use Rattle.md_tree.specs.declared.mention.Mention.TheVariants.{Nothing}
@@ -152,20 +152,20 @@ is_shown given most checked unnested few = record {
 -- the compiler has a text of a document that is shown, within limits or not
 pub never_shown : (given : Handed) (options : CompileOptions) (most : ℕ) (why : SafeWithinError)
     (document : Forest) → KeepsImages options → OfLimits (limited.IsTooDeepFor given.events most) why →
-    IsUnsafeFor options why → OfLimits (OfWithin (IsOutside given)) why → of_limits why ≡ None →
+    IsUnsafeFor options why → OfLimits (OfWithin (IsRefusal given)) why → of_limits why ≡ None →
     IsShown given most document → ⊥
-never_shown given options most safe_within.Options document kept deep refused outside other shown =
-    refused kept
-never_shown given options most (safe_within.Within within.TooLong) document kept deep refused
-    outside other shown = none-some _ (sym other)
-never_shown given options most (safe_within.Within within.TooDeep) document kept deep refused
-    outside other shown = too_deep given most document deep shown
-never_shown given options most (safe_within.Within within.TooMuch) document kept deep refused
-    outside other shown = none-some _ (sym other)
+never_shown given options most safe_within.Options document kept deep unsafe refused other shown =
+    unsafe kept
+never_shown given options most (safe_within.Within within.TooLong) document kept deep unsafe
+    refused other shown = none-some _ (sym other)
+never_shown given options most (safe_within.Within within.TooDeep) document kept deep unsafe
+    refused other shown = too_deep given most document deep shown
+never_shown given options most (safe_within.Within within.TooMuch) document kept deep unsafe
+    refused other shown = none-some _ (sym other)
 never_shown given options most (safe_within.Within (within.Compile refusal.Memory)) document kept
-    deep refused outside other shown = none-some _ (sym other)
+    deep unsafe refused other shown = none-some _ (sym other)
 never_shown given options most (safe_within.Within (within.Compile (refusal.Event index rule)))
-    document kept deep refused outside other shown = outside (document, shown.read)
+    document kept deep unsafe refused other shown = refused.outside (document, shown.read)
 
 -- the elements of what a document means
 pub meant_nests : (given : Handed) (options : CompileOptions) (html : List ℕ) →
@@ -219,30 +219,30 @@ module _ (events : List Event) (bytes text : List ℕ)
   -- they have a text, so that nothing but memory can be missing
   pub never : (options : CompileOptions) (why : UnnestedError) → KeepsImages options →
       OfNested (AreNested events) why → OfSafe (IsRefusedFor options) why →
-      OfSafe (OfCompile (IsOutside (handed events bytes []))) why → is_memory why ≡ false → ⊥
-  never options unnested.Nested safe nested refused outside other =
+      OfSafe (OfCompile (IsRefusal (handed events bytes []))) why → is_memory why ≡ false → ⊥
+  never options unnested.Nested safe nested unsafe refused other =
       true≢false (sym (nested (plain (length text)) (sym same)))
-  never options (unnested.Safe safe.Options) kept nested refused outside other = refused kept
-  never options (unnested.Safe (safe.Compile refusal.Memory)) kept nested refused outside other =
+  never options (unnested.Safe safe.Options) kept nested unsafe refused other = unsafe kept
+  never options (unnested.Safe (safe.Compile refusal.Memory)) kept nested unsafe refused other =
       true≢false other
-  never options (unnested.Safe (safe.Compile (refusal.Event index rule))) kept nested refused
-      outside other = outside (checked [])
+  never options (unnested.Safe (safe.Compile (refusal.Event index rule))) kept nested unsafe
+      refused other = refused.outside (checked [])
 
   pub never_within : (options : CompileOptions) (why : SafeWithinError) → KeepsImages options →
-      OfLimits (limited.IsTooDeepFor events most_depth) why → IsUnsafeFor options why → OfLimits (OfWithin (IsOutside (handed events bytes []))) why →
-      of_limits why ≡ None → ⊥
-  never_within options safe_within.Options kept deep refused outside other = refused kept
-  never_within options (safe_within.Within within.TooLong) kept deep refused outside other =
+      OfLimits (limited.IsTooDeepFor events most_depth) why → IsUnsafeFor options why →
+      OfLimits (OfWithin (IsRefusal (handed events bytes []))) why → of_limits why ≡ None → ⊥
+  never_within options safe_within.Options kept deep unsafe refused other = unsafe kept
+  never_within options (safe_within.Within within.TooLong) kept deep unsafe refused other =
       none-some _ (sym other)
-  never_within options (safe_within.Within within.TooDeep) kept deep refused outside other =
+  never_within options (safe_within.Within within.TooDeep) kept deep unsafe refused other =
       let two : depth events ≡ 2 = ap depth same ∙ events-nest (plain (length text)) in
       omega (arith, deep, two)
-  never_within options (safe_within.Within within.TooMuch) kept deep refused outside other =
+  never_within options (safe_within.Within within.TooMuch) kept deep unsafe refused other =
       none-some _ (sym other)
-  never_within options (safe_within.Within (within.Compile refusal.Memory)) kept deep refused
-      outside other = none-some _ (sym other)
+  never_within options (safe_within.Within (within.Compile refusal.Memory)) kept deep unsafe
+      refused other = none-some _ (sym other)
   never_within options (safe_within.Within (within.Compile (refusal.Event index rule))) kept deep
-      refused outside other = outside (checked [])
+      unsafe refused other = refused.outside (checked [])
 
   -- its elements nest no deeper than they may
   pub nested : (options : CompileOptions) (html : List ℕ) → KeepsImages options →

@@ -4,8 +4,7 @@ use Rattle.std.specs.Prelude.{IsErrAnd}
 use Rattle.md_base.specs.declared.event.Event.{Event}
 use Rattle.md_tree.specs.declared.rule.CompileError.{CompileError}
 use Rattle.md_tree.specs.declared.rule.CompileError.TheVariants as refusal
-use Rattle.md_tree.specs.Grammar.{Handed}
-use Rattle.md_tree.specs.Refusal.{IsRefusal, IsOrder, IsMdx, IsOfNode, IsLost, IsOutside}
+use Rattle.md_tree.specs.Refusal.{IsRefusal}
 use Rattle.md_html.specs.Safe.{IsRefusedFor, OfCompile}
 use Rattle.md_html.specs.declared.safe_html.SafeError.{SafeError}
 use Rattle.md_html.specs.declared.safe_html.SafeError.TheVariants as safe
@@ -32,16 +31,6 @@ told (Ok x) why given events bytes same h refusal = tt
 told (Err made) why given events bytes same h refusal =
     subst (λ es. ExplainsEvents es bytes made) same
     (subst (λ error. ExplainsEvents given bytes error) (sym h) (refused given bytes why refusal))
-
--- what is said of a refusal in five claims is said in one
-pub refusal_of : (given : Handed) (why : SafeError) → OfCompile (IsOrder given) why →
-    OfCompile (IsMdx given) why →
-    OfCompile (IsOfNode given) why → OfCompile (IsLost given) why →
-    OfCompile (IsOutside given) why →
-    OfCompile (IsRefusal given) why
-refusal_of given safe.Options order mdx of_node lost outside = tt
-refusal_of given (safe.Compile cause) order mdx of_node lost outside =
-    record { order = order; mdx = mdx; of_node = of_node; lost = lost; outside = outside }
 
 refused_safely :
     (events : List Event) (bytes : List ℕ) (options : CompileOptions) (why : SafeError) →

@@ -2,8 +2,8 @@
 use Rattle.std.proofs.Common.{◌≡◌, ℕ, List, Result, Ok, Err, IfErr, sym, subst}
 use Rattle.std.specs.Prelude.{IsErrAnd}
 use Rattle.md_base.specs.declared.event.Event.{Event}
-use Rattle.md_tree.specs.Grammar.{Handed, IsChecked}
-use Rattle.md_tree.specs.Refusal.{IsRefusal, IsOrder, IsMdx, IsOfNode, IsLost, IsOutside}
+use Rattle.md_tree.specs.Grammar.{IsChecked}
+use Rattle.md_tree.specs.Refusal.{IsRefusal}
 use Rattle.md_html.specs.Within.{IsLonger, IsTooMuchFor, IsTooDeepFor, OfTooLong, OfWithin}
 use Rattle.md_html.specs.declared.within.Limits.{Limits}
 use Rattle.md_html.specs.declared.within.WithinError.{WithinError}
@@ -13,16 +13,6 @@ use Rattle.md_script.specs.declared.running_within.RunWithinError.{RunWithinErro
 use Rattle.md_script.specs.Run.{document_of}
 use Rattle.md_script.specs.Within.{run_within_error_of, ExplainsEventsWithin}
 use Rattle.md_script.proofs.RunLemmas.{refused}
-
--- what is said of a refusal in five claims is said in one
-pub refusal_within : (given : Handed) (why : WithinError) → OfWithin (IsOrder given) why →
-    OfWithin (IsMdx given) why → OfWithin (IsOfNode given) why → OfWithin (IsLost given) why →
-    OfWithin (IsOutside given) why → OfWithin (IsRefusal given) why
-refusal_within given within.TooLong order mdx of_node lost outside = tt
-refusal_within given within.TooMuch order mdx of_node lost outside = tt
-refusal_within given within.TooDeep order mdx of_node lost outside = tt
-refusal_within given (within.Compile cause) order mdx of_node lost outside =
-    record { order = order; mdx = mdx; of_node = of_node; lost = lost; outside = outside }
 
 explained : (events : List Event) (bytes : List ℕ) (options : CompileOptions) (limits : Limits)
     (why : WithinError) → IsTooDeepFor events limits.depth why →

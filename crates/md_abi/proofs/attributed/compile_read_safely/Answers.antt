@@ -5,7 +5,7 @@ use Rattle.md_abi.proofs.attributed.compile_read_safely.Goals as goal
 
 pub returns-clause-ok : goal.returns-clause-ok
 returns-clause-ok c =
-    let made = c.in_ok-html.ensures in
+    let made = c.in_ok-html.ensures.promises in
     record {
       grammatical = made.grammatical;
       means = made.meaning;
@@ -24,6 +24,4 @@ pub returns-in_err-html-clause-err : goal.returns-in_err-html-clause-err
 returns-in_err-html-clause-err c =
     let why = c.in_err-html.ensures in
     safe_told (handed c.args.events.now c.args.bytes.now c.args.names.now) c.args.options.now
-    c.in_err-html.field-0.0
-    c.from_residual.result c.from_residual.ensures.1 why.options why.outside why.order why.mdx
-    why.of_node why.lost
+    c.in_err-html.field-0.0 c.from_residual.result c.from_residual.ensures.1 why.options why.refused

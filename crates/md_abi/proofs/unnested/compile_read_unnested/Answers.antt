@@ -6,7 +6,7 @@ use Rattle.md_abi.proofs.unnested.compile_read_unnested.Goals as goal
 
 pub returns-clause-ok : goal.returns-clause-ok
 returns-clause-ok c =
-    let made = c.in_ok-html.ensures in
+    let made = c.in_ok-html.ensures.promises in
     record {
       compiled = record {
         grammatical = made.grammatical;
@@ -15,14 +15,14 @@ returns-clause-ok c =
         safe_links = λ _. c.as_str-text.ensures.safe.safe_links;
         safe_images = λ _. c.as_str-text.ensures.safe.safe_images;
         contained = λ _. made.contained;
-        tree = λ document flat unnested _. made.tree;
+        tree = λ document flat unnested _. c.in_ok-html.ensures.tree;
         tokenized = λ _. made.tokens.as_read;
         safe_link_tokens = λ _. made.tokens.safe_links;
         safe_image_tokens = λ _. made.tokens.safe_images;
         distinct_ids = λ keeps. made.distinct_ids keeps.by_number;
       };
       safe = made.safe;
-      tree = made.tree;
+      tree = c.in_ok-html.ensures.tree;
     }
 
 pub returns-in_err-html-clause-err : goal.returns-in_err-html-clause-err
@@ -30,4 +30,4 @@ returns-in_err-html-clause-err c =
     let why = c.in_err-html.ensures in
     told_unnested (handed c.args.events.now c.args.bytes.now c.args.names.now) c.args.options.now
     c.in_err-html.field-0.0 c.from_residual.result c.from_residual.ensures.1 why.nested
-    why.nested_grammatical why.options why.outside why.order why.mdx why.of_node why.lost
+    why.nested_grammatical why.options why.refused

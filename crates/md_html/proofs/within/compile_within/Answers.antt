@@ -28,7 +28,6 @@ returns-in-Some c =
     (some-at _ c.in_ok-text.field-0 c.in-Some.text c.in-Some.is c.in_ok-text.ensures.meaning) in
     let few : length given.events < 2 ^ 63 = omega arith in
     let read : IsChecked given = c.in_ok-checked.ensures.grammatical in
-    let kept = promises c.args.options.now given text read few meant in
     let worked : work given.events ≤ c.args.limits.work =
     ltb-false c.args.limits.work (work c.args.events.now)
     (sym (c.is_over.ensures (work c.args.events.now) c.measure-measured.ensures.work)
@@ -47,26 +46,12 @@ returns-in-Some c =
       reuse = reused;
       bounded =
           bounded c.args.options.now given text c.args.limits.work read few meant worked reused;
-      grammatical = read;
-      meaning = meant;
-      one_reading = kept.one_reading;
-      safe_links = kept.safe_links;
-      safe_images = kept.safe_images;
-      contained = kept.contained;
-      tree = kept.tree;
-      tokenized = kept.tokenized;
-      safe_link_tokens = kept.safe_link_tokens;
-      safe_image_tokens = kept.safe_image_tokens;
-      distinct_ids = kept.distinct_ids;
+      promises = promises c.args.options.now given text read few meant;
       too_deep = search rules;
       too_much = search rules;
       too_long = search rules;
       long_grammatical = search rules;
-      outside = search rules;
-      order = search rules;
-      mdx = search rules;
-      of_node = search rules;
-      lost = search rules;
+      refused = search rules;
     }
 
 pub returns-then-branch-clause-too_much : goal.returns-then-branch-clause-too_much

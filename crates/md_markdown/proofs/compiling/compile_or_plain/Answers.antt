@@ -16,7 +16,7 @@ returns-then-depth_of-gt-MAX_DEPTH-clause-kept c =
 
 pub returns-in-Ok-clause-plain : goal.returns-in-Ok-clause-plain
 returns-in-Ok-clause-plain c =
-    let checked = c.in-Ok.ensures.grammatical in
+    let checked = c.in-Ok.ensures.promises.grammatical in
     λ none. absurd (none checked.0 (is_shown (given_by c.args.parsed.now) most_depth checked
     (c.in-Ok.ensures.unnested checked.0 checked.1.flattened)
     (subst (λ n. n ≤ most_depth) c.depth_of.ensures c.if-depth_of-gt-MAX_DEPTH.false)))
@@ -25,4 +25,4 @@ pub returns-in-Ok-clause-nesting : goal.returns-in-Ok-clause-nesting
 returns-in-Ok-clause-nesting c =
     meant_nests (given_by c.args.parsed.now) c.args.options.now c.in-Ok.html c.requires.safe
     (subst (λ n. n ≤ most_depth) c.depth_of.ensures c.if-depth_of-gt-MAX_DEPTH.false)
-    c.in-Ok.ensures.grammatical c.in-Ok.ensures.meaning
+    c.in-Ok.ensures.promises.grammatical c.in-Ok.ensures.promises.meaning

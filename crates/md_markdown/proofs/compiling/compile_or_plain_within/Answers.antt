@@ -7,7 +7,7 @@ use Rattle.md_markdown.proofs.compiling.compile_or_plain_within.Goals as goal
 
 pub returns-in-Ok-clause-plain : goal.returns-in-Ok-clause-plain
 returns-in-Ok-clause-plain c =
-    let checked = c.in-Ok.ensures.grammatical in
+    let checked = c.in-Ok.ensures.promises.grammatical in
     λ none. absurd (none checked.0 (is_shown (given_by c.args.parsed.now)
     c.args.within.now.limits.depth checked
     (sym (c.has_nested_link.ensures checked.0 checked.1.flattened) ∙ c.if-has_nested_link.false)
@@ -18,6 +18,6 @@ returns-in-None-clause-kept c =
     IfOk-weaker c.compile_plain_within-in-None.result _ _
     (λ html _ document shown. absurd (never_shown (given_by c.args.parsed.now)
     c.args.within.now.options.now c.args.within.now.limits.depth c.in-Err.error document
-    c.requires.safe c.in-Err.ensures.too_deep c.in-Err.ensures.options c.in-Err.ensures.outside
+    c.requires.safe c.in-Err.ensures.too_deep c.in-Err.ensures.options c.in-Err.ensures.refused
     (sym c.of_limits.ensures ∙ c.in-None.is) shown))
     c.compile_plain_within-in-None.ensures.text

@@ -8,22 +8,22 @@ unreachable-requires c =
     never c.plain_events-events.result c.as_bytes.result.now c.args.text.now
     c.plain_events-events.ensures c.as_bytes.ensures.value c.utf8.text c.args.options.now
     c.in-Err.error c.requires.safe c.in-Err.ensures.nested c.in-Err.ensures.options
-    c.in-Err.ensures.outside (sym c.is_memory.ensures ∙ c.if-is_memory.false)
+    c.in-Err.ensures.refused (sym c.is_memory.ensures ∙ c.if-is_memory.false)
 
 pub returns-in-Ok-clause-text : goal.returns-in-Ok-clause-text
 returns-in-Ok-clause-text c =
     shown c.plain_events-events.result c.as_bytes.result.now c.args.text.now
     c.plain_events-events.ensures c.as_bytes.ensures.value c.utf8.text c.args.options.now
-    c.in-Ok.html c.in-Ok.ensures.meaning
+    c.in-Ok.html c.in-Ok.ensures.promises.meaning
 
 pub returns-in-Ok-clause-made : goal.returns-in-Ok-clause-made
 returns-in-Ok-clause-made c =
     made c.plain_events-events.result c.as_bytes.result.now c.args.text.now
     c.plain_events-events.ensures c.as_bytes.ensures.value c.utf8.text c.args.options.now
-    c.in-Ok.html c.requires.safe c.in-Ok.ensures.meaning
+    c.in-Ok.html c.requires.safe c.in-Ok.ensures.promises.meaning
 
 pub returns-in-Ok-clause-nesting : goal.returns-in-Ok-clause-nesting
 returns-in-Ok-clause-nesting c =
     nested c.plain_events-events.result c.as_bytes.result.now c.args.text.now
     c.plain_events-events.ensures c.as_bytes.ensures.value c.utf8.text c.args.options.now
-    c.in-Ok.html c.requires.safe c.in-Ok.ensures.meaning
+    c.in-Ok.html c.requires.safe c.in-Ok.ensures.promises.meaning
