@@ -1,5 +1,5 @@
 -- What a measure says about the events that were measured. No public contract cites this.
-use Rattle.std.specs.Prelude.{◌≡◌, ℕ, ◌+◌, ◌-◌, ◌^◌, ◌≤◌, max, ◌||◌, false, List, ◌++◌, length}
+use Rattle.std.specs.Prelude.{◌≡◌, ◌+◌, ◌-◌, ◌^◌, ◌≤◌, max, ◌||◌, false, List, ◌++◌, length}
 use Rattle.md_base.specs.declared.event.Event.{Event}
 use Rattle.md_length.specs.Work.{is_read, covered_from, read_length, cells}
 use Rattle.md_length.specs.Reuse.{entries, is_call}

@@ -1,7 +1,13 @@
 //! All measures together.
 
-ghost use Rattle.std.specs.Prelude.{◌≡◌, ◌<◌, ◌^◌, ◌++◌, ◌∷◌, [], length, List};
+ghost use Rattle.std.specs.Prelude.{◌≡◌, ◌<◌, ◌^◌, ◌++◌, ◌∷◌, [], false, length, List};
+ghost use Rattle.md_base.specs.Tree.{Forest, flatten};
 ghost use Rattle.md_base.specs.declared.event.Event.{Event as AnyEvent};
+ghost use Rattle.md_length.specs.Work.{work};
+ghost use Rattle.md_length.specs.Reuse.{entries, is_call};
+ghost use Rattle.md_depth.specs.Depth.{depth};
+ghost use Rattle.md_safe.specs.Links.{has_nested_link};
+ghost use Rattle.md_measure.specs.Counting.{capped};
 ghost use Rattle.md_measure.specs.Measured.{IsMeasured};
 
 use crate::covered::Progress;
@@ -49,5 +55,41 @@ impl Measure {
         self.levels = self.levels.after(event);
         self.parts = self.parts.after(event);
         self.links = self.links.after(event);
+    }
+
+    /// How deep the events nest: the maximum number of nodes that are open at once.
+    #[inline(always)]
+    pub fn depth(&self) -> usize
+        ensures { (events : List AnyEvent) → IsMeasured self.now events → result ≡ depth events }
+    {
+        self.levels.deepest
+    }
+
+    /// How much the events give to read and to print, or the greatest number if it is more.
+    #[inline(always)]
+    pub fn work(&self) -> u128
+        ensures { (events : List AnyEvent) → IsMeasured self.now events
+            → result ≡ capped (work events) }
+    {
+        self.progress.length.saturating_add(self.parts.cells)
+    }
+
+    /// The number of events that enter a footnote call.
+    #[inline(always)]
+    pub fn calls(&self) -> usize
+        ensures { (events : List AnyEvent) → IsMeasured self.now events
+            → result ≡ entries is_call events }
+    {
+        self.parts.calls
+    }
+
+    /// Whether a link contains a link in the document that the events flatten, and neither is in an
+    /// image.
+    #[inline(always)]
+    pub fn has_nested_link(&self) -> bool
+        ensures { (events : List AnyEvent) (document : Forest) → IsMeasured self.now events
+            → flatten document ≡ events → result ≡ has_nested_link false document }
+    {
+        self.links.nested
     }
 }

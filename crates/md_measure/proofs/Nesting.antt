@@ -3,6 +3,7 @@ use Rattle.std.proofs.Common.{◌≡◌, ℕ, suc, Bool, true, false, ◌&&◌, 
 use Rattle.std.proofs.Common.{ap, sym, ◌∙◌, append_assoc}
 use Rattle.std.specs.Prelude.{◌||◌, if◌then◌else◌}
 use Rattle.std.proofs.lemmas.Bool.{true≢false}
+use Rattle.std.proofs.lemmas.List.{append-nil}
 use Rattle.std.proofs.Math.Bool.{or-false}
 use Rattle.md_base.specs.declared.event.Event.{Event}
 use Rattle.md_base.specs.declared.event.Name.{Name}
@@ -10,8 +11,9 @@ use Rattle.md_base.specs.declared.event.Name.TheVariants.{Image, Link}
 use Rattle.md_base.specs.Is.{is}
 use Rattle.md_base.specs.Tree.{Forest, Empty, Node, flatten, exiting}
 use Rattle.md_safe.specs.Links.{prints_link, has_nested_link}
-use Rattle.md_html.specs.Nesting.{is_link, is_image, is_none, one_less, is_nested, link_after}
-use Rattle.md_html.specs.Nesting.{images_after, nests}
+use Rattle.md_measure.specs.Nesting.{is_link, is_image, is_none, one_less}
+use Rattle.md_measure.specs.Nesting.{nests}
+use Rattle.md_measure.proofs.Measuring.{or_assoc}
 
 is_link-is : (name : Name) → is Link name ≡ is_link name
 is_link-is Link = refl
@@ -32,10 +34,6 @@ image_prints_none _ h = absurd (true≢false (sym h))
 link_prints_one : (name : Name) → is_link name ≡ true → prints_link name ≡ true
 link_prints_one Link h = refl
 link_prints_one _ h = absurd (true≢false (sym h))
-
-or_assoc : (a b c : Bool) → a || (b || c) ≡ (a || b) || c
-or_assoc true b c = refl
-or_assoc false b c = refl
 
 -- after the exit of a node
 abbrev exit_then : Bool → Bool → Bool → ℕ → List Event → Bool
@@ -142,31 +140,8 @@ nested (Node name start end children rest) in_link after =
     || not (is Image name) && has_nested_link (link || in_link) children)
     || has_nested_link in_link rest) || nests in_link 0 after) (sym (is_link-is name))
 
-append_nil : (events : List Event) → events ++ [] ≡ events
-append_nil [] = refl
-append_nil (event ∷ events) = ap (λ es. event ∷ es) (append_nil events)
-
-told_of_document : (document : Forest) (events : List Event) → flatten document ≡ events →
+pub told_of_document : (document : Forest) (events : List Event) → flatten document ≡ events →
     nests false 0 events ≡ has_nested_link false document
 told_of_document document events flat =
-    ap (λ es. nests false 0 es) (sym flat ∙ sym (append_nil (flatten document)))
+    ap (λ es. nests false 0 es) (sym flat ∙ sym (append-nil (flatten document)))
     ∙ nested document false [] ∙ or-false (has_nested_link false document)
-
--- ---- at an iteration of the loop
-
-pub found : (in_link : Bool) (images : ℕ) (event : Event) (following rest events : List Event) →
-    rest ≡ event ∷ following → is_nested in_link images event ≡ true →
-    nests in_link images rest ≡ nests false 0 events → (document : Forest) →
-    flatten document ≡ events →
-    true ≡ has_nested_link false document
-found in_link images event following rest events same h whole document flat =
-    sym
-    (ap (λ b. b || nests (link_after in_link images event) (images_after images event) following) h)
-    ∙ ap (λ es. nests in_link images es) (sym same) ∙ whole ∙ told_of_document document events flat
-
-pub not_found : (in_link : Bool) (images : ℕ) (rest events : List Event) → rest ≡ [] →
-    nests in_link images rest ≡ nests false 0 events → (document : Forest) →
-    flatten document ≡ events →
-    false ≡ has_nested_link false document
-not_found in_link images rest events same whole document flat =
-    ap (λ es. nests in_link images es) (sym same) ∙ whole ∙ told_of_document document events flat
