@@ -6,7 +6,7 @@ use Rattle.std.specs.Prelude.{if◌then◌else◌}
 use Rattle.std.proofs.Math.Nat.{min-eq_left, add-zero}
 use Rattle.md_base.specs.declared.event.Event.{Event}
 use Rattle.md_html.specs.Work.{is_definition, before_definition}
-use Rattle.md_html.specs.Counting.{capped}
+use Rattle.md_measure.specs.Counting.{capped}
 
 -- what is counted is all
 pub all-added : (counted later whole : ℕ) → counted ≤ 2 ^ 128 - 1 → later ≡ 0 →

@@ -16,7 +16,7 @@ use Rattle.md_shape.specs.State.{captures}
 use Rattle.md_shape.specs.Sides.{opens, closes}
 use Rattle.md_shape.specs.Steps.{first_or, others_of}
 use Rattle.md_html.specs.Fits.{ends, may_end, captured_after, fits}
-use Rattle.md_html.specs.Nesting.{is_none}
+use Rattle.md_measure.specs.Nesting.{is_none}
 
 -- ---- lengths
 same : (n : ℕ) → n ≤ n

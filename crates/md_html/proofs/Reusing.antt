@@ -29,7 +29,7 @@ use Rattle.md_html.specs.Reuse.{is_media, length_at, led_lengths, definition_len
 use Rattle.md_html.specs.Reuse.{definition_lengths, referred, is_call, entries, call_texts, reuse}
 use Rattle.md_html.specs.Work.{covered, covered_from}
 use Rattle.md_text.specs.declared.options.CompileOptions.{CompileOptions}
-use Rattle.md_html.specs.Counting.{capped}
+use Rattle.md_measure.specs.Counting.{capped}
 
 lie : true ≡ false → ⊥
 lie h = cc

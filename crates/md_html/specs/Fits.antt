@@ -7,7 +7,7 @@ use Rattle.md_base.specs.declared.event.Kind.TheVariants.{Enter, Exit}
 use Rattle.md_shape.specs.Run.{Noticed, passes}
 use Rattle.md_shape.specs.State.{captures}
 use Rattle.md_shape.specs.Steps.{is_passed}
-use Rattle.md_html.specs.Nesting.{is_none}
+use Rattle.md_measure.specs.Nesting.{is_none}
 
 -- an event begins a captured text, or ends one
 abbrev pub begins : Event → Bool

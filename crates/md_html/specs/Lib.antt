@@ -4,17 +4,16 @@
 pub mod Promises
 pub mod Safe
 pub mod SafeHtml
-pub mod Nesting
 pub mod Unnested
 pub mod Work
 pub mod Reuse
 pub mod Lengths
 pub mod Within
 pub mod SafeWithin
-pub mod Counting
 -- The events between two indices, the steps at them, and the text of all: only contracts of private
 -- functions cite these.
 pub mod Windows
 pub mod Fits
 pub mod Stepping
 pub mod Printed
+pub mod MeasuredEvents

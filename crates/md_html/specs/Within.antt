@@ -1,5 +1,5 @@
 -- Why there is no text within limits.
-use Rattle.std.specs.Prelude.{◌≡◌, ◌⊎◌, ◌≤◌, ◌<◌, ℕ, List, length, codes}
+use Rattle.std.specs.Prelude.{◌≡◌, ◌⊎◌, ◌≤◌, ◌<◌, ◌+◌, ◌*◌, ℕ, List, length, codes}
 use Rattle.md_base.specs.declared.event.Event.{Event}
 use Rattle.md_base.specs.Tree.{Forest, flatten}
 use Rattle.md_text.specs.declared.options.CompileOptions.{CompileOptions}
@@ -7,7 +7,13 @@ use Rattle.md_tree.specs.Grammar.{Handed, IsChecked}
 use Rattle.md_tree.specs.Names.{message_of}
 use Rattle.md_tree.specs.declared.rule.CompileError.{CompileError}
 use Rattle.md_meaning.specs.Meaning.{meaning}
+use Rattle.md_length.specs.Bound.{text_bound}
 use Rattle.md_depth.specs.Depth.{depth}
+use Rattle.md_depth.specs.Levels.{NestsWithin}
+use Rattle.md_safe.specs.Options.{KeepsGrammar}
+use Rattle.md_tree.specs.Refusal.{IsRefusal}
+use Rattle.md_html.specs.Promises.{Promises}
+use Rattle.md_html.specs.declared.within.Limits.{Limits}
 use Rattle.md_html.specs.Work.{work}
 use Rattle.md_html.specs.Reuse.{reuse}
 use Rattle.md_html.specs.declared.within.WithinError.{WithinError}
@@ -62,6 +68,27 @@ OfWithin claim TooLong = Unit {0}
 OfWithin claim TooMuch = Unit {0}
 OfWithin claim TooDeep = Unit {0}
 OfWithin claim (Compile cause) = claim cause
+
+-- what is promised of a text within limits
+pub record WithinPromises (options : CompileOptions) (given : Handed) (limits : Limits)
+    (text : List ℕ) : Type 0 where
+  pub within : length text ≤ limits.text
+  pub work : work given.events ≤ limits.work
+  pub depth : depth given.events ≤ limits.depth
+  pub nesting : KeepsGrammar options → NestsWithin (2 * limits.depth + 5) text
+  pub reuse : IsReuseWithin options given limits.work
+  pub bounded : length text
+      ≤ text_bound options given.names (length given.events) (2 * limits.work)
+  pub promises : Promises options given text
+
+-- what is promised where there is no text within limits
+pub record WithinRefusal (options : CompileOptions) (given : Handed) (limits : Limits)
+    (why : WithinError) : Type 0 where
+  pub too_deep : IsTooDeepFor given.events limits.depth why
+  pub too_much : IsTooMuchFor options given limits.work why
+  pub too_long : OfTooLong (IsLonger options given limits.text) why
+  pub long_grammatical : OfTooLong (IsChecked given) why
+  pub refused : OfWithin (IsRefusal given) why
 
 -- the line that an error prints
 abbrev pub within_line : WithinError → List ℕ

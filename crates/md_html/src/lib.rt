@@ -2,9 +2,7 @@
 #![tactic(auto)]
 
 mod compiler;
-mod covered;
 mod definitions;
-mod depth;
 mod ending;
 pub mod laws;
 mod rendering;
@@ -31,5 +29,8 @@ pub use md_tree::{
 pub use reuse::reuse_of;
 pub use safe_html::{SafeError, SafeHtml, compile_safe};
 pub use unnested::{UnnestedError, compile_unnested, has_nested_link};
-pub use within::{Limits, SafeWithinError, WithinError, compile_safe_within, compile_within};
-pub use work::{depth_of, is_over, work_of};
+pub use within::{
+    Limits, SafeWithinError, WithinError, compile_safe_measured, compile_safe_within,
+    compile_within,
+};
+pub use work::{MeasuredEvents, depth_of, is_over, work_of};

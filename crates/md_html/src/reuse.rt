@@ -11,12 +11,12 @@ ghost use Rattle.md_html.specs.Work.{before_definition, read_length, covered, en
 ghost use Rattle.md_html.specs.Reuse.{reuse, definition_length, definition_lengths, length_at};
 ghost use Rattle.md_html.specs.Reuse.{referred, is_media, is_call, entries, call_texts};
 ghost use Rattle.md_html.specs.Reuse.{option_length};
-ghost use Rattle.md_html.specs.Counting.{capped};
+ghost use Rattle.md_measure.specs.Counting.{capped};
 
-use crate::covered::Progress;
-use crate::work::{is_read, measure};
+use crate::work::measure;
 use md_base::name_tests::is_link_definition;
 use md_base::{Event, Kind, Name};
+use md_measure::{Progress, is_call, is_read};
 use md_text::CompileOptions;
 use md_tree::Checked;
 use std::alloc::{AllocError, Global};
@@ -47,7 +47,7 @@ pub fn reuse_of(
     ensures { IfOk result (λ used. (document : Forest) → flatten document ≡ checked.now.events
         → used ≡ min (reuse options.now checked.now.bytes document) (2 ^ 64 - 1)) }
 {
-    let calls = measure(checked.events()).calls;
+    let calls = measure(checked.events()).calls();
     let used = count_reuse(alloc, checked, options, calls)?;
     Ok(used.min(usize::MAX as u128) as usize)
 }
@@ -241,25 +241,6 @@ fn is_media(name: Name) -> bool
     ensures { result ≡ is_media name }
 {
     matches!(name, Name::Link | Name::Image)
-}
-
-/// Whether a name is that of a footnote call.
-#[inline(always)]
-fn is_call(name: Name) -> bool
-    ensures { result ≡ is_call name }
-{
-    matches!(name, Name::GfmFootnoteCall)
-}
-
-/// One if an event enters a footnote call, else 0.
-#[inline(always)]
-pub(crate) fn calls_entered(event: &Event) -> usize
-    ensures { result ≡ (if enters is_call event.now then 1 else 0) }
-{
-    match event.kind {
-        Kind::Enter => is_call(event.name) as usize,
-        Kind::Exit => 0,
-    }
 }
 
 /// The lengths of the option texts that a footnote call prints.

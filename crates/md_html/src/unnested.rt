@@ -5,17 +5,16 @@ ghost use Rattle.std.specs.Prelude.{◌≡◌, ◌<◌, ◌^◌, OnOk, IfOk, IfE
 ghost use Rattle.md_base.specs.Tree.{Forest, flatten};
 ghost use Rattle.md_tree.specs.Grammar.{IsChecked, handed};
 ghost use Rattle.md_tree.specs.Refusal.{IsRefusal};
-ghost use Rattle.md_safe.specs.Links.{has_nested_link, prints_link};
+ghost use Rattle.md_safe.specs.Links.{has_nested_link};
 ghost use Rattle.md_safe.specs.Built.{IsBuiltAsRead};
 ghost use Rattle.md_safe.specs.Options.{KeepsImages};
 ghost use Rattle.md_html.specs.Promises.{SafePromises};
 ghost use Rattle.md_html.specs.Safe.{IsRefusedFor, OfCompile};
-ghost use Rattle.md_html.specs.Nesting.{is_nested, is_link, is_image, link_after, images_after};
-ghost use Rattle.md_html.specs.Nesting.{bears_on_links};
 ghost use Rattle.md_html.specs.Unnested.{AreUnnested, AreNested, OfSafe, OfNested};
 
 use crate::safe_html::{SafeError, SafeHtml, compile_safe};
-use md_base::{Event, Kind, Name};
+use md_base::Event;
+use md_measure::Links;
 use md_text::CompileOptions;
 use std::alloc::Global;
 use std::fmt;
@@ -110,95 +109,11 @@ pub fn has_nested_link(events: &[Event]) -> bool
     ensures { (document : Forest) → flatten document ≡ events.now
         → result ≡ has_nested_link false document }
 {
-    let mut in_link = false;
-    let mut images = 0;
+    let mut links = Links::new();
     let mut rest = events;
     while let Some((event, following)) = rest.split_first() {
-        if bears_on_links(event.name) {
-            if is_nested(in_link, images, event) {
-                return true;
-            }
-            in_link = link_after(in_link, images, event);
-            images = images_after(images, event);
-        }
+        links = links.after(event);
         rest = following;
     }
-    false
-}
-
-/// Whether a name prints a link, or is that of an image.
-#[inline(always)]
-fn bears_on_links(name: Name) -> bool
-    ensures { result ≡ bears_on_links name }
-{
-    matches!(
-        name,
-        Name::Link
-            | Name::Image
-            | Name::AutolinkEmail
-            | Name::AutolinkProtocol
-            | Name::GfmFootnoteCall
-    )
-}
-
-/// Whether an event begins a link in a link, outside images.
-#[inline(always)]
-fn is_nested(in_link: bool, images: usize, event: &Event) -> bool
-    ensures { result ≡ is_nested in_link images event.now }
-{
-    match event.kind {
-        Kind::Enter => images == 0 && in_link && prints_link(event.name),
-        Kind::Exit => false,
-    }
-}
-
-/// Whether the events after an event are in a link, outside images.
-#[inline(always)]
-fn link_after(in_link: bool, images: usize, event: &Event) -> bool
-    ensures { result ≡ link_after in_link images event.now }
-{
-    if images == 0 && is_link(event.name) {
-        return matches!(event.kind, Kind::Enter);
-    }
-    in_link
-}
-
-/// How many images contain the events after an event.
-#[inline(always)]
-fn images_after(images: usize, event: &Event) -> usize
-    requires { images < 2 ^ 63 }
-    ensures { result ≡ images_after images event.now }
-{
-    if !is_image(event.name) {
-        return images;
-    }
-    match event.kind {
-        Kind::Enter => images + 1,
-        Kind::Exit => images.saturating_sub(1),
-    }
-}
-
-/// Whether a name prints a link except in images.
-#[inline(always)]
-fn prints_link(name: Name) -> bool
-    ensures { result ≡ prints_link name }
-{
-    matches!(
-        name,
-        Name::Link | Name::AutolinkEmail | Name::AutolinkProtocol | Name::GfmFootnoteCall
-    )
-}
-
-#[inline(always)]
-fn is_link(name: Name) -> bool
-    ensures { result ≡ is_link name }
-{
-    matches!(name, Name::Link)
-}
-
-#[inline(always)]
-fn is_image(name: Name) -> bool
-    ensures { result ≡ is_image name }
-{
-    matches!(name, Name::Image)
+    links.nested
 }

@@ -4,20 +4,21 @@ ghost use Rattle.std.specs.Prelude.{◌≡◌, ◌+◌, ◌*◌, ◌≤◌, OnOk
 ghost use Rattle.md_base.specs.Reference.{name_table};
 ghost use Rattle.md_tree.specs.Grammar.{IsChecked, handed};
 ghost use Rattle.md_tree.specs.Refusal.{IsRefusal};
-ghost use Rattle.md_safe.specs.Options.{KeepsGrammar};
+ghost use Rattle.md_safe.specs.Options.{KeepsGrammar, KeepsImages};
 ghost use Rattle.md_length.specs.Bound.{text_bound};
 ghost use Rattle.md_depth.specs.Depth.{depth};
 ghost use Rattle.md_depth.specs.Levels.{NestsWithin};
 ghost use Rattle.md_html.specs.Promises.{Promises, SafePromises};
 ghost use Rattle.md_html.specs.Work.{work};
 ghost use Rattle.md_html.specs.Within.{IsLonger, IsReuseWithin, OfTooLong, IsTooMuchFor, OfWithin};
-ghost use Rattle.md_html.specs.Within.{IsTooDeepFor};
+ghost use Rattle.md_html.specs.Within.{IsTooDeepFor, WithinPromises, WithinRefusal};
+ghost use Rattle.md_html.specs.MeasuredEvents.{handed_by};
 ghost use Rattle.md_html.specs.SafeWithin.{IsUnsafeFor, OfLimits};
 
 use crate::rendering_within::render_within;
 use crate::reuse::is_reuse_over;
 use crate::safe_html::{SafeHtml, are_safe};
-use crate::work::measure;
+use crate::work::{MeasuredEvents, exceeds};
 use md_base::Event;
 use md_text::CompileOptions;
 use md_tree::{CompileError, check};
@@ -144,21 +145,63 @@ pub fn compile_within(
         (OfTooLong (IsChecked (handed events.now bytes.now names.now))) }
     ensures refused { IfErr result (OfWithin (IsRefusal (handed events.now bytes.now names.now))) }
 {
-    let measured = measure(events);
-    if measured.depth > limits.depth {
+    let measured = MeasuredEvents::new(events, bytes, names);
+    compile_measured(alloc, &measured, options, limits)
+}
+
+/// Compiles measured events to HTML, if they are within limits, as [`compile_within`] does.
+fn compile_measured(
+    alloc: Global,
+    given: &MeasuredEvents,
+    options: &CompileOptions,
+    limits: Limits,
+) -> Result<String, WithinError>
+    ensures text { IfOk result (λ text.
+        WithinPromises options.now (handed_by given.now) limits (string_bytes text)) }
+    ensures refused { IfErr result (WithinRefusal options.now (handed_by given.now) limits) }
+{
+    if given.measure.depth() > limits.depth {
         return Err(WithinError::TooDeep);
     }
-    if measured.is_over(limits.work) {
+    if exceeds(given.measure.work(), limits.work) {
         return Err(WithinError::TooMuch);
     }
-    let checked = check(alloc, events, bytes, names)?;
-    if is_reuse_over(alloc, &checked, options, limits.work, measured.calls)? {
+    let checked = check(alloc, given.events, given.bytes, given.names)?;
+    if is_reuse_over(alloc, &checked, options, limits.work, given.measure.calls())? {
         return Err(WithinError::TooMuch);
     }
     match render_within(alloc, &checked, options, limits.text)? {
         Some(text) => Ok(text),
         None => Err(WithinError::TooLong),
     }
+}
+
+/// Compiles measured events to HTML under safe options, if they are within limits, as
+/// [`compile_safe_within`] does.
+///
+/// # Errors
+///
+/// The errors of [`compile_within`].
+///
+/// # Examples
+///
+/// ```
+/// let measured = MeasuredEvents::new(&events, bytes, names);
+/// let html = compile_safe_measured(alloc, &measured, &CompileOptions::gfm(), limits)?;
+/// ```
+pub fn compile_safe_measured(
+    alloc: Global,
+    given: &MeasuredEvents,
+    options: &CompileOptions,
+    limits: Limits,
+) -> Result<SafeHtml, WithinError>
+    requires { KeepsImages options.now }
+    ensures within { IfOk result (WithinPromises options.now (handed_by given.now) limits) }
+    ensures promises { IfOk result (SafePromises options.now (handed_by given.now)) }
+    ensures refused { IfErr result (WithinRefusal options.now (handed_by given.now) limits) }
+{
+    let text = compile_measured(alloc, given, options, limits)?;
+    Ok(SafeHtml::new(text))
 }
 
 /// Why there is no safe text within limits.

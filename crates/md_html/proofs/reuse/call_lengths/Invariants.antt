@@ -3,7 +3,7 @@
 use Rattle.std.proofs.Common.{◌≡◌, ◌+◌, ◌-◌, ◌^◌, ◌≤◌, length}
 use Rattle.md_html.specs.Work.{covered_from, covered}
 use Rattle.md_html.specs.Reuse.{is_call}
-use Rattle.md_html.specs.Counting.{capped}
+use Rattle.md_measure.specs.Counting.{capped}
 use Rattle.md_html.proofs.reuse.call_lengths.Given as goal
 
 abbrev pub invariant-loop-event : goal.invariant-loop-event

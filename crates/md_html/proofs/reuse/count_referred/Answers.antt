@@ -1,7 +1,7 @@
 -- If there are no definitions, nothing refers to one.
 use Rattle.std.proofs.Common.{◌≡◌, ℕ, List, length, rules, ap, sym, ◌∙◌}
 use Rattle.std.proofs.lemmas.List.{nil_from_length}
-use Rattle.md_html.specs.Counting.{capped}
+use Rattle.md_measure.specs.Counting.{capped}
 use Rattle.md_html.proofs.Reusing.{none-referred}
 use Rattle.md_html.proofs.reuse.count_referred.Goals as goal
 

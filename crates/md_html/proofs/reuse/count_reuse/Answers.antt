@@ -1,7 +1,7 @@
 -- If there are no footnote calls, only references count.
 use Rattle.std.proofs.Common.{◌≡◌, rules, ap, sym, ◌∙◌}
 use Rattle.md_html.specs.Reuse.{entries, is_call}
-use Rattle.md_html.specs.Counting.{capped}
+use Rattle.md_measure.specs.Counting.{capped}
 use Rattle.md_html.proofs.Reusing.{none-called}
 use Rattle.md_html.proofs.reuse.count_reuse.Goals as goal
 

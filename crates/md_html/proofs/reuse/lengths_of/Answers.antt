@@ -5,7 +5,7 @@ use Rattle.std.proofs.lemmas.List.{take_all}
 use Rattle.md_base.specs.declared.event.Name.TheVariants.{Definition}
 use Rattle.md_tree.specs.Texts.{EntersAt}
 use Rattle.md_html.specs.Reuse.{definition_length}
-use Rattle.md_html.specs.Counting.{capped}
+use Rattle.md_measure.specs.Counting.{capped}
 use Rattle.md_html.proofs.Reusing.{entered-within, lengths-capped}
 use Rattle.md_html.proofs.reuse.lengths_of.Goals as goal
 

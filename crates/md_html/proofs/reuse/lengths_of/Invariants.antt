@@ -2,7 +2,7 @@
 use Rattle.std.proofs.Common.{◌≡◌, take}
 use Rattle.std.specs.Prelude.{map}
 use Rattle.md_html.specs.Reuse.{definition_length}
-use Rattle.md_html.specs.Counting.{capped}
+use Rattle.md_measure.specs.Counting.{capped}
 use Rattle.md_html.proofs.reuse.lengths_of.Given as goal
 
 abbrev pub invariant-loop-entry : goal.invariant-loop-entry

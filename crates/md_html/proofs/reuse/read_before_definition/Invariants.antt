@@ -2,7 +2,7 @@
 -- length before it; no more nodes are open than events were visited.
 use Rattle.std.proofs.Common.{◌≡◌, ◌+◌, ◌-◌, ◌^◌, ◌≤◌, length}
 use Rattle.md_html.specs.Work.{before_definition, read_length}
-use Rattle.md_html.specs.Counting.{capped}
+use Rattle.md_measure.specs.Counting.{capped}
 use Rattle.md_html.proofs.reuse.read_before_definition.Given as goal
 use Rattle.md_length.proofs.Lengths.{read_from}
 

@@ -1,7 +1,7 @@
 -- Elsewhere no mention refers to a definition.
 use Rattle.std.proofs.Common.{ap, sym, ◌∙◌}
 use Rattle.md_html.specs.Reuse.{length_at, definition_lengths}
-use Rattle.md_html.specs.Counting.{capped}
+use Rattle.md_measure.specs.Counting.{capped}
 use Rattle.md_html.proofs.Reusing.{none-led}
 use Rattle.md_html.proofs.reuse.referred_at.Goals as goal
 

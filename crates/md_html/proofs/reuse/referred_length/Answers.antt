@@ -5,7 +5,7 @@ use Rattle.std.proofs.lemmas.List.{nil_from_length}
 use Rattle.md_tree.specs.Mentions.{mentions_of}
 use Rattle.md_tree.specs.Numbers.{definition_for}
 use Rattle.md_html.specs.Reuse.{definition_lengths, led_lengths, length_at, referred}
-use Rattle.md_html.specs.Counting.{capped}
+use Rattle.md_measure.specs.Counting.{capped}
 use Rattle.md_html.proofs.Counting.{all-added}
 use Rattle.md_html.proofs.Reusing.{first-there, others-there, mention-at, led-step, capped-more}
 use Rattle.md_html.proofs.Reusing.{led-all}

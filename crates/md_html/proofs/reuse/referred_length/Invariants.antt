@@ -5,7 +5,7 @@ use Rattle.md_base.specs.Tree.{Forest, flatten}
 use Rattle.md_tree.specs.Mentions.{mentions_of}
 use Rattle.md_tree.specs.Numbers.{definition_for}
 use Rattle.md_html.specs.Reuse.{definition_lengths, led_lengths, referred}
-use Rattle.md_html.specs.Counting.{capped}
+use Rattle.md_measure.specs.Counting.{capped}
 use Rattle.md_html.proofs.reuse.referred_length.Given as goal
 
 abbrev pub invariant-loop-event : goal.invariant-loop-event
