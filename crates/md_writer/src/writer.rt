@@ -1,12 +1,15 @@
 //! Events in order.
 
-ghost use Rattle.std.specs.Prelude.{◌≡◌, ◌≤◌, ◌<◌, ◌++◌, ◌∷◌, [], OnOk};
+ghost use Rattle.std.specs.Prelude.{◌≡◌, ◌≤◌, ◌<◌, ◌++◌, ◌∷◌, [], OnOk, vec_len};
+ghost use Rattle.std.specs.Vec.{vec_capacity};
 ghost use Rattle.md_base.specs.declared.event.Name.TheVariants.{Data};
 ghost use Rattle.md_base.specs.Tree.{entering, exiting};
+ghost use Rattle.md_measure.specs.Measured.{IsMeasured};
 ghost use Rattle.md_writer.specs.Written.{point_at};
 
 use md_base::{Event, Kind, Name, Point};
 use md_lines::Span;
+use md_measure::Measure;
 use md_references::UsedNames;
 use std::alloc::{AllocError, Global};
 
@@ -28,6 +31,8 @@ pub enum Url {
 pub struct Writer {
     /// The events so far.
     pub events: Vec<Event>,
+    /// Their measure.
+    pub measure: Measure,
     /// The bytes that were appended to the document.
     pub added: Vec<u8>,
     /// The length of the document in bytes.
@@ -37,6 +42,7 @@ pub struct Writer {
     are_referred: Vec<bool>,
     /// For each definition the resolution of its URL.
     urls: Vec<Url>,
+    pub ghost measured: { IsMeasured measure events.items },
 }
 
 impl Writer {
@@ -47,6 +53,7 @@ impl Writer {
     {
         Writer {
             events: Vec::new(alloc),
+            measure: Measure::new(),
             added: Vec::new(alloc),
             length,
             names: UsedNames::new(alloc),
@@ -184,7 +191,7 @@ impl Writer {
     /// # Errors
     ///
     /// Returns an error only if memory runs out.
-    #[inline]
+    #[inline(always)]
     pub fn data(&mut self, start: usize, end: usize) -> Result<(), AllocError>
         ensures some { start < end → OnOk result (self.new.events.items ≡ self.old.events.items
             ++ entering Data (point_at start 0) ∷ exiting Data (point_at end 0) ∷ []) }
@@ -227,7 +234,22 @@ impl Writer {
             index,
             vs,
         };
-        self.events.push(Event { kind, name, point })?;
+        let event = Event { kind, name, point };
+        make_room(&mut self.events)?;
+        self.measure.note(&event);
+        self.events.push_reserved(event);
         Ok(())
     }
+}
+
+/// Reserves capacity for one more event. Usually there is some, and no call is made.
+#[inline(always)]
+fn make_room(events: &mut Vec<Event>) -> Result<(), AllocError>
+    ensures events { events.new.items ≡ events.old.items }
+    ensures room { OnOk result (vec_len events.new < vec_capacity events.new) }
+{
+    if events.len() == events.capacity() {
+        events.reserve(1)?;
+    }
+    Ok(())
 }
