@@ -37,16 +37,12 @@ use Rattle.md_depth.specs.Levels.{NestsWithin}
 use Rattle.md_depth.proofs.Nodes.{events-nest}
 use Rattle.md_depth.proofs.WholeMoves.{elements-nest}
 use Rattle.md_html.specs.Safe.{IsRefusedFor, OfCompile}
-use Rattle.md_html.specs.Unnested.{AreNested, OfSafe, OfNested}
 use Rattle.md_html.specs.Within as limited
 use limited.{OfWithin}
-use Rattle.md_html.specs.SafeWithin.{IsUnsafeFor, OfLimits}
+use Rattle.md_html.specs.declared.safe_html.SafeError.{SafeError}
 use Rattle.md_html.specs.declared.safe_html.SafeError.TheVariants as safe
-use Rattle.md_html.specs.declared.unnested.UnnestedError.{UnnestedError}
-use Rattle.md_html.specs.declared.unnested.UnnestedError.TheVariants as unnested
+use Rattle.md_html.specs.declared.within.WithinError.{WithinError}
 use Rattle.md_html.specs.declared.within.WithinError.TheVariants as within
-use Rattle.md_html.specs.declared.within.SafeWithinError.{SafeWithinError}
-use Rattle.md_html.specs.declared.within.SafeWithinError.TheVariants as safe_within
 use Rattle.md_markdown.specs.Made.{IsMadeOver}
 use Rattle.md_markdown.specs.Depth.{most_depth}
 use Rattle.md_markdown.specs.Parsed.{IsShown, is_memory, of_limits}
@@ -150,22 +146,23 @@ is_shown given most checked unnested few = record {
 }
 
 -- the compiler has a text of a document that is shown, within limits or not
-pub never_shown : (given : Handed) (options : CompileOptions) (most : ℕ) (why : SafeWithinError)
-    (document : Forest) → KeepsImages options → OfLimits (limited.IsTooDeepFor given.events most) why →
-    IsUnsafeFor options why → OfLimits (OfWithin (IsRefusal given)) why → of_limits why ≡ None →
-    IsShown given most document → ⊥
-never_shown given options most safe_within.Options document kept deep unsafe refused other shown =
-    unsafe kept
-never_shown given options most (safe_within.Within within.TooLong) document kept deep unsafe
-    refused other shown = none-some _ (sym other)
-never_shown given options most (safe_within.Within within.TooDeep) document kept deep unsafe
-    refused other shown = too_deep given most document deep shown
-never_shown given options most (safe_within.Within within.TooMuch) document kept deep unsafe
-    refused other shown = none-some _ (sym other)
-never_shown given options most (safe_within.Within (within.Compile refusal.Memory)) document kept
-    deep unsafe refused other shown = none-some _ (sym other)
-never_shown given options most (safe_within.Within (within.Compile (refusal.Event index rule)))
-    document kept deep unsafe refused other shown = refused.outside (document, shown.read)
+pub never_shown : (given : Handed) (most : ℕ) (why : WithinError) (document : Forest) →
+    limited.IsTooDeepFor given.events most why → OfWithin (IsRefusal given) why →
+    of_limits why ≡ None → IsShown given most document → ⊥
+never_shown given most within.TooLong document deep refused other shown = none-some _ (sym other)
+never_shown given most within.TooDeep document deep refused other shown =
+    too_deep given most document deep shown
+never_shown given most within.TooMuch document deep refused other shown = none-some _ (sym other)
+never_shown given most (within.Compile refusal.Memory) document deep refused other shown =
+    none-some _ (sym other)
+never_shown given most (within.Compile (refusal.Event index rule)) document deep refused other
+    shown = refused.outside (document, shown.read)
+
+-- nor is a document shown in which a link contains a link
+pub never_nested : (given : Handed) (most : ℕ) (document : Forest) (nested : Bool) →
+    nested ≡ has_nested_link false document → nested ≡ true → IsShown given most document → ⊥
+never_nested given most document nested is found shown =
+    true≢false (sym found ∙ is ∙ shown.unnested)
 
 -- the elements of what a document means
 pub meant_nests : (given : Handed) (options : CompileOptions) (html : List ℕ) →
@@ -217,32 +214,27 @@ module _ (events : List Event) (bytes text : List ℕ)
   }
 
   -- they have a text, so that nothing but memory can be missing
-  pub never : (options : CompileOptions) (why : UnnestedError) → KeepsImages options →
-      OfNested (AreNested events) why → OfSafe (IsRefusedFor options) why →
-      OfSafe (OfCompile (IsRefusal (handed events bytes []))) why → is_memory why ≡ false → ⊥
-  never options unnested.Nested safe nested unsafe refused other =
-      true≢false (sym (nested (plain (length text)) (sym same)))
-  never options (unnested.Safe safe.Options) kept nested unsafe refused other = unsafe kept
-  never options (unnested.Safe (safe.Compile refusal.Memory)) kept nested unsafe refused other =
-      true≢false other
-  never options (unnested.Safe (safe.Compile (refusal.Event index rule))) kept nested unsafe
-      refused other = refused.outside (checked [])
+  pub never : (options : CompileOptions) (why : SafeError) → KeepsImages options →
+      IsRefusedFor options why → OfCompile (IsRefusal (handed events bytes [])) why →
+      is_memory why ≡ false → ⊥
+  never options safe.Options kept unsafe refused other = unsafe kept
+  never options (safe.Compile refusal.Memory) kept unsafe refused other = true≢false other
+  never options (safe.Compile (refusal.Event index rule)) kept unsafe refused other =
+      refused.outside (checked [])
 
-  pub never_within : (options : CompileOptions) (why : SafeWithinError) → KeepsImages options →
-      OfLimits (limited.IsTooDeepFor events most_depth) why → IsUnsafeFor options why →
-      OfLimits (OfWithin (IsRefusal (handed events bytes []))) why → of_limits why ≡ None → ⊥
-  never_within options safe_within.Options kept deep unsafe refused other = unsafe kept
-  never_within options (safe_within.Within within.TooLong) kept deep unsafe refused other =
-      none-some _ (sym other)
-  never_within options (safe_within.Within within.TooDeep) kept deep unsafe refused other =
-      let two : depth events ≡ 2 = ap depth same ∙ events-nest (plain (length text)) in
+  pub never_within : (given : Handed) (why : WithinError) → given ≡ handed events bytes [] →
+      limited.IsTooDeepFor given.events most_depth why → OfWithin (IsRefusal given) why →
+      of_limits why ≡ None → ⊥
+  never_within given within.TooLong is deep refused other = none-some _ (sym other)
+  never_within given within.TooDeep is deep refused other =
+      let two : depth given.events ≡ 2 =
+      ap (λ (g : Handed). depth g.events) is ∙ ap depth same ∙ events-nest (plain (length text)) in
       omega (arith, deep, two)
-  never_within options (safe_within.Within within.TooMuch) kept deep unsafe refused other =
+  never_within given within.TooMuch is deep refused other = none-some _ (sym other)
+  never_within given (within.Compile refusal.Memory) is deep refused other =
       none-some _ (sym other)
-  never_within options (safe_within.Within (within.Compile refusal.Memory)) kept deep unsafe
-      refused other = none-some _ (sym other)
-  never_within options (safe_within.Within (within.Compile (refusal.Event index rule))) kept deep
-      unsafe refused other = refused.outside (checked [])
+  never_within given (within.Compile (refusal.Event index rule)) is deep refused other =
+      refused.outside (subst IsChecked (sym is) (checked []))
 
   -- its elements nest no deeper than they may
   pub nested : (options : CompileOptions) (html : List ℕ) → KeepsImages options →

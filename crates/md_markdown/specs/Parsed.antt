@@ -1,24 +1,17 @@
 -- The parser's result for a document, and what its text is. No public contract cites this.
 use Rattle.std.specs.Prelude.{◌≡◌, ◌⊎◌, ◌≤◌, ℕ, Bool, true, false, List, Option, Some, None}
 use Rattle.md_base.specs.Tree.{Forest}
-use Rattle.md_tree.specs.Grammar.{Handed, IsReadAs, handed}
+use Rattle.md_tree.specs.Grammar.{Handed, IsReadAs}
 use Rattle.md_depth.specs.Depth.{height}
 use Rattle.md_safe.specs.Links.{has_nested_link}
 use Rattle.md_tree.specs.declared.rule.CompileError.TheVariants as refusal
+use Rattle.md_html.specs.declared.safe_html.SafeError.{SafeError}
 use Rattle.md_html.specs.declared.safe_html.SafeError.TheVariants as safe
-use Rattle.md_html.specs.declared.unnested.UnnestedError.{UnnestedError}
-use Rattle.md_html.specs.declared.unnested.UnnestedError.TheVariants as unnested
+use Rattle.md_html.specs.declared.within.WithinError.{WithinError}
 use Rattle.md_html.specs.declared.within.WithinError.TheVariants as within
-use Rattle.md_html.specs.declared.within.SafeWithinError.{SafeWithinError}
-use Rattle.md_html.specs.declared.within.SafeWithinError.TheVariants as safe_within
 use Rattle.md_markdown.specs.Made.{IsMadeOver}
 use Rattle.md_markdown.specs.declared.error.MarkdownWithinError.{MarkdownWithinError}
 use Rattle.md_markdown.specs.declared.error.MarkdownWithinError.TheVariants as error
-use Rattle.md_markdown.specs.declared.compiling.Parsed.{Parsed}
-
--- the input of the compiler
-abbrev pub given_by : Parsed → Handed
-given_by parsed = handed parsed.events.now parsed.bytes.now parsed.names.now
 
 -- a document of the grammar that the events flatten, in which no link contains a link, and whose
 -- nodes nest no deeper than this
@@ -32,13 +25,13 @@ abbrev pub IsMadeOfEither : List ℕ → List ℕ → List ℕ → Type 0
 IsMadeOfEither bytes document text = IsMadeOver bytes text ⊎ IsMadeOver document text
 
 -- memory ran out
-abbrev pub is_memory : UnnestedError → Bool
-is_memory (unnested.Safe (safe.Compile refusal.Memory)) = true
+abbrev pub is_memory : SafeError → Bool
+is_memory (safe.Compile refusal.Memory) = true
 is_memory _ = false
 
 -- the error of a document for an error other than an event that breaks a rule
-abbrev pub of_limits : SafeWithinError → Option MarkdownWithinError
-of_limits (safe_within.Within within.TooLong) = Some error.TooLong
-of_limits (safe_within.Within within.TooMuch) = Some error.TooMuch
-of_limits (safe_within.Within (within.Compile refusal.Memory)) = Some error.Memory
+abbrev pub of_limits : WithinError → Option MarkdownWithinError
+of_limits within.TooLong = Some error.TooLong
+of_limits within.TooMuch = Some error.TooMuch
+of_limits (within.Compile refusal.Memory) = Some error.Memory
 of_limits _ = None

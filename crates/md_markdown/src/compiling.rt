@@ -9,18 +9,18 @@ ghost use Rattle.md_safe.specs.Built.{IsBuiltAsRead};
 ghost use Rattle.md_safe.specs.Options.{KeepsImages};
 ghost use Rattle.md_safe.specs.Tokenized.{IsSafelyTokenized};
 ghost use Rattle.md_text.specs.Ids.{HasDistinctIds};
+ghost use Rattle.md_html.specs.MeasuredEvents.{handed_by};
 ghost use Rattle.md_markdown.specs.Made.{IsMadeOf, MayBeAdded};
 ghost use Rattle.md_markdown.specs.Plain.{plain_text};
 ghost use Rattle.md_markdown.specs.Depth.{most_depth};
-ghost use Rattle.md_markdown.specs.Parsed.{IsShown, IsMadeOfEither, given_by};
+ghost use Rattle.md_markdown.specs.Parsed.{IsShown, IsMadeOfEither};
 
 use crate::error::{MarkdownWithinError, is_memory, of_limits};
 use crate::events::write_events;
 use crate::options::MarkdownOptions;
 use crate::plain::{Within, compile_plain, compile_plain_within};
-use md_base::Event;
 use md_blocks::parse_blocks;
-use md_html::{Limits, SafeHtml, compile_safe_within, compile_unnested, depth_of, has_nested_link};
+use md_html::{Limits, MeasuredEvents, SafeHtml, compile_safe, compile_safe_measured};
 use md_inlines::Writer;
 use md_text::CompileOptions;
 use std::alloc::{AllocError, Global};
@@ -67,12 +67,12 @@ pub fn markdown(
     let writer = events_of(alloc, bytes, options)?;
     let compile_options = options.for_compiler(alloc)?;
     if writer.added.is_empty() {
-        return compile_or_plain(alloc, &Parsed::new(&writer, bytes), text, &compile_options);
+        return compile_or_plain(alloc, &measured_of(&writer, bytes), text, &compile_options);
     }
     let whole = joined(alloc, bytes, added(&writer, options))?;
     compile_or_plain(
         alloc,
-        &Parsed::new(&writer, whole.as_slice()),
+        &measured_of(&writer, whole.as_slice()),
         text,
         &compile_options,
     )
@@ -120,36 +120,26 @@ pub fn markdown_within(
         },
     };
     if writer.added.is_empty() {
-        return compile_or_plain_within(alloc, &Parsed::new(&writer, bytes), text, &within);
+        return compile_or_plain_within(alloc, &measured_of(&writer, bytes), text, &within);
     }
     let whole = joined(alloc, bytes, added(&writer, options))?;
     compile_or_plain_within(
         alloc,
-        &Parsed::new(&writer, whole.as_slice()),
+        &measured_of(&writer, whole.as_slice()),
         text,
         &within,
     )
 }
 
-/// The parser's result for a document: events over bytes, and the names of character references in
-/// it.
-#[derive(Clone, Copy)]
-struct Parsed<'a> {
-    events: &'a [Event],
-    bytes: &'a [u8],
-    names: &'a [(&'a str, &'a str)],
-}
-
-impl<'a> Parsed<'a> {
-    /// The result of a writer, over bytes.
-    fn new(writer: &'a Writer, bytes: &'a [u8]) -> Parsed<'a>
-        ensures { result.bytes.now ≡ bytes.now }
-    {
-        Parsed {
-            events: writer.events.as_slice(),
-            bytes,
-            names: writer.names(),
-        }
+/// The events of a writer, over bytes.
+fn measured_of<'a>(writer: &'a Writer, bytes: &'a [u8]) -> MeasuredEvents<'a>
+    ensures { result.bytes.now ≡ bytes.now }
+{
+    MeasuredEvents {
+        events: writer.events.as_slice(),
+        bytes,
+        names: writer.names(),
+        measure: writer.measure,
     }
 }
 
@@ -158,16 +148,16 @@ impl<'a> Parsed<'a> {
 /// written.
 fn compile_or_plain(
     alloc: Global,
-    parsed: &Parsed,
+    parsed: &MeasuredEvents,
     text: &str,
     options: &CompileOptions,
 ) -> Result<SafeHtml, AllocError>
     requires safe { KeepsImages options.now }
     ensures kept { IfOk result (λ html. (document : Forest)
-        → IsShown (given_by parsed.now) most_depth document
-        → html ≡ meaning options.now (given_by parsed.now).names parsed.now.bytes.now document) }
+        → IsShown (handed_by parsed.now) most_depth document
+        → html ≡ meaning options.now (handed_by parsed.now).names parsed.now.bytes.now document) }
     ensures plain { IfOk result (λ html. ((document : Forest)
-        → IsShown (given_by parsed.now) most_depth document → ⊥)
+        → IsShown (handed_by parsed.now) most_depth document → ⊥)
         → html ≡ plain_text text.now) }
     ensures made { IfOk result (IsMadeOfEither parsed.now.bytes.now text.now) }
     ensures tokens { IfOk result IsSafelyTokenized }
@@ -177,10 +167,13 @@ fn compile_or_plain(
     ensures distinct_ids { IfOk result
         (λ html. options.now.gfm_footnote_number_ids ≡ true → HasDistinctIds html) }
 {
-    if depth_of(parsed.events) > MAX_DEPTH {
+    if parsed.measure.depth() > MAX_DEPTH {
         return compile_plain(alloc, text, options);
     }
-    match compile_unnested(alloc, parsed.events, parsed.bytes, options, parsed.names) {
+    if parsed.measure.has_nested_link() {
+        return compile_plain(alloc, text, options);
+    }
+    match compile_safe(alloc, parsed.events, parsed.bytes, options, parsed.names) {
         Ok(html) => Ok(html),
         Err(error) if is_memory(&error) => Err(AllocError),
         Err(_) => compile_plain(alloc, text, options),
@@ -190,7 +183,7 @@ fn compile_or_plain(
 /// The same if it is within limits.
 fn compile_or_plain_within(
     alloc: Global,
-    parsed: &Parsed,
+    parsed: &MeasuredEvents,
     text: &str,
     within: &Within,
 ) -> Result<SafeHtml, MarkdownWithinError>
@@ -198,11 +191,11 @@ fn compile_or_plain_within(
     requires depth { within.now.limits.depth ≤ most_depth }
     ensures within { IfOk result (λ html. length html ≤ within.now.limits.text) }
     ensures kept { IfOk result (λ html. (document : Forest)
-        → IsShown (given_by parsed.now) within.now.limits.depth document
-        → html ≡ meaning within.now.options.now (given_by parsed.now).names parsed.now.bytes.now
+        → IsShown (handed_by parsed.now) within.now.limits.depth document
+        → html ≡ meaning within.now.options.now (handed_by parsed.now).names parsed.now.bytes.now
         document) }
     ensures plain { IfOk result (λ html. ((document : Forest)
-        → IsShown (given_by parsed.now) within.now.limits.depth document → ⊥)
+        → IsShown (handed_by parsed.now) within.now.limits.depth document → ⊥)
         → html ≡ plain_text text.now) }
     ensures made { IfOk result (IsMadeOfEither parsed.now.bytes.now text.now) }
     ensures tokens { IfOk result IsSafelyTokenized }
@@ -212,18 +205,10 @@ fn compile_or_plain_within(
     ensures distinct_ids { IfOk result
         (λ html. within.now.options.now.gfm_footnote_number_ids ≡ true → HasDistinctIds html) }
 {
-    if has_nested_link(parsed.events) {
+    if parsed.measure.has_nested_link() {
         return compile_plain_within(alloc, text, within);
     }
-    let (options, limits) = (within.options, within.limits);
-    match compile_safe_within(
-        alloc,
-        parsed.events,
-        parsed.bytes,
-        options,
-        parsed.names,
-        limits,
-    ) {
+    match compile_safe_measured(alloc, parsed, within.options, within.limits) {
         Ok(html) => Ok(html),
         Err(error) => match of_limits(&error) {
             Some(cause) => Err(cause),

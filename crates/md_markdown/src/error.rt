@@ -3,7 +3,7 @@
 ghost use Rattle.std.specs.Prelude.{◌≡◌};
 ghost use Rattle.md_markdown.specs.Parsed.{is_memory, of_limits};
 
-use md_html::{SafeError, SafeWithinError, UnnestedError, WithinError};
+use md_html::{SafeError, WithinError};
 use md_tree::CompileError;
 use std::alloc::AllocError;
 use std::fmt;
@@ -42,25 +42,20 @@ impl From<AllocError> for MarkdownWithinError {
 }
 
 /// Whether an error means that memory ran out.
-pub(crate) fn is_memory(error: &UnnestedError) -> bool
+pub(crate) fn is_memory(error: &SafeError) -> bool
     ensures { result ≡ is_memory error.now }
 {
-    matches!(
-        error,
-        UnnestedError::Safe(SafeError::Compile(CompileError::Memory))
-    )
+    matches!(error, SafeError::Compile(CompileError::Memory))
 }
 
 /// The error of a document for an error other than an event that breaks a rule.
-pub(crate) fn of_limits(error: &SafeWithinError) -> Option<MarkdownWithinError>
+pub(crate) fn of_limits(error: &WithinError) -> Option<MarkdownWithinError>
     ensures { result ≡ of_limits error.now }
 {
     match error {
-        SafeWithinError::Within(WithinError::TooLong) => Some(MarkdownWithinError::TooLong),
-        SafeWithinError::Within(WithinError::TooMuch) => Some(MarkdownWithinError::TooMuch),
-        SafeWithinError::Within(WithinError::Compile(CompileError::Memory)) => {
-            Some(MarkdownWithinError::Memory)
-        }
+        WithinError::TooLong => Some(MarkdownWithinError::TooLong),
+        WithinError::TooMuch => Some(MarkdownWithinError::TooMuch),
+        WithinError::Compile(CompileError::Memory) => Some(MarkdownWithinError::Memory),
         _ => None,
     }
 }

@@ -15,7 +15,7 @@ ghost use Rattle.md_markdown.specs.Plain.{at, plain, plain_text};
 use crate::compiling::MAX_DEPTH;
 use crate::error::{MarkdownWithinError, is_memory, of_limits};
 use md_base::{Event, Kind, Name, Point};
-use md_html::{Limits, SafeHtml, compile_safe_within, compile_unnested};
+use md_html::{Limits, MeasuredEvents, SafeHtml, compile_safe, compile_safe_measured};
 use md_text::CompileOptions;
 use std::alloc::{AllocError, Global};
 
@@ -47,7 +47,7 @@ pub(crate) fn compile_plain(
         (λ html. options.now.gfm_footnote_number_ids ≡ true → HasDistinctIds html) }
 {
     let events = plain_events(text.len());
-    match compile_unnested(alloc, &events, text.as_bytes(), options, &[]) {
+    match compile_safe(alloc, &events, text.as_bytes(), options, &[]) {
         Ok(html) => Ok(html),
         Err(error) if is_memory(&error) => Err(AllocError),
         Err(_) => unreachable!(),
@@ -77,12 +77,12 @@ pub(crate) fn compile_plain_within(
         (λ html. within.now.options.now.gfm_footnote_number_ids ≡ true → HasDistinctIds html) }
 {
     let events = plain_events(text.len());
-    let options = within.options;
+    let measured = MeasuredEvents::new(&events, text.as_bytes(), &[]);
     let limits = Limits {
         depth: MAX_DEPTH,
         ..within.limits
     };
-    match compile_safe_within(alloc, &events, text.as_bytes(), options, &[], limits) {
+    match compile_safe_measured(alloc, &measured, within.options, limits) {
         Ok(html) => Ok(html),
         Err(error) => match of_limits(&error) {
             Some(cause) => Err(cause),

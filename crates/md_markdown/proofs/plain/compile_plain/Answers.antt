@@ -1,5 +1,6 @@
 -- The paragraph is a document of the grammar, whose text is known.
-use Rattle.std.proofs.Common.{sym, ◌∙◌}
+use Rattle.std.proofs.Common.{sym, ◌∙◌, refl, length}
+use Rattle.md_markdown.specs.Plain.{plain}
 use Rattle.md_markdown.proofs.PlainLemmas.{shown, made, never, nested}
 use Rattle.md_markdown.proofs.plain.compile_plain.Goals as goal
 
@@ -7,7 +8,7 @@ pub unreachable-requires : goal.unreachable-requires
 unreachable-requires c =
     never c.plain_events-events.result c.as_bytes.result.now c.args.text.now
     c.plain_events-events.ensures c.as_bytes.ensures.value c.utf8.text c.args.options.now
-    c.in-Err.error c.requires.safe c.in-Err.ensures.nested c.in-Err.ensures.options
+    c.in-Err.error c.requires.safe c.in-Err.ensures.options
     c.in-Err.ensures.refused (sym c.is_memory.ensures ∙ c.if-is_memory.false)
 
 pub returns-in-Ok-clause-text : goal.returns-in-Ok-clause-text
@@ -27,3 +28,8 @@ returns-in-Ok-clause-nesting c =
     nested c.plain_events-events.result c.as_bytes.result.now c.args.text.now
     c.plain_events-events.ensures c.as_bytes.ensures.value c.utf8.text c.args.options.now
     c.in-Ok.html c.requires.safe c.in-Ok.ensures.promises.meaning
+
+pub returns-in-Ok-clause-tree : goal.returns-in-Ok-clause-tree
+returns-in-Ok-clause-tree c =
+    c.in-Ok.ensures.promises.tree (plain (length c.args.text.now))
+    (sym c.plain_events-events.ensures) refl
