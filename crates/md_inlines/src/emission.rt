@@ -20,7 +20,7 @@ const MOST_SPANS: usize = 32;
 /// The context of a token.
 #[derive(Drop)]
 pub(crate) struct Around<'e> {
-    pub(crate) leaf: Leaf<'e>,
+    pub(crate) leaf: &'e Leaf<'e>,
     pub(crate) source: &'e Source<'e>,
     options: InlineOptions,
     pub(crate) targets: &'e [Target],
@@ -39,7 +39,7 @@ pub(crate) struct Around<'e> {
 pub(crate) fn write_tokens(
     writer: &mut Writer,
     reader: &Reader,
-    leaf: Leaf,
+    leaf: &Leaf,
     source: &Source,
 ) -> Result<(), AllocError> {
     let mut around = Around {

@@ -4,7 +4,7 @@ use crate::brackets::{Bracket, Target};
 use crate::options::InlineOptions;
 use md_blocks::Definitions;
 use md_lines::{Place, trim_end};
-use md_marks::{Delimiters, Dollars, Endings, Leaf, Mark, Ticks, Token, next_mark, push_token};
+use md_marks::{Delimiters, Dollars, Endings, Leaf, Mark, Marks, Ticks, Token, push_token};
 use std::alloc::{AllocError, Global};
 
 /// Reads leaves in sequence.
@@ -13,6 +13,8 @@ pub(crate) struct Reader<'a> {
     pub(crate) alloc: Global,
     pub(crate) definitions: &'a Definitions,
     pub(crate) options: InlineOptions,
+    /// The marks of the document near the place that was read last.
+    pub(crate) marks: Marks,
     /// The tokens of the leaf so far.
     pub(crate) tokens: Vec<Token>,
     /// The start of the text that isn't a token yet.
@@ -45,6 +47,7 @@ impl<'a> Reader<'a> {
             alloc,
             definitions,
             options,
+            marks: Marks::new(),
             tokens: Vec::new(alloc),
             from: 0,
             delimiters: Delimiters::new(alloc),
@@ -60,11 +63,11 @@ impl<'a> Reader<'a> {
         }
     }
 
-    /// Reads the tokens of a leaf.
-    pub(crate) fn read(&mut self, leaf: &Leaf) -> Result<(), AllocError> {
+    /// Reads the tokens of a leaf. Its first mark is at an index, or after its first line.
+    pub(crate) fn read(&mut self, leaf: &Leaf, first: usize) -> Result<(), AllocError> {
         self.clear();
-        let mut place = leaf.first();
-        self.from = place.at;
+        self.from = leaf.start(0);
+        let mut place = Place { line: 0, at: first };
         while place.line < leaf.lines.len() {
             let next = self.read_line(leaf, place)?;
             place = Place {
@@ -91,15 +94,15 @@ impl<'a> Reader<'a> {
 
     /// Reads from a place to the end of its line, or to a mark that spans the end; returns the
     /// place where reading continues.
+    #[inline(always)]
     fn read_line(&mut self, leaf: &Leaf, place: Place) -> Result<Place, AllocError> {
         let text = leaf.until_end(place.line);
-        let mut at = next_mark(leaf.bytes, place.at, text.len());
-        while at < text.len() {
-            let byte = text[at];
-            if is_plain(text, at, byte) {
-                at = next_mark(leaf.bytes, at + 1, text.len());
-                continue;
-            }
+        let mut from = place.at;
+        while from < text.len() {
+            let at = self.marks.next(leaf.bytes, from, text.len());
+            let Some(byte) = text.get(at).copied() else {
+                break;
+            };
             let here = Place {
                 line: place.line,
                 at,
@@ -108,7 +111,7 @@ impl<'a> Reader<'a> {
             if next.line != place.line {
                 return Ok(next);
             }
-            at = next_mark(leaf.bytes, next.at.max(at + 1), text.len());
+            from = next.at.max(at.saturating_add(1));
         }
         self.end_line(leaf, place.line)
     }
@@ -183,16 +186,5 @@ impl<'a> Reader<'a> {
             line: next_line,
             at: next,
         })
-    }
-}
-
-/// Whether a full stop or a colon at an index is plain text: no `w` precedes the full stop, or no
-/// `/` follows the colon.
-#[inline(always)]
-fn is_plain(text: &[u8], at: usize, byte: u8) -> bool {
-    match byte {
-        b'.' => !matches!(text.get(at.wrapping_sub(1)), Some(b'w' | b'W')),
-        b':' => !matches!(text.get(at.saturating_add(1)), Some(b'/')),
-        _ => false,
     }
 }

@@ -41,9 +41,10 @@ impl<'a> Leaf<'a> {
     /// The end of the text of a line.
     #[inline(always)]
     pub fn end(&self, line: usize) -> usize {
-        match self.lines.get(line) {
-            Some(each) if !self.is_last(line) => each.end,
-            _ => self.last,
+        if line < self.lines.len().saturating_sub(1) {
+            self.lines[line].end
+        } else {
+            self.last
         }
     }
 

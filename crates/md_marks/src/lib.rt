@@ -19,5 +19,5 @@ pub use closings::{Dollars, Ticks};
 pub use delimiters::{Delimiter, Delimiters};
 pub use html::Endings;
 pub use leaf::{Leaf, run_length};
-pub use marks::next_mark;
+pub use marks::Marks;
 pub use token::{Mark, Token, push_token};
