@@ -17,7 +17,7 @@ pub(crate) struct Reader<'a> {
     pub(crate) marks: Marks,
     /// The tokens of the leaf so far.
     pub(crate) tokens: Vec<Token>,
-    /// The start of the text that isn't a token yet.
+    /// The start of the text after the last token.
     pub(crate) from: usize,
     pub(crate) delimiters: Delimiters,
     /// The open brackets.
@@ -150,22 +150,12 @@ impl<'a> Reader<'a> {
         push_token(&mut self.tokens, mark, start, end, index)
     }
 
-    /// Adds a token for the text before an index, and begins the next text `after` bytes later.
-    pub(crate) fn end_text(&mut self, at: usize, after: usize) -> Result<(), AllocError> {
-        if self.from < at {
-            push_token(&mut self.tokens, Mark::Text, self.from, at, 0)?;
-        }
-        self.from = after;
-        Ok(())
-    }
-
     /// Ends a line. The text continues across the line ending if the next line follows directly and
     /// no space precedes the line ending.
     fn end_line(&mut self, leaf: &Leaf, line: usize) -> Result<Place, AllocError> {
         let end = leaf.end(line);
         let next_line = line.saturating_add(1);
         if leaf.is_last(line) {
-            self.end_text(end, end)?;
             return Ok(Place {
                 line: next_line,
                 at: end,
@@ -175,12 +165,12 @@ impl<'a> Reader<'a> {
         let start = self.from.min(end);
         let cut = trim_end(leaf.bytes, start, end);
         if cut < end || leaf.next(line) != next || self.options.hard_breaks {
-            self.end_text(cut, next)?;
             let spaces = leaf.bytes.get(cut..end).unwrap_or(b"");
             if self.options.hard_breaks || spaces.ends_with(b"  ") {
                 self.push(Mark::BreakSpaces, cut, cut, 0)?;
             }
-            self.push(Mark::LineEnding, end, leaf.next(line), 0)?;
+            self.push(Mark::LineEnding, cut, next, line)?;
+            self.from = next;
         }
         Ok(Place {
             line: next_line,

@@ -48,7 +48,7 @@ impl<'a> Reader<'a> {
         }
     }
 
-    /// Adds a token inside a line, and one for the text before it; returns the place after it.
+    /// Adds a token inside a line; returns the place after it.
     fn put(
         &mut self,
         line: usize,
@@ -56,8 +56,8 @@ impl<'a> Reader<'a> {
         start: usize,
         end: usize,
     ) -> Result<Place, AllocError> {
-        self.end_text(start, end)?;
         self.push(mark, start, end, line)?;
+        self.from = end;
         Ok(Place { line, at: end })
     }
 
@@ -73,7 +73,8 @@ impl<'a> Reader<'a> {
             if !is(*byte, Class::Punctuation) {
                 return Ok(here);
             }
-            self.end_text(here.at, after)?;
+            self.push(Mark::Escape, here.at, after, 0)?;
+            self.from = after;
             return Ok(Place {
                 line: here.line,
                 at: after.saturating_add(1),
@@ -84,14 +85,9 @@ impl<'a> Reader<'a> {
         }
         let next_line = here.line.saturating_add(1);
         let next = leaf.start(next_line);
-        self.end_text(here.at, next)?;
         self.push(Mark::BreakEscape, here.at, after, 0)?;
-        self.push(
-            Mark::LineEnding,
-            leaf.end(here.line),
-            leaf.next(here.line),
-            0,
-        )?;
+        self.push(Mark::LineEnding, after, next, here.line)?;
+        self.from = next;
         Ok(Place {
             line: next_line,
             at: next,
@@ -106,7 +102,7 @@ impl<'a> Reader<'a> {
             at: here.at.saturating_add(length),
         };
         match self.ticks.find(leaf, inside, length)? {
-            Some(end) => self.put_between(Mark::Code, here, inside, end, length),
+            Some(end) => self.put_between(Mark::Code, here, end, length),
             None => Ok(inside),
         }
     }
@@ -130,23 +126,24 @@ impl<'a> Reader<'a> {
             return Ok(inside);
         }
         match self.dollars.find(leaf, inside, length == 2) {
-            Some(end) => self.put_between(Mark::Math, here, inside, end, length),
+            Some(end) => self.put_between(Mark::Math, here, end, length),
             None => Ok(inside),
         }
     }
 
-    /// Adds a token between two marks of `length` bytes; returns the place after the second.
+    /// Adds a token with a mark of `length` bytes at both ends; returns the place after the second,
+    /// which begins at `end`.
+    #[inline(always)]
     fn put_between(
         &mut self,
         mark: Mark,
         here: Place,
-        inside: Place,
         end: Place,
         length: usize,
     ) -> Result<Place, AllocError> {
         let after = end.at.saturating_add(length);
-        self.end_text(here.at, after)?;
-        self.push(mark, inside.at, end.at, here.line)?;
+        self.push(mark, here.at, after, here.line)?;
+        self.from = after;
         Ok(Place {
             line: end.line,
             at: after,
@@ -171,19 +168,13 @@ impl<'a> Reader<'a> {
                 Name::AutolinkEmail => Mark::Address,
                 _ => Mark::Url,
             };
-            let start = here.at.saturating_add(1);
             let after = here.at.saturating_add(link.length);
-            self.end_text(here.at, after)?;
-            self.push(mark, start, after.saturating_sub(1), 0)?;
-            return Ok(Place {
-                line: here.line,
-                at: after,
-            });
+            return self.put(here.line, mark, here.at, after);
         }
         match self.endings.find(leaf, here) {
             Some(end) => {
-                self.end_text(here.at, end.at)?;
                 self.push(Mark::Html, here.at, end.at, here.line)?;
+                self.from = end.at;
                 Ok(end)
             }
             None => Ok(here),
@@ -204,7 +195,7 @@ impl<'a> Reader<'a> {
         let after = class_after(rest.get(length..).unwrap_or(b""));
         let (opens, closes) = flanks(byte, length, before, after);
         if opens || closes {
-            self.end_text(here.at, end)?;
+            self.from = end;
             let token = self.tokens.len();
             for at in here.at..end {
                 self.push(Mark::Text, at, at + 1, 0)?;

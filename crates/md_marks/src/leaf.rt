@@ -48,6 +48,12 @@ impl<'a> Leaf<'a> {
         }
     }
 
+    /// The end of the text of the last line.
+    #[inline(always)]
+    pub fn last_end(&self) -> usize {
+        self.last
+    }
+
     /// The beginning of the next line, with the line ending before it.
     #[inline(always)]
     pub fn next(&self, line: usize) -> usize {
