@@ -12,7 +12,7 @@ use md_base::Name;
 use md_blocks::Definitions;
 use md_lines::Span;
 use md_marks::{
-    BareLink, Leaf, Mark, Token, address, domain_end, is_www, run_length, url, www,
+    BareLink, Leaf, Mark, Token, address, domain_end, is_www, next_link_mark, run_length, url, www,
 };
 use md_writer::Writer;
 use std::alloc::AllocError;
@@ -201,13 +201,12 @@ impl<'e> Around<'e> {
         let mut at = start;
         let mut no_www_before = start;
         while at < text.len() {
-            let byte = text[at];
-            if !matches!(byte, b'@' | b':' | b'.') {
-                at += 1;
-                continue;
-            }
+            at = next_link_mark(self.leaf.bytes, at, text.len());
+            let Some(byte) = text.get(at).copied() else {
+                break;
+            };
             if byte == b'.' && at < no_www_before {
-                at += 1;
+                at = at.saturating_add(1);
                 continue;
             }
             match bare_link(text, from, at) {
@@ -215,13 +214,13 @@ impl<'e> Around<'e> {
                     writer.data(from, link.start)?;
                     writer.leaf(link.name, link.start, link.end)?;
                     from = link.end;
-                    at = link.end.max(at + 1);
+                    at = link.end.max(at.saturating_add(1));
                 }
                 None => {
                     if byte == b'.' && is_www(text, from, at) {
                         no_www_before = domain_end(text, at);
                     }
-                    at += 1;
+                    at = at.saturating_add(1);
                 }
             }
         }
