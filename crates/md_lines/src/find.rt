@@ -18,7 +18,7 @@ pub fn find_byte(bytes: &[u8], byte: u8, from: usize, end: usize) -> usize
     while at < end {
         let rest = &bytes[at..];
         if rest.len() < LANES {
-            return at + position(rest, byte);
+            return at.saturating_add(position(rest, byte));
         }
         let block = Simd::<u8, LANES>::from_slice(rest);
         let bits = block.simd_eq(Simd::splat(byte)).to_bitmask();

@@ -151,7 +151,7 @@ fn next_of_destination(bytes: &[u8], from: usize, end: usize) -> usize
     while at < end && at < bytes.len() {
         let rest = &bytes[at..];
         if rest.len() < LANES {
-            return at + position_in_destination(rest);
+            return at.saturating_add(position_in_destination(rest));
         }
         let bits = marks_of_destination(rest);
         if bits != 0 {

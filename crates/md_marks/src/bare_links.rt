@@ -28,7 +28,7 @@ pub fn next_link_mark(bytes: &[u8], from: usize, end: usize) -> usize
         let rest = &bytes[at..];
         if rest.len() < LANES {
             let index = rest.iter().position(|byte| matches!(*byte, b'@' | b':' | b'.'));
-            return at + index.unwrap_or(rest.len());
+            return at.saturating_add(index.unwrap_or(rest.len()));
         }
         let block = Simd::<u8, LANES>::from_slice(rest);
         let marks = block.simd_eq(Simd::splat(b'@'))

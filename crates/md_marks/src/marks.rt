@@ -50,7 +50,7 @@ impl Marks {
             let mut passed = at.wrapping_sub(self.block);
             if passed >= LANES {
                 if bytes.len() < LANES {
-                    return at + first_mark_by_bytes(&bytes[at..]);
+                    return at.saturating_add(first_mark_by_bytes(&bytes[at..]));
                 }
                 let block = at.min(bytes.len() - LANES);
                 self.block = block;
