@@ -2,7 +2,7 @@
 
 use crate::reader::Reader;
 use md_base::Name;
-use md_lines::{Class, Place, is};
+use md_lines::{Class, Place, find_byte, is};
 use md_marks::{
     Delimiter, Leaf, Mark, autolink_at, class_after, class_before, domain_end, flanks, is_www,
     run_length, url, www,
@@ -12,6 +12,7 @@ use std::alloc::AllocError;
 
 impl<'a> Reader<'a> {
     /// Reads a full stop, which may be that of `www.`.
+    #[inline(never)]
     pub(crate) fn read_dot(&mut self, leaf: &Leaf, here: Place) -> Result<Place, AllocError> {
         let low = self.from.max(leaf.start(here.line));
         let may_begin = self.options.bare_links && here.at >= self.no_www_before;
@@ -33,6 +34,7 @@ impl<'a> Reader<'a> {
     }
 
     /// Reads a colon, which may be that of a URL.
+    #[inline(never)]
     pub(crate) fn read_colon(&mut self, leaf: &Leaf, here: Place) -> Result<Place, AllocError> {
         if !self.options.bare_links || !leaf.rest(here).starts_with(b"://") {
             return Ok(here);
@@ -95,7 +97,22 @@ impl<'a> Reader<'a> {
     }
 
     /// Reads backticks: code, if as many follow.
+    #[inline(always)]
     pub(crate) fn read_code(&mut self, leaf: &Leaf, here: Place) -> Result<Place, AllocError> {
+        // Most code is between two single backticks of a line.
+        let end = leaf.end(here.line);
+        let inside = here.at.saturating_add(1);
+        let close = find_byte(leaf.bytes, b'`', inside, end);
+        let after = close.saturating_add(1);
+        if inside < close && close < end && leaf.bytes.get(after) != Some(&b'`') {
+            return self.put(here.line, Mark::Code, here.at, after);
+        }
+        self.read_backticks(leaf, here)
+    }
+
+    /// The same for any number of backticks, and over lines.
+    #[inline(never)]
+    fn read_backticks(&mut self, leaf: &Leaf, here: Place) -> Result<Place, AllocError> {
         let length = run_length(leaf.rest(here), b'`');
         let inside = Place {
             line: here.line,
@@ -108,6 +125,7 @@ impl<'a> Reader<'a> {
     }
 
     /// Reads `$` or `$$`: math, if the same follows.
+    #[inline(never)]
     pub(crate) fn read_math(&mut self, leaf: &Leaf, here: Place) -> Result<Place, AllocError> {
         if !self.options.math {
             return Ok(here);
@@ -151,6 +169,7 @@ impl<'a> Reader<'a> {
     }
 
     /// Reads `&`, which may begin a character reference.
+    #[inline(never)]
     pub(crate) fn read_reference(&mut self, leaf: &Leaf, here: Place) -> Result<Place, AllocError> {
         match reference_length(leaf.rest(here)) {
             Some(length) => {
