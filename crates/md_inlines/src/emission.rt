@@ -2,14 +2,12 @@
 
 ghost use Rattle.std.specs.Prelude.{◌≡◌, OnOk, false};
 
-use crate::brackets::Target;
 use crate::links::write_label_start;
 use crate::options::InlineOptions;
 use crate::reader::Reader;
 use crate::source::Source;
 use crate::strings::write_reference;
 use md_base::Name;
-use md_blocks::Definitions;
 use md_lines::Span;
 use md_marks::{
     BareLink, Leaf, Mark, Token, address, domain_end, is_www, next_link_mark, run_length, url, www,
@@ -25,11 +23,8 @@ const MOST_SPANS: usize = 32;
 pub(crate) struct Around<'e> {
     pub(crate) leaf: &'e Leaf<'e>,
     pub(crate) source: &'e Source<'e>,
+    pub(crate) reader: &'e Reader<'e>,
     options: InlineOptions,
-    pub(crate) targets: &'e [Target],
-    pub(crate) definitions: &'e Definitions,
-    /// Whether texts may contain bare links that aren't tokens.
-    has_late_links: bool,
     /// How many links are open.
     pub(crate) links: usize,
     /// How many images are open.
@@ -48,10 +43,8 @@ pub(crate) fn write_tokens(
     let mut around = Around {
         leaf,
         source,
+        reader,
         options: reader.options,
-        targets: reader.targets.as_slice(),
-        definitions: reader.definitions,
-        has_late_links: reader.has_late_links,
         links: 0,
         images: 0,
         spans: 0,
@@ -180,7 +173,7 @@ impl<'e> Around<'e> {
     /// Writes a text, with the bare links in it.
     #[inline(always)]
     fn write_text(&self, writer: &mut Writer, start: usize, end: usize) -> Result<(), AllocError> {
-        if self.has_late_links && self.links == 0 && self.images == 0 {
+        if self.reader.has_late_links && self.links == 0 && self.images == 0 {
             self.write_text_with_links(writer, start, end)
         } else if start < end {
             writer.leaf(Name::Data, start, end)

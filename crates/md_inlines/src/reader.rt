@@ -7,6 +7,9 @@ use md_lines::{Place, trim_end};
 use md_marks::{Delimiters, Dollars, Endings, Leaf, Mark, Marks, Ticks, Token, push_token};
 use std::alloc::{AllocError, Global};
 
+/// How many tokens most leaves have at most.
+const USUAL_TOKENS: usize = 16;
+
 /// Reads leaves in sequence.
 #[derive(Drop)]
 pub(crate) struct Reader<'a> {
@@ -66,6 +69,7 @@ impl<'a> Reader<'a> {
     /// Reads the tokens of a leaf. Its first mark is at an index, or after its first line.
     pub(crate) fn read(&mut self, leaf: &Leaf, first: usize) -> Result<(), AllocError> {
         self.clear();
+        self.tokens.reserve(USUAL_TOKENS)?;
         self.from = leaf.start(0);
         let mut place = Place { line: 0, at: first };
         while place.line < leaf.lines.len() {
@@ -153,28 +157,27 @@ impl<'a> Reader<'a> {
     /// Ends a line. The text continues across the line ending if the next line follows directly and
     /// no space precedes the line ending.
     fn end_line(&mut self, leaf: &Leaf, line: usize) -> Result<Place, AllocError> {
-        let end = leaf.end(line);
         let next_line = line.saturating_add(1);
-        if leaf.is_last(line) {
+        let [this, next, ..] = leaf.lines.get(line..).unwrap_or(&[]) else {
             return Ok(Place {
                 line: next_line,
-                at: end,
+                at: leaf.last_end(),
             });
-        }
-        let next = leaf.start(next_line);
+        };
+        let end = this.end;
         let start = self.from.min(end);
         let cut = trim_end(leaf.bytes, start, end);
-        if cut < end || leaf.next(line) != next || self.options.hard_breaks {
+        if cut < end || this.next != next.start || self.options.hard_breaks {
             let spaces = leaf.bytes.get(cut..end).unwrap_or(b"");
             if self.options.hard_breaks || spaces.ends_with(b"  ") {
                 self.push(Mark::BreakSpaces, cut, cut, 0)?;
             }
-            self.push(Mark::LineEnding, cut, next, line)?;
-            self.from = next;
+            self.push(Mark::LineEnding, cut, next.start, line)?;
+            self.from = next.start;
         }
         Ok(Place {
             line: next_line,
-            at: next,
+            at: next.start,
         })
     }
 }
