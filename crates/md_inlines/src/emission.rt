@@ -92,10 +92,26 @@ impl<'e> Around<'e> {
             Mark::StrongEnd => writer.exit(Name::Strong, end),
             Mark::StrikethroughStart => writer.enter(Name::GfmStrikethrough, start),
             Mark::StrikethroughEnd => writer.exit(Name::GfmStrikethrough, end),
-            Mark::Code => self.write_between(writer, token, b'`', Name::CodeText, Name::CodeTextData),
-            Mark::Math => self.write_between(writer, token, b'$', Name::MathText, Name::MathTextData),
+            Mark::Code => self.write_between(
+                writer,
+                token,
+                b'`',
+                Name::CodeText,
+                Name::CodeTextData,
+            ),
+            Mark::Math => self.write_between(
+                writer,
+                token,
+                b'$',
+                Name::MathText,
+                Name::MathTextData,
+            ),
             Mark::Html => self.write_html(writer, token),
-            Mark::Url => self.write_url_link(writer, start.saturating_add(1), end.saturating_sub(1)),
+            Mark::Url => self.write_url_link(
+                writer,
+                start.saturating_add(1),
+                end.saturating_sub(1),
+            ),
             Mark::Address => self.write_link(
                 writer,
                 Name::AutolinkEmail,
@@ -167,7 +183,13 @@ impl<'e> Around<'e> {
             return Ok(());
         }
         let text = Span::new(token.start, token.end);
-        self.write_lines(writer, text, token.index, Name::HtmlText, Name::HtmlTextData)
+        self.write_lines(
+            writer,
+            text,
+            token.index,
+            Name::HtmlText,
+            Name::HtmlTextData,
+        )
     }
 
     /// Writes a text, with the bare links in it.

@@ -19,10 +19,7 @@ const MOST_OF_PART: usize = 63;
 #[inline(always)]
 pub fn autolink_at(text: &[u8]) -> Option<Autolink> {
     let inside = text.get(1..)?;
-    let name = inside
-        .iter()
-        .take_while(|byte| is_of_name(**byte))
-        .count();
+    let name = inside.iter().take_while(|byte| is_of_name(**byte)).count();
     let (name, length) = match inside.get(name) {
         Some(b':') => (Name::AutolinkProtocol, url_length(inside, name)?),
         Some(b'@') => (Name::AutolinkEmail, address_length(inside, name)?),

@@ -27,7 +27,9 @@ pub fn next_link_mark(bytes: &[u8], from: usize, end: usize) -> usize
     while at < end {
         let rest = &bytes[at..];
         if rest.len() < LANES {
-            let index = rest.iter().position(|byte| matches!(*byte, b'@' | b':' | b'.'));
+            let index = rest
+                .iter()
+                .position(|byte| matches!(*byte, b'@' | b':' | b'.'));
             return at.saturating_add(index.unwrap_or(rest.len()));
         }
         let block = Simd::<u8, LANES>::from_slice(rest);

@@ -11,7 +11,7 @@ within : (v : List ℕ) → length v ≡ 32 → Each1 (Fits w8) v
     → SwzOk w8 16 32 0 (zip2 down v (replicate 32 4))
 within v long fits =
     let small = Each1-weaker (λ a. a < 256) (λ a. a / 16 < 16) (λ a h. omega arith) v
-        (below_from_Fits w8 v fits) in
+    (below_from_Fits w8 v fits) in
     SwzOk-from_below w8 16 2 32 0 _ refl (omega (arith, length-zip2 down v (replicate 32 4) long))
     (Each1-zip2 down (λ j. j < 16) v (replicate 32 4)
     (Each2-splat (λ a b. down a b < 16) v 32 4 small))
