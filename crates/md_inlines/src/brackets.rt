@@ -59,7 +59,7 @@ impl<'a> Reader<'a> {
             self.deeper = self.deeper.saturating_add(1);
             return Ok(inside);
         }
-        self.end_text(here.at, inside.at)?;
+        self.from = inside.at;
         if let Some(outer) = self.brackets.last_mut() {
             outer.has_bracket = true;
         }
@@ -88,7 +88,7 @@ impl<'a> Reader<'a> {
         let Some(open) = self.brackets.pop() else {
             return Ok(here);
         };
-        self.end_text(here.at, here.at)?;
+        self.from = here.at;
         let is_inactive = !open.is_image && self.brackets.len() < self.inactive;
         self.inactive = self.inactive.min(self.brackets.len());
         if is_inactive {
@@ -128,9 +128,6 @@ impl<'a> Reader<'a> {
         let after = here.at.saturating_add(1);
         self.tokens.truncate(open.token);
         self.delimiters.truncate(open.delimiters);
-        if open.is_image {
-            self.push(Mark::Text, start.saturating_sub(1), start, 0)?;
-        }
         self.push(Mark::FootnoteCall, start, after, 0)?;
         self.from = after;
         Ok(Place {

@@ -2,15 +2,16 @@
 
 ghost use Rattle.std.specs.Prelude.{◌≡◌, OnOk, false};
 
-use crate::brackets::Target;
 use crate::links::write_label_start;
 use crate::options::InlineOptions;
 use crate::reader::Reader;
 use crate::source::Source;
 use crate::strings::write_reference;
 use md_base::Name;
-use md_blocks::Definitions;
-use md_marks::{BareLink, Leaf, Mark, Token, address, domain_end, is_www, url, www};
+use md_lines::Span;
+use md_marks::{
+    BareLink, Leaf, Mark, Token, address, domain_end, is_www, next_link_mark, run_length, url, www,
+};
 use md_writer::Writer;
 use std::alloc::AllocError;
 
@@ -20,13 +21,10 @@ const MOST_SPANS: usize = 32;
 /// The context of a token.
 #[derive(Drop)]
 pub(crate) struct Around<'e> {
-    pub(crate) leaf: Leaf<'e>,
+    pub(crate) leaf: &'e Leaf<'e>,
     pub(crate) source: &'e Source<'e>,
+    pub(crate) reader: &'e Reader<'e>,
     options: InlineOptions,
-    pub(crate) targets: &'e [Target],
-    pub(crate) definitions: &'e Definitions,
-    /// Whether texts may contain bare links that aren't tokens.
-    has_late_links: bool,
     /// How many links are open.
     pub(crate) links: usize,
     /// How many images are open.
@@ -39,87 +37,96 @@ pub(crate) struct Around<'e> {
 pub(crate) fn write_tokens(
     writer: &mut Writer,
     reader: &Reader,
-    leaf: Leaf,
+    leaf: &Leaf,
     source: &Source,
 ) -> Result<(), AllocError> {
     let mut around = Around {
         leaf,
         source,
+        reader,
         options: reader.options,
-        targets: reader.targets.as_slice(),
-        definitions: reader.definitions,
-        has_late_links: reader.has_late_links,
         links: 0,
         images: 0,
         spans: 0,
     };
-    // The start of the text that isn't written yet.
-    let mut start = 0;
-    let mut end = 0;
+    let mut at = leaf.start(0);
     for token in reader.tokens.iter() {
-        match around.mark_of(token) {
-            Mark::Text if token.start == end => end = token.end,
-            Mark::Text => {
-                around.write_text(writer, start, end)?;
-                start = token.start;
-                end = token.end;
-            }
-            Mark::Nothing => {}
-            _ => {
-                around.write_text(writer, start, end)?;
-                start = 0;
-                end = 0;
-                around.write_token(writer, token)?;
-            }
+        if around.is_text(token.mark) {
+            continue;
         }
+        around.write_text(writer, at, token.start)?;
+        around.write_token(writer, token)?;
+        at = token.end;
     }
-    around.write_text(writer, start, end)
+    around.write_text(writer, at, leaf.last_end())
 }
 
 impl<'e> Around<'e> {
-    /// The mark of a token in its context: an end of a span that is nested too deep is text.
+    /// Whether a token with a mark is text: an end of a span that is nested too deep is.
     #[inline(always)]
-    fn mark_of(&mut self, token: &Token) -> Mark {
-        let depth = match token.mark {
+    fn is_text(&mut self, mark: Mark) -> bool {
+        match mark {
+            Mark::Text | Mark::Nothing => true,
             Mark::EmphasisStart | Mark::StrongStart | Mark::StrikethroughStart => {
-                let depth = self.spans;
-                self.spans = depth.saturating_add(1);
-                depth
+                self.spans = self.spans.saturating_add(1);
+                self.spans > MOST_SPANS
             }
             Mark::EmphasisEnd | Mark::StrongEnd | Mark::StrikethroughEnd => {
-                self.spans = self.spans.saturating_sub(1);
-                self.spans
+                let depth = self.spans;
+                self.spans = depth.saturating_sub(1);
+                depth > MOST_SPANS
             }
-            mark => return mark,
-        };
-        if depth < MOST_SPANS {
-            token.mark
-        } else {
-            Mark::Text
+            _ => false,
         }
     }
 
     /// Writes a token that isn't text.
+    #[inline(always)]
     fn write_token(&mut self, writer: &mut Writer, token: &Token) -> Result<(), AllocError> {
         let (start, end) = (token.start, token.end);
         match token.mark {
-            Mark::Text | Mark::Nothing => Ok(()),
+            Mark::Text | Mark::Nothing | Mark::Escape => Ok(()),
             Mark::EmphasisStart => writer.enter(Name::Emphasis, start),
             Mark::EmphasisEnd => writer.exit(Name::Emphasis, end),
             Mark::StrongStart => writer.enter(Name::Strong, start),
             Mark::StrongEnd => writer.exit(Name::Strong, end),
             Mark::StrikethroughStart => writer.enter(Name::GfmStrikethrough, start),
             Mark::StrikethroughEnd => writer.exit(Name::GfmStrikethrough, end),
-            Mark::Code => self.write_lines(writer, token, Name::CodeText, Name::CodeTextData),
-            Mark::Math => self.write_lines(writer, token, Name::MathText, Name::MathTextData),
+            Mark::Code => self.write_between(
+                writer,
+                token,
+                b'`',
+                Name::CodeText,
+                Name::CodeTextData,
+            ),
+            Mark::Math => self.write_between(
+                writer,
+                token,
+                b'$',
+                Name::MathText,
+                Name::MathTextData,
+            ),
             Mark::Html => self.write_html(writer, token),
-            Mark::Url => self.write_url_link(writer, start, end),
-            Mark::Address => self.write_link(writer, Name::AutolinkEmail, start, end),
+            Mark::Url => self.write_url_link(
+                writer,
+                start.saturating_add(1),
+                end.saturating_sub(1),
+            ),
+            Mark::Address => self.write_link(
+                writer,
+                Name::AutolinkEmail,
+                start.saturating_add(1),
+                end.saturating_sub(1),
+            ),
             Mark::BareUrl => {
                 self.write_link(writer, Name::GfmAutolinkLiteralProtocol, start, end)
             }
             Mark::BareWww => self.write_link(writer, Name::GfmAutolinkLiteralWww, start, end),
-            Mark::LineEnding => writer.leaf(Name::LineEnding, start, end),
+            Mark::LineEnding => writer.leaf(
+                Name::LineEnding,
+                self.leaf.end(token.index),
+                self.leaf.next(token.index),
+            ),
             Mark::BreakEscape => writer.leaf(Name::HardBreakEscape, start, end),
             Mark::BreakSpaces => writer.leaf(Name::HardBreakTrailing, start, end),
             Mark::Reference => write_reference(writer, self.leaf.bytes, start, end),
@@ -143,6 +150,23 @@ impl<'e> Around<'e> {
         }
     }
 
+    /// Writes code or math, without the marks of these bytes at both ends.
+    #[inline(always)]
+    fn write_between(
+        &self,
+        writer: &mut Writer,
+        token: &Token,
+        byte: u8,
+        outer: Name,
+        inner: Name,
+    ) -> Result<(), AllocError> {
+        let text = self.leaf.bytes.get(token.start..token.end).unwrap_or(b"");
+        let width = run_length(text, byte);
+        let start = token.start.saturating_add(width);
+        let end = token.end.saturating_sub(width);
+        self.write_lines(writer, Span::new(start, end), token.index, outer, inner)
+    }
+
     /// Writes HTML, unless it is to be left out.
     fn write_html(&self, writer: &mut Writer, token: &Token) -> Result<(), AllocError>
         ensures left_out { self.now.options.html ≡ false
@@ -158,16 +182,25 @@ impl<'e> Around<'e> {
         if !is_kept {
             return Ok(());
         }
-        self.write_lines(writer, token, Name::HtmlText, Name::HtmlTextData)
+        let text = Span::new(token.start, token.end);
+        self.write_lines(
+            writer,
+            text,
+            token.index,
+            Name::HtmlText,
+            Name::HtmlTextData,
+        )
     }
 
     /// Writes a text, with the bare links in it.
     #[inline(always)]
     fn write_text(&self, writer: &mut Writer, start: usize, end: usize) -> Result<(), AllocError> {
-        if self.has_late_links && self.links == 0 && self.images == 0 {
+        if self.reader.has_late_links && self.links == 0 && self.images == 0 {
             self.write_text_with_links(writer, start, end)
+        } else if start < end {
+            writer.leaf(Name::Data, start, end)
         } else {
-            writer.data(start, end)
+            Ok(())
         }
     }
 
@@ -183,13 +216,12 @@ impl<'e> Around<'e> {
         let mut at = start;
         let mut no_www_before = start;
         while at < text.len() {
-            let byte = text[at];
-            if !matches!(byte, b'@' | b':' | b'.') {
-                at += 1;
-                continue;
-            }
+            at = next_link_mark(self.leaf.bytes, at, text.len());
+            let Some(byte) = text.get(at).copied() else {
+                break;
+            };
             if byte == b'.' && at < no_www_before {
-                at += 1;
+                at = at.saturating_add(1);
                 continue;
             }
             match bare_link(text, from, at) {
@@ -197,32 +229,53 @@ impl<'e> Around<'e> {
                     writer.data(from, link.start)?;
                     writer.leaf(link.name, link.start, link.end)?;
                     from = link.end;
-                    at = link.end.max(at + 1);
+                    at = link.end.max(at.saturating_add(1));
                 }
                 None => {
                     if byte == b'.' && is_www(text, from, at) {
                         no_www_before = domain_end(text, at);
                     }
-                    at += 1;
+                    at = at.saturating_add(1);
                 }
             }
         }
         writer.data(from, end)
     }
 
-    /// Writes a node whose data may span lines.
+    /// Writes a node whose data begins in a line and may span lines.
+    #[inline(always)]
     fn write_lines(
         &self,
         writer: &mut Writer,
-        token: &Token,
+        text: Span,
+        line: usize,
         outer: Name,
         inner: Name,
     ) -> Result<(), AllocError> {
-        writer.enter(outer, token.start)?;
-        let mut at = token.start;
-        let lines = self.leaf.lines.get(token.index..).unwrap_or(&[]);
+        writer.enter(outer, text.start)?;
+        let mut at = text.start;
+        if text.end > self.leaf.end(line) {
+            at = self.write_several(writer, text, line, inner)?;
+        }
+        if at < text.end {
+            writer.leaf(inner, at, text.end)?;
+        }
+        writer.exit(outer, text.end)
+    }
+
+    /// Writes the lines of such a data before the last; returns where the last one begins.
+    #[inline(never)]
+    fn write_several(
+        &self,
+        writer: &mut Writer,
+        text: Span,
+        line: usize,
+        inner: Name,
+    ) -> Result<usize, AllocError> {
+        let mut at = text.start;
+        let lines = self.leaf.lines.get(line..).unwrap_or(&[]);
         for (index, line) in lines.iter().enumerate() {
-            if token.end <= line.end || index.saturating_add(1) == lines.len() {
+            if text.end <= line.end || index.saturating_add(1) == lines.len() {
                 break;
             }
             if at < line.end {
@@ -234,10 +287,7 @@ impl<'e> Around<'e> {
                 None => line.next,
             };
         }
-        if at < token.end {
-            writer.leaf(inner, at, token.end)?;
-        }
-        writer.exit(outer, token.end)
+        Ok(at)
     }
 }
 

@@ -51,7 +51,23 @@ impl<'a> Inlines<'a> {
     /// Returns an error only if memory runs out.
     pub fn write_leaf(&mut self, writer: &mut Writer, lines: &[Line]) -> Result<(), AllocError> {
         let leaf = Leaf::new(self.source.bytes, lines);
-        self.reader.read(&leaf)?;
+        let (start, end) = (leaf.start(0), leaf.end(0));
+        let first = self.reader.marks.next(leaf.bytes, start, end);
+        if lines.len() == 1 && first >= end {
+            return writer.data(start, end);
+        }
+        self.write_marked(writer, &leaf, first)
+    }
+
+    /// Writes the events of a leaf whose first mark is at an index, or after its first line.
+    #[inline(never)]
+    fn write_marked(
+        &mut self,
+        writer: &mut Writer,
+        leaf: &Leaf,
+        first: usize,
+    ) -> Result<(), AllocError> {
+        self.reader.read(leaf, first)?;
         write_tokens(writer, &self.reader, leaf, &self.source)
     }
 

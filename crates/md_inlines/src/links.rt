@@ -82,7 +82,7 @@ impl<'e> Around<'e> {
         let after = token.start.saturating_add(1);
         writer.exit(Name::LabelText, token.start)?;
         writer.exit(Name::Label, after)?;
-        match self.targets.get(token.index) {
+        match self.reader.targets.get(token.index) {
             Some(Target::Resource(destination, title)) => {
                 writer.enter(Name::Resource, after)?;
                 let destination = Destination::inline(*destination);
@@ -90,7 +90,7 @@ impl<'e> Around<'e> {
                 writer.exit(Name::Resource, token.end)?;
             }
             Some(Target::Definition(index)) => {
-                if let Some(definition) = self.definitions.list().get(*index) {
+                if let Some(definition) = self.reader.definitions.list().get(*index) {
                     self.write_defined(writer, definition, after, token.end)?;
                 }
             }

@@ -4,8 +4,11 @@ use crate::brackets::{Bracket, Target};
 use crate::options::InlineOptions;
 use md_blocks::Definitions;
 use md_lines::{Place, trim_end};
-use md_marks::{Delimiters, Dollars, Endings, Leaf, Mark, Ticks, Token, next_mark, push_token};
+use md_marks::{Delimiters, Dollars, Endings, Leaf, Mark, Marks, Ticks, Token, push_token};
 use std::alloc::{AllocError, Global};
+
+/// How many tokens most leaves have at most.
+const USUAL_TOKENS: usize = 16;
 
 /// Reads leaves in sequence.
 #[derive(Drop)]
@@ -13,9 +16,11 @@ pub(crate) struct Reader<'a> {
     pub(crate) alloc: Global,
     pub(crate) definitions: &'a Definitions,
     pub(crate) options: InlineOptions,
+    /// The marks of the document near the place that was read last.
+    pub(crate) marks: Marks,
     /// The tokens of the leaf so far.
     pub(crate) tokens: Vec<Token>,
-    /// The start of the text that isn't a token yet.
+    /// The start of the text after the last token.
     pub(crate) from: usize,
     pub(crate) delimiters: Delimiters,
     /// The open brackets.
@@ -45,6 +50,7 @@ impl<'a> Reader<'a> {
             alloc,
             definitions,
             options,
+            marks: Marks::new(),
             tokens: Vec::new(alloc),
             from: 0,
             delimiters: Delimiters::new(alloc),
@@ -60,11 +66,12 @@ impl<'a> Reader<'a> {
         }
     }
 
-    /// Reads the tokens of a leaf.
-    pub(crate) fn read(&mut self, leaf: &Leaf) -> Result<(), AllocError> {
+    /// Reads the tokens of a leaf. Its first mark is at an index, or after its first line.
+    pub(crate) fn read(&mut self, leaf: &Leaf, first: usize) -> Result<(), AllocError> {
         self.clear();
-        let mut place = leaf.first();
-        self.from = place.at;
+        self.tokens.reserve(USUAL_TOKENS)?;
+        self.from = leaf.start(0);
+        let mut place = Place { line: 0, at: first };
         while place.line < leaf.lines.len() {
             let next = self.read_line(leaf, place)?;
             place = Place {
@@ -91,15 +98,15 @@ impl<'a> Reader<'a> {
 
     /// Reads from a place to the end of its line, or to a mark that spans the end; returns the
     /// place where reading continues.
+    #[inline(always)]
     fn read_line(&mut self, leaf: &Leaf, place: Place) -> Result<Place, AllocError> {
         let text = leaf.until_end(place.line);
-        let mut at = next_mark(leaf.bytes, place.at, text.len());
-        while at < text.len() {
-            let byte = text[at];
-            if is_plain(text, at, byte) {
-                at = next_mark(leaf.bytes, at + 1, text.len());
-                continue;
-            }
+        let mut from = place.at;
+        while from < text.len() {
+            let at = self.marks.next(leaf.bytes, from, text.len());
+            let Some(byte) = text.get(at).copied() else {
+                break;
+            };
             let here = Place {
                 line: place.line,
                 at,
@@ -108,7 +115,7 @@ impl<'a> Reader<'a> {
             if next.line != place.line {
                 return Ok(next);
             }
-            at = next_mark(leaf.bytes, next.at.max(at + 1), text.len());
+            from = next.at.max(at.saturating_add(1));
         }
         self.end_line(leaf, place.line)
     }
@@ -147,52 +154,30 @@ impl<'a> Reader<'a> {
         push_token(&mut self.tokens, mark, start, end, index)
     }
 
-    /// Adds a token for the text before an index, and begins the next text `after` bytes later.
-    pub(crate) fn end_text(&mut self, at: usize, after: usize) -> Result<(), AllocError> {
-        if self.from < at {
-            push_token(&mut self.tokens, Mark::Text, self.from, at, 0)?;
-        }
-        self.from = after;
-        Ok(())
-    }
-
     /// Ends a line. The text continues across the line ending if the next line follows directly and
     /// no space precedes the line ending.
     fn end_line(&mut self, leaf: &Leaf, line: usize) -> Result<Place, AllocError> {
-        let end = leaf.end(line);
         let next_line = line.saturating_add(1);
-        if leaf.is_last(line) {
-            self.end_text(end, end)?;
+        let [this, next, ..] = leaf.lines.get(line..).unwrap_or(&[]) else {
             return Ok(Place {
                 line: next_line,
-                at: end,
+                at: leaf.last_end(),
             });
-        }
-        let next = leaf.start(next_line);
+        };
+        let end = this.end;
         let start = self.from.min(end);
         let cut = trim_end(leaf.bytes, start, end);
-        if cut < end || leaf.next(line) != next || self.options.hard_breaks {
-            self.end_text(cut, next)?;
+        if cut < end || this.next != next.start || self.options.hard_breaks {
             let spaces = leaf.bytes.get(cut..end).unwrap_or(b"");
             if self.options.hard_breaks || spaces.ends_with(b"  ") {
                 self.push(Mark::BreakSpaces, cut, cut, 0)?;
             }
-            self.push(Mark::LineEnding, end, leaf.next(line), 0)?;
+            self.push(Mark::LineEnding, cut, next.start, line)?;
+            self.from = next.start;
         }
         Ok(Place {
             line: next_line,
-            at: next,
+            at: next.start,
         })
-    }
-}
-
-/// Whether a full stop or a colon at an index is plain text: no `w` precedes the full stop, or no
-/// `/` follows the colon.
-#[inline(always)]
-fn is_plain(text: &[u8], at: usize, byte: u8) -> bool {
-    match byte {
-        b'.' => !matches!(text.get(at.wrapping_sub(1)), Some(b'w' | b'W')),
-        b':' => !matches!(text.get(at.saturating_add(1)), Some(b'/')),
-        _ => false,
     }
 }

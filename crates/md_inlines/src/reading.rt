@@ -2,7 +2,7 @@
 
 use crate::reader::Reader;
 use md_base::Name;
-use md_lines::{Class, Place, is};
+use md_lines::{Class, Place, find_byte, is};
 use md_marks::{
     Delimiter, Leaf, Mark, autolink_at, class_after, class_before, domain_end, flanks, is_www,
     run_length, url, www,
@@ -12,6 +12,7 @@ use std::alloc::AllocError;
 
 impl<'a> Reader<'a> {
     /// Reads a full stop, which may be that of `www.`.
+    #[inline(never)]
     pub(crate) fn read_dot(&mut self, leaf: &Leaf, here: Place) -> Result<Place, AllocError> {
         let low = self.from.max(leaf.start(here.line));
         let may_begin = self.options.bare_links && here.at >= self.no_www_before;
@@ -33,6 +34,7 @@ impl<'a> Reader<'a> {
     }
 
     /// Reads a colon, which may be that of a URL.
+    #[inline(never)]
     pub(crate) fn read_colon(&mut self, leaf: &Leaf, here: Place) -> Result<Place, AllocError> {
         if !self.options.bare_links || !leaf.rest(here).starts_with(b"://") {
             return Ok(here);
@@ -48,7 +50,7 @@ impl<'a> Reader<'a> {
         }
     }
 
-    /// Adds a token inside a line, and one for the text before it; returns the place after it.
+    /// Adds a token inside a line; returns the place after it.
     fn put(
         &mut self,
         line: usize,
@@ -56,8 +58,8 @@ impl<'a> Reader<'a> {
         start: usize,
         end: usize,
     ) -> Result<Place, AllocError> {
-        self.end_text(start, end)?;
         self.push(mark, start, end, line)?;
+        self.from = end;
         Ok(Place { line, at: end })
     }
 
@@ -73,7 +75,8 @@ impl<'a> Reader<'a> {
             if !is(*byte, Class::Punctuation) {
                 return Ok(here);
             }
-            self.end_text(here.at, after)?;
+            self.push(Mark::Escape, here.at, after, 0)?;
+            self.from = after;
             return Ok(Place {
                 line: here.line,
                 at: after.saturating_add(1),
@@ -84,14 +87,9 @@ impl<'a> Reader<'a> {
         }
         let next_line = here.line.saturating_add(1);
         let next = leaf.start(next_line);
-        self.end_text(here.at, next)?;
         self.push(Mark::BreakEscape, here.at, after, 0)?;
-        self.push(
-            Mark::LineEnding,
-            leaf.end(here.line),
-            leaf.next(here.line),
-            0,
-        )?;
+        self.push(Mark::LineEnding, after, next, here.line)?;
+        self.from = next;
         Ok(Place {
             line: next_line,
             at: next,
@@ -99,19 +97,35 @@ impl<'a> Reader<'a> {
     }
 
     /// Reads backticks: code, if as many follow.
+    #[inline(always)]
     pub(crate) fn read_code(&mut self, leaf: &Leaf, here: Place) -> Result<Place, AllocError> {
+        // Most code is between two single backticks of a line.
+        let end = leaf.end(here.line);
+        let inside = here.at.saturating_add(1);
+        let close = find_byte(leaf.bytes, b'`', inside, end);
+        let after = close.saturating_add(1);
+        if inside < close && close < end && leaf.bytes.get(after) != Some(&b'`') {
+            return self.put(here.line, Mark::Code, here.at, after);
+        }
+        self.read_backticks(leaf, here)
+    }
+
+    /// The same for any number of backticks, and over lines.
+    #[inline(never)]
+    fn read_backticks(&mut self, leaf: &Leaf, here: Place) -> Result<Place, AllocError> {
         let length = run_length(leaf.rest(here), b'`');
         let inside = Place {
             line: here.line,
             at: here.at.saturating_add(length),
         };
         match self.ticks.find(leaf, inside, length)? {
-            Some(end) => self.put_between(Mark::Code, here, inside, end, length),
+            Some(end) => self.put_between(Mark::Code, here, end, length),
             None => Ok(inside),
         }
     }
 
     /// Reads `$` or `$$`: math, if the same follows.
+    #[inline(never)]
     pub(crate) fn read_math(&mut self, leaf: &Leaf, here: Place) -> Result<Place, AllocError> {
         if !self.options.math {
             return Ok(here);
@@ -130,23 +144,24 @@ impl<'a> Reader<'a> {
             return Ok(inside);
         }
         match self.dollars.find(leaf, inside, length == 2) {
-            Some(end) => self.put_between(Mark::Math, here, inside, end, length),
+            Some(end) => self.put_between(Mark::Math, here, end, length),
             None => Ok(inside),
         }
     }
 
-    /// Adds a token between two marks of `length` bytes; returns the place after the second.
+    /// Adds a token with a mark of `length` bytes at both ends; returns the place after the second,
+    /// which begins at `end`.
+    #[inline(always)]
     fn put_between(
         &mut self,
         mark: Mark,
         here: Place,
-        inside: Place,
         end: Place,
         length: usize,
     ) -> Result<Place, AllocError> {
         let after = end.at.saturating_add(length);
-        self.end_text(here.at, after)?;
-        self.push(mark, inside.at, end.at, here.line)?;
+        self.push(mark, here.at, after, here.line)?;
+        self.from = after;
         Ok(Place {
             line: end.line,
             at: after,
@@ -154,6 +169,7 @@ impl<'a> Reader<'a> {
     }
 
     /// Reads `&`, which may begin a character reference.
+    #[inline(never)]
     pub(crate) fn read_reference(&mut self, leaf: &Leaf, here: Place) -> Result<Place, AllocError> {
         match reference_length(leaf.rest(here)) {
             Some(length) => {
@@ -171,19 +187,13 @@ impl<'a> Reader<'a> {
                 Name::AutolinkEmail => Mark::Address,
                 _ => Mark::Url,
             };
-            let start = here.at.saturating_add(1);
             let after = here.at.saturating_add(link.length);
-            self.end_text(here.at, after)?;
-            self.push(mark, start, after.saturating_sub(1), 0)?;
-            return Ok(Place {
-                line: here.line,
-                at: after,
-            });
+            return self.put(here.line, mark, here.at, after);
         }
         match self.endings.find(leaf, here) {
             Some(end) => {
-                self.end_text(here.at, end.at)?;
                 self.push(Mark::Html, here.at, end.at, here.line)?;
+                self.from = end.at;
                 Ok(end)
             }
             None => Ok(here),
@@ -204,7 +214,7 @@ impl<'a> Reader<'a> {
         let after = class_after(rest.get(length..).unwrap_or(b""));
         let (opens, closes) = flanks(byte, length, before, after);
         if opens || closes {
-            self.end_text(here.at, end)?;
+            self.from = end;
             let token = self.tokens.len();
             for at in here.at..end {
                 self.push(Mark::Text, at, at + 1, 0)?;

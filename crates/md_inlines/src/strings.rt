@@ -1,6 +1,6 @@
 //! Writes texts in which only escapes and character references are read.
 
-ghost use Rattle.std.specs.Prelude.{◌<◌, length};
+ghost use Rattle.std.specs.Prelude.{◌<◌, ◌≤◌, length};
 
 use md_base::Name;
 use md_lines::{Class, is};
@@ -8,6 +8,10 @@ use md_references::reference_length;
 use md_writer::Writer;
 use memchr::memchr2;
 use std::alloc::AllocError;
+use std::simd::prelude::*;
+
+/// The number of bytes that one step reads.
+const LANES: usize = 16;
 
 /// Writes the events of a text with escapes and references.
 pub(crate) fn write_string(
@@ -41,10 +45,10 @@ fn write_decoded(
     let mut from = start;
     let mut at = start;
     while at < text.len() {
-        let Some(offset) = memchr2(b'\\', b'&', &text[at..]) else {
+        at = next_code(bytes, at, text.len());
+        if at >= text.len() {
             break;
-        };
-        at += offset;
+        }
         let length = code_length(text, at, has_escapes);
         if length == 0 {
             at += 1;
@@ -60,6 +64,30 @@ fn write_decoded(
         }
     }
     writer.data(from, end)
+}
+
+/// The index of the next backslash or `&` at `from` or later, or `end` or later if there is none
+/// before `end`.
+#[inline(always)]
+fn next_code(bytes: &[u8], from: usize, end: usize) -> usize
+    ensures { from ≤ result }
+{
+    let end = end.min(bytes.len());
+    let mut at = from;
+    while at < end {
+        let rest = &bytes[at..];
+        if rest.len() < LANES {
+            return at.saturating_add(memchr2(b'\\', b'&', rest).unwrap_or(rest.len()));
+        }
+        let block = Simd::<u8, LANES>::from_slice(rest);
+        let codes = block.simd_eq(Simd::splat(b'\\')) | block.simd_eq(Simd::splat(b'&'));
+        let bits = codes.to_bitmask();
+        if bits != 0 {
+            return at + bits.trailing_zeros() as usize;
+        }
+        at += LANES;
+    }
+    at
 }
 
 /// The length of the reference that begins at an index, or of the backslash there that escapes the

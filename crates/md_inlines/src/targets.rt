@@ -71,7 +71,12 @@ pub(crate) fn write_destination(
         return Ok(());
     }
     writer.enter(name, place.start)?;
-    match url_of(writer, source, destination)? {
+    let url = if source.base.is_some() {
+        url_of(writer, source, destination)?
+    } else {
+        Url::Own
+    };
+    match url {
         Url::Added(url) => writer.data(url.start, url.end)?,
         _ if destination.is_plain => writer.data(place.start, place.end)?,
         _ => write_string(writer, source.bytes, place.start, place.end)?,

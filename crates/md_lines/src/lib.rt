@@ -4,6 +4,7 @@
 
 mod class;
 mod cursor;
+mod find;
 mod line;
 mod link;
 mod span;
@@ -12,6 +13,7 @@ mod trim;
 
 pub use class::{Class, is};
 pub use cursor::{Cursor, Place};
+pub use find::find_byte;
 pub use line::{Line, after_ending, line_end};
 pub use link::{Title, read_destination, read_label, read_title};
 pub use span::Span;

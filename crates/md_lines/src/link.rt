@@ -5,6 +5,7 @@ ghost use Rattle.std.specs.Prelude.{◌≤◌, ◌<◌, length};
 use crate::class::{Class, is};
 use crate::cursor::Cursor;
 use crate::span::Span;
+use crate::trim::trim_start;
 use std::simd::prelude::*;
 
 /// The number of bytes that one step reads.
@@ -32,22 +33,37 @@ pub fn read_label(cursor: &mut Cursor<'_>) -> bool {
     let mut is_blank = true;
     let mut count = 0;
     while count <= MOST_IN_LABEL {
+        let from = cursor.at;
+        let most = MOST_IN_LABEL + 1 - count;
+        let length = label_length(&cursor.bytes[..cursor.end], from, most);
+        cursor.at = from.saturating_add(length);
+        is_blank = is_blank && trim_start(cursor.bytes, from, cursor.at) == cursor.at;
+        count += length;
         match cursor.peek() {
-            Some(b']') => return !is_blank,
+            Some(b']') => return !is_blank && count <= MOST_IN_LABEL,
             Some(b'[') | None => return false,
             Some(b'\\') => {
                 is_blank = false;
                 count += usize::from(skip_escape(cursor));
             }
-            Some(b' ' | b'\t' | b'\n') => cursor.advance(),
-            Some(_) => {
-                is_blank = false;
-                cursor.advance();
-            }
+            _ => cursor.advance(),
         }
         count += 1;
     }
     false
+}
+
+/// The number of bytes, at most `most`, before the next bracket or backslash of a line.
+#[inline(always)]
+fn label_length(line: &[u8], from: usize, most: usize) -> usize
+    ensures { result ≤ most }
+{
+    let text = line.get(from..).unwrap_or(b"");
+    let mut length = 0;
+    while length < most && length < text.len() && !matches!(text[length], b'['..=b']') {
+        length += 1;
+    }
+    length
 }
 
 /// Skips a backslash and the punctuation mark that it escapes; returns whether there was one.
@@ -93,22 +109,23 @@ fn pointed_destination(cursor: &mut Cursor<'_>) -> Option<Span> {
 /// Reads a destination without angle brackets: its parentheses are paired, and it has no space and
 /// no control character except NUL.
 fn bare_destination(cursor: &mut Cursor<'_>) -> Option<Span> {
-    let line = &cursor.bytes[..cursor.end];
+    let (bytes, end) = (cursor.bytes, cursor.end);
     let from = cursor.at;
     let mut at = from;
     let mut depth = 0;
-    while at < line.len() {
-        at = next_of_destination(line, at);
-        let Some(byte) = line.get(at) else {
+    while at < end {
+        at = next_of_destination(bytes, at, end);
+        if at >= end {
+            at = end;
             break;
-        };
-        match byte {
+        }
+        match bytes[at] {
             b'(' if depth == MOST_NESTED => return None,
             b'(' => depth += 1,
             b')' if depth == 0 => break,
             b')' => depth -= 1,
             b'\\' => {
-                at = after_escape(line, at);
+                at = after_escape(&bytes[..end], at);
                 continue;
             }
             0 => {}
@@ -125,31 +142,37 @@ fn bare_destination(cursor: &mut Cursor<'_>) -> Option<Span> {
 }
 
 /// The index, at or after `from`, of the next byte that may end a destination or that counts in it;
-/// the length of the line if there is none.
-fn next_of_destination(line: &[u8], from: usize) -> usize
+/// `end` or later if there is none before `end`.
+#[inline(always)]
+fn next_of_destination(bytes: &[u8], from: usize, end: usize) -> usize
     ensures { from ≤ result }
 {
     let mut at = from;
-    while at < line.len() {
-        let rest = &line[at..];
+    while at < end && at < bytes.len() {
+        let rest = &bytes[at..];
         if rest.len() < LANES {
-            let next = rest.iter().position(|byte| is(*byte, Class::Destination));
-            return at.saturating_add(next.unwrap_or(rest.len()));
+            return at.saturating_add(position_in_destination(rest));
         }
-        let index = first_of_destination(rest);
-        at = at.saturating_add(index);
-        if index < LANES {
-            return at;
+        let bits = marks_of_destination(rest);
+        if bits != 0 {
+            return at + bits.trailing_zeros() as usize;
         }
+        at += LANES;
     }
     at
 }
 
-/// The index of the first such byte among the first 16 of a text, else 16.
+/// The index of the first such byte of a text, else its length.
+#[inline(never)]
+fn position_in_destination(text: &[u8]) -> usize {
+    let index = text.iter().position(|byte| is(*byte, Class::Destination));
+    index.unwrap_or(text.len())
+}
+
+/// A bit for each such byte among the first 16 of a text.
 #[inline(always)]
-fn first_of_destination(text: &[u8]) -> usize
+fn marks_of_destination(text: &[u8]) -> u64
     requires { 16 ≤ length text.now }
-    ensures { result ≤ 16 }
 {
     let block = Simd::<u8, LANES>::from_slice(text);
     let found = block.simd_le(Simd::splat(b' '))
@@ -157,12 +180,7 @@ fn first_of_destination(text: &[u8]) -> usize
         | block.simd_eq(Simd::splat(b')'))
         | block.simd_eq(Simd::splat(b'\\'))
         | block.simd_eq(Simd::splat(127));
-    let bits = found.to_bitmask();
-    if bits == 0 {
-        LANES
-    } else {
-        (bits.trailing_zeros() as usize).min(LANES)
-    }
+    found.to_bitmask()
 }
 
 /// The index after the backslash at `at`, and after the punctuation mark that it escapes, if any.

@@ -5,6 +5,7 @@ ghost use Rattle.md_lines.specs.Reading.{left};
 
 use crate::class::{Class, is};
 use crate::cursor::{Cursor, Place};
+use crate::find::find_byte;
 use crate::line::Line;
 
 /// The result of reading an attribute.
@@ -114,7 +115,7 @@ fn skip_quoted(cursor: &mut Cursor<'_>, quote: u8) -> bool
     ensures { left cursor.new ≤ left cursor.old }
 {
     'lines: loop {
-        let at = index_of(&cursor.bytes[..cursor.end], cursor.at, quote);
+        let at = find_byte(cursor.bytes, quote, cursor.at, cursor.end);
         if at < cursor.end {
             cursor.at = at + 1;
             return true;
@@ -123,16 +124,4 @@ fn skip_quoted(cursor: &mut Cursor<'_>, quote: u8) -> bool
             return false;
         }
     }
-}
-
-/// The next index of a byte in a line, searched from an index; at or beyond the line's end if it
-/// doesn't occur.
-fn index_of(line: &[u8], from: usize, byte: u8) -> usize
-    ensures { from ≤ result }
-{
-    let mut at = from;
-    while at < line.len() && line[at] != byte {
-        at += 1;
-    }
-    at
 }

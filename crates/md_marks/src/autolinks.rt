@@ -1,6 +1,7 @@
 //! Links in angle brackets: `<https://a>`, `<a@b>`.
 
 use md_base::Name;
+use md_lines::{Class, is};
 
 /// A link in angle brackets: its name, and its length with both brackets.
 #[derive(Clone, Copy, Debug, PartialEq, Eq)]
@@ -15,70 +16,58 @@ const MOST_OF_PROTOCOL: usize = 32;
 const MOST_OF_PART: usize = 63;
 
 /// The link at the beginning of a text, whose first byte is `<`.
+#[inline(always)]
 pub fn autolink_at(text: &[u8]) -> Option<Autolink> {
     let inside = text.get(1..)?;
-    let length = url_length(inside);
-    if length > 0 {
-        return Some(Autolink {
-            name: Name::AutolinkProtocol,
-            length: length.saturating_add(2),
-        });
-    }
-    let length = address_length(inside)?;
+    let name = inside.iter().take_while(|byte| is_of_name(**byte)).count();
+    let (name, length) = match inside.get(name) {
+        Some(b':') => (Name::AutolinkProtocol, url_length(inside, name)?),
+        Some(b'@') => (Name::AutolinkEmail, address_length(inside, name)?),
+        _ => return None,
+    };
     Some(Autolink {
-        name: Name::AutolinkEmail,
+        name,
         length: length.saturating_add(2),
     })
 }
 
-/// The length of the URL before a `>`; 0 if there is none.
-fn url_length(text: &[u8]) -> usize {
-    let protocol = text
-        .iter()
-        .take(MOST_OF_PROTOCOL + 1)
-        .take_while(|byte| { byte.is_ascii_alphanumeric() || matches!(**byte, b'+' | b'-' | b'.') })
-        .count();
-    let begins_well = match text.first() {
-        Some(byte) => byte.is_ascii_alphabetic(),
-        None => false,
-    };
-    if !begins_well || protocol < 2 || protocol > MOST_OF_PROTOCOL {
-        return 0;
-    }
-    if !matches!(text.get(protocol), Some(b':')) {
-        return 0;
+/// The length of the URL before a `>`, whose colon is at an index.
+fn url_length(text: &[u8], colon: usize) -> Option<usize> {
+    let protocol = text.get(..colon)?;
+    let begins_well = protocol.first()?.is_ascii_alphabetic();
+    let is_long = protocol.len() < 2 || protocol.len() > MOST_OF_PROTOCOL;
+    if !begins_well || is_long || !protocol.iter().all(|byte| is_of_protocol(*byte)) {
+        return None;
     }
     let length = text
         .iter()
         .take_while(|byte| **byte > b' ' && !matches!(**byte, b'<' | b'>' | 127))
         .count();
-    if matches!(text.get(length), Some(b'>')) {
-        length
-    } else {
-        0
-    }
+    matches!(text.get(length), Some(b'>')).then_some(length)
 }
 
-/// The length of the address before a `>`.
-fn address_length(text: &[u8]) -> Option<usize> {
-    let name = text.iter().take_while(|byte| is_of_name(**byte)).count();
-    if name == 0 || !matches!(text.get(name), Some(b'@')) {
-        return None;
-    }
-    let host = text.get(name..)?.get(1..)?;
+/// Whether a byte may occur in the name of a protocol.
+fn is_of_protocol(byte: u8) -> bool {
+    byte.is_ascii_alphanumeric() || matches!(byte, b'+' | b'-' | b'.')
+}
+
+/// The length of the address before a `>`, whose `@` is at an index.
+fn address_length(text: &[u8], at: usize) -> Option<usize> {
+    let host = text.get(at..)?.get(1..)?;
     let length = host
         .iter()
         .take_while(|byte| byte.is_ascii_alphanumeric() || matches!(**byte, b'-' | b'.'))
         .count();
-    if !matches!(host.get(length), Some(b'>')) || !is_host(host.get(..length)?) {
-        return None;
-    }
-    Some(name.saturating_add(1).saturating_add(length))
+    let is_address = at > 0
+        && matches!(host.get(length), Some(b'>'))
+        && is_host(host.get(..length).unwrap_or(b""));
+    is_address.then_some(at.saturating_add(1).saturating_add(length))
 }
 
 /// Whether a byte may occur in the name of an address.
+#[inline(always)]
 fn is_of_name(byte: u8) -> bool {
-    byte.is_ascii_alphanumeric()
+    is(byte, Class::Alphanumeric)
         || matches!(
             byte,
             b'.' | b'!'

@@ -2,6 +2,7 @@
 
 ghost use Rattle.std.specs.Prelude.{◌≡◌, [], false};
 
+use md_lines::{Class, is};
 use std::str;
 use ucd_category::GeneralCategory;
 
@@ -39,10 +40,9 @@ pub fn class_after(text: &[u8]) -> CharacterClass
 }
 
 /// The class of a one-byte character.
+#[inline(always)]
 fn class_of_byte(byte: u8) -> CharacterClass {
-    if byte.is_ascii_alphanumeric() {
-        CharacterClass::Word
-    } else if byte.is_ascii_punctuation() {
+    if is(byte, Class::Punctuation) {
         CharacterClass::Punctuation
     } else if matches!(byte, b' ' | b'\t' | b'\n' | b'\x0c' | b'\r') {
         CharacterClass::Space

@@ -1,7 +1,7 @@
 //! Finds the ends of inline code and math.
 
 use crate::leaf::{Leaf, run_length};
-use md_lines::Place;
+use md_lines::{Place, find_byte};
 use memchr::memchr;
 use std::alloc::{AllocError, Global};
 
@@ -45,7 +45,7 @@ impl Ticks {
         }
         let mut from = place.at;
         for line in place.line..leaf.lines.len() {
-            if let Some(at) = self.find_in_line(leaf.until_end(line), from, length)? {
+            if let Some(at) = self.find_in_line(leaf.bytes, leaf.end(line), from, length)? {
                 return Ok(Some(Place { line, at }));
             }
             from = leaf.start(line.saturating_add(1));
@@ -54,20 +54,23 @@ impl Ticks {
         Ok(None)
     }
 
-    /// The same in a line that ends with this text.
+    /// The same in a line.
+    #[inline(always)]
     fn find_in_line(
         &mut self,
-        text: &[u8],
+        bytes: &[u8],
+        end: usize,
         from: usize,
         length: usize,
     ) -> Result<Option<usize>, AllocError> {
+        let text = bytes.get(..end).unwrap_or(b"");
         let mut at = from;
         while at < text.len() {
-            let Some(offset) = memchr(b'`', &text[at..]) else {
+            let start = find_byte(bytes, b'`', at, text.len());
+            if start >= text.len() {
                 break;
-            };
-            let start = at.saturating_add(offset);
-            let count = run_length(text.get(start..).unwrap_or(b""), b'`');
+            }
+            let count = run_length(&text[start..], b'`');
             if count == length {
                 return Ok(Some(start));
             }

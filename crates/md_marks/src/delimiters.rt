@@ -116,10 +116,17 @@ impl Delimiters {
     /// # Errors
     ///
     /// Returns an error only if memory runs out.
+    #[inline(always)]
     pub fn resolve(&mut self, tokens: &mut Vec<Token>, from: usize) -> Result<(), AllocError> {
         if self.list.len() <= from {
             return Ok(());
         }
+        self.pair_all(tokens, from)
+    }
+
+    /// Pairs the runs from an index, of which there is one at least, and removes them.
+    #[inline(never)]
+    fn pair_all(&mut self, tokens: &mut Vec<Token>, from: usize) -> Result<(), AllocError> {
         let mut bottoms = [0; KINDS];
         self.openers.clear();
         for at in from..self.list.len() {

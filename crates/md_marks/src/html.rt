@@ -55,11 +55,20 @@ impl Endings {
 
     /// Returns the end of the HTML that begins at a place, at a `<`. Calls must move forward in the
     /// leaf.
+    #[inline(always)]
     pub fn find(&mut self, leaf: &Leaf, place: Place) -> Option<Place> {
         let rest = leaf.rest(place);
-        if !matches!(rest.get(1), Some(b'!' | b'?')) {
-            return read_tag(leaf.bytes, leaf.lines, place);
+        if matches!(rest.get(1), Some(b'!' | b'?')) {
+            self.find_other(leaf, place)
+        } else {
+            read_tag(leaf.bytes, leaf.lines, place)
         }
+    }
+
+    /// The same if it isn't a tag.
+    #[inline(never)]
+    fn find_other(&mut self, leaf: &Leaf, place: Place) -> Option<Place> {
+        let rest = leaf.rest(place);
         // A comment may end right where it begins.
         if rest.starts_with(b"<!-->") {
             return Some(moved(place, 5));

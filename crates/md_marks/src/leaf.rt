@@ -41,10 +41,17 @@ impl<'a> Leaf<'a> {
     /// The end of the text of a line.
     #[inline(always)]
     pub fn end(&self, line: usize) -> usize {
-        match self.lines.get(line) {
-            Some(each) if !self.is_last(line) => each.end,
-            _ => self.last,
+        if line < self.lines.len().saturating_sub(1) {
+            self.lines[line].end
+        } else {
+            self.last
         }
+    }
+
+    /// The end of the text of the last line.
+    #[inline(always)]
+    pub fn last_end(&self) -> usize {
+        self.last
     }
 
     /// The beginning of the next line, with the line ending before it.

@@ -13,11 +13,11 @@ mod marks;
 mod token;
 
 pub use autolinks::{Autolink, autolink_at};
-pub use bare_links::{BareLink, address, domain_end, is_www, url, www};
+pub use bare_links::{BareLink, address, domain_end, is_www, next_link_mark, url, www};
 pub use characters::{CharacterClass, class_after, class_before, flanks};
 pub use closings::{Dollars, Ticks};
 pub use delimiters::{Delimiter, Delimiters};
 pub use html::Endings;
 pub use leaf::{Leaf, run_length};
-pub use marks::next_mark;
+pub use marks::Marks;
 pub use token::{Mark, Token, push_token};

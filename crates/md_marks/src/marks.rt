@@ -1,4 +1,4 @@
-//! Finds the next mark of a text.
+//! Finds the marks of a text, one after another.
 
 ghost use Rattle.std.specs.Prelude.{◌≤◌, length};
 
@@ -6,59 +6,106 @@ use md_lines::{Class, is};
 use std::simd::prelude::*;
 
 /// The number of bytes that one step reads.
-const LANES: usize = 16;
+const LANES: usize = 32;
 
-/// Returns the index of the next byte that may be a mark, in a text that continues at `from` and
-/// ends at `end`, or `end` or later if there is none.
-pub fn next_mark(bytes: &[u8], from: usize, end: usize) -> usize
-    ensures { from ≤ result }
-{
-    let mut at = from;
-    while at < end {
-        match bytes.get(at..) {
-            Some(rest) if rest.len() >= LANES => {
-                let index = first_mark(rest);
-                at = at.saturating_add(index);
-                if index < LANES {
-                    return at;
-                }
-            }
-            Some(rest) => return at.saturating_add(first_mark_by_bytes(rest)),
-            None => return end.max(at),
-        }
-    }
-    at
+/// For each upper half of a byte, a bit if marks have it, twice.
+const UPPER: [u8; LANES] = [
+    0, 0, 1, 2, 4, 8, 16, 32, 0, 0, 0, 0, 0, 0, 0, 0, 0, 0, 1, 2, 4, 8, 16, 32, 0, 0, 0, 0, 0, 0,
+    0, 0,
+];
+
+/// For each lower half of a byte, the bits of the upper halves with which it is a mark, twice.
+const LOWER: [u8; LANES] = [
+    20, 1, 0, 0, 1, 0, 1, 0, 0, 0, 3, 8, 10, 8, 33, 8, 20, 1, 0, 0, 1, 0, 1, 0, 0, 0, 3, 8, 10, 8,
+    33, 8,
+];
+
+/// The marks of the block of bytes that was read last.
+#[derive(Clone, Copy, Debug, PartialEq, Eq)]
+pub struct Marks {
+    /// The beginning of the block.
+    block: usize,
+    /// A bit for each byte of the block that may be a mark.
+    bits: u64,
 }
 
-/// The index of the first byte that may be a mark in the first block of a text, else the length of
-/// that block.
+impl Marks {
+    /// No block is read yet: no index is near this one.
+    pub fn new() -> Marks {
+        Marks {
+            block: usize::MAX / 2,
+            bits: 0,
+        }
+    }
+
+    /// Returns the index of the next byte that may be a mark, at `from` or later, or `end` or later
+    /// if there is none before `end`. The bytes must be the same in each call.
+    #[inline(always)]
+    pub fn next(&mut self, bytes: &[u8], from: usize, end: usize) -> usize
+        ensures { from ≤ result }
+    {
+        let end = end.min(bytes.len());
+        let mut at = from;
+        while at < end {
+            let mut passed = at.wrapping_sub(self.block);
+            if passed >= LANES {
+                if bytes.len() < LANES {
+                    return at.saturating_add(first_mark_by_bytes(&bytes[at..]));
+                }
+                let block = at.min(bytes.len() - LANES);
+                self.block = block;
+                self.bits = marks_of(&bytes[block..]);
+                passed = at - block;
+            }
+            let mut bits = self.bits >> passed;
+            while bits != 0 {
+                let mark = at + bits.trailing_zeros() as usize;
+                if !is_plain(bytes, mark) {
+                    return mark;
+                }
+                bits &= bits - 1;
+            }
+            at += LANES - passed;
+        }
+        at
+    }
+}
+
+/// Whether the byte at an index is a full stop or a colon in plain text: no `w` precedes the full
+/// stop, or no `/` follows the colon.
 #[inline(always)]
-fn first_mark(text: &[u8]) -> usize
-    requires { 16 ≤ length text.now }
-    ensures { result ≤ 16 }
+fn is_plain(bytes: &[u8], at: usize) -> bool {
+    match bytes.get(at) {
+        Some(b'.') => !matches!(bytes.get(at.wrapping_sub(1)), Some(b'w' | b'W')),
+        Some(b':') => !matches!(bytes.get(at + 1), Some(b'/')),
+        _ => false,
+    }
+}
+
+/// A bit for each byte of the first block of a text that may be a mark.
+#[inline(always)]
+fn marks_of(text: &[u8]) -> u64
+    requires { 32 ≤ length text.now }
 {
     let block = Simd::<u8, LANES>::from_slice(text);
-    // `[`, `\`, `]`, `_`, `~` become the bytes from `{` on, as do `{`, `|`, `}` and DEL; `@` and
-    // the backtick become the same.
-    let folded = block | Simd::splat(0x20);
-    let marks = (folded - Simd::splat(b'{')).simd_le(Simd::splat(4))
-        | folded.simd_eq(Simd::splat(b'`'))
-        | block.simd_eq(Simd::splat(b'!'))
-        | block.simd_eq(Simd::splat(b'$'))
-        | block.simd_eq(Simd::splat(b'&'))
-        | block.simd_eq(Simd::splat(b'*'))
-        | block.simd_eq(Simd::splat(b'.'))
-        | block.simd_eq(Simd::splat(b':'))
-        | block.simd_eq(Simd::splat(b'<'));
-    let bits = marks.to_bitmask();
-    if bits == 0 {
-        LANES
-    } else {
-        (bits.trailing_zeros() as usize).min(LANES)
-    }
+    let marks = by_upper_half(block) & by_lower_half(block);
+    marks.simd_ne(Simd::splat(0)).to_bitmask()
+}
+
+/// The bits of each byte's upper half.
+#[inline(always)]
+fn by_upper_half(block: Simd<u8, LANES>) -> Simd<u8, LANES> {
+    Simd::from_array(UPPER).swizzle_dyn_within::<16>(block >> Simd::splat(4))
+}
+
+/// The bits of each byte's lower half.
+#[inline(always)]
+fn by_lower_half(block: Simd<u8, LANES>) -> Simd<u8, LANES> {
+    Simd::from_array(LOWER).swizzle_dyn_within::<16>(block & Simd::splat(15))
 }
 
 /// The index of the first mark of a text, else its length.
+#[inline(never)]
 fn first_mark_by_bytes(text: &[u8]) -> usize {
     let mark = text.iter().position(|byte| is(*byte, Class::Mark));
     mark.unwrap_or(text.len())

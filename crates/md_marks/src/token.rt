@@ -5,9 +5,12 @@ use std::alloc::AllocError;
 /// The meaning of a token.
 #[derive(Clone, Copy, Debug, PartialEq, Eq)]
 pub enum Mark {
+    /// Text, as between tokens.
     Text,
     /// It is part of the previous or the next token.
     Nothing,
+    /// A backslash that escapes the next byte.
+    Escape,
     EmphasisStart,
     EmphasisEnd,
     StrongStart,
@@ -17,14 +20,15 @@ pub enum Mark {
     Code,
     Math,
     Html,
-    /// A URL in angle brackets, without these.
+    /// A URL in angle brackets.
     Url,
-    /// An address in angle brackets, without these.
+    /// An address in angle brackets.
     Address,
     /// A bare URL with a protocol.
     BareUrl,
     /// A bare URL that begins with `www.`.
     BareWww,
+    /// A line ending, with the spaces around it.
     LineEnding,
     /// A backslash at the end of a line.
     BreakEscape,
@@ -38,7 +42,7 @@ pub enum Mark {
     FootnoteCall,
 }
 
-/// A part of a leaf.
+/// A part of a leaf. What is between tokens is text.
 #[derive(Clone, Copy, Debug, PartialEq, Eq)]
 pub struct Token {
     pub mark: Mark,
@@ -46,8 +50,8 @@ pub struct Token {
     pub start: usize,
     /// Its end, as a byte index.
     pub end: usize,
-    /// For code, math and HTML the line in which it begins; for the end of a link or an image the
-    /// index of its target.
+    /// For code, math, HTML and a line ending the line in which it begins; for the end of a link or
+    /// an image the index of its target.
     pub index: usize,
 }
 

@@ -1,5 +1,6 @@
+-- The index never decreases.
 use Rattle.std.proofs.Common.{◌-◌, ◌≤◌}
-use Rattle.md_marks.proofs.marks.next_mark.Given as goal
+use Rattle.md_marks.proofs.bare_links.next_link_mark.Given as goal
 
 abbrev pub invariant-loop-at : goal.invariant-loop-at
 invariant-loop-at l = l.fn.from ≤ l.at
