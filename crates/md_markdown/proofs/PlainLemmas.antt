@@ -1,6 +1,6 @@
 -- A document that is shown as it is written matches the grammar, whatever its text is.
 use Rattle.std.proofs.Common.{◌+◌, ◌*◌, ◌≤◌, ◌<◌, arith}
-use Rattle.std.proofs.Common.{◌≡◌, ◌∙◌, ℕ, zero, suc, ◌-◌, List, [], ◌∷◌, ◌++◌, true}
+use Rattle.std.proofs.Common.{◌≡◌, ◌∙◌, Bool, ℕ, zero, suc, ◌-◌, List, [], ◌∷◌, ◌++◌, true}
 use Rattle.std.proofs.Common.{false, ◌&&◌, if◌then◌else◌, refl, ap, sym, subst, length, nat_le, Some}
 use Rattle.std.proofs.Common.{None, take, replicate, All, codes}
 use Rattle.std.specs.Option.{unwrap_or}

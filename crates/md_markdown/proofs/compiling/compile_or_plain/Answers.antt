@@ -6,12 +6,12 @@ use Rattle.md_html.specs.MeasuredEvents.{handed_by}
 use Rattle.md_markdown.proofs.PlainLemmas.{too_deep, is_shown, meant_nests, never_nested}
 use Rattle.md_markdown.proofs.compiling.compile_or_plain.Goals as goal
 
-pub returns-then-depth-MAX_DEPTH-clause-kept :
-    goal.returns-then-depth-MAX_DEPTH-clause-kept
-returns-then-depth-MAX_DEPTH-clause-kept c =
+pub returns-then-depth-gt-MAX_DEPTH-clause-kept :
+    goal.returns-then-depth-gt-MAX_DEPTH-clause-kept
+returns-then-depth-gt-MAX_DEPTH-clause-kept c =
     IfOk-weaker c.compile_plain.result _ _
     (λ html _ document shown. absurd (too_deep (handed_by c.args.parsed.now) most_depth document
-    (subst (λ n. most_depth < n) (c.depth.ensures c.args.parsed.now.events.now c.args.parsed.now.measured) c.if-depth-MAX_DEPTH.true) shown))
+    (subst (λ n. most_depth < n) (c.depth.ensures c.args.parsed.now.events.now c.args.parsed.now.measured) c.if-depth-gt-MAX_DEPTH.true) shown))
     c.compile_plain.ensures.text
 
 pub returns-in-Ok-clause-plain : goal.returns-in-Ok-clause-plain
@@ -20,21 +20,21 @@ returns-in-Ok-clause-plain c =
     λ none. absurd (none checked.0 (is_shown (handed_by c.args.parsed.now) most_depth checked
     (sym (c.has_nested_link.ensures c.args.parsed.now.events.now checked.0
     c.args.parsed.now.measured checked.1.flattened) ∙ c.if-has_nested_link.false)
-    (subst (λ n. n ≤ most_depth) (c.depth.ensures c.args.parsed.now.events.now c.args.parsed.now.measured) c.if-depth-MAX_DEPTH.false)))
+    (subst (λ n. n ≤ most_depth) (c.depth.ensures c.args.parsed.now.events.now c.args.parsed.now.measured) c.if-depth-gt-MAX_DEPTH.false)))
 
 pub returns-in-Ok-clause-nesting : goal.returns-in-Ok-clause-nesting
 returns-in-Ok-clause-nesting c =
     meant_nests (handed_by c.args.parsed.now) c.args.options.now c.in-Ok.html c.requires.safe
-    (subst (λ n. n ≤ most_depth) (c.depth.ensures c.args.parsed.now.events.now c.args.parsed.now.measured) c.if-depth-MAX_DEPTH.false)
+    (subst (λ n. n ≤ most_depth) (c.depth.ensures c.args.parsed.now.events.now c.args.parsed.now.measured) c.if-depth-gt-MAX_DEPTH.false)
     c.in-Ok.ensures.promises.grammatical c.in-Ok.ensures.promises.meaning
 
 pub returns-then-has_nested_link-clause-kept : goal.returns-then-has_nested_link-clause-kept
 returns-then-has_nested_link-clause-kept c =
-    IfOk-weaker c.compile_plain.result _ _
+    IfOk-weaker c.compile_plain-then-has_nested_link.result _ _
     (λ html _ document shown. absurd (never_nested (handed_by c.args.parsed.now) most_depth document
     c.has_nested_link.result (c.has_nested_link.ensures c.args.parsed.now.events.now document
     c.args.parsed.now.measured shown.read.flattened) c.if-has_nested_link.true shown))
-    c.compile_plain.ensures.text
+    c.compile_plain-then-has_nested_link.ensures.text
 
 pub returns-in-Ok-clause-tree : goal.returns-in-Ok-clause-tree
 returns-in-Ok-clause-tree c =
