@@ -19,10 +19,10 @@ mod preamble;
 mod starts;
 mod table;
 
-pub use block::{Block, Container, ContainerKind, Exit, Item, Leaf, LineRange, Task};
+pub use block::{Block, ContainerKind, LineRange};
 pub use blocks::{Blocks, parse_blocks};
 pub use definition::{Definition, Definitions};
 pub use nesting::MAX_DEPTH;
 pub use options::BlockOptions;
 pub use preamble::{FrontMatter, front_matter};
-pub use table::next_cell;
+pub use table::{count_cells, next_cell};

@@ -44,8 +44,10 @@ fn is_space_at(line: &[u8], at: usize) -> bool {
     matches!(line.get(at), None | Some(b' ' | b'\t'))
 }
 
-/// The number signs of a heading at an index.
-pub(crate) fn heading_marks(line: &[u8], at: usize) -> Option<Span> {
+/// The number signs of a heading at an index, at most six.
+pub(crate) fn heading_marks(line: &[u8], at: usize) -> Option<Span>
+    ensures { IfSome result (λ marks. marks.end ≤ marks.start + 6) }
+{
     let end = run_end(line, at, b'#');
     if end - at <= 6 && is_space_at(line, end) {
         Some(Span::new(at, end))

@@ -1,22 +1,23 @@
 //! Tables.
 
 use md_base::Name;
-use md_blocks::next_cell;
+use md_blocks::{count_cells, next_cell};
 use md_inlines::{Inlines, Writer};
 use md_lines::{Line, trim_end, trim_start};
 use std::alloc::AllocError;
 
-/// Writes a table: its head, its delimiters, and its rows.
+/// Writes a table: its head, its delimiters, and its rows. It has as many columns as its head has
+/// cells.
 pub(crate) fn write_table(
     writer: &mut Writer,
     inlines: &mut Inlines,
     bytes: &[u8],
     lines: &[Line],
-    columns: usize,
 ) -> Result<(), AllocError> {
     let [head, delimiters, rows @ ..] = lines else {
         return Ok(());
     };
+    let columns = count_cells(bytes, *head);
     writer.enter(Name::GfmTable, head.start)?;
     writer.enter(Name::GfmTableHead, head.start)?;
     write_row(writer, inlines, bytes, head, columns)?;
@@ -24,7 +25,7 @@ pub(crate) fn write_table(
     writer.exit(Name::GfmTableHead, delimiters.end)?;
     let mut end = delimiters.end;
     if let (Some(first), Some(last)) = (rows.first(), rows.last()) {
-        writer.leaf(Name::LineEnding, delimiters.end, delimiters.next)?;
+        writer.leaf(Name::LineEnding, delimiters.end, delimiters.next())?;
         writer.enter(Name::GfmTableBody, first.start)?;
         for row in rows {
             write_row(writer, inlines, bytes, row, columns)?;
@@ -81,13 +82,7 @@ fn write_cell(
     let end = trim_end(bytes, start, bar).max(start);
     writer.enter(Name::GfmTableCell, start)?;
     if start < end {
-        let line = Line {
-            start,
-            end,
-            next: end,
-            columns: 0,
-        };
-        inlines.write_leaf(writer, &[line])?;
+        inlines.write_leaf(writer, &[Line::part(start, end)])?;
     }
     writer.exit(Name::GfmTableCell, end)
 }
