@@ -6,7 +6,7 @@ use Rattle.md_blocks.specs.declared.block.Block.TheVariants.{EnterQuote, EnterLi
 use Rattle.md_blocks.specs.declared.block.Block.TheVariants.{EnterFootnote, Exit}
 
 -- whether an entry is the beginning of a container
-pub enters : Block → Bool
+abbrev pub enters : Block → Bool
 enters (EnterQuote _) = true
 enters (EnterList _ _) = true
 enters (EnterItem _ _) = true
@@ -14,7 +14,7 @@ enters (EnterFootnote _) = true
 enters _ = false
 
 -- whether an entry is the end of a container
-pub exits : Block → Bool
+abbrev pub exits : Block → Bool
 exits (Exit _ _ _) = true
 exits _ = false
 
