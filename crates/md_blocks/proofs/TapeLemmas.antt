@@ -27,9 +27,9 @@ leads-append from [] ys middle to first rest =
 leads-append from (x ∷ xs) ys middle to first rest =
     cases (enters x) (exits x) _ _ _ _ _ _
     (λ entered. let parts = and_parts _ _ entered in
-        both_true parts.0 (leads-append (from + 1) xs ys middle to parts.1 rest))
+    both_true parts.0 (leads-append (from + 1) xs ys middle to parts.1 rest))
     (λ exited. let parts = and_parts _ _ exited in
-        both_true parts.0 (leads-append (from - 1) xs ys middle to parts.1 rest))
+    both_true parts.0 (leads-append (from - 1) xs ys middle to parts.1 rest))
     (λ stayed. leads-append from xs ys middle to stayed rest)
     first
 

@@ -10,14 +10,24 @@ use md_lines::Span;
 #[derive(Clone, Copy, PartialEq, Eq, Debug)]
 pub enum Block {
     /// The beginning of a quote, at the `>` of its first line.
-    EnterQuote { start: usize },
+    EnterQuote {
+        start: usize,
+    },
     /// The beginning of a list, at the marker of its first item.
-    EnterList { is_ordered: bool, start: usize },
+    EnterList {
+        is_ordered: bool,
+        start: usize,
+    },
     /// The beginning of an item, at its marker: a number of `digits` digits and a `.` or `)`, or
     /// `-`, `+` or `*` without a number.
-    EnterItem { digits: u8, start: usize },
+    EnterItem {
+        digits: u8,
+        start: usize,
+    },
     /// The beginning of a footnote's definition. Its label is the text between `[^` and `]:`.
-    EnterFootnote { label: Span },
+    EnterFootnote {
+        label: Span,
+    },
     /// The end of a container, up to which the document was read when it ended; `is_empty` says
     /// that it contains no block.
     Exit {
@@ -26,10 +36,16 @@ pub enum Block {
         at: usize,
     },
     /// The checkbox at the beginning of an item, after the item's own entry, at its `[`.
-    Task { is_checked: bool, start: usize },
+    Task {
+        is_checked: bool,
+        start: usize,
+    },
     Paragraph(LineRange),
     /// A heading with `level` number signs, from these to the end of its text.
-    AtxHeading { level: u8, span: Span },
+    AtxHeading {
+        level: u8,
+        span: Span,
+    },
     /// An underlined heading: the lines of its text, then its underline of `=` or `-`.
     SetextHeading(LineRange),
     /// Code between fences, or from a fence to the end: the first word after the fence, then the
@@ -44,11 +60,17 @@ pub enum Block {
     /// there is any, and the lines of math.
     Math(LineRange),
     /// Front matter, from the beginning of the document to the line ending after it.
-    FrontMatter { ending: Span },
+    FrontMatter {
+        ending: Span,
+    },
     /// A blank line before a child of an item, or between two items: its line ending.
-    BlankLine { ending: Span },
+    BlankLine {
+        ending: Span,
+    },
     /// A paragraph that contained only definitions, and ended at this index.
-    Definitions { at: usize },
+    Definitions {
+        at: usize,
+    },
 }
 
 /// The kinds of containers.

@@ -56,8 +56,10 @@ impl<'a> Pass<'a> {
     {
         self.make_room(depth)?;
         let start = position.text;
-        self.nesting
-            .enter(Block::EnterQuote { start }, open_block(ContainerKind::Quote))?;
+        self.nesting.enter(
+            Block::EnterQuote { start },
+            open_block(ContainerKind::Quote),
+        )?;
         position.pass_quote_mark();
         Ok(())
     }
@@ -80,8 +82,7 @@ impl<'a> Pass<'a> {
         self.definitions
             .add_footnote(self.alloc, self.bytes, label)?;
         let open = open_block(ContainerKind::FootnoteDefinition);
-        self.nesting
-            .enter(Block::EnterFootnote { label }, open)?;
+        self.nesting.enter(Block::EnterFootnote { label }, open)?;
         position.pass(label.end + 2 - position.text);
         Ok(true)
     }
