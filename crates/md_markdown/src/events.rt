@@ -2,13 +2,11 @@
 
 ghost use Rattle.std.specs.Prelude.{◌≡◌, OnOk};
 
-use crate::code::write_chunks;
 use crate::endings::{ending_before, write_last_ending};
 use crate::html::{has_text, without_comments, write_html, write_pieces};
 use crate::leaves::{ends_of, write_front_matter};
 use crate::options::{DocumentHtml, MarkdownOptions};
 use crate::prefixes::{write_footnote_start, write_item_start, write_task};
-use crate::table::write_table;
 use md_base::Name;
 use md_blocks::{Block, Blocks, ContainerKind, LineRange};
 use md_inlines::{Inlines, Writer};
@@ -85,49 +83,77 @@ impl<'a> Emission<'a> {
     fn write_blocks(&mut self, writer: &mut Writer) -> Result<(), AllocError> {
         for block in self.blocks.tape.iter() {
             match block {
-                Block::EnterQuote { .. }
-                | Block::EnterList { .. }
-                | Block::EnterItem { .. }
-                | Block::EnterFootnote { .. } => self.enter(writer, block)?,
+                Block::EnterQuote { start } => self.enter_quote(writer, *start)?,
+                Block::EnterList { is_ordered, start } => {
+                    self.enter_list(writer, *is_ordered, *start)?
+                }
+                Block::EnterItem { digits, start } => self.enter_item(writer, *digits, *start)?,
+                Block::EnterFootnote { label } => self.enter_footnote(writer, *label)?,
                 Block::Exit { kind, is_empty, at } => self.exit(writer, *kind, *is_empty, *at)?,
-                Block::Task { is_checked, start } => write_task(writer, *start, *is_checked)?,
-                Block::BlankLine { ending } => self.write_blank_line(writer, *ending)?,
+                Block::Task { is_checked, start } => write_task(writer, *is_checked, *start)?,
                 Block::Paragraph(range) => self.write_paragraph(writer, *range)?,
+                Block::AtxHeading { level, span } => self.write_atx(writer, *level, *span)?,
+                Block::SetextHeading(range) => self.write_setext(writer, *range)?,
+                Block::FencedCode(range) => self.write_fenced(writer, *range)?,
+                Block::IndentedCode(range) => self.write_indented(writer, *range)?,
                 Block::Html(range) => self.write_html(writer, *range)?,
+                Block::ThematicBreak(span) => self.write_break(writer, *span)?,
+                Block::Table(range) => self.write_table(writer, *range)?,
+                Block::Math(range) => self.write_math(writer, *range)?,
+                Block::FrontMatter { ending } => write_front_matter(writer, *ending)?,
+                Block::BlankLine { ending } => self.write_blank_line(writer, *ending)?,
                 Block::Definitions { .. } => self.is_after_bare = true,
-                _ => self.write_leaf(writer, block)?,
             }
         }
         Ok(())
     }
 
-    /// Enters a container.
-    fn enter(&mut self, writer: &mut Writer, block: &Block) -> Result<(), AllocError> {
+    /// Begins a container.
+    fn open(&mut self, writer: &mut Writer, is_item: bool) -> Result<(), AllocError> {
         self.begin_block(writer)?;
-        let is_item = matches!(block, Block::EnterItem { .. });
         self.open.push(Open {
             is_item,
             before: Before::Nothing,
         })?;
-        match block {
-            Block::EnterQuote { start } => writer.enter(Name::BlockQuote, *start),
-            Block::EnterList { is_ordered, start } => {
-                self.is_first_item = true;
-                let name = if *is_ordered {
-                    Name::ListOrdered
-                } else {
-                    Name::ListUnordered
-                };
-                writer.enter(name, *start)
-            }
-            Block::EnterItem { digits, start } => {
-                let is_first = self.is_first_item;
-                self.is_first_item = false;
-                write_item_start(writer, *start, *digits, is_first)
-            }
-            Block::EnterFootnote { label } => write_footnote_start(writer, *label),
-            _ => Ok(()),
-        }
+        Ok(())
+    }
+
+    fn enter_quote(&mut self, writer: &mut Writer, start: usize) -> Result<(), AllocError> {
+        self.open(writer, false)?;
+        writer.enter(Name::BlockQuote, start)
+    }
+
+    fn enter_list(
+        &mut self,
+        writer: &mut Writer,
+        is_ordered: bool,
+        start: usize,
+    ) -> Result<(), AllocError> {
+        self.open(writer, false)?;
+        self.is_first_item = true;
+        let name = if is_ordered {
+            Name::ListOrdered
+        } else {
+            Name::ListUnordered
+        };
+        writer.enter(name, start)
+    }
+
+    fn enter_item(
+        &mut self,
+        writer: &mut Writer,
+        digits: u8,
+        start: usize,
+    ) -> Result<(), AllocError> {
+        self.open(writer, true)?;
+        let is_first = self.is_first_item;
+        self.is_first_item = false;
+        write_item_start(writer, start, digits, is_first)
+    }
+
+    fn enter_footnote(&mut self, writer: &mut Writer, label: Span) -> Result<(), AllocError> {
+        self.open(writer, false)?;
+        write_footnote_start(writer, label)
     }
 
     /// Exits a container at an index.
@@ -149,33 +175,6 @@ impl<'a> Emission<'a> {
             ContainerKind::Item => Name::ListItem,
         };
         writer.exit(name, at)
-    }
-
-    /// Writes a leaf that is no paragraph and no HTML.
-    fn write_leaf(&mut self, writer: &mut Writer, leaf: &Block) -> Result<(), AllocError> {
-        self.begin_block(writer)?;
-        match leaf {
-            Block::AtxHeading { level, span } => self.write_atx(writer, *level, *span),
-            Block::SetextHeading(range) => self.write_setext(writer, *range),
-            Block::FencedCode(range) => self.write_fenced(writer, *range),
-            Block::IndentedCode(range) => {
-                let lines = self.blocks.lines_of(*range);
-                let (start, end) = ends_of(lines);
-                writer.enter(Name::CodeIndented, start)?;
-                write_chunks(writer, lines, Name::CodeFlowChunk)?;
-                writer.exit(Name::CodeIndented, end)
-            }
-            Block::ThematicBreak(place) => {
-                writer.leaf(Name::ThematicBreak, place.start, place.end)
-            }
-            Block::Table(range) => {
-                let lines = self.blocks.lines_of(*range);
-                write_table(writer, &mut self.inlines, self.bytes, lines)
-            }
-            Block::Math(range) => self.write_math(writer, *range),
-            Block::FrontMatter { ending } => write_front_matter(writer, *ending),
-            _ => Ok(()),
-        }
     }
 
     /// Writes a blank line. After an item or a block for which nothing is written it is written
@@ -214,7 +213,7 @@ impl<'a> Emission<'a> {
 
     /// Writes the events between a child of an item and the previous block, if that is no paragraph
     /// or the child begins on a line of its own.
-    fn begin_block(&mut self, writer: &mut Writer) -> Result<(), AllocError> {
+    pub(crate) fn begin_block(&mut self, writer: &mut Writer) -> Result<(), AllocError> {
         self.begin_child(writer, Before::Other, None)
     }
 

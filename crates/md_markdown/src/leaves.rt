@@ -1,7 +1,8 @@
-//! Writes headings, fenced code, math and front matter as events.
+//! Writes headings, code, thematic breaks, tables, math and front matter as events.
 
 use crate::code::write_chunks;
 use crate::events::Emission;
+use crate::table::write_table;
 use md_base::Name;
 use md_blocks::LineRange;
 use md_inlines::Writer;
@@ -15,6 +16,7 @@ impl<'a> Emission<'a> {
         level: u8,
         span: Span,
     ) -> Result<(), AllocError> {
+        self.begin_block(writer)?;
         let marks_end = span.start.saturating_add(usize::from(level));
         let text = Line::part(trim_start(self.bytes, marks_end, span.end), span.end);
         writer.enter(Name::HeadingAtx, span.start)?;
@@ -32,6 +34,7 @@ impl<'a> Emission<'a> {
         writer: &mut Writer,
         range: LineRange,
     ) -> Result<(), AllocError> {
+        self.begin_block(writer)?;
         let [lines @ .., underline] = self.blocks.lines_of(range) else {
             return Ok(());
         };
@@ -54,6 +57,7 @@ impl<'a> Emission<'a> {
         writer: &mut Writer,
         range: LineRange,
     ) -> Result<(), AllocError> {
+        self.begin_block(writer)?;
         let [info, lines @ ..] = self.blocks.lines_of(range) else {
             return Ok(());
         };
@@ -71,11 +75,44 @@ impl<'a> Emission<'a> {
         writer.exit(Name::CodeFenced, info.end)
     }
 
+    pub(crate) fn write_indented(
+        &mut self,
+        writer: &mut Writer,
+        range: LineRange,
+    ) -> Result<(), AllocError> {
+        self.begin_block(writer)?;
+        let lines = self.blocks.lines_of(range);
+        let (start, end) = ends_of(lines);
+        writer.enter(Name::CodeIndented, start)?;
+        write_chunks(writer, lines, Name::CodeFlowChunk)?;
+        writer.exit(Name::CodeIndented, end)
+    }
+
+    pub(crate) fn write_break(
+        &mut self,
+        writer: &mut Writer,
+        span: Span,
+    ) -> Result<(), AllocError> {
+        self.begin_block(writer)?;
+        writer.leaf(Name::ThematicBreak, span.start, span.end)
+    }
+
+    pub(crate) fn write_table(
+        &mut self,
+        writer: &mut Writer,
+        range: LineRange,
+    ) -> Result<(), AllocError> {
+        self.begin_block(writer)?;
+        let lines = self.blocks.lines_of(range);
+        write_table(writer, &mut self.inlines, self.bytes, lines)
+    }
+
     pub(crate) fn write_math(
         &mut self,
         writer: &mut Writer,
         range: LineRange,
     ) -> Result<(), AllocError> {
+        self.begin_block(writer)?;
         let [fence, lines @ ..] = self.blocks.lines_of(range) else {
             return Ok(());
         };

@@ -27,8 +27,8 @@ pub(crate) fn write_item_start(
 /// Writes a box, `[ ]` or `[x]`, and the space after it.
 pub(crate) fn write_task(
     writer: &mut Writer,
-    start: usize,
     is_checked: bool,
+    start: usize,
 ) -> Result<(), AllocError> {
     let after = start.saturating_add(3);
     writer.enter(Name::GfmTaskListItemCheck, start)?;
