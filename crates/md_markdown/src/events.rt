@@ -109,7 +109,7 @@ impl<'a> Emission<'a> {
     }
 
     /// Begins a container.
-    fn open(&mut self, writer: &mut Writer, is_item: bool) -> Result<(), AllocError> {
+    fn begin_container(&mut self, writer: &mut Writer, is_item: bool) -> Result<(), AllocError> {
         self.begin_block(writer)?;
         self.open.push(Open {
             is_item,
@@ -119,7 +119,7 @@ impl<'a> Emission<'a> {
     }
 
     fn enter_quote(&mut self, writer: &mut Writer, start: usize) -> Result<(), AllocError> {
-        self.open(writer, false)?;
+        self.begin_container(writer, false)?;
         writer.enter(Name::BlockQuote, start)
     }
 
@@ -129,7 +129,7 @@ impl<'a> Emission<'a> {
         is_ordered: bool,
         start: usize,
     ) -> Result<(), AllocError> {
-        self.open(writer, false)?;
+        self.begin_container(writer, false)?;
         self.is_first_item = true;
         let name = if is_ordered {
             Name::ListOrdered
@@ -145,14 +145,14 @@ impl<'a> Emission<'a> {
         digits: u8,
         start: usize,
     ) -> Result<(), AllocError> {
-        self.open(writer, true)?;
+        self.begin_container(writer, true)?;
         let is_first = self.is_first_item;
         self.is_first_item = false;
         write_item_start(writer, start, digits, is_first)
     }
 
     fn enter_footnote(&mut self, writer: &mut Writer, label: Span) -> Result<(), AllocError> {
-        self.open(writer, false)?;
+        self.begin_container(writer, false)?;
         write_footnote_start(writer, label)
     }
 
