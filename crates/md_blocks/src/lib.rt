@@ -25,4 +25,4 @@ pub use definition::{Definition, Definitions};
 pub use nesting::MAX_DEPTH;
 pub use options::BlockOptions;
 pub use preamble::{FrontMatter, front_matter};
-pub use table::{count_cells, next_cell};
+pub use table::next_cell;

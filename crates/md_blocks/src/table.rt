@@ -24,7 +24,7 @@ pub fn next_cell(bytes: &[u8], at: usize, end: usize) -> usize
 
 /// The number of cells in a row. A cell begins after the leading bar or the previous bar, and ends
 /// at a bar or at the end of the row.
-pub fn count_cells(bytes: &[u8], line: Line) -> usize {
+pub(crate) fn count_cells(bytes: &[u8], line: Line) -> usize {
     let end = trim_end(bytes, line.start, line.end);
     let mut at = trim_start(bytes, line.start, end);
     if at < end && bytes.get(at) == Some(&b'|') {

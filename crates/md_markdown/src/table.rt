@@ -1,7 +1,7 @@
 //! Tables.
 
 use md_base::Name;
-use md_blocks::{count_cells, next_cell};
+use md_blocks::next_cell;
 use md_inlines::{Inlines, Writer};
 use md_lines::{Line, trim_end, trim_start};
 use std::alloc::AllocError;
@@ -17,10 +17,9 @@ pub(crate) fn write_table(
     let [head, delimiters, rows @ ..] = lines else {
         return Ok(());
     };
-    let columns = count_cells(bytes, *head);
     writer.enter(Name::GfmTable, head.start)?;
     writer.enter(Name::GfmTableHead, head.start)?;
-    write_row(writer, inlines, bytes, head, columns)?;
+    let columns = write_row(writer, inlines, bytes, head, usize::MAX)?;
     write_delimiters(writer, bytes, delimiters)?;
     writer.exit(Name::GfmTableHead, delimiters.end)?;
     let mut end = delimiters.end;
@@ -49,25 +48,29 @@ fn cells_of(bytes: &[u8], line: &Line) -> (usize, usize) {
     (start, end)
 }
 
-/// Writes a row. Cells beyond the last column are left out.
+/// Writes a row: at most `columns` of its cells, those beyond are left out. Returns how many were
+/// written.
 fn write_row(
     writer: &mut Writer,
     inlines: &mut Inlines,
     bytes: &[u8],
     line: &Line,
     columns: usize,
-) -> Result<(), AllocError> {
+) -> Result<usize, AllocError> {
     writer.enter(Name::GfmTableRow, line.start)?;
     let (mut at, end) = cells_of(bytes, line);
-    for _ in 0..columns {
+    let mut count = 0;
+    for index in 0..columns {
         if at >= end {
             break;
         }
         let bar = next_cell(bytes, at, end);
         write_cell(writer, inlines, bytes, at, bar)?;
         at = bar.saturating_add(1);
+        count = index + 1;
     }
-    writer.exit(Name::GfmTableRow, line.end)
+    writer.exit(Name::GfmTableRow, line.end)?;
+    Ok(count)
 }
 
 /// Writes a cell between two indices.
