@@ -3,7 +3,7 @@
 use crate::block::Block;
 use crate::code::{Fence, first_word};
 use crate::html::HtmlKind;
-use crate::marker::{heading_marks, heading_text, is_blank_from, run_end};
+use crate::marker::{heading_end, heading_marks, is_blank_from, run_end};
 use crate::pass::{CODE_INDENT, NoBreak, OpenLeaf, Pass};
 use crate::position::Position;
 use crate::table::{count_cells, delimiter_columns};
@@ -83,10 +83,10 @@ impl<'a> Pass<'a> {
             return Ok(false);
         };
         self.make_room(depth)?;
-        let text = heading_text(position.line, marks.end);
+        let end = heading_end(position.line, marks.end);
         self.nesting.put(Block::AtxHeading {
             level: (marks.end - marks.start) as u8,
-            span: Span::new(marks.start, text.end),
+            span: Span::new(marks.start, end),
         })?;
         Ok(true)
     }
