@@ -2,7 +2,7 @@
 
 ghost use Rattle.std.specs.Prelude.{◌≡◌, ◌≤◌, vec_len, OnOk};
 
-use crate::block::{Leaf, LineRange};
+use crate::block::{Block, LineRange};
 use crate::definition::read_definition;
 use crate::pass::{OpenLeaf, Pass};
 use md_lines::{Place, trim_start};
@@ -38,7 +38,7 @@ impl<'a> Pass<'a> {
         };
         self.blank_line = None;
         if self.nesting.depth() >= blank.depth && self.nesting.is_in_list() {
-            self.nesting.put(Leaf::BlankLine {
+            self.nesting.put(Block::BlankLine {
                 ending: blank.ending,
             })?;
         }
@@ -85,14 +85,14 @@ impl<'a> Pass<'a> {
         match leaf {
             OpenLeaf::None => Ok(()),
             OpenLeaf::Paragraph => self.close_paragraph(),
-            OpenLeaf::Fenced { info, .. } => self.nesting.put(Leaf::FencedCode { info, lines }),
-            OpenLeaf::Math { start, .. } => self.nesting.put(Leaf::Math { start, lines }),
+            OpenLeaf::Fenced(_) => self.nesting.put(Block::FencedCode(lines)),
+            OpenLeaf::Math(_) => self.nesting.put(Block::Math(lines)),
             OpenLeaf::Indented => {
                 let lines = self.without_blank_end(lines);
-                self.nesting.put(Leaf::IndentedCode(lines))
+                self.nesting.put(Block::IndentedCode(lines))
             }
-            OpenLeaf::Html(_) => self.nesting.put(Leaf::Html(lines)),
-            OpenLeaf::Table { columns } => self.nesting.put(Leaf::Table { columns, lines }),
+            OpenLeaf::Html(_) => self.nesting.put(Block::Html(lines)),
+            OpenLeaf::Table { .. } => self.nesting.put(Block::Table(lines)),
         }
     }
 
@@ -102,13 +102,13 @@ impl<'a> Pass<'a> {
     {
         if self.take_definitions()? {
             let lines = self.leaf_lines();
-            return self.nesting.put(Leaf::Paragraph(lines));
+            return self.nesting.put(Block::Paragraph(lines));
         }
         let at = match self.lines.last() {
             Some(line) => line.end,
             None => self.at,
         };
-        self.nesting.put(Leaf::Definitions { at })
+        self.nesting.put(Block::Definitions { at })
     }
 
     /// Lines without blank lines at their end.

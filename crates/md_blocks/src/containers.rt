@@ -3,7 +3,7 @@
 ghost use Rattle.std.specs.Prelude.{◌≡◌, ◌≤◌, ◌<◌, ◌+◌, length, vec_len};
 ghost use Rattle.std.specs.Prelude.{OnOk, IfOk, IfSome, IsTrue};
 
-use crate::block::{Container, ContainerKind, Item, Task};
+use crate::block::{Block, ContainerKind};
 use crate::marker::{Marker, footnote_label, item_marker, task_box};
 use crate::nesting::{MAX_DEPTH, Open};
 use crate::pass::{CODE_INDENT, OpenLeaf, Pass};
@@ -56,7 +56,10 @@ impl<'a> Pass<'a> {
     {
         self.make_room(depth)?;
         let start = position.text;
-        self.nesting.enter(Container::Quote { start }, open_block(ContainerKind::Quote))?;
+        self.nesting.enter(
+            Block::EnterQuote { start },
+            open_block(ContainerKind::Quote),
+        )?;
         position.pass_quote_mark();
         Ok(())
     }
@@ -79,8 +82,7 @@ impl<'a> Pass<'a> {
         self.definitions
             .add_footnote(self.alloc, self.bytes, label)?;
         let open = open_block(ContainerKind::FootnoteDefinition);
-        self.nesting
-            .enter(Container::FootnoteDefinition { label }, open)?;
+        self.nesting.enter(Block::EnterFootnote { label }, open)?;
         position.pass(label.end + 2 - position.text);
         Ok(true)
     }
@@ -105,11 +107,9 @@ impl<'a> Pass<'a> {
         position.pass(marker.digits + 1);
         let is_text = position.indent <= CODE_INDENT && !position.is_blank();
         let padding = if is_text { position.indent } else { 1 };
-        let task = task_at(position, is_text);
-        let item = Item {
+        let item = Block::EnterItem {
+            digits: marker.digits as u8,
             start,
-            marker: start + marker.digits,
-            task,
         };
         let open = Open {
             kind: ContainerKind::Item,
@@ -117,12 +117,14 @@ impl<'a> Pass<'a> {
             marker: marker.byte,
             has_child: false,
         };
-        self.nesting.enter(Container::Item(item), open)?;
-        if task.is_some() {
-            return self.begin_task(position);
+        self.nesting.enter(item, open)?;
+        match task_at(position, is_text) {
+            Some(is_checked) => self.begin_task(is_checked, position),
+            None => {
+                position.advance(padding);
+                Ok(())
+            }
         }
-        position.advance(padding);
-        Ok(())
     }
 
     /// Chooses the list of an item with this marker: the open list, or a new one.
@@ -151,16 +153,24 @@ impl<'a> Pass<'a> {
             ..open_block(kind)
         };
         self.nesting
-            .enter(Container::List { start, is_ordered }, open)
+            .enter(Block::EnterList { is_ordered, start }, open)
     }
 
-    /// Reads the rest of an item's line after its checkbox, as a paragraph, whatever its first byte
-    /// is.
-    fn begin_task(&mut self, position: &mut Position<'_>) -> Result<(), AllocError>
+    /// Reads the rest of an item's line from its checkbox: the text after it is a paragraph,
+    /// whatever its first byte is.
+    fn begin_task(
+        &mut self,
+        is_checked: bool,
+        position: &mut Position<'_>,
+    ) -> Result<(), AllocError>
         requires { position.old.text + 3 ≤ length position.old.line.now }
         ensures goes_on { position.old.at ≤ position.new.at }
         ensures same_line { position.new.line ≡ position.old.line }
     {
+        self.nesting.put(Block::Task {
+            is_checked,
+            start: position.text,
+        })?;
         position.pass(3);
         self.nesting.note_child();
         if !position.is_blank() {
@@ -172,18 +182,14 @@ impl<'a> Pass<'a> {
     }
 }
 
-/// The checkbox at a position, if text begins there.
-fn task_at(position: &Position<'_>, is_text: bool) -> Option<Task>
+/// The checkbox at a position, if text begins there: `Some(true)` if it is checked.
+fn task_at(position: &Position<'_>, is_text: bool) -> Option<bool>
     ensures { IfSome result (λ _. position.now.text + 3 ≤ length position.now.line.now) }
 {
     if !is_text {
         return None;
     }
-    let is_checked = task_box(position.line, position.text)?;
-    Some(Task {
-        start: position.text,
-        is_checked,
-    })
+    task_box(position.line, position.text)
 }
 
 /// A new open block, with no child and no marker.

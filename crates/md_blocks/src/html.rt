@@ -110,13 +110,7 @@ fn kind_of_tag(text: &[u8]) -> Option<HtmlKind> {
 
 /// Whether a text is one opening or closing tag, followed only by spaces and tabs.
 fn is_tag_alone(text: &[u8]) -> bool {
-    let end = text.len();
-    let lines = [Line {
-        start: 0,
-        end,
-        next: end,
-        columns: 0,
-    }];
+    let lines = [Line::part(0, text.len())];
     match read_tag(text, &lines, Place { line: 0, at: 0 }) {
         Some(place) => is_blank_from(text, place.at),
         None => false,

@@ -19,7 +19,7 @@ mod preamble;
 mod starts;
 mod table;
 
-pub use block::{Block, Container, ContainerKind, Exit, Item, Leaf, LineRange, Task};
+pub use block::{Block, ContainerKind, LineRange};
 pub use blocks::{Blocks, parse_blocks};
 pub use definition::{Definition, Definitions};
 pub use nesting::MAX_DEPTH;

@@ -44,8 +44,10 @@ fn is_space_at(line: &[u8], at: usize) -> bool {
     matches!(line.get(at), None | Some(b' ' | b'\t'))
 }
 
-/// The number signs of a heading at an index.
-pub(crate) fn heading_marks(line: &[u8], at: usize) -> Option<Span> {
+/// The number signs of a heading at an index, at most six.
+pub(crate) fn heading_marks(line: &[u8], at: usize) -> Option<Span>
+    ensures { IfSome result (λ marks. marks.end ≤ marks.start + 6) }
+{
     let end = run_end(line, at, b'#');
     if end - at <= 6 && is_space_at(line, end) {
         Some(Span::new(at, end))
@@ -54,20 +56,18 @@ pub(crate) fn heading_marks(line: &[u8], at: usize) -> Option<Span> {
     }
 }
 
-/// The text of a heading after its number signs, without the closing ones.
-pub(crate) fn heading_text(line: &[u8], from: usize) -> Span {
-    let start = trim_start(line, from, line.len());
-    let end = trim_end(line, start, line.len());
+/// The end of the text of a heading, before spaces and the closing number signs; its first number
+/// signs end at `from`, before a space or at the end of the line.
+pub(crate) fn heading_end(line: &[u8], from: usize) -> usize {
+    let end = trim_end(line, from, line.len());
     let mut mark = end;
-    while mark > start && line.get(mark - 1) == Some(&b'#') {
+    while mark > from && line.get(mark - 1) == Some(&b'#') {
         mark -= 1;
     }
-    if mark <= start {
-        Span::new(start, start)
-    } else if mark < end && is_space_at(line, mark - 1) {
-        Span::new(start, trim_end(line, start, mark))
+    if mark > from && mark < end && is_space_at(line, mark - 1) {
+        trim_end(line, from, mark)
     } else {
-        Span::new(start, end)
+        end
     }
 }
 

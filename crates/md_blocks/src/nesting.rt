@@ -1,9 +1,10 @@
 //! The tape, and the open containers.
 
-ghost use Rattle.md_blocks.specs.Tape.{leads};
+ghost use Rattle.md_blocks.specs.Tape.{leads, enters, exits};
 ghost use Rattle.std.specs.Prelude.{IsTrue, ◌≡◌, ◌≤◌, ◌<◌, ◌+◌, vec_len, OnOk, IsSome};
+ghost use Rattle.std.specs.Prelude.{true, false};
 
-use crate::block::{Block, Container, ContainerKind, Exit, Leaf};
+use crate::block::{Block, ContainerKind};
 use std::alloc::{AllocError, Global};
 
 /// The maximum depth of nested containers. A marker that would begin a deeper one is text. This
@@ -66,14 +67,15 @@ impl Nesting {
         self.stack.last().copied()
     }
 
-    /// Enters a container. After an error nothing is entered.
-    pub(crate) fn enter(&mut self, container: Container, open: Open) -> Result<(), AllocError>
-        requires { vec_len self.old.stack < 96 }
+    /// Enters a container; `block` is its beginning. After an error nothing is entered.
+    pub(crate) fn enter(&mut self, block: Block, open: Open) -> Result<(), AllocError>
+        requires shallow { vec_len self.old.stack < 96 }
+        requires enters { enters block ≡ true }
         ensures { vec_len self.new.stack ≤ vec_len self.old.stack + 1 }
     {
         let depth = self.stack.len();
         self.stack.push(open)?;
-        match self.tape.push(Block::Enter(container)) {
+        match self.tape.push(block) {
             Ok(()) => Ok(()),
             Err(error) => {
                 self.stack.truncate(depth);
@@ -82,12 +84,14 @@ impl Nesting {
         }
     }
 
-    /// Writes a leaf.
+    /// Writes an entry that neither begins nor ends a container.
     #[inline]
-    pub(crate) fn put(&mut self, leaf: Leaf) -> Result<(), AllocError>
+    pub(crate) fn put(&mut self, block: Block) -> Result<(), AllocError>
+        requires enters_none { enters block ≡ false }
+        requires exits_none { exits block ≡ false }
         ensures { self.new.stack ≡ self.old.stack }
     {
-        self.tape.push(Block::Leaf(leaf))?;
+        self.tape.push(block)?;
         Ok(())
     }
 
@@ -120,12 +124,11 @@ impl Nesting {
     {
         let depth = self.stack.len() - 1;
         let open = self.stack[depth];
-        let exit = Exit {
+        self.tape.push(Block::Exit {
             kind: open.kind,
-            at,
             is_empty: !open.has_child,
-        };
-        self.tape.push(Block::Exit(exit))?;
+            at,
+        })?;
         self.stack.truncate(depth);
         Ok(())
     }

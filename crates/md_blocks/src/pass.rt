@@ -2,7 +2,7 @@
 
 ghost use Rattle.std.specs.Prelude.{◌≡◌, ◌≤◌, vec_len, OnOk};
 
-use crate::block::{ContainerKind, Leaf, LineRange};
+use crate::block::{Block, ContainerKind, LineRange};
 use crate::blocks::Blocks;
 use crate::code::Fence;
 use crate::definition::Definitions;
@@ -32,8 +32,8 @@ pub(crate) enum OpenLeaf {
     None,
     Paragraph,
     Indented,
-    Fenced { fence: Fence, info: Span },
-    Math { fence: Fence, start: usize },
+    Fenced(Fence),
+    Math(Fence),
     Html(HtmlKind),
     Table { columns: usize },
 }
@@ -134,7 +134,8 @@ impl<'a> Pass<'a> {
         'lines: while at < bytes.len() {
             let end = line_end(bytes, at);
             let next = after_ending(bytes, end);
-            self.read_line(&mut Position::new(&bytes[..end], at, next))?;
+            let ending = (next - end) as u8;
+            self.read_line(&mut Position::new(&bytes[..end], at, ending))?;
             at = next;
         }
         self.close_unmatched(0)
@@ -144,7 +145,7 @@ impl<'a> Pass<'a> {
     fn read_front_matter(&mut self) -> Result<usize, AllocError> {
         match front_matter(self.bytes) {
             Some(found) => {
-                self.nesting.put(Leaf::FrontMatter {
+                self.nesting.put(Block::FrontMatter {
                     ending: found.ending,
                 })?;
                 Ok(found.ending.end)
@@ -190,7 +191,7 @@ impl<'a> Pass<'a> {
     #[inline(always)]
     fn continue_leaf(&mut self, position: &mut Position<'_>) -> Result<bool, AllocError> {
         match self.leaf {
-            OpenLeaf::Fenced { fence, .. } | OpenLeaf::Math { fence, .. } => {
+            OpenLeaf::Fenced(fence) | OpenLeaf::Math(fence) => {
                 self.continue_fenced(fence, position)?;
                 Ok(true)
             }
@@ -213,12 +214,11 @@ impl<'a> Pass<'a> {
             self.close_unmatched(matched)?;
         }
         self.is_after_blank = self.leaf == OpenLeaf::None && !self.nesting.has_quote();
-        let end = position.line.len();
-        if position.next > end {
-            let ending = Span::new(end, position.next);
+        let line = position.text_line();
+        if line.ending > 0 {
             self.blank_line = Some(BlankLine {
                 depth: self.nesting.depth_of_quote(),
-                ending,
+                ending: Span::new(line.end, line.next()),
             });
         }
         Ok(())

@@ -12,8 +12,8 @@ const TAB_STOP: usize = 4;
 pub(crate) struct Position<'a> {
     /// The document up to the end of the line.
     pub(crate) line: &'a [u8],
-    /// The beginning of the next line.
-    pub(crate) next: usize,
+    /// The number of bytes of the line ending.
+    pub(crate) ending: u8,
     /// The index of the byte at the position.
     pub(crate) at: usize,
     /// The column of the position, from the beginning of the line, or from a tab stop.
@@ -27,21 +27,19 @@ pub(crate) struct Position<'a> {
     pub(crate) indent: usize,
     ghost before_text: { at ≤ text },
     ghost in_line: { text ≤ length line.now },
-    ghost line_in_order: { length line.now ≤ next },
 }
 
 impl<'a> Position<'a> {
     /// The position at the beginning of a line, which extends from `at` to the end of `line`.
     #[inline(always)]
-    pub(crate) fn new(line: &'a [u8], at: usize, next: usize) -> Self
-        requires begins { at ≤ length line.now }
-        requires ends { length line.now ≤ next }
+    pub(crate) fn new(line: &'a [u8], at: usize, ending: u8) -> Self
+        requires { at ≤ length line.now }
         ensures at { result.at ≡ at }
     {
         let (text, indent) = text_after(line, at, 0);
         Position {
             line,
-            next,
+            ending,
             at,
             column: 0,
             is_in_tab: false,
@@ -139,8 +137,8 @@ impl<'a> Position<'a> {
         Line {
             start: self.at,
             end: self.line.len(),
-            next: self.next,
             columns,
+            ending: self.ending,
         }
     }
 
@@ -150,8 +148,8 @@ impl<'a> Position<'a> {
         Line {
             start: self.text,
             end: self.line.len(),
-            next: self.next,
             columns: 0,
+            ending: self.ending,
         }
     }
 }

@@ -1,9 +1,9 @@
 //! Begins leaves.
 
-use crate::block::{Leaf, LineRange};
+use crate::block::Block;
 use crate::code::{Fence, first_word};
 use crate::html::HtmlKind;
-use crate::marker::{heading_marks, heading_text, is_blank_from, run_end};
+use crate::marker::{heading_end, heading_marks, is_blank_from, run_end};
 use crate::pass::{CODE_INDENT, NoBreak, OpenLeaf, Pass};
 use crate::position::Position;
 use crate::table::{count_cells, delimiter_columns};
@@ -83,16 +83,11 @@ impl<'a> Pass<'a> {
             return Ok(false);
         };
         self.make_room(depth)?;
-        let text = heading_text(position.line, marks.end);
-        let start = self.lines.len();
-        self.lines.push(Line {
-            start: text.start,
-            end: text.end,
-            next: text.end,
-            columns: 0,
+        let end = heading_end(position.line, marks.end);
+        self.nesting.put(Block::AtxHeading {
+            level: (marks.end - marks.start) as u8,
+            span: Span::new(marks.start, end),
         })?;
-        let lines = LineRange::new(start, self.lines.len());
-        self.nesting.put(Leaf::AtxHeading { marks, lines })?;
         Ok(true)
     }
 
@@ -108,7 +103,8 @@ impl<'a> Pass<'a> {
         };
         self.make_room(depth)?;
         let info = first_word(position.line, run_end(position.line, position.text, mark));
-        self.begin(OpenLeaf::Fenced { fence, info });
+        self.begin(OpenLeaf::Fenced(fence));
+        self.lines.push(Line::part(info.start, info.end))?;
         Ok(true)
     }
 
@@ -118,22 +114,17 @@ impl<'a> Pass<'a> {
             return Ok(false);
         };
         self.make_room(depth)?;
-        self.begin(OpenLeaf::Math {
-            fence,
-            start: position.text,
-        });
+        self.begin(OpenLeaf::Math(fence));
+        let after = run_end(position.line, position.text, b'$');
+        self.lines.push(Line::part(position.text, after))?;
         let end = position.line.len();
-        let start = trim_start(
-            position.line,
-            run_end(position.line, position.text, b'$'),
-            end,
-        );
+        let start = trim_start(position.line, after, end);
         if start < end {
             self.lines.push(Line {
                 start,
                 end,
-                next: position.next,
                 columns: 0,
+                ending: position.ending,
             })?;
         }
         Ok(true)
@@ -165,10 +156,10 @@ impl<'a> Pass<'a> {
         if !is_blank_from(position.line, end) || !self.take_definitions()? {
             return Ok(false);
         }
-        let lines = self.leaf_lines();
+        self.lines.push(Line::part(position.text, end))?;
         self.leaf = OpenLeaf::None;
-        let underline = Span::new(position.text, end);
-        self.nesting.put(Leaf::SetextHeading { lines, underline })?;
+        let lines = self.leaf_lines();
+        self.nesting.put(Block::SetextHeading(lines))?;
         Ok(true)
     }
 
@@ -184,7 +175,7 @@ impl<'a> Pass<'a> {
         }
         self.make_room(depth)?;
         let span = Span::new(position.text, position.line.len());
-        self.nesting.put(Leaf::ThematicBreak(span))?;
+        self.nesting.put(Block::ThematicBreak(span))?;
         Ok(true)
     }
 

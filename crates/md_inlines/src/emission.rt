@@ -281,10 +281,10 @@ impl<'e> Around<'e> {
             if at < line.end {
                 writer.leaf(inner, at, line.end)?;
             }
-            writer.leaf(Name::LineEnding, line.end, line.next)?;
+            writer.leaf(Name::LineEnding, line.end, line.next())?;
             at = match lines.get(index.saturating_add(1)) {
                 Some(next) => next.start,
-                None => line.next,
+                None => line.next(),
             };
         }
         Ok(at)

@@ -104,10 +104,10 @@ pub(crate) fn write_title(
             break;
         }
         write_string(writer, bytes, at, line.end)?;
-        writer.leaf(Name::LineEnding, line.end, line.next)?;
+        writer.leaf(Name::LineEnding, line.end, line.next())?;
         at = match lines.get(index.saturating_add(1)) {
             Some(next) => next.start,
-            None => line.next,
+            None => line.next(),
         };
     }
     write_string(writer, bytes, at, end)?;

@@ -1,6 +1,6 @@
 //! Lines, and where they end.
 
-ghost use Rattle.std.specs.Prelude.{◌≡◌, ◌≤◌, ◌<◌, ◌+◌, ◌==◌, length, drop, min};
+ghost use Rattle.std.specs.Prelude.{◌≡◌, ◌≤◌, ◌<◌, ◌+◌, ◌==◌, length, drop, min, max};
 ghost use Rattle.std.specs.Prelude.{if◌then◌else◌};
 ghost use Rattle.std.specs.Int.{w64, trailing_zeros};
 ghost use Rattle.std.specs.List.{prefix_len};
@@ -9,16 +9,41 @@ ghost use Rattle.md_lines.specs.Lines.{ends_no_line};
 use std::simd::prelude::*;
 
 /// A line of a leaf block, without the prefixes of its containers. Its text extends from `start` to
-/// `end`, its line ending from `end` to `next`, all byte indices into the document.
+/// `end`, both byte indices into the document.
 #[derive(Clone, Copy, PartialEq, Eq, Debug)]
 pub struct Line {
     pub start: usize,
     pub end: usize,
-    pub next: usize,
     /// How many columns of a tab at `start` belong to the prefixes: 0 to 3.
     pub columns: u8,
+    /// The number of bytes of its line ending: 0 to 2.
+    pub ending: u8,
     ghost text_in_order: { start ≤ end },
-    ghost ending_in_order: { end ≤ next },
+}
+
+impl Line {
+    /// The part of a line from `start` to `end`, without its line ending; empty if `end` is less
+    /// than `start`.
+    #[inline(always)]
+    pub fn part(start: usize, end: usize) -> Self
+        ensures start { result.start ≡ start }
+        ensures end { result.end ≡ max start end }
+    {
+        Line {
+            start,
+            end: start.max(end),
+            columns: 0,
+            ending: 0,
+        }
+    }
+
+    /// The end of its line ending.
+    #[inline(always)]
+    pub fn next(self) -> usize
+        ensures { self.end ≤ result }
+    {
+        self.end.saturating_add(usize::from(self.ending))
+    }
 }
 
 /// The number of bytes that one step reads.
@@ -108,6 +133,7 @@ pub fn after_ending(bytes: &[u8], end: usize) -> usize
     ensures within { end ≤ length bytes.now → result ≤ length bytes.now }
     ensures after { end ≤ result }
     ensures passes { end < length bytes.now → end < result }
+    ensures short { result ≤ end + 2 }
 {
     match bytes.get(end) {
         None => end,

@@ -22,7 +22,7 @@ impl Run {
             start: line.start,
             columns: line.columns,
             end: line.end,
-            next: line.next,
+            next: line.next(),
         }
     }
 
@@ -35,7 +35,7 @@ impl Run {
     pub(crate) fn with(self, line: &Line) -> Run {
         Run {
             end: line.end,
-            next: line.next,
+            next: line.next(),
             ..self
         }
     }

@@ -2,15 +2,13 @@
 
 ghost use Rattle.std.specs.Prelude.{◌≡◌, OnOk};
 
-use crate::code::write_chunks;
 use crate::endings::{ending_before, write_last_ending};
 use crate::html::{has_text, without_comments, write_html, write_pieces};
 use crate::leaves::{ends_of, write_front_matter};
 use crate::options::{DocumentHtml, MarkdownOptions};
-use crate::prefixes::{write_footnote_start, write_item_start};
-use crate::table::write_table;
+use crate::prefixes::{write_footnote_start, write_item_start, write_task};
 use md_base::Name;
-use md_blocks::{Block, Blocks, Container, ContainerKind, Exit, Leaf, LineRange};
+use md_blocks::{Block, Blocks, ContainerKind, LineRange};
 use md_inlines::{Inlines, Writer};
 use md_lines::Span;
 use md_urls::Base;
@@ -36,7 +34,7 @@ struct Open {
 #[derive(Drop)]
 pub(crate) struct Emission<'a> {
     alloc: Global,
-    bytes: &'a [u8],
+    pub(crate) bytes: &'a [u8],
     pub(crate) blocks: &'a Blocks,
     pub(crate) inlines: Inlines<'a>,
     html: DocumentHtml,
@@ -85,96 +83,98 @@ impl<'a> Emission<'a> {
     fn write_blocks(&mut self, writer: &mut Writer) -> Result<(), AllocError> {
         for block in self.blocks.tape.iter() {
             match block {
-                Block::Enter(container) => self.enter(writer, container)?,
-                Block::Exit(exit) => self.exit(writer, exit)?,
-                Block::Leaf(leaf) => self.write_leaf(writer, leaf)?,
+                Block::EnterQuote { start } => self.enter_quote(writer, *start)?,
+                Block::EnterList { is_ordered, start } => {
+                    self.enter_list(writer, *is_ordered, *start)?
+                }
+                Block::EnterItem { digits, start } => self.enter_item(writer, *digits, *start)?,
+                Block::EnterFootnote { label } => self.enter_footnote(writer, *label)?,
+                Block::Exit { kind, is_empty, at } => self.exit(writer, *kind, *is_empty, *at)?,
+                Block::Task { is_checked, start } => write_task(writer, *is_checked, *start)?,
+                Block::Paragraph(range) => self.write_paragraph(writer, *range)?,
+                Block::AtxHeading { level, span } => self.write_atx(writer, *level, *span)?,
+                Block::SetextHeading(range) => self.write_setext(writer, *range)?,
+                Block::FencedCode(range) => self.write_fenced(writer, *range)?,
+                Block::IndentedCode(range) => self.write_indented(writer, *range)?,
+                Block::Html(range) => self.write_html(writer, *range)?,
+                Block::ThematicBreak(span) => self.write_break(writer, *span)?,
+                Block::Table(range) => self.write_table(writer, *range)?,
+                Block::Math(range) => self.write_math(writer, *range)?,
+                Block::FrontMatter { ending } => write_front_matter(writer, *ending)?,
+                Block::BlankLine { ending } => self.write_blank_line(writer, *ending)?,
+                Block::Definitions { .. } => self.is_after_bare = true,
             }
         }
         Ok(())
     }
 
-    /// Enters a container.
-    fn enter(&mut self, writer: &mut Writer, container: &Container) -> Result<(), AllocError> {
+    /// Begins a container.
+    fn begin_container(&mut self, writer: &mut Writer, is_item: bool) -> Result<(), AllocError> {
         self.begin_block(writer)?;
-        let is_item = matches!(container, Container::Item(_));
         self.open.push(Open {
             is_item,
             before: Before::Nothing,
         })?;
-        match container {
-            Container::Quote { start } => writer.enter(Name::BlockQuote, *start),
-            Container::List { start, is_ordered } => {
-                self.is_first_item = true;
-                let name = if *is_ordered {
-                    Name::ListOrdered
-                } else {
-                    Name::ListUnordered
-                };
-                writer.enter(name, *start)
-            }
-            Container::Item(item) => {
-                let is_first = self.is_first_item;
-                self.is_first_item = false;
-                write_item_start(writer, item, is_first)
-            }
-            Container::FootnoteDefinition { label } => write_footnote_start(writer, *label),
-        }
+        Ok(())
     }
 
-    /// Exits a container.
-    fn exit(&mut self, writer: &mut Writer, exit: &Exit) -> Result<(), AllocError> {
+    fn enter_quote(&mut self, writer: &mut Writer, start: usize) -> Result<(), AllocError> {
+        self.begin_container(writer, false)?;
+        writer.enter(Name::BlockQuote, start)
+    }
+
+    fn enter_list(
+        &mut self,
+        writer: &mut Writer,
+        is_ordered: bool,
+        start: usize,
+    ) -> Result<(), AllocError> {
+        self.begin_container(writer, false)?;
+        self.is_first_item = true;
+        let name = if is_ordered {
+            Name::ListOrdered
+        } else {
+            Name::ListUnordered
+        };
+        writer.enter(name, start)
+    }
+
+    fn enter_item(
+        &mut self,
+        writer: &mut Writer,
+        digits: u8,
+        start: usize,
+    ) -> Result<(), AllocError> {
+        self.begin_container(writer, true)?;
+        let is_first = self.is_first_item;
+        self.is_first_item = false;
+        write_item_start(writer, start, digits, is_first)
+    }
+
+    fn enter_footnote(&mut self, writer: &mut Writer, label: Span) -> Result<(), AllocError> {
+        self.begin_container(writer, false)?;
+        write_footnote_start(writer, label)
+    }
+
+    /// Exits a container at an index.
+    fn exit(
+        &mut self,
+        writer: &mut Writer,
+        kind: ContainerKind,
+        is_empty: bool,
+        at: usize,
+    ) -> Result<(), AllocError> {
         let _ = self.open.pop();
         self.is_first_item = false;
-        self.is_after_bare = self.is_after_bare || exit.is_empty;
-        let name = match exit.kind {
+        self.is_after_bare = self.is_after_bare || is_empty;
+        let name = match kind {
             ContainerKind::Quote => Name::BlockQuote,
             ContainerKind::OrderedList => Name::ListOrdered,
             ContainerKind::UnorderedList => Name::ListUnordered,
             ContainerKind::FootnoteDefinition => Name::GfmFootnoteDefinition,
             ContainerKind::Item => Name::ListItem,
         };
-        writer.exit(name, exit.at)
-    }
-
-    /// Writes a leaf.
-    fn write_leaf(&mut self, writer: &mut Writer, leaf: &Leaf) -> Result<(), AllocError> {
-        match leaf {
-            Leaf::BlankLine { ending } => return self.write_blank_line(writer, *ending),
-            Leaf::Paragraph(range) => return self.write_paragraph(writer, *range),
-            Leaf::Html(range) => return self.write_html(writer, *range),
-            Leaf::Definitions { .. } => {
-                self.is_after_bare = true;
-                return Ok(());
-            }
-            _ => self.begin_block(writer)?,
-        }
-        match leaf {
-            Leaf::BlankLine { .. }
-            | Leaf::Paragraph(_)
-            | Leaf::Html(_)
-            | Leaf::Definitions { .. } => Ok(()),
-            Leaf::AtxHeading { marks, lines } => self.write_atx(writer, *marks, *lines),
-            Leaf::SetextHeading { lines, underline } => {
-                self.write_setext(writer, *lines, *underline)
-            }
-            Leaf::FencedCode { info, lines } => self.write_fenced(writer, *info, *lines),
-            Leaf::IndentedCode(range) => {
-                let lines = self.blocks.lines_of(*range);
-                let (start, end) = ends_of(lines);
-                writer.enter(Name::CodeIndented, start)?;
-                write_chunks(writer, lines, Name::CodeFlowChunk)?;
-                writer.exit(Name::CodeIndented, end)
-            }
-            Leaf::ThematicBreak(place) => {
-                writer.leaf(Name::ThematicBreak, place.start, place.end)
-            }
-            Leaf::Table { columns, lines } => {
-                let lines = self.blocks.lines_of(*lines);
-                write_table(writer, &mut self.inlines, self.bytes, lines, *columns)
-            }
-            Leaf::Math { start, lines } => self.write_math(writer, *start, *lines),
-            Leaf::FrontMatter { ending } => write_front_matter(writer, *ending),
-        }
+        writer.exit(name, at)
     }
 
     /// Writes a blank line. After an item or a block for which nothing is written it is written
@@ -213,7 +213,7 @@ impl<'a> Emission<'a> {
 
     /// Writes the events between a child of an item and the previous block, if that is no paragraph
     /// or the child begins on a line of its own.
-    fn begin_block(&mut self, writer: &mut Writer) -> Result<(), AllocError> {
+    pub(crate) fn begin_block(&mut self, writer: &mut Writer) -> Result<(), AllocError> {
         self.begin_child(writer, Before::Other, None)
     }
 
@@ -250,7 +250,7 @@ impl<'a> Emission<'a> {
         let lines = self.blocks.lines_of(range);
         let (start, end) = ends_of(lines);
         let next = match lines.last() {
-            Some(line) => line.next,
+            Some(line) => line.next(),
             None => end,
         };
         self.begin_child(writer, Before::Paragraph(end, next), Some(start))?;

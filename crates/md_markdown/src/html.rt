@@ -67,7 +67,7 @@ pub(crate) fn without_comments(
         if !is_inside {
             pieces.push(Piece::Ending {
                 start: line.end,
-                end: line.next,
+                end: line.next(),
             })?;
         }
     }

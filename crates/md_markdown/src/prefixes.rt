@@ -1,33 +1,35 @@
 //! Writes the events before the first block in an item or in a footnote.
 
 use md_base::Name;
-use md_blocks::Item;
 use md_inlines::Writer;
 use md_lines::Span;
 use std::alloc::AllocError;
 
-/// Enters an item, whose number is used if it is its list's first.
+/// Enters an item that begins with a number of so many digits, which is used if the item is its
+/// list's first.
 pub(crate) fn write_item_start(
     writer: &mut Writer,
-    item: &Item,
+    start: usize,
+    digits: u8,
     is_first: bool,
 ) -> Result<(), AllocError> {
-    let after = item.marker.saturating_add(1);
-    writer.enter(Name::ListItem, item.start)?;
-    writer.enter(Name::ListItemPrefix, item.start)?;
-    if is_first && item.start < item.marker {
-        writer.leaf(Name::ListItemValue, item.start, item.marker)?;
+    let marker = start.saturating_add(usize::from(digits));
+    let after = marker.saturating_add(1);
+    writer.enter(Name::ListItem, start)?;
+    writer.enter(Name::ListItemPrefix, start)?;
+    if is_first && digits > 0 {
+        writer.leaf(Name::ListItemValue, start, marker)?;
     }
-    writer.leaf(Name::ListItemMarker, item.marker, after)?;
-    writer.exit(Name::ListItemPrefix, after)?;
-    match item.task {
-        Some(task) => write_task(writer, task.start, task.is_checked),
-        None => Ok(()),
-    }
+    writer.leaf(Name::ListItemMarker, marker, after)?;
+    writer.exit(Name::ListItemPrefix, after)
 }
 
 /// Writes a box, `[ ]` or `[x]`, and the space after it.
-fn write_task(writer: &mut Writer, start: usize, is_checked: bool) -> Result<(), AllocError> {
+pub(crate) fn write_task(
+    writer: &mut Writer,
+    is_checked: bool,
+    start: usize,
+) -> Result<(), AllocError> {
     let after = start.saturating_add(3);
     writer.enter(Name::GfmTaskListItemCheck, start)?;
     if is_checked {

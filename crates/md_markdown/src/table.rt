@@ -6,25 +6,25 @@ use md_inlines::{Inlines, Writer};
 use md_lines::{Line, trim_end, trim_start};
 use std::alloc::AllocError;
 
-/// Writes a table: its head, its delimiters, and its rows.
+/// Writes a table: its head, its delimiters, and its rows. It has as many columns as its head has
+/// cells.
 pub(crate) fn write_table(
     writer: &mut Writer,
     inlines: &mut Inlines,
     bytes: &[u8],
     lines: &[Line],
-    columns: usize,
 ) -> Result<(), AllocError> {
     let [head, delimiters, rows @ ..] = lines else {
         return Ok(());
     };
     writer.enter(Name::GfmTable, head.start)?;
     writer.enter(Name::GfmTableHead, head.start)?;
-    write_row(writer, inlines, bytes, head, columns)?;
+    let columns = write_row(writer, inlines, bytes, head, usize::MAX)?;
     write_delimiters(writer, bytes, delimiters)?;
     writer.exit(Name::GfmTableHead, delimiters.end)?;
     let mut end = delimiters.end;
     if let (Some(first), Some(last)) = (rows.first(), rows.last()) {
-        writer.leaf(Name::LineEnding, delimiters.end, delimiters.next)?;
+        writer.leaf(Name::LineEnding, delimiters.end, delimiters.next())?;
         writer.enter(Name::GfmTableBody, first.start)?;
         for row in rows {
             write_row(writer, inlines, bytes, row, columns)?;
@@ -48,25 +48,29 @@ fn cells_of(bytes: &[u8], line: &Line) -> (usize, usize) {
     (start, end)
 }
 
-/// Writes a row. Cells beyond the last column are left out.
+/// Writes a row: at most `columns` of its cells, those beyond are left out. Returns how many were
+/// written.
 fn write_row(
     writer: &mut Writer,
     inlines: &mut Inlines,
     bytes: &[u8],
     line: &Line,
     columns: usize,
-) -> Result<(), AllocError> {
+) -> Result<usize, AllocError> {
     writer.enter(Name::GfmTableRow, line.start)?;
     let (mut at, end) = cells_of(bytes, line);
-    for _ in 0..columns {
+    let mut count = 0;
+    for index in 0..columns {
         if at >= end {
             break;
         }
         let bar = next_cell(bytes, at, end);
         write_cell(writer, inlines, bytes, at, bar)?;
         at = bar.saturating_add(1);
+        count = index + 1;
     }
-    writer.exit(Name::GfmTableRow, line.end)
+    writer.exit(Name::GfmTableRow, line.end)?;
+    Ok(count)
 }
 
 /// Writes a cell between two indices.
@@ -81,13 +85,7 @@ fn write_cell(
     let end = trim_end(bytes, start, bar).max(start);
     writer.enter(Name::GfmTableCell, start)?;
     if start < end {
-        let line = Line {
-            start,
-            end,
-            next: end,
-            columns: 0,
-        };
-        inlines.write_leaf(writer, &[line])?;
+        inlines.write_leaf(writer, &[Line::part(start, end)])?;
     }
     writer.exit(Name::GfmTableCell, end)
 }

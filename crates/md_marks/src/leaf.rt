@@ -58,7 +58,7 @@ impl<'a> Leaf<'a> {
     #[inline(always)]
     pub fn next(&self, line: usize) -> usize {
         match self.lines.get(line) {
-            Some(line) => line.next,
+            Some(line) => line.next(),
             None => 0,
         }
     }

@@ -4,4 +4,5 @@ use Rattle.md_blocks.proofs.nesting.Nesting.put.Goals as goal
 
 pub invariant_of-self-clause-nested : goal.invariant_of-self-clause-nested
 invariant_of-self-clause-nested c =
-    put _ _ c.args.leaf _ _ c.push.ensures.items c.args.self.now.nested
+    put _ _ c.args.block _ _ c.push.ensures.items c.requires.enters_none c.requires.exits_none
+    c.args.self.now.nested
