@@ -167,7 +167,7 @@ impl<'a> Reader<'a> {
         let end = this.end;
         let start = self.from.min(end);
         let cut = trim_end(leaf.bytes, start, end);
-        if cut < end || this.next != next.start || self.options.hard_breaks {
+        if cut < end || this.next() != next.start || self.options.hard_breaks {
             let spaces = leaf.bytes.get(cut..end).unwrap_or(b"");
             if self.options.hard_breaks || spaces.ends_with(b"  ") {
                 self.push(Mark::BreakSpaces, cut, cut, 0)?;
