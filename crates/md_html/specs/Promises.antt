@@ -1,4 +1,4 @@
--- What is promised of a text, and of a safe text beside what each `SafeHtml` has.
+-- What the calls promise of a text, and of a `SafeHtml` beside what its type says.
 use Rattle.std.specs.Prelude.{◌≡◌, ℕ, true, false, List}
 use Rattle.md_base.specs.Tree.{Forest, flatten}
 use Rattle.md_text.specs.Html.{any_attribute, HasOneReadingWith}
@@ -14,7 +14,7 @@ use Rattle.md_safe.specs.Options.{KeepsGrammar, KeepsLinks, KeepsImages, KeepsId
 use Rattle.md_safe.specs.SafeTokens.{has_safe_links, has_safe_images}
 use Rattle.md_safe.specs.Tokenized.{HasTokensWith, IsTokenizedAsRead, IsSafelyTokenized}
 
--- the text is what a document means, and safe if the options are: the clauses of `compile`
+-- what each text promises: the clauses of `compile`, word for word
 pub record Promises (options : CompileOptions) (given : Handed) (text : List ℕ) : Type 0 where
   pub grammatical : IsChecked given
   pub meaning : (document : Forest) → flatten document ≡ given.events →
@@ -30,7 +30,7 @@ pub record Promises (options : CompileOptions) (given : Handed) (text : List ℕ
   pub safe_image_tokens : KeepsImages options → HasTokensWith has_safe_images text
   pub distinct_ids : KeepsIds options → HasDistinctIds text
 
--- the options are safe, and the text is what a document means
+-- what the text of a `SafeHtml` promises: its options are safe
 pub record SafePromises (options : CompileOptions) (given : Handed) (text : List ℕ) : Type 0 where
   pub safe : KeepsImages options
   pub grammatical : IsChecked given
