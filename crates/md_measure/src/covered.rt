@@ -39,24 +39,31 @@ impl Progress {
         ensures length { result.length
             ≡ capped (self.length + self.depth * (event.now.point.index - self.index)) }
     {
-        let index = event.point.index;
-        Progress {
-            index,
-            depth: moved(self.depth, event.kind, counts),
-            length: self.length_up_to(index),
-        }
+        let mut after = self;
+        after.note(event, counts);
+        after
     }
 
-    /// The lengths so far and those up to an index. Usually no counted node is open.
+    /// Passes one more event, likewise. Usually no counted node is open, and the length stays.
     #[inline(always)]
-    fn length_up_to(self, index: usize) -> u128
-        ensures { result ≡ capped (self.length + self.depth * (index - self.index)) }
+    pub fn note(&mut self, event: &Event, counts: bool)
+        requires { self.old.depth < 2 ^ 63 }
+        ensures index { self.new.index ≡ event.now.point.index }
+        ensures depth { self.new.depth ≡ moved self.old.depth event.now.kind counts }
+        ensures length { self.new.length
+            ≡ capped (self.old.length + self.old.depth * (event.now.point.index - self.old.index)) }
     {
-        if self.depth == 0 {
-            return self.length;
+        let Progress {
+            index: last,
+            depth,
+            length,
+        } = *self;
+        let index = event.point.index;
+        if depth > 0 {
+            self.length = length.saturating_add(product(depth, index.saturating_sub(last)));
         }
-        let passed = product(self.depth, index.saturating_sub(self.index));
-        self.length.saturating_add(passed)
+        self.index = index;
+        self.depth = moved(depth, event.kind, counts);
     }
 }
 

@@ -1,6 +1,6 @@
 //! How deep events nest, counted event by event.
 
-ghost use Rattle.std.specs.Prelude.{◌≡◌, ◌^◌, ◌<◌, max};
+ghost use Rattle.std.specs.Prelude.{◌≡◌, ◌^◌, ◌<◌, ◌≤◌, max};
 ghost use Rattle.md_depth.specs.Depth.{opened_after};
 
 use md_base::{Event, Kind};
@@ -26,29 +26,23 @@ impl Levels {
         }
     }
 
-    /// The state after one more event.
+    /// Passes one more event.
     #[inline(always)]
-    pub fn after(self, event: &Event) -> Levels
-        requires { self.opened < 2 ^ 63 }
-        ensures opened { result.opened ≡ opened_after self.opened event.now }
-        ensures deepest { result.deepest ≡ max self.deepest (opened_after self.opened event.now) }
+    pub fn note(&mut self, event: &Event)
+        requires few { self.old.opened < 2 ^ 63 }
+        requires deepest { self.old.opened ≤ self.old.deepest }
+        ensures opened { self.new.opened ≡ opened_after self.old.opened event.now }
+        ensures deepest { self.new.deepest
+            ≡ max self.old.deepest (opened_after self.old.opened event.now) }
     {
-        let opened = opened_after(self.opened, event);
-        Levels {
-            opened,
-            deepest: self.deepest.max(opened),
+        match event.kind {
+            Kind::Enter => {
+                self.opened += 1;
+                if self.opened > self.deepest {
+                    self.deepest = self.opened;
+                }
+            }
+            Kind::Exit => self.opened = self.opened.saturating_sub(1),
         }
-    }
-}
-
-/// How many nodes are open after an event.
-#[inline(always)]
-fn opened_after(opened: usize, event: &Event) -> usize
-    requires { opened < 2 ^ 63 }
-    ensures { result ≡ opened_after opened event.now }
-{
-    match event.kind {
-        Kind::Enter => opened + 1,
-        Kind::Exit => opened.saturating_sub(1),
     }
 }

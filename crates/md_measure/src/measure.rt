@@ -51,8 +51,8 @@ impl Measure {
         ensures { (events : List AnyEvent) → IsMeasured self.old events
             → IsMeasured self.new (events ++ event.now ∷ []) }
     {
-        self.progress = self.progress.after(event, is_read(event.name));
-        self.levels = self.levels.after(event);
+        self.progress.note(event, is_read(event.name));
+        self.levels.note(event);
         self.parts = self.parts.after(event);
         self.links = self.links.after(event);
     }
