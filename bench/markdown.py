@@ -3,19 +3,23 @@
 
     bench/markdown.py [PROGRAM]
 
-PROGRAM is crates/mdhtml/out/mdhtml if it isn't given, which `rt ci` builds. Five parts:
+PROGRAM is crates/mdhtml/out/mdhtml if it isn't given, which `rt ci` builds. Six parts:
 - the examples of the GFM specification: each text is that of cmark-gfm with the permitted
   differences (clients/checks/judge.py), except for those in KNOWN;
+- the examples of CommonMark 0.30, which Debian's crate of pulldown-cmark has as tests: each text is
+  the expected one without the additions of GFM, or with these that of cmark-gfm as above, except
+  for those in KNOWN_IN_COMMONMARK;
 - the documents of bench/markdown_cases.py that must be read as cmark-gfm reads them, likewise;
 - its documents under each option, its URLs against bases, each name of a character reference, and
   each mark at each of OFFSETS places in a line;
 - the cases of docs/use/MARKDOWN.md, here and by cmark-gfm;
 - documents that make parsers slow: four times as long a one takes at most GROWTH times the
   processor time, and at most MEMORY bytes for each of its bytes beyond MEGABYTES.
-The first two parts need Debian's cmark-gfm and its extensions, the fourth cmark-gfm: if they are
+The first three parts need Debian's cmark-gfm and its extensions, the fifth cmark-gfm: if they are
 missing, the part is left out, which is reported. The status is 1 if something is wrong.
 """
 
+import glob
 import pathlib
 import re
 import resource
@@ -27,11 +31,19 @@ import tempfile
 import markdown_cases
 
 ROOT = pathlib.Path(__file__).resolve().parents[1]
+sys.path.insert(0, str(ROOT / "clients" / "checks"))
+sys.dont_write_bytecode = True
 PROGRAM = ROOT / "crates" / "mdhtml" / "out" / "mdhtml"
 KNOWN = {
     614: "an escaped character before an address",
     628: "a bare link of ftp, which isn't permitted",
 }
+KNOWN_IN_COMMONMARK = {
+    171: "a block of `textarea`, which cmark-gfm doesn't know: HTML is text",
+}
+COMMONMARK = "/usr/share/cargo/registry/pulldown-cmark-*/tests/suite/spec.rs"
+EXAMPLE = re.compile(r'let original = r##"(.*?)"##;\s*let expected = r##"(.*?)"##;', re.DOTALL)
+WITHOUT_GFM = ("--no-bare-links", "--no-tables", "--no-footnotes")
 CASE = re.compile(r"`([^`]+)`\s+gives\s+`([^`]+)`,(?:\s+and\s+cmark-gfm\s+`([^`]+)`"
                   r"|\s+as\s+cmark-gfm)")
 EXTENSIONS = ("footnotes", "table", "strikethrough", "autolink", "tasklist")
@@ -66,8 +78,6 @@ def framed(program, documents, *options):
 def judged(program):
     """The faults of the documents that cmark-gfm judges; None if it is missing.
     """
-    sys.path.insert(0, str(ROOT / "clients" / "checks"))
-    sys.dont_write_bytecode = True
     try:
         import documents
         import judge
@@ -86,6 +96,28 @@ def judged(program):
     own = [text.encode("utf-8") for text in markdown_cases.AS_GFM]
     print(f"markdown: {len(own)} documents as cmark-gfm reads them")
     return faults + [f"not as cmark-gfm: {own[number]!r}" for number in sorted(differing(own))]
+
+
+def by_commonmark(program):
+    """The faults of the examples of CommonMark; None if they or their judge is missing."""
+    try:
+        import judge
+        source = pathlib.Path(glob.glob(COMMONMARK)[0]).read_text("utf-8")
+    except (OSError, IndexError):
+        return None
+    found = [(given.encode("utf-8"), wanted.encode("utf-8"))
+             for given, wanted in EXAMPLE.findall(source)]
+    given = [document for document, _ in found]
+    alone, whole = framed(program, given, *WITHOUT_GFM), framed(program, given)
+    exact = {number for number, (_, wanted) in enumerate(found) if alone[number] == wanted}
+    differ = {number + 1 for number, document in enumerate(given)
+              if number not in exact and whole[number] != judge.judge(document).wanted}
+    print(f"markdown: of {len(found)} examples of CommonMark {len(exact)} give the expected text, "
+          f"{len(found) - len(exact) - len(differ)} cmark-gfm's with the permitted differences")
+    if not found:
+        return [f"{COMMONMARK} has no examples"]
+    return [f"example {number} of CommonMark: {given[number - 1]!r}"
+            for number in sorted(differ ^ KNOWN_IN_COMMONMARK.keys())]
 
 
 def unlike(program, options, cases):
@@ -266,6 +298,11 @@ def main(arguments):
     if by_judge is None:
         left_out("the examples of the GFM specification by mdhtml",
                  "cmark-gfm libcmark-gfm-extensions-dev")
+    of_commonmark = by_commonmark(program)
+    faults += of_commonmark or []
+    if of_commonmark is None:
+        left_out("the examples of CommonMark by mdhtml",
+                 "librust-pulldown-cmark-dev libcmark-gfm-extensions-dev")
     if not shutil.which("cmark-gfm"):
         left_out("the cases of docs/use/MARKDOWN.md by cmark-gfm", "cmark-gfm")
     for fault in faults:
