@@ -16,4 +16,5 @@ pub mod Windows
 pub mod Fits
 pub mod Stepping
 pub mod Printed
+-- Only the call for `md_markdown` cites this.
 pub mod MeasuredEvents

@@ -1,4 +1,5 @@
--- What is compiled when measured events are. No public contract cites this.
+-- The input that measured events are: events, bytes, names. No contract of a call for users cites
+-- this.
 use Rattle.md_tree.specs.Grammar.{Handed, handed}
 use Rattle.md_html.specs.declared.work.MeasuredEvents.{MeasuredEvents}
 

@@ -151,7 +151,7 @@ fn read_before_definition(events: &[Event]) -> u128
         if is_link_definition(event.name) {
             return progress.length;
         }
-        progress = progress.after(event, is_read(event.name));
+        progress.note(event, is_read(event.name));
         rest = following;
     }
     progress.length
@@ -198,7 +198,7 @@ fn call_lengths(events: &[Event]) -> u128
     let mut progress = Progress::new();
     let mut rest = events;
     while let Some((event, following)) = rest.split_first() {
-        progress = progress.after(event, is_call(event.name));
+        progress.note(event, is_call(event.name));
         rest = following;
     }
     progress.length

@@ -17,8 +17,9 @@ use std::marker::Model;
 use thiserror::Error;
 
 /// A text that has exactly one reading in the HTML grammar, in which each `href` and `src` has no
-/// protocol or a permitted one, and which fulfils the content model. Only [`compile_safe`] and
-/// [`compile_safe_within`](crate::compile_safe_within) create one.
+/// protocol or a permitted one, and which fulfils the content model. Only [`compile_safe`],
+/// [`compile_safe_within`](crate::compile_safe_within) and
+/// [`compile_safe_measured`](crate::compile_safe_measured) create one.
 #[derive(Drop)]
 pub struct SafeHtml {
     text: String,

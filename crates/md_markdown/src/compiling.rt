@@ -133,7 +133,8 @@ pub fn markdown_within(
 
 /// The events of a writer, over bytes.
 fn measured_of<'a>(writer: &'a Writer, bytes: &'a [u8]) -> MeasuredEvents<'a>
-    ensures { result.bytes.now ≡ bytes.now }
+    ensures bytes { result.bytes.now ≡ bytes.now }
+    ensures events { result.events.now ≡ writer.now.events.items }
 {
     MeasuredEvents {
         events: writer.events.as_slice(),

@@ -1,4 +1,5 @@
--- The numbers in which the work is counted. No public contract cites this.
+-- The numbers in which the work is counted. No contract of a call for users cites
+-- this.
 use Rattle.std.specs.Prelude.{ℕ, ◌-◌, ◌^◌, min, suc, Bool, true, false, ◌||◌, if◌then◌else◌}
 use Rattle.md_base.specs.declared.event.Kind.{Kind}
 use Rattle.md_base.specs.declared.event.Kind.TheVariants.{Enter, Exit}

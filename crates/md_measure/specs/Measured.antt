@@ -1,4 +1,5 @@
--- What a measure says about the events that were measured. No public contract cites this.
+-- What a measure says about the events that were measured. No contract of a call for users
+-- cites this.
 use Rattle.std.specs.Prelude.{◌≡◌, ◌+◌, ◌-◌, ◌^◌, ◌≤◌, max, ◌||◌, false, List, ◌++◌, length}
 use Rattle.md_base.specs.declared.event.Event.{Event}
 use Rattle.md_length.specs.Work.{is_read, covered_from, read_length, cells}
@@ -30,4 +31,5 @@ pub record IsMeasured (measure : Measure) (events : List Event) : Type 0 where
   pub few_images : measure.links.images ≤ length events
   pub read_fits : measure.progress.length ≤ 2 ^ 128 - 1
   pub cells_fit : measure.parts.cells ≤ 2 ^ 128 - 1
+  -- no more nodes are open than were at most
   pub opened : measure.levels.opened ≤ measure.levels.deepest

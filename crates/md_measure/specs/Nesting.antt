@@ -1,4 +1,5 @@
--- Whether events have a link in a link, decided event by event. No public contract cites this.
+-- Whether events have a link in a link, decided event by event. No contract of a call for users
+-- cites this.
 use Rattle.std.specs.Prelude.{ℕ, zero, suc, Bool, true, false, ◌&&◌, ◌||◌, if◌then◌else◌, List, []}
 use Rattle.std.specs.Prelude.{◌∷◌}
 use Rattle.md_base.specs.declared.event.Event.{Event}

@@ -30,21 +30,8 @@ impl Progress {
         }
     }
 
-    /// The state after one more event, of a node that counts or doesn't.
-    #[inline(always)]
-    pub fn after(self, event: &Event, counts: bool) -> Progress
-        requires { self.depth < 2 ^ 63 }
-        ensures index { result.index ≡ event.now.point.index }
-        ensures depth { result.depth ≡ moved self.depth event.now.kind counts }
-        ensures length { result.length
-            ≡ capped (self.length + self.depth * (event.now.point.index - self.index)) }
-    {
-        let mut after = self;
-        after.note(event, counts);
-        after
-    }
-
-    /// Passes one more event, likewise. Usually no counted node is open, and the length stays.
+    /// Adds one more event, of a node that counts or doesn't. The length changes only if a counted
+    /// node is open.
     #[inline(always)]
     pub fn note(&mut self, event: &Event, counts: bool)
         requires { self.old.depth < 2 ^ 63 }

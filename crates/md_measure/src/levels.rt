@@ -26,7 +26,7 @@ impl Levels {
         }
     }
 
-    /// Passes one more event.
+    /// Counts one more event.
     #[inline(always)]
     pub fn note(&mut self, event: &Event)
         requires few { self.old.opened < 2 ^ 63 }

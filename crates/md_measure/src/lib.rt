@@ -11,7 +11,7 @@ mod read;
 
 pub use covered::Progress;
 pub use levels::Levels;
-pub use links::{Links, bears_on_links};
+pub use links::Links;
 pub use measure::Measure;
-pub use parts::{Parts, calls_entered, is_call};
+pub use parts::{Parts, is_call};
 pub use read::is_read;

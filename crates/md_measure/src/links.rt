@@ -10,7 +10,8 @@ use md_base::{Event, Kind, Name};
 /// The open links and images, and whether a link contained a link so far.
 #[derive(Clone, Copy)]
 pub struct Links {
-    /// Whether a link is open that isn't in an image.
+    /// Whether a link is open that isn't in an image. After the end of a link in a link it is false;
+    /// `nested` is true by then.
     pub in_link: bool,
     /// How many images are open.
     pub images: usize,
@@ -67,7 +68,7 @@ impl Links {
 
 /// Whether a name prints a link, or is that of an image.
 #[inline(always)]
-pub fn bears_on_links(name: Name) -> bool
+fn bears_on_links(name: Name) -> bool
     ensures { result ≡ bears_on_links name }
 {
     matches!(

@@ -98,7 +98,7 @@ fn columns_after(columns: usize, event: &Event) -> usize
 
 /// One if an event enters a footnote call, else 0.
 #[inline(always)]
-pub fn calls_entered(event: &Event) -> usize
+fn calls_entered(event: &Event) -> usize
     ensures { result ≡ (if enters is_call event.now then 1 else 0) }
 {
     match event.kind {

@@ -10,7 +10,7 @@ returns-then-is_empty-clause-made c =
     IfOk-weaker c.compile_or_plain.result _ _
     (λ text made. of_either (is_some c.args.options.now.base) c.args.text.now [] c.measured_of.result.bytes.now
     text (inr (inl refl))
-    (c.measured_of.ensures ∙ c.as_bytes-bytes.ensures.value ∙ sym (append-nil c.args.text.now)) made)
+    (c.measured_of.ensures.bytes ∙ c.as_bytes-bytes.ensures.value ∙ sym (append-nil c.args.text.now)) made)
     c.compile_or_plain.ensures.made
 
 pub returns-then-is_empty-clause-distinct_ids : goal.returns-then-is_empty-clause-distinct_ids
@@ -24,7 +24,7 @@ returns-clause-made c =
     IfOk-weaker c.compile_or_plain-2.result _ _
     (λ text made. of_either (is_some c.args.options.now.base) c.args.text.now c.added.result.now
     c.measured_of-2.result.bytes.now text c.added.ensures
-    (c.measured_of-2.ensures ∙ c.as_slice.ensures.value ∙ c.in_ok-whole.ensures
+    (c.measured_of-2.ensures.bytes ∙ c.as_slice.ensures.value ∙ c.in_ok-whole.ensures
     ∙ ap (λ bytes. bytes ++ c.added.result.now) c.as_bytes-bytes.ensures.value) made)
     c.compile_or_plain-2.ensures.made
 
