@@ -7,8 +7,8 @@ PROGRAM is crates/mdhtml/out/mdhtml if it isn't given, which `rt ci` builds. Six
 - the examples of the GFM specification: each text is that of cmark-gfm with the permitted
   differences (clients/checks/judge.py), except for those in KNOWN;
 - the examples of CommonMark 0.30, which Debian's crate of pulldown-cmark has as tests: each text is
-  the expected one without the additions of GFM, or with these that of cmark-gfm as above, except
-  for those in KNOWN_IN_COMMONMARK;
+  the expected one without bare links, tables and footnotes, or with these that of cmark-gfm as
+  above, except for those in KNOWN_IN_COMMONMARK;
 - the documents of bench/markdown_cases.py that must be read as cmark-gfm reads them, likewise;
 - its documents under each option, its URLs against bases, each name of a character reference, and
   each mark at each of OFFSETS places in a line;
@@ -43,7 +43,7 @@ KNOWN_IN_COMMONMARK = {
 }
 COMMONMARK = "/usr/share/cargo/registry/pulldown-cmark-*/tests/suite/spec.rs"
 EXAMPLE = re.compile(r'let original = r##"(.*?)"##;\s*let expected = r##"(.*?)"##;', re.DOTALL)
-WITHOUT_GFM = ("--no-bare-links", "--no-tables", "--no-footnotes")
+WITHOUT = ("--no-bare-links", "--no-tables", "--no-footnotes")
 CASE = re.compile(r"`([^`]+)`\s+gives\s+`([^`]+)`,(?:\s+and\s+cmark-gfm\s+`([^`]+)`"
                   r"|\s+as\s+cmark-gfm)")
 EXTENSIONS = ("footnotes", "table", "strikethrough", "autolink", "tasklist")
@@ -108,7 +108,7 @@ def by_commonmark(program):
     found = [(given.encode("utf-8"), wanted.encode("utf-8"))
              for given, wanted in EXAMPLE.findall(source)]
     given = [document for document, _ in found]
-    alone, whole = framed(program, given, *WITHOUT_GFM), framed(program, given)
+    alone, whole = framed(program, given, *WITHOUT), framed(program, given)
     exact = {number for number, (_, wanted) in enumerate(found) if alone[number] == wanted}
     differ = {number + 1 for number, document in enumerate(given)
               if number not in exact and whole[number] != judge.judge(document).wanted}
