@@ -18,6 +18,28 @@ use std::alloc::AllocError;
 /// The maximum depth of nested emphasis, strong and strikethrough: a deeper one is text.
 const MOST_SPANS: usize = 32;
 
+/// The names of a node and of the data in it.
+#[derive(Clone, Copy)]
+struct Names {
+    outer: Name,
+    inner: Name,
+}
+
+const CODE: Names = Names {
+    outer: Name::CodeText,
+    inner: Name::CodeTextData,
+};
+
+const MATH: Names = Names {
+    outer: Name::MathText,
+    inner: Name::MathTextData,
+};
+
+const HTML: Names = Names {
+    outer: Name::HtmlText,
+    inner: Name::HtmlTextData,
+};
+
 /// The context of a token.
 #[derive(Drop)]
 pub(crate) struct Around<'e> {
@@ -51,7 +73,7 @@ pub(crate) fn write_tokens(
     };
     let mut at = leaf.start(0);
     for token in reader.tokens.iter() {
-        if around.is_text(token.mark) {
+        if around.note_span(token.mark) {
             continue;
         }
         around.write_text(writer, at, token.start)?;
@@ -62,9 +84,10 @@ pub(crate) fn write_tokens(
 }
 
 impl<'e> Around<'e> {
-    /// Whether a token with a mark is text: an end of a span that is nested too deep is.
+    /// Counts the open spans; returns whether a token with this mark stays text, as both ends of a
+    /// span do that is nested too deep.
     #[inline(always)]
-    fn is_text(&mut self, mark: Mark) -> bool {
+    fn note_span(&mut self, mark: Mark) -> bool {
         match mark {
             Mark::Text | Mark::Nothing => true,
             Mark::EmphasisStart | Mark::StrongStart | Mark::StrikethroughStart => {
@@ -92,44 +115,40 @@ impl<'e> Around<'e> {
             Mark::StrongEnd => writer.exit(Name::Strong, end),
             Mark::StrikethroughStart => writer.enter(Name::GfmStrikethrough, start),
             Mark::StrikethroughEnd => writer.exit(Name::GfmStrikethrough, end),
-            Mark::Code => self.write_between(
-                writer,
-                token,
-                b'`',
-                Name::CodeText,
-                Name::CodeTextData,
-            ),
-            Mark::Math => self.write_between(
-                writer,
-                token,
-                b'$',
-                Name::MathText,
-                Name::MathTextData,
-            ),
+            Mark::Code => self.write_between(writer, token, b'`', CODE),
+            Mark::Math => self.write_between(writer, token, b'$', MATH),
             Mark::Html => self.write_html(writer, token),
-            Mark::Url => self.write_url_link(
-                writer,
-                start.saturating_add(1),
-                end.saturating_sub(1),
-            ),
-            Mark::Address => self.write_link(
-                writer,
-                Name::AutolinkEmail,
-                start.saturating_add(1),
-                end.saturating_sub(1),
-            ),
+            Mark::Reference => write_reference(writer, self.leaf.bytes, start, end),
+            Mark::BreakEscape => writer.leaf(Name::HardBreakEscape, start, end),
+            Mark::BreakSpaces => writer.leaf(Name::HardBreakTrailing, start, end),
+            Mark::LineEnding => {
+                let end = self.leaf.end(token.index);
+                writer.leaf(Name::LineEnding, end, self.leaf.next(token.index))
+            }
+            Mark::FootnoteCall => self.write_call(writer, start, end),
+            Mark::Url
+            | Mark::Address
+            | Mark::BareUrl
+            | Mark::BareWww
+            | Mark::LinkStart
+            | Mark::LinkEnd
+            | Mark::ImageStart
+            | Mark::ImageEnd => self.write_of_link(writer, token),
+        }
+    }
+
+    /// Writes a token of a link or of an image.
+    #[inline(always)]
+    fn write_of_link(&mut self, writer: &mut Writer, token: &Token) -> Result<(), AllocError> {
+        let (start, end) = (token.start, token.end);
+        let (inside, inside_end) = (start.saturating_add(1), end.saturating_sub(1));
+        match token.mark {
+            Mark::Url => self.write_url_link(writer, inside, inside_end),
+            Mark::Address => self.write_link(writer, Name::AutolinkEmail, inside, inside_end),
             Mark::BareUrl => {
                 self.write_link(writer, Name::GfmAutolinkLiteralProtocol, start, end)
             }
             Mark::BareWww => self.write_link(writer, Name::GfmAutolinkLiteralWww, start, end),
-            Mark::LineEnding => writer.leaf(
-                Name::LineEnding,
-                self.leaf.end(token.index),
-                self.leaf.next(token.index),
-            ),
-            Mark::BreakEscape => writer.leaf(Name::HardBreakEscape, start, end),
-            Mark::BreakSpaces => writer.leaf(Name::HardBreakTrailing, start, end),
-            Mark::Reference => write_reference(writer, self.leaf.bytes, start, end),
             Mark::LinkStart => {
                 self.links = self.links.saturating_add(1);
                 write_label_start(writer, Name::Link, start, end)
@@ -146,7 +165,7 @@ impl<'e> Around<'e> {
                 self.images = self.images.saturating_sub(1);
                 self.write_link_end(writer, Name::Image, token)
             }
-            Mark::FootnoteCall => self.write_call(writer, start, end),
+            _ => Ok(()),
         }
     }
 
@@ -157,14 +176,13 @@ impl<'e> Around<'e> {
         writer: &mut Writer,
         token: &Token,
         byte: u8,
-        outer: Name,
-        inner: Name,
+        names: Names,
     ) -> Result<(), AllocError> {
         let text = self.leaf.bytes.get(token.start..token.end).unwrap_or(b"");
         let width = run_length(text, byte);
         let start = token.start.saturating_add(width);
         let end = token.end.saturating_sub(width);
-        self.write_lines(writer, Span::new(start, end), token.index, outer, inner)
+        self.write_lines(writer, Span::new(start, end), token.index, names)
     }
 
     /// Writes HTML, unless it is to be left out.
@@ -183,13 +201,7 @@ impl<'e> Around<'e> {
             return Ok(());
         }
         let text = Span::new(token.start, token.end);
-        self.write_lines(
-            writer,
-            text,
-            token.index,
-            Name::HtmlText,
-            Name::HtmlTextData,
-        )
+        self.write_lines(writer, text, token.index, HTML)
     }
 
     /// Writes a text, with the bare links in it.
@@ -197,10 +209,8 @@ impl<'e> Around<'e> {
     fn write_text(&self, writer: &mut Writer, start: usize, end: usize) -> Result<(), AllocError> {
         if self.reader.has_late_links && self.links == 0 && self.images == 0 {
             self.write_text_with_links(writer, start, end)
-        } else if start < end {
-            writer.leaf(Name::Data, start, end)
         } else {
-            Ok(())
+            writer.data(start, end)
         }
     }
 
@@ -249,18 +259,17 @@ impl<'e> Around<'e> {
         writer: &mut Writer,
         text: Span,
         line: usize,
-        outer: Name,
-        inner: Name,
+        names: Names,
     ) -> Result<(), AllocError> {
-        writer.enter(outer, text.start)?;
+        writer.enter(names.outer, text.start)?;
         let mut at = text.start;
         if text.end > self.leaf.end(line) {
-            at = self.write_several(writer, text, line, inner)?;
+            at = self.write_several(writer, text, line, names.inner)?;
         }
         if at < text.end {
-            writer.leaf(inner, at, text.end)?;
+            writer.leaf(names.inner, at, text.end)?;
         }
-        writer.exit(outer, text.end)
+        writer.exit(names.outer, text.end)
     }
 
     /// Writes the lines of such a data before the last; returns where the last one begins.

@@ -71,6 +71,7 @@ pub(crate) fn write_destination(
         return Ok(());
     }
     writer.enter(name, place.start)?;
+    // Without a base no URL is resolved, and no call is made.
     let url = if source.base.is_some() {
         url_of(writer, source, destination)?
     } else {

@@ -7,8 +7,8 @@ use std::simd::prelude::*;
 /// The number of bytes that one step reads.
 const LANES: usize = 16;
 
-/// The index of the next such byte at `from` or later, or `end` or later if there is none before
-/// `end`. It may read bytes after `end`.
+/// The index of the next byte with this value, at `from` or later; `end` or later if there is none
+/// before `end`. It may read up to fifteen bytes after `end`.
 #[inline(always)]
 pub fn find_byte(bytes: &[u8], byte: u8, from: usize, end: usize) -> usize
     ensures { from ≤ result }

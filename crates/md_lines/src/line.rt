@@ -1,6 +1,6 @@
 //! Lines, and where they end.
 
-ghost use Rattle.std.specs.Prelude.{◌≡◌, ◌≤◌, ◌<◌, ◌+◌, ◌==◌, length, drop, min, max};
+ghost use Rattle.std.specs.Prelude.{◌≡◌, ◌≤◌, ◌<◌, ◌+◌, ◌-◌, ◌^◌, ◌==◌, length, drop, min, max};
 ghost use Rattle.std.specs.Prelude.{if◌then◌else◌};
 ghost use Rattle.std.specs.Int.{w64, trailing_zeros};
 ghost use Rattle.std.specs.List.{prefix_len};
@@ -40,7 +40,8 @@ impl Line {
     /// The end of its line ending.
     #[inline(always)]
     pub fn next(self) -> usize
-        ensures { self.end ≤ result }
+        ensures value { result ≡ min (self.end + self.ending) (2 ^ 64 - 1) }
+        ensures after { self.end ≤ result }
     {
         self.end.saturating_add(usize::from(self.ending))
     }

@@ -46,6 +46,7 @@ pub fn read_label(cursor: &mut Cursor<'_>) -> bool {
                 is_blank = false;
                 count += usize::from(skip_escape(cursor));
             }
+            // The end of the line, or more bytes than a label may have.
             _ => cursor.advance(),
         }
         count += 1;
@@ -60,6 +61,7 @@ fn label_length(line: &[u8], from: usize, most: usize) -> usize
 {
     let text = line.get(from..).unwrap_or(b"");
     let mut length = 0;
+    // `[`, `\` and `]`, which are neighbours.
     while length < most && length < text.len() && !matches!(text[length], b'['..=b']') {
         length += 1;
     }

@@ -35,8 +35,8 @@ pub fn autolink_at(text: &[u8]) -> Option<Autolink> {
 fn url_length(text: &[u8], colon: usize) -> Option<usize> {
     let protocol = text.get(..colon)?;
     let begins_well = protocol.first()?.is_ascii_alphabetic();
-    let is_long = protocol.len() < 2 || protocol.len() > MOST_OF_PROTOCOL;
-    if !begins_well || is_long || !protocol.iter().all(|byte| is_of_protocol(*byte)) {
+    let has_wrong_length = protocol.len() < 2 || protocol.len() > MOST_OF_PROTOCOL;
+    if !begins_well || has_wrong_length || !protocol.iter().all(|byte| is_of_protocol(*byte)) {
         return None;
     }
     let length = text

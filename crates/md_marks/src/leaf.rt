@@ -21,14 +21,6 @@ impl<'a> Leaf<'a> {
         Leaf { bytes, lines, last }
     }
 
-    /// Its beginning.
-    pub fn first(&self) -> Place {
-        Place {
-            line: 0,
-            at: self.start(0),
-        }
-    }
-
     /// The beginning of a line.
     #[inline(always)]
     pub fn start(&self, line: usize) -> usize {

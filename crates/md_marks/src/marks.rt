@@ -8,13 +8,18 @@ use std::simd::prelude::*;
 /// The number of bytes that one step reads.
 const LANES: usize = 32;
 
-/// For each upper half of a byte, a bit if marks have it, twice.
+// A byte may be a mark if the entries of its two halves have a common bit: `UPPER` has a bit for
+// each upper half that marks have, `LOWER` for each lower half the bits of the upper halves with
+// which it is one. Each table stands twice, since the sixteen bytes of each half of a block look up
+// in their own half. The same bytes are `Class::Mark`.
+
+/// The entries of the upper halves.
 const UPPER: [u8; LANES] = [
     0, 0, 1, 2, 4, 8, 16, 32, 0, 0, 0, 0, 0, 0, 0, 0, 0, 0, 1, 2, 4, 8, 16, 32, 0, 0, 0, 0, 0, 0,
     0, 0,
 ];
 
-/// For each lower half of a byte, the bits of the upper halves with which it is a mark, twice.
+/// The entries of the lower halves.
 const LOWER: [u8; LANES] = [
     20, 1, 0, 0, 1, 0, 1, 0, 0, 0, 3, 8, 10, 8, 33, 8, 20, 1, 0, 0, 1, 0, 1, 0, 0, 0, 3, 8, 10, 8,
     33, 8,
@@ -30,7 +35,7 @@ pub struct Marks {
 }
 
 impl Marks {
-    /// No block is read yet: no index is near this one.
+    /// No block is read yet: `block` is so far from each index that the first call reads one.
     pub fn new() -> Marks {
         Marks {
             block: usize::MAX / 2,
@@ -63,6 +68,7 @@ impl Marks {
                 if !is_plain(bytes, mark) {
                     return mark;
                 }
+                // Clears the lowest bit.
                 bits &= bits - 1;
             }
             at += LANES - passed;
