@@ -4,10 +4,10 @@
 usage: bench/bounds.py ARCHIVE [--each]
 
 ARCHIVE is crates/md_ffi/out/libmd_ffi.a, once clients/link has linked it. Each shape of
-bench/bounds.c is compiled by `bivdrazo_compile_within` in a process of its own, with some 1 kB to
-1 MB of document and events, texts of at most 10 kB and 1 MB, and four times as much work as input
-and text together may have: with as many nodes, up to that size, as give no more work. Prints the
-maximum cost for a byte of input and limit, and with --each that of each call. Inputs of up to
+bench/measure/bounds.c is compiled by `bivdrazo_compile_within` in a process of its own, with some
+1 kB to 1 MB of document and events, texts of at most 10 kB and 1 MB, and four times as much work as
+input and text together may have: with as many nodes, up to that size, as give no more work. Prints
+the maximum cost for a byte of input and limit, and with --each that of each call. Inputs of up to
 100 kB have an address space of 64 MB. Ends with status 1 if a process dies or a text exceeds its
 limit.
 """
@@ -41,7 +41,7 @@ def built(archive, folder):
     page = subprocess.run(["rt", "doc"], capture_output=True, text=True, check=True).stdout.strip()
     libraries = [archive, f"{os.path.dirname(page)}/c/liblibc_c.a", "-lm"]
     command = [os.environ.get("CC", "cc"), "-O2", f"-I{here}/../clients/c", "-o", program,
-               f"{here}/bounds.c"]
+               f"{here}/measure/bounds.c"]
     subprocess.run([*command, *libraries], check=True)
     return program
 

@@ -8,7 +8,7 @@ end: the cases, pictures, locks, JSON, and tables of references. What may not be
 line of its own: crates/md_bench, which stays as it is to the byte, files that a script writes
 whole, as their heads say, and the signatures that the interface promises. Two lines of pages that
 are too long are HTML as it is printed. Occurrences of words are counted without must-fail edits,
-the benchmark, the list clients/numbers/numbers.txt, and the files that bench/names.py or
+the benchmark, the list clients/numbers/numbers.txt, and the files that bench/lists/names.py or
 clients/numbers/generate writes whole from that list, as their heads say: nobody edits these. A file
 of which a script writes only a part is counted.
 """
@@ -24,18 +24,26 @@ CASES = re.compile(r"crates/md_cases/(cases|make|stdin|stdout)")
 DATA = re.compile(r"crates/md_cases/(cases|stdin|stdout)|.*(\.png|\.lock|\.json|references\.\w+)$")
 NOT_NAMING = re.compile(r"bench/|crates/md_bench/|.*/must-fail/")
 LIST = "clients/numbers/numbers.txt"
-SCRIPTS = r"(bench/names\.py|clients/numbers/generate)"
-WRITTEN = re.compile(rf"Written by {SCRIPTS}\s+from\s+\S*numbers\.txt")
+SCRIPTS = r"(bench/(lists/)?names\.py|clients/numbers/generate)"
+WRITTEN = re.compile(rf"(Written|Generated) by {SCRIPTS}\s+from\s+\S*numbers\.txt")
 BENCHMARK = "crates/md_bench/"
 PROMISED = re.compile(r"crates/md_ffi/src/export\.rt bivdrazo_compile\w*"
                       r"|crates/md_html/src/within\.rt compile_(safe_)?within")
 TESTS = re.compile(r"crates/md_(bench|cases)/")
+# The crates of our parser; the others are the core, its calls and its programs.
+PARSER = re.compile(r"crates/(md_(lines|blocks|urls|references|writer|marks|inlines|slugs|markdown"
+                    r"|markdown_abi)|mdhtml)/")
 WORDS = r"(?m)^( *)(?:pub(?:\(\w+\))? )?(?:const )?(?:unsafe )?(?:extern \"C\" )?"
 FUNCTION = re.compile(WORDS + r"fn (\w+)(?:<(?:[^<>]|->|<[^<>]*>)*>)?\(")
 BODY = re.compile(r"(?m)^(\{|[^ \n].* \{)$|\}$")
 CLAUSE = re.compile(r" +(?:requires|ensures)\b")
 MATCH = re.compile(r"\bmatch (?:\w+\.)*name \{")
-COLUMNS, LINES, PARAMETERS, SHOWN = 100, 300, 5, 5
+PRIVATE = re.compile(r"( *)(?:pub\((?:crate|super)\) )?(?:const )?fn (\w+)")
+NO_CALL = re.compile(r"(?m)^\s*//.*$|^.*\buse [^;]*;|^\s*(?:requires|ensures)\b.*$")
+# The printer, which was called md_emit.
+PRINTER = re.compile(r"crates/md_(printer|emit)/")
+STATED = re.compile(r"crates/\w+/(src|specs)/")
+COLUMNS, LINES, PARAMETERS, SHOWN, SHORT, LISTED = 100, 300, 5, 5, 3, 4
 # The number of characters at the beginning of a file that say whether a script writes it.
 HEAD = 300
 
@@ -104,10 +112,43 @@ def say(what, count, wanted=None):
 
 def lines_below(texts, part, ending):
     """The number of lines in the files of the crates' folders of this name, without the benchmark
-    and the tests.
+    and the tests; and how many of them are not the parser's.
     """
-    return sum(source.count("\n") for path, source in texts.items()
-               if path.endswith(ending) and f"/{part}/" in path and not TESTS.match(path))
+    counts = {path: source.count("\n") for path, source in texts.items()
+              if path.endswith(ending) and f"/{part}/" in path and not TESTS.match(path)}
+    core, parser = parted(counts, PARSER.match)
+    return sum(counts.values()), sum(core.values())
+
+
+def short_functions(source):
+    """The names of the private functions whose bodies have at most three lines."""
+    lines = source.splitlines()
+    for place, line in enumerate(lines):
+        head = PRIVATE.match(line)
+        if not head:
+            continue
+        margin = head.group(1)
+        begins = (margin + "fn", margin + "pub", margin + "const", margin + ")", margin + "{")
+        begin = next((at for at in range(place, len(lines))
+                      if lines[at].endswith(("{", ";")) and lines[at].startswith(begins)), None)
+        if begin is not None and lines[begin].endswith("{"):
+            if lines.index(margin + "}", begin) - begin - 1 <= SHORT:
+                yield head.group(2)
+
+
+def called_once(code):
+    """The private functions with short bodies that occur once besides their heads, in their crates,
+    by crate: a name that says more than the body stays.
+    """
+    crates = collections.defaultdict(list)
+    for path, source in code.items():
+        if "/src/" in path and not TESTS.match(path):
+            crates[path.split("/")[1]].append(NO_CALL.sub("", source))
+    words = {crate: collections.Counter(re.findall(r"\w+", "\n".join(sources)))
+             for crate, sources in crates.items()}
+    return {crate: sum(words[crate][name] == 2 for source in sources
+                       for name in short_functions(source))
+            for crate, sources in crates.items()}
 
 
 def lines_of_contracts(source):
@@ -122,14 +163,18 @@ def lines_of_contracts(source):
 
 def say_proofs(texts):
     """Says how much is code, definitions, proof and contract."""
-    code, specs, proofs = (lines_below(texts, part, ending) for part, ending in
-                           (("src", ".rt"), ("specs", ".antt"), ("proofs", ".antt")))
+    (code, code_of_core), (specs, specs_of_core), (proofs, proofs_of_core) = (
+        lines_below(texts, part, ending) for part, ending in
+        (("src", ".rt"), ("specs", ".antt"), ("proofs", ".antt")))
     say("lines of code", f"{code:,}, of definitions {specs:,}, of proof {proofs:,}")
+    say("without the parser's crates",
+        f"{code_of_core:,}, {specs_of_core:,}, {proofs_of_core:,}", "50,000 of proof at most")
     say("lines of proof for a line of code", f"{proofs / code:.1f}", "2.6 at most")
     calls = [source for path, source in texts.items() if path.startswith("crates/md_html/src/")]
     say("lines of contracts in md_html, of private functions too",
         sum(map(lines_of_contracts, calls)))
-    printer = [source for path, source in texts.items() if path.startswith("crates/md_emit/src/")]
+    printer = [source for path, source in texts.items()
+               if PRINTER.match(path) and "/src/" in path]
     say("matches on a name in the printer", sum(len(MATCH.findall(source)) for source in printer),
         "3 at most")
 
@@ -186,6 +231,18 @@ def main():
     say("files that name an option", named_in(naming, options), "25 at most")
     names = re.findall(r"(?m)^    (\w+)", names)
     say("files that name a name of events", named_in(naming, names), "28 at most")
+    stated = [source for path, source in texts.items()
+              if STATED.match(path) and not PARSER.match(path) and not TESTS.match(path)
+              and not WRITTEN.search(source[:HEAD])]
+    say("such files in src and specs, without the parser's", named_in(stated, names),
+        "10 in the median")
+    printer = [part for path, source in texts.items() if PRINTER.match(path) and "/specs/" in path
+               for part in source.split("\n\n") if not part.startswith(("use ", "--"))]
+    say("lists of names in the printer's definitions",
+        sum(len(set(re.findall(r"\w+", part)) & set(names)) > LISTED for part in printer), "0")
+    short = called_once(code)
+    say(f"private functions of at most {SHORT} lines that are called once",
+        f"{sum(short.values())}, {greatest(short, 0)}")
     size = sum((ROOT / path).stat().st_size for path in paths if CASES.match(path))
     say("bytes of cases and of what makes them", f"{size:,}", "1,000,000 at most")
 

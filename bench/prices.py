@@ -1,6 +1,6 @@
 #!/usr/bin/env python3
 """Counts the instructions of two builds of a program on each input of
-price_inputs.py, by callgrind.
+measure/price_inputs.py, by callgrind.
 
     bench/prices.py OLD NEW [--limit R] [--only WORD] [--jobs N]
 
@@ -12,12 +12,16 @@ is more than R times the old one (no limit if R isn't given). It needs valgrind.
 
 import argparse
 import os
+import pathlib
 import re
 import subprocess
 import sys
 from concurrent.futures import ThreadPoolExecutor
 
-from price_inputs import INPUTS
+sys.dont_write_bytecode = True
+sys.path.insert(0, str(pathlib.Path(__file__).resolve().parent / "measure"))
+
+from price_inputs import INPUTS  # noqa: E402  (without bytecode in that folder)
 
 
 def counted(program, script):

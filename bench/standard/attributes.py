@@ -2,7 +2,7 @@
 
     BIVDRAZO_LIBRARY=clients/out/libbivdrazo.so.3 attributes.py
 
-Tests the documents of clients/checks/attributes_test.py. The tree that chromium builds of a text
+Tests the documents of clients/tests/attributes_test.py. The tree that chromium builds of a text
 with attributes, inserted by `innerHTML` of an element, must have the same elements and texts as the
 tree of the text without them in a `div`, and exactly these attributes in addition. Each document is
 inserted into EACH of the elements that trees.py lists, one after another. Requires chromium,
@@ -16,7 +16,7 @@ from trees import CONTEXTS
 
 ROOT = pathlib.Path(__file__).resolve().parents[2]
 EACH = 8
-sys.path.insert(0, str(ROOT / "clients" / "checks"))
+sys.path.insert(0, str(ROOT / "clients" / "tests"))
 import attributes_test  # noqa: E402
 from bivdrazo import markdown_to_html, markdown_with_headings  # noqa: E402
 

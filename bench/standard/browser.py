@@ -1,6 +1,6 @@
 #!/usr/bin/env python3
 """Makes a real browser, Debian's chromium, read the output of `mdevents` for the attacks in
-bench/attacks.json.
+bench/standard/attacks.json.
 
     /usr/bin/python3 bench/standard/browser.py PROGRAM CASES [CHROMIUM]
 
@@ -21,8 +21,7 @@ import subprocess
 import sys
 import tempfile
 
-sys.path.insert(0, str(pathlib.Path(__file__).parents[1]))
-from html5 import ATTACKS, LETS_ANY, attacks, script  # noqa: E402
+from html5 import ATTACKS, LETS_ANY, attacks, script
 
 # Texts with faults, each with a word of the fault that must be found.
 BAD = [

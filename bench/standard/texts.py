@@ -4,8 +4,7 @@
 import json
 import pathlib
 
-ATTACKS = json.loads((pathlib.Path(__file__).parents[1]
-                      / "attacks.json").read_text(encoding="utf-8"))
+ATTACKS = json.loads(pathlib.Path(__file__).with_name("attacks.json").read_text(encoding="utf-8"))
 
 ELEMENTS = {
     name: []

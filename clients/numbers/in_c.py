@@ -1,7 +1,7 @@
 """The numbers of the C interface for C."""
 
-from listed import (MARKDOWN_TITLES, NOTICE, RELEASE, RELEASE_COMMENT, TITLES, commented, of_group,
-                    meaning, upper)
+from listed import (MARKDOWN_TITLES, RELEASE, RELEASE_COMMENT, TITLES, commented, of_group, meaning,
+                    upper)
 
 PREFIXES = {
     "status": "",
@@ -52,8 +52,7 @@ def name_text():
 def header():
     """The header for C."""
     version = of_group("version")[0]
-    text = commented(NOTICE, "", "/* ", " * ", " */")
-    text += "#ifndef BIVDRAZO_NUMBERS_H\n#define BIVDRAZO_NUMBERS_H\n\n#include <stdint.h>\n\n"
+    text = "#ifndef BIVDRAZO_NUMBERS_H\n#define BIVDRAZO_NUMBERS_H\n\n#include <stdint.h>\n\n"
     text += commented(version.comment, "", "/* ", " * ", " */")
     text += f"#define BIVDRAZO_VERSION {version.number}\n\n"
     text += f"/* {RELEASE_COMMENT} */\n#define BIVDRAZO_VERSION_TEXT \"{RELEASE}\"\n\n"
@@ -64,8 +63,7 @@ def header():
 def markdown_header():
     """The header for C with the numbers of the interface for Markdown."""
     version = of_group("markdown_version")[0]
-    text = commented(NOTICE, "", "/* ", " * ", " */")
-    text += "#ifndef BIVDRAZO_MARKDOWN_NUMBERS_H\n#define BIVDRAZO_MARKDOWN_NUMBERS_H\n\n"
+    text = "#ifndef BIVDRAZO_MARKDOWN_NUMBERS_H\n#define BIVDRAZO_MARKDOWN_NUMBERS_H\n\n"
     text += commented(version.comment, "", "/* ", " * ", " */")
     text += f"#define BIVDRAZO_{version.name} {version.number}\n\n"
     text += "\n".join(enumeration(group) for group in MARKDOWN_TITLES)

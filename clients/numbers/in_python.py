@@ -1,7 +1,6 @@
 """The numbers of the C interface for Python."""
 
-from listed import (MARKDOWN_TITLES, NOTICE, RELEASE, RELEASE_COMMENT, TITLES, commented, of_group,
-                    upper)
+from listed import (MARKDOWN_TITLES, RELEASE, RELEASE_COMMENT, TITLES, commented, of_group, upper)
 
 
 def enumeration(group, name):
@@ -23,7 +22,7 @@ def numbers():
     classes.append(("name", "Name"))
     markdown_classes = [("markdown_status", "MarkdownStatus"), ("markdown_html", "DocumentHtml")]
     markdown = of_group("markdown_version")[0]
-    text = f"\"\"\"The numbers of the C interface.\n\n{NOTICE}\n\"\"\"\n\nimport enum\n\n"
+    text = "\"\"\"The numbers of the C interface.\"\"\"\n\nimport enum\n\n"
     text += f"# {version.comment}\nVERSION = {version.number}\n\n"
     text += f"# {RELEASE_COMMENT}\nVERSION_TEXT = \"{RELEASE}\"\n\n"
     text += "# The options, by their numbers, each with its type.\nOPTIONS = (\n"

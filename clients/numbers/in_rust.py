@@ -1,13 +1,12 @@
 """The numbers of the C interface for Rust, and the options in the layout of C."""
 
-from listed import (NOTICE, RELEASE, RELEASE_COMMENT, TITLES, WIDTH, commented, of_group, meaning,
-                    upper)
+from listed import RELEASE, RELEASE_COMMENT, TITLES, WIDTH, commented, of_group, meaning, upper
 
 
 def markdown_numbers():
     """The numbers of the interface for Markdown that the crate uses."""
     version = of_group("markdown_version")[0]
-    text = (f"// {NOTICE}\n\n/// {version.comment}\n"
+    text = (f"/// {version.comment}\n"
             f"pub(crate) const {version.name}: u32 = {version.number};\n")
     used = {"InputTooLong", "OutputTooLong", "Failed", "TooMuchWork"}
     statuses = [entry for entry in of_group("markdown_status") if entry.name in used]
@@ -109,7 +108,7 @@ def numbers():
     """The module for Rust."""
     parts = [enumeration("name", "Name"), names(), enumeration("rule", "Rule"), rules(),
              constants()]
-    return f"// {NOTICE}\n\n" + "\n".join(parts)
+    return "\n".join(parts)
 
 
 def options():
@@ -117,8 +116,7 @@ def options():
     found = sorted(of_group("option"), key=lambda entry: entry.type == "text")
     types = {"flag": "u8", "line_ending": "u8", "text": "CText"}
     ways = {"flag": "u8::from({})", "line_ending": "c_line_ending({})", "text": "c_text(&{})"}
-    text = f"// {NOTICE}\n\n"
-    text += "use crate::layouts::{c_line_ending, c_text, CText};\nuse crate::Options;\n\n"
+    text = "use crate::layouts::{c_line_ending, c_text, CText};\nuse crate::Options;\n\n"
     text += "#[repr(C)]\npub(crate) struct COptions {\n"
     text += "".join(f"    {entry.name}: {types[entry.type]},\n" for entry in found) + "}\n\n"
     text += "/// The options in C; they refer to the texts of `options`.\n"

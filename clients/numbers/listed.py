@@ -10,7 +10,6 @@ HERE = pathlib.Path(__file__).resolve().parent
 RELEASE = (HERE.parents[1] / "VERSION").read_text().strip()
 RELEASE_COMMENT = "The version of the library and of its clients."
 WIDTH = 100
-NOTICE = "Written by clients/numbers/generate from numbers.txt. Don't edit it."
 # A line that begins so continues the previous one.
 CONTINUED = "\n    "
 LINE = re.compile(r"(\w+) (\d+) (\w+)(?: (flag|line_ending|text|html))?(?:: (.*))?")

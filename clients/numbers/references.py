@@ -5,7 +5,6 @@ have them.
 import pathlib
 
 LIST = pathlib.Path(__file__).resolve().parent / "references.txt"
-NOTICE = "Written by clients/numbers/generate from references.txt. Don't edit it."
 COMMENT = "HTML's names of character references, each with what it stands for."
 
 
@@ -19,7 +18,7 @@ def references():
 def c_file():
     """The header for C."""
     pairs = references()
-    text = f"/* {NOTICE} */\n#ifndef BIVDRAZO_REFERENCES_H\n#define BIVDRAZO_REFERENCES_H\n\n"
+    text = "#ifndef BIVDRAZO_REFERENCES_H\n#define BIVDRAZO_REFERENCES_H\n\n"
     text += '#include "bivdrazo.h"\n\n'
     text += f"/* How many names there are. */\n#define BIVDRAZO_REFERENCES_LENGTH {len(pairs)}\n\n"
     text += "#define BIVDRAZO_REFERENCE(name, text) \\\n"
@@ -35,7 +34,7 @@ def c_file():
 
 def rust_file():
     """The module for Rust."""
-    text = f"// {NOTICE}\n\n/// {COMMENT}\n///\n"
+    text = f"/// {COMMENT}\n///\n"
     text += ("/// A caller of [`compile`](crate::compile) whose parser doesn't decode references "
              "hands them in.\n")
     text += "pub const REFERENCES: &[(&str, &str)] = &[\n"
@@ -47,7 +46,7 @@ def rust_file():
 
 def python_file():
     """The module for Python."""
-    text = f'"""{COMMENT}\n\n{NOTICE}\n"""\n\nREFERENCES = {{\n'
+    text = f'"""{COMMENT}"""\n\nREFERENCES = {{\n'
     for name, stands_for in references():
         text += f'    "{name}": {ascii(stands_for)},\n'
     return text + "}\n"
@@ -61,7 +60,7 @@ def rattle_file():
     starts = [0]
     for entry in entries:
         starts.append(starts[-1] + len(entry.encode("utf-8")))
-    text = f"//! {COMMENT}\n// {NOTICE}\n\n"
+    text = f"//! {COMMENT}\n\n"
     text += "/// All names in the order of their bytes, each with `;` and what it stands for.\n"
     text += '#[rattlefmt::skip]\nstatic TEXT: &str = "\\\n'
     text += lines_of(map(escaped, entries), "\\\n") + '\\\n";\n\n'

@@ -1,5 +1,5 @@
 -- The names of events, as scripts write them.
--- Written by bench/names.py from clients/numbers/numbers.txt. Don't edit it.
+-- Written by bench/lists/names.py from clients/numbers/numbers.txt. Don't edit it.
 use Rattle.std.specs.Prelude.{ℕ, List, [], ◌∷◌, codes}
 use Rattle.md_base.specs.declared.event.Name.{Name}
 use Rattle.md_base.specs.declared.event.Name.TheVariants as name_variants

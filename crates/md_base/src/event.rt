@@ -10,7 +10,7 @@ pub enum Kind {
 /// The kind of an event.
 #[derive(Clone, Copy, Debug, PartialEq, Eq)]
 pub enum Name {
-    // bench/names.py: begin
+    // bench/lists/names.py: begin
     // Links that are written out as such: `<a@b.c>`, `<https://a.b>`, and the literal ones of GFM.
     /// An address between angle brackets, without these: a link to it.
     AutolinkEmail,
@@ -196,7 +196,7 @@ pub enum Name {
     MdxJsxFlowTag,
     /// Refused.
     MdxJsxTextTag,
-    // bench/names.py: end
+    // bench/lists/names.py: end
     /// Every other name of the parser, by a number of its own.
     Other(u16),
 }

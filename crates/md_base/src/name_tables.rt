@@ -1,5 +1,5 @@
 //! Tables of all names of events except `Other`.
-// Written by bench/names.py from clients/numbers/numbers.txt. Don't edit it.
+// Written by bench/lists/names.py from clients/numbers/numbers.txt. Don't edit it.
 
 use crate::event::Name;
 

@@ -21,7 +21,7 @@ use Rattle.md_base.specs.NameTests.{is_chunk}
 use Rattle.md_text.proofs.HtmlNames.{no_angle, escaped-angle}
 use Rattle.md_text.proofs.HtmlAngles.{all-append}
 use Rattle.md_meaning.specs.Meaning.At.{At, text_in}
-use Rattle.md_meaning.specs.Meaning.Around.{is_tight}
+use Rattle.md_meaning.specs.Meaning.Inherited.{is_tight}
 use Rattle.md_meaning.specs.Meaning.Finds.{number_in_list}
 use Rattle.md_meaning.specs.Meaning.Layout.{Piece, Text, Needed, layout, said, on_own_line}
 use Rattle.md_meaning.specs.Meaning.Layout.{when}
@@ -31,8 +31,8 @@ use Rattle.md_meaning.specs.Meaning.Blocks.{heading, atx_rank, underline_rank, c
 use Rattle.md_meaning.specs.Meaning.Blocks.{is_unclosed, fenced}
 use Rattle.md_meaning.specs.Meaning.Spans.{is_at}
 use Rattle.md_meaning.specs.Meaning.Tables.{align_attribute, cell_of}
-use Rattle.md_shape.specs.Underlined.{is_underline}
-use Rattle.md_shape.specs.Built.{Blocks, is_digit}
+use Rattle.md_content.specs.Underlined.{is_underline}
+use Rattle.md_content.specs.Built.{Blocks, is_digit}
 use Rattle.md_safe.proofs.Texts.{Escaped, zeros-escaped}
 use Rattle.md_safe.proofs.Laid.{adds-weaker}
 use Rattle.md_safe.proofs.RawElements.{IsRaw, IsInfo, code_tag, math_tag}
@@ -129,9 +129,9 @@ end-moves e n t h =
 
 fenced-moves : (s : Setting) (t : At) (n : ℕ) → suc 1 ≤ n → (tag second : List ℕ) →
     tag ≡ codes "<pre>" ++ second → IsOpening second → (inner : List Piece) →
-    Prints s (IsRaw s.p tag) inner → Moves s.given.ending n 0 0 (fenced t tag inner)
+    Prints s (IsRaw s.p tag) inner → Moves s.context.ending n 0 0 (fenced t tag inner)
 fenced-moves s t n room tag second is opens inner a =
-    let e : List ℕ = s.given.ending in
+    let e : List ℕ = s.context.ending in
     let inside : Moves e n 2 2 inner =
     adds-quiet e n 2 inner (adds-weaker e (IsRaw s.p tag) (λ x. list_all no_angle x ≡ true) inner
     (λ x raw. subst (λ x. list_all no_angle x ≡ true) (sym raw.whole)
@@ -148,36 +148,36 @@ pub flow-moves : (s : Setting) (t : At) (m n : ℕ) → Room m n → (name : Nam
     is_flow name ≡ true → IsFitAt s t name →
     (is_underline name ≡ true → (k : ℕ) × (suc k ≤ n) × Leads 0 0 k t.before.heading) →
     (inner : List Piece) → Inside s t Blocks name inner → Below s m name inner →
-    Moves s.given.ending n 0 0 (prints s.given t name inner)
+    Moves s.context.ending n 0 0 (prints s.context t name inner)
 flow-moves s t m n room BlockQuote is fit head inner a below =
-    let e : List ℕ = s.given.ending in
+    let e : List ℕ = s.context.ending in
     open_line e n 0 (codes "<blockquote>") s.ending (λ l t. refl) (omega (arith, room))
     ▸ more e 1 m n inner (omega (arith, room)) (below refl)
     ▸ close_line e n 0 (codes "</blockquote>") s.ending (λ l t. refl)
 flow-moves s t m n room ListOrdered is fit head inner a below =
-    let e : List ℕ = s.given.ending in
+    let e : List ℕ = s.context.ending in
     let first : List ℕ =
-    option_map_or (text_in s.given.bytes) (number_in_list t.children) (codes "1") in
+    option_map_or (text_in s.context.bytes) (number_in_list t.children) (codes "1") in
     let number : Escaped (without_zeros first) =
-    zeros-escaped first (digits_of s.given.bytes (number_in_list t.children) fit) in
+    zeros-escaped first (digits_of s.context.bytes (number_in_list t.children) fit) in
     open_line e n 0 (codes "<ol") s.ending (λ l t. refl) (omega (arith, room))
     ▸ start-moves e n 1 (without_zeros first) number (bytes_eq (without_zeros first) (codes "1"))
     ▸ part e n 1 (codes ">") refl ▸ more e 1 m n inner (omega (arith, room)) (below refl)
     ▸ forced e n 1 s.ending ▸ close_tag e n 0 (codes "</ol>") (λ l t. refl)
 flow-moves s t m n room ListUnordered is fit head inner a below =
-    let e : List ℕ = s.given.ending in
+    let e : List ℕ = s.context.ending in
     open_line e n 0 (codes "<ul>") s.ending (λ l t. refl) (omega (arith, room))
     ▸ more e 1 m n inner (omega (arith, room)) (below refl)
     ▸ forced e n 1 s.ending ▸ close_tag e n 0 (codes "</ul>") (λ l t. refl)
 flow-moves s t m n room ListItem is fit head inner a below =
-    let e : List ℕ = s.given.ending in
+    let e : List ℕ = s.context.ending in
     open_line e n 0 (codes "<li>") s.ending (λ l t. refl) (omega (arith, room))
     ▸ more e 1 m n inner (omega (arith, room)) (below refl)
     ▸ item-end e n s.ending (ends_in_line t) ▸ close_tag e n 0 (codes "</li>") (λ l t. refl)
 flow-moves s t m n room Paragraph is fit head inner a below = by (is_tight t.around.container)
   where
     e : List ℕ
-    e = s.given.ending
+    e = s.context.ending
 
     by : (tight : Bool) → Moves e n 0 0
         (cond tight inner (on_own_line (codes "<p>") ++ (inner ++ said (codes "</p>"))))
@@ -187,19 +187,19 @@ flow-moves s t m n room Paragraph is fit head inner a below = by (is_tight t.aro
         ▸ more e 1 m n inner (omega (arith, room)) (below refl)
         ▸ close_tag e n 0 (codes "</p>") (λ l t. refl)
 flow-moves s t m n room ThematicBreak is fit head inner a below =
-    needed s.given.ending n 0 s.ending
-    ▸ void_tag s.given.ending n 0 (codes "<hr />") (λ l t. refl) (omega (arith, room))
+    needed s.context.ending n 0 s.ending
+    ▸ void_tag s.context.ending n 0 (codes "<hr />") (λ l t. refl) (omega (arith, room))
 flow-moves s t m n room HeadingAtx is fit head inner a below =
-    heading-moves s.given.ending n m (atx_rank t) s.ending (omega (arith, room)) fit.0 fit.1 inner
+    heading-moves s.context.ending n m (atx_rank t) s.ending (omega (arith, room)) fit.0 fit.1 inner
     (below refl)
 flow-moves s t m n room HeadingSetextUnderlineSequence is fit head inner a below =
-    let e : List ℕ = s.given.ending in
+    let e : List ℕ = s.context.ending in
     let waits = head refl in
-    let rank = setext-fits (is_at 45 s.given.bytes t.place.start.index) in
-    heading-moves e n waits.0 (underline_rank s.given t) s.ending waits.1 rank.0 rank.1
+    let rank = setext-fits (is_at 45 s.context.bytes t.place.start.index) in
+    heading-moves e n waits.0 (underline_rank s.context t) s.ending waits.1 rank.0 rank.1
     (said t.before.heading) (moves.text e waits.0 0 0 t.before.heading waits.2)
 flow-moves s t m n room CodeIndented is fit head inner a below =
-    let e : List ℕ = s.given.ending in
+    let e : List ℕ = s.context.ending in
     (needed e n 0 s.ending ▸ code-opens e n (omega (arith, room)) (codes "<code>") (λ l t. refl))
     ▸ more e 2 m n inner (omega (arith, room)) (below refl) ▸ end-moves e n t s.ending
 flow-moves s t m n room CodeFenced is fit head inner a below =
@@ -208,8 +208,8 @@ flow-moves s t m n room MathFlow is fit head inner a below =
     fenced-moves s t n (omega (arith, room)) math_tag
     (codes "<code class=\"language-math math-display\"") refl (λ l t. refl) inner a
 flow-moves s t m n room HtmlFlow is fit head inner a below =
-    needed s.given.ending n 0 s.ending
-    ▸ more s.given.ending 0 m n inner (omega (arith, room)) (below refl)
+    needed s.context.ending n 0 s.ending
+    ▸ more s.context.ending 0 m n inner (omega (arith, room)) (below refl)
 flow-moves s t m n room _ is fit head inner a below = lie is
 
 -- ---- tables
@@ -246,24 +246,24 @@ cells-moves e n a h in_head room (kind ∷ kinds) =
 
 pub table-moves : (s : Setting) (t : At) (m n : ℕ) → Room m n → (name : Name) →
     is_tabular name ≡ true → (inner : List Piece) → Below s m name inner →
-    Moves s.given.ending n 0 0 (prints s.given t name inner)
+    Moves s.context.ending n 0 0 (prints s.context t name inner)
 table-moves s t m n room GfmTable is inner below =
-    let e : List ℕ = s.given.ending in
+    let e : List ℕ = s.context.ending in
     open_line e n 0 (codes "<table>") s.ending (λ l t. refl) (omega (arith, room))
     ▸ more e 1 m n inner (omega (arith, room)) (below refl)
     ▸ close_line e n 0 (codes "</table>") s.ending (λ l t. refl)
 table-moves s t m n room GfmTableHead is inner below =
-    let e : List ℕ = s.given.ending in
+    let e : List ℕ = s.context.ending in
     open_line e n 0 (codes "<thead>") s.ending (λ l t. refl) (omega (arith, room))
     ▸ more e 1 m n inner (omega (arith, room)) (below refl)
     ▸ close_line e n 0 (codes "</thead>") s.ending (λ l t. refl)
 table-moves s t m n room GfmTableBody is inner below =
-    let e : List ℕ = s.given.ending in
+    let e : List ℕ = s.context.ending in
     open_tag e n 0 (codes "<tbody>") (λ l t. refl) (omega (arith, room))
     ▸ more e 1 m n inner (omega (arith, room)) (below refl)
     ▸ close_line e n 0 (codes "</tbody>") s.ending (λ l t. refl)
 table-moves s t m n room GfmTableRow is inner below =
-    let e : List ℕ = s.given.ending in
+    let e : List ℕ = s.context.ending in
     let kinds : List AlignKind =
     drop (count_by (named GfmTableCell) (spine_names t.children)) t.before.columns in
     open_line e n 0 (codes "<tr>") s.ending (λ l t. refl) (omega (arith, room))
@@ -274,7 +274,7 @@ table-moves s t m n room GfmTableCell is inner below =
     by (slice_get t.before.columns (count_by (named GfmTableCell) t.before.spine))
   where
     e : List ℕ
-    e = s.given.ending
+    e = s.context.ending
 
     x : List ℕ
     x = layout e inner

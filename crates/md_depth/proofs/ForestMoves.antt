@@ -13,13 +13,13 @@ use Rattle.md_base.specs.Is.{is as named}
 use Rattle.md_base.specs.Tree.{Forest, Empty, Node}
 use Rattle.md_base.specs.Children.{or_else}
 use Rattle.md_base.specs.NameTests.{is_transparent}
-use Rattle.md_meaning.specs.declared.context.Surroundings.{Surroundings}
+use Rattle.md_meaning.specs.declared.surroundings.Surroundings.{Surroundings}
 use Rattle.md_meaning.specs.Meaning.At.{Footnote, Before, At, identifier_of}
 use Rattle.md_meaning.specs.Meaning.Layout.{layout, when}
 use Rattle.md_meaning.specs.Meaning.Nodes.{Outcome, found_at, before_next, outcome}
-use Rattle.md_shape.specs.Built.{Blocks, is_part, is_source, may_stand, content_of}
-use Rattle.md_shape.specs.Built.{content_inside}
-use Rattle.md_shape.specs.Built.{IsBuilt}
+use Rattle.md_content.specs.Built.{Blocks, is_part, is_source, may_stand, content_of}
+use Rattle.md_content.specs.Built.{content_inside}
+use Rattle.md_content.specs.Built.{IsBuilt}
 use Rattle.md_safe.proofs.Contents.{after-blocks}
 use Rattle.md_safe.proofs.Insides.{is_blocks}
 use Rattle.md_safe.proofs.Following.{second}
@@ -29,7 +29,7 @@ use Rattle.md_safe.proofs.Forests.{Ready, Means, ready-inside, ready-after, mean
 use Rattle.md_safe.proofs.Forests.{inside-means}
 use Rattle.md_safe.proofs.Spot.{Setting, Inside}
 use Rattle.md_safe.proofs.Costs.{Document, read_in, Place, here_of, inner_around, inner_before}
-use Rattle.md_safe.proofs.Costs.{inner_of, at_of}
+use Rattle.md_safe.proofs.Costs.{inner_of, at_of, through-node}
 use Rattle.md_safe.proofs.PlainCosts.{is_blocks-same, no_footnotes}
 use Rattle.md_depth.specs.Depth.{height}
 use Rattle.md_depth.proofs.Machine.{Leads, leads-quiet, leads-kept}
@@ -61,14 +61,14 @@ texts-more m n (x ∷ xs) few a =
 
 -- what nodes print, a heading that is found, and the texts of footnotes
 pub record Opens (d : Document) (n : ℕ) (made : Outcome) : Type 0 where
-  pub prints : Moves d.given.ending n 0 0 made.pieces
+  pub prints : Moves d.context.ending n 0 0 made.pieces
   pub heading : WaitsIn n made.found.heading
   pub texts : TextsLead n made.footnotes
 
 -- what is known where some blocks stand
 pub record Fits (d : Document) (around : Surroundings) (before : Before) (n : ℕ)
     (forest : Forest) : Type 0 where
-  pub built : IsBuilt d.given.bytes Blocks forest
+  pub built : IsBuilt d.context.bytes Blocks forest
   pub ready : Ready (read_in d) around before Blocks
   pub waits : Waits n before.heading
   pub room : 2 * height forest ≤ n
@@ -86,8 +86,8 @@ waits-next n (Some x) before a b = a
 -- the node's own footnote, if it is one
 abbrev own : Document → Place → Name → Footnote
 own d p name = record {
-  identifier = identifier_of d.given.bytes p.children;
-  text = layout d.given.ending (inner_of d p name).pieces;
+  identifier = identifier_of d.context.bytes p.children;
+  text = layout d.context.ending (inner_of d p name).pieces;
 }
 
 footnote-blocks : (name : Name) → named GfmFootnoteDefinition name ≡ true →
@@ -98,22 +98,13 @@ footnote-blocks _ is = lie is
 -- a transparent node has the meaning of its children
 through : (d : Document) (p : Place) (name : Name) (n : ℕ) → is_transparent name ≡ true →
     Opens d n (inner_of d p name) → Opens d n (here_of d p name)
-through d p (Other number) n is b = record {
-  prints = b.prints;
-  heading = b.heading;
-  texts = subst (TextsLead n) (sym (append-nil (inner_of d p (Other number)).footnotes)) b.texts;
-}
-through d p BlockQuotePrefix n is b = record {
-  prints = b.prints;
-  heading = b.heading;
-  texts = subst (TextsLead n) (sym (append-nil (inner_of d p BlockQuotePrefix).footnotes)) b.texts;
-}
-through d p SpaceOrTab n is b = record {
-  prints = b.prints;
-  heading = b.heading;
-  texts = subst (TextsLead n) (sym (append-nil (inner_of d p SpaceOrTab).footnotes)) b.texts;
-}
-through d p _ n is b = lie is
+through d p name n is b =
+    subst (Opens d n) (sym (through-node d.context (at_of d p name) name (inner_of d p name) is
+    refl)) (record {
+      prints = b.prints;
+      heading = b.heading;
+      texts = subst (TextsLead n) (sym (append-nil (inner_of d p name).footnotes)) b.texts;
+    })
 
 -- the heading that a node is found to be
 heading-here : (t : At) (name : Name) (n : ℕ) (x : List ℕ) → is_transparent name ≡ false →
@@ -126,7 +117,8 @@ heading-here t _ n x solid h = tt
 
 -- a node that isn't transparent
 solid : (d : Document) (p : Place) (name : Name) (n : ℕ) → is_transparent name ≡ false →
-    suc (suc (n - 2)) ≤ n → IsBuilt d.given.bytes Blocks (Node name p.start p.end p.children p.rest)
+    suc (suc (n - 2)) ≤ n → IsBuilt d.context.bytes Blocks
+    (Node name p.start p.end p.children p.rest)
     → Ready (read_in d) p.around p.before Blocks → Waits n p.before.heading →
     Means (read_in d) (inner_around d p name) (content_inside Blocks name) p.children
     (inner_of d p name) →
@@ -144,16 +136,17 @@ solid d p name n e room built ready waits known below =
           (not_part (is_part name || is_source name) stands) built.1
           (λ _. (n - 1, omega (arith, room), waits)) known.found.resource inner.pieces a
           (λ is. (below is).prints);
-      heading = heading-here t name n (layout d.given.ending inner.pieces) e (λ is.
-          leads-kept 0 (n - 2) (n - 1) (layout d.given.ending inner.pieces)
-          (laid d.given.ending (n - 2) inner.pieces (below is).prints) (omega (arith, room)));
+      heading = heading-here t name n (layout d.context.ending inner.pieces) e (λ is.
+          leads-kept 0 (n - 2) (n - 1) (layout d.context.ending inner.pieces)
+          (laid d.context.ending (n - 2) inner.pieces (below is).prints) (omega (arith, room)));
       texts = texts-append n inner.footnotes
           (when (named GfmFootnoteDefinition name) (own d p name ∷ []))
           (inside (is_blocks (content_of name Blocks)) refl)
           (cond_both (named GfmFootnoteDefinition name) (own d p name ∷ []) [] (TextsLead n)
           (λ is. (
-            leads-kept 0 (n - 2) n (layout d.given.ending inner.pieces)
-                (laid d.given.ending (n - 2) inner.pieces (below (footnote-blocks name is)).prints)
+            leads-kept 0 (n - 2) n (layout d.context.ending inner.pieces)
+                (laid d.context.ending (n - 2) inner.pieces
+                (below (footnote-blocks name is)).prints)
                 (omega (arith, room)),
             tt,
           )) (λ _. tt));
@@ -171,9 +164,9 @@ solid d p name n e room built ready waits known below =
 
 -- what some blocks mean
 pub opens : (d : Document) (forest : Forest) (around : Surroundings) (before : Before) (n : ℕ) →
-    Fits d around before n forest → Opens d n (outcome d.given around before forest)
+    Fits d around before n forest → Opens d n (outcome d.context around before forest)
 opens d Empty around before n f =
-    record { prints = none d.given.ending n 0; heading = tt; texts = tt }
+    record { prints = none d.context.ending n 0; heading = tt; texts = tt }
 opens d (Node name start end children rest) around before n f =
     let p : Place = record {
       around = around;
@@ -186,7 +179,7 @@ opens d (Node name start end children rest) around before n f =
     let t : At = at_of d p name in
     let here : Outcome = here_of d p name in
     let next : Before = before_next t name here in
-    let others : Outcome = outcome d.given around next rest in
+    let others : Outcome = outcome d.context around next rest in
     let within : Ready (read_in d) (inner_around d p name) (inner_before p name)
     (content_inside Blocks name) =
     ready-inside (read_in d) around before Blocks name children f.built.0 f.ready in
@@ -201,7 +194,7 @@ opens d (Node name start end children rest) around before n f =
     is_blocks (content_inside Blocks name) ≡ true → Opens d k (inner_of d p name) =
     λ k room waits is.
     opens d children (inner_around d p name) (inner_before p name) k (record {
-      built = subst (λ c. IsBuilt d.given.bytes c children)
+      built = subst (λ c. IsBuilt d.context.bytes c children)
           (is_blocks-same (content_inside Blocks name) is) f.built.2;
       ready = subst (Ready (read_in d) (inner_around d p name) (inner_before p name))
           (is_blocks-same (content_inside Blocks name) is) within;
@@ -212,7 +205,7 @@ opens d (Node name start end children rest) around before n f =
     by (is_transparent name) refl p n f.room f.built f.ready f.waits known below in
     let later : Opens d n others =
     opens d rest around next n (record {
-      built = subst (λ c. IsBuilt d.given.bytes c rest) (after-blocks name children) f.built.3;
+      built = subst (λ c. IsBuilt d.context.bytes c rest) (after-blocks name children) f.built.3;
       ready = subst (Ready (read_in d) around next) (after-blocks name children)
           (ready-after (read_in d) t Blocks name here f.built.0 f.built.2 found f.ready);
       waits = waits-next n here.found.heading before.heading one.heading f.waits;
@@ -229,7 +222,7 @@ opens d (Node name start end children rest) around before n f =
 
     by : (through_it : Bool) → is_transparent name ≡ through_it → (p : Place) (n : ℕ) →
         2 * max (suc (height p.children)) (height p.rest) ≤ n →
-        IsBuilt d.given.bytes Blocks (Node name p.start p.end p.children p.rest) →
+        IsBuilt d.context.bytes Blocks (Node name p.start p.end p.children p.rest) →
         Ready (read_in d) p.around p.before Blocks → Waits n p.before.heading →
         Means (read_in d) (inner_around d p name) (content_inside Blocks name) p.children
         (inner_of d p name) →

@@ -8,8 +8,8 @@ use Rattle.md_base.specs.NameTests.{is_transparent}
 use Rattle.md_meaning.specs.Meaning.At.{At}
 use Rattle.md_meaning.specs.Meaning.Layout.{Piece}
 use Rattle.md_meaning.specs.Meaning.Means.{prints}
-use Rattle.md_shape.specs.Underlined.{is_underline}
-use Rattle.md_shape.specs.Built.{Blocks, is_part, is_source, is_autolink}
+use Rattle.md_content.specs.Underlined.{is_underline}
+use Rattle.md_content.specs.Built.{Blocks, is_part, is_source, is_autolink}
 use Rattle.md_safe.proofs.Texts.{Escaped}
 use Rattle.md_safe.proofs.Spot.{Setting, IsFitAt, IsGoodTarget, Inside}
 use Rattle.md_safe.proofs.StringNodes.{is_text, text-node}
@@ -30,24 +30,24 @@ pub node-moves : (s : Setting) (t : At) (m n : ℕ) → Room m n → (name : Nam
     (is_part name || is_source name) ≡ false → IsFitAt s t name →
     (is_underline name ≡ true → (k : ℕ) × (suc k ≤ n) × Leads 0 0 k t.before.heading) →
     IsGoodTarget t.found.resource → (inner : List Piece) → Inside s t Blocks name inner →
-    Below s m name inner → Moves s.given.ending n 0 0 (prints s.given t name inner)
+    Below s m name inner → Moves s.context.ending n 0 0 (prints s.context t name inner)
 node-moves s t m n room name e solid whole fit head good inner a below = by (is_marked name) refl
   where
     ending : List ℕ
-    ending = s.given.ending
+    ending = s.context.ending
 
     by : (marked : Bool) → is_marked name ≡ marked →
-        Moves ending n 0 0 (prints s.given t name inner)
+        Moves ending n 0 0 (prints s.context t name inner)
     by false h =
         let is : is_silent name ≡ true = ap not h in
-        subst (Moves ending n 0 0) (sym (silent-prints s.given t name is inner))
+        subst (Moves ending n 0 0) (sym (silent-prints s.context t name is inner))
         (more ending 0 m n inner (omega (arith, room)) (below (silent-block name is).0))
     by true h = elim (or_cases (is_transparent name) _ h) [
       | inl is ↦ lie (sym solid ∙ is)
       | inr c ↦ elim (or_cases (is_part name || is_source name) _ c) [
         | inl is ↦ lie (sym whole ∙ is)
         | inr c ↦ elim (or_cases (is_text name) _ c) [
-          | inl is ↦ adds-escaped ending n 0 (prints s.given t name inner)
+          | inl is ↦ adds-escaped ending n 0 (prints s.context t name inner)
               (text-node s t Escaped name (λ x h. h e) is fit inner)
           | inr c ↦ elim (or_cases (is_shown name) _ c) [
             | inl is ↦ span-moves s t m n room name e is good inner a below
@@ -56,11 +56,11 @@ node-moves s t m n room name e solid whole fit head good inner a below = by (is_
               | inr c ↦ elim (or_cases (is_flow name) _ c) [
                 | inl is ↦ flow-moves s t m n room name is fit head inner a below
                 | inr c ↦ elim (or_cases (is_leaf name) _ c) [
-                  | inl is ↦ adds-escaped ending n 0 (prints s.given t name inner)
+                  | inl is ↦ adds-escaped ending n 0 (prints s.context t name inner)
                       (leaf-escaped s t name e is fit inner)
                   | inr c ↦ elim (or_cases (is_hidden name) (is_tabular name) c) [
                     | inl is ↦ subst (Moves ending n 0 0)
-                        (sym (hidden-prints s.given t name is inner)) (none ending n 0)
+                        (sym (hidden-prints s.context t name is inner)) (none ending n 0)
                     | inr is ↦ table-moves s t m n room name is inner below
                   ]
                 ]

@@ -11,7 +11,7 @@ use Rattle.std.proofs.lemmas.List.{take-append-drop, drop-append-le}
 use Rattle.std.proofs.lemmas.Slice.Eq.{bytes_eq-Decides}
 use Rattle.md_text.specs.declared.options.CompileOptions.{CompileOptions}
 use Rattle.md_text.proofs.EncodeLaws.{is_escaped-encoded}
-use Rattle.md_meaning.specs.Meaning.At.{Footnote, Given}
+use Rattle.md_meaning.specs.Meaning.At.{Footnote, Context}
 use Rattle.md_meaning.specs.Meaning.Layout.{Piece, Text, Needed, Forced}
 use Rattle.md_meaning.specs.Meaning.Footnotes.{option_or, id_of, call_id, backreference}
 use Rattle.md_meaning.specs.Meaning.Footnotes.{backreferences, unended_length, body, item}
@@ -151,19 +151,19 @@ body-moves e n a k h x back f g room =
 
 -- ---- an item, and all
 
-item-moves : (e : List ℕ) (n a k : ℕ) → Escaped e → (given : Given) (footnotes : List Footnote)
+item-moves : (e : List ℕ) (n a k : ℕ) → Escaped e → (context : Context) (footnotes : List Footnote)
     (identifier : List ℕ) → Leads 0 0 k (text_among footnotes identifier) →
-    suc a + (k + 2) ≤ n → Moves e n a a (item given footnotes identifier)
-item-moves e n a k h given footnotes identifier f room =
-    let number : ℕ = place_among (distinct given.calls) identifier in
-    let count : ℕ = count_of given.calls identifier in
-    let id : List ℕ = id_of given.options (codes "fn-") identifier number in
+    suc a + (k + 2) ≤ n → Moves e n a a (item context footnotes identifier)
+item-moves e n a k h context footnotes identifier f room =
+    let number : ℕ = place_among (distinct context.calls) identifier in
+    let count : ℕ = count_of context.calls identifier in
+    let id : List ℕ = id_of context.options (codes "fn-") identifier number in
     forced e n a h ▸ open_tag e n a (codes "<li id=\"") (λ l t. refl) (omega (arith, room))
-    ▸ plain e n (suc a) id (id-escaped given.options (codes "fn-") identifier number refl)
+    ▸ plain e n (suc a) id (id-escaped context.options (codes "fn-") identifier number refl)
     ▸ part e n (suc a) (codes "\">") refl ▸ forced e n (suc a) h
     ▸ body-moves e n (suc a) k h (text_among footnotes identifier)
-    (backreferences given.options identifier number count) f
-    (backs-lead given.options identifier number count) room
+    (backreferences context.options identifier number count) f
+    (backs-lead context.options identifier number count) room
     ▸ close_line e n a (codes "</li>") h (λ l t. refl)
 
 found-leads : (k : ℕ) (footnotes : List Footnote) (identifier : List ℕ) → TextsLead k footnotes →
@@ -178,13 +178,14 @@ found-leads k (footnote ∷ others) identifier h = by (bytes_eq footnote.identif
     by true later = h.0
     by false later = later
 
-items-move : (e : List ℕ) (n a k : ℕ) → Escaped e → (given : Given) (footnotes : List Footnote) →
+items-move : (e : List ℕ) (n a k : ℕ) → Escaped e → (context : Context)
+    (footnotes : List Footnote) →
     TextsLead k footnotes → suc a + (k + 2) ≤ n → (identifiers : List (List ℕ)) →
-    Moves e n a a (flat_map (item given footnotes) identifiers)
-items-move e n a k h given footnotes f room [] = none e n a
-items-move e n a k h given footnotes f room (identifier ∷ identifiers) =
-    item-moves e n a k h given footnotes identifier (found-leads k footnotes identifier f) room
-    ▸ items-move e n a k h given footnotes f room identifiers
+    Moves e n a a (flat_map (item context footnotes) identifiers)
+items-move e n a k h context footnotes f room [] = none e n a
+items-move e n a k h context footnotes f room (identifier ∷ identifiers) =
+    item-moves e n a k h context footnotes identifier (found-leads k footnotes identifier f) room
+    ▸ items-move e n a k h context footnotes f room identifiers
 
 -- the heading as it is usually written
 abbrev head_of : List ℕ → List ℕ → List ℕ → List Piece
@@ -232,22 +233,23 @@ start-moves e n room h options no_tag no_attributes =
     needed e n 0 h ▸ head ▸ forced e n 1 h
     ▸ open_tag e n 1 (codes "<ol>") (λ l t. refl) room
 
-pub section-moves : (e : List ℕ) (n k : ℕ) → Escaped e → (given : Given) →
-    given.options.gfm_footnote_label_tag_name ≡ None →
-    given.options.gfm_footnote_label_attributes ≡ None → (footnotes : List Footnote) →
-    TextsLead k footnotes → k + 5 ≤ n → Moves e n 0 0 (section given footnotes)
-section-moves e n k h given no_tag no_attributes footnotes f room =
-    by (not (length given.calls == 0))
+pub section-moves : (e : List ℕ) (n k : ℕ) → Escaped e → (context : Context) →
+    context.options.gfm_footnote_label_tag_name ≡ None →
+    context.options.gfm_footnote_label_attributes ≡ None → (footnotes : List Footnote) →
+    TextsLead k footnotes → k + 5 ≤ n → Moves e n 0 0 (section context footnotes)
+section-moves e n k h context no_tag no_attributes footnotes f room =
+    by (not (length context.calls == 0))
   where
     items : List Piece
-    items = flat_map (item given footnotes) (distinct given.calls)
+    items = flat_map (item context footnotes) (distinct context.calls)
 
-    by : (some : Bool) → Moves e n 0 0 (cond some (section_start given.options
-        ++ (flat_map (item given footnotes) (distinct given.calls) ++ (Forced ∷ Text (codes "</ol>")
+    by : (some : Bool) → Moves e n 0 0 (cond some (section_start context.options
+        ++ (flat_map (item context footnotes) (distinct context.calls) ++
+        (Forced ∷ Text (codes "</ol>")
         ∷ Forced ∷ Text (codes "</section>") ∷ Forced ∷ []))) [])
     by true =
-        start-moves e n (omega (arith, room)) h given.options no_tag no_attributes
-        ▸ items-move e n 2 k h given footnotes f (omega (arith, room)) (distinct given.calls)
+        start-moves e n (omega (arith, room)) h context.options no_tag no_attributes
+        ▸ items-move e n 2 k h context footnotes f (omega (arith, room)) (distinct context.calls)
         ▸ forced e n 2 h ▸ close_tag e n 1 (codes "</ol>") (λ l t. refl) ▸ forced e n 1 h
         ▸ close_tag e n 0 (codes "</section>") (λ l t. refl) ▸ forced e n 0 h
     by false = none e n 0

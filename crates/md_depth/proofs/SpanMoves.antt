@@ -25,7 +25,7 @@ use Rattle.md_meaning.specs.Meaning.Spans.{span, task_start, code, trimmed, with
 use Rattle.md_meaning.specs.Meaning.Media.{url, href, src, title_attribute, anchor, picture}
 use Rattle.md_meaning.specs.Meaning.Media.{leads_to, autolink}
 use Rattle.md_meaning.specs.Meaning.Footnotes.{id_of, call_id, place_among, distinct, count_of}
-use Rattle.md_shape.specs.Built.{Blocks, content_of, is_autolink}
+use Rattle.md_content.specs.Built.{Blocks, content_of, is_autolink}
 use Rattle.md_safe.proofs.Texts.{Escaped, pipes-escaped, trimmed-escaped, decimal-escaped}
 use Rattle.md_safe.proofs.Laid.{adds-weaker}
 use Rattle.md_safe.proofs.Media.{IsEscapedTitle}
@@ -155,40 +155,41 @@ done-quiet in_image x (inr is) = subst (λ x. list_all no_angle x ≡ true) (sym
 
 task-moves : (s : Setting) (t : At) (m n : ℕ) → Room m n → (inner : List Piece) →
     Prints s (IsDone t.around.in_image) inner →
-    Moves s.given.ending n 0 0 (span t (task_start s.given) inner (said (codes "/>")))
+    Moves s.context.ending n 0 0 (span t (task_start s.context) inner (said (codes "/>")))
 task-moves s t m n room inner a = by t.around.in_image
   where
-    mark : Moves s.given.ending n 0 0 inner
-    mark = adds-quiet s.given.ending n 0 inner (adds-weaker s.given.ending
+    mark : Moves s.context.ending n 0 0 inner
+    mark = adds-quiet s.context.ending n 0 inner (adds-weaker s.context.ending
         (IsDone t.around.in_image) (λ x. list_all no_angle x ≡ true) inner
         (done-quiet t.around.in_image) a)
 
-    checkable : (b : Bool) → Moves s.given.ending n 0 0
+    checkable : (b : Bool) → Moves s.context.ending n 0 0
         (when (not b) (said (codes "disabled=\"\" ")))
-    checkable true = none s.given.ending n 0
-    checkable false = part s.given.ending n 0 (codes "disabled=\"\" ") refl
+    checkable true = none s.context.ending n 0
+    checkable false = part s.context.ending n 0 (codes "disabled=\"\" ") refl
 
     by : (in_image : Bool) →
-        Moves s.given.ending n 0 0 (cond in_image inner (task_start s.given
+        Moves s.context.ending n 0 0 (cond in_image inner (task_start s.context
         ++ (inner ++ said (codes "/>"))))
     by true = mark
     by false =
-        (void_tag s.given.ending n 0 (codes "<input type=\"checkbox\" ") (λ l t. refl)
-        (omega (arith, room)) ▸ checkable s.given.options.gfm_task_list_item_checkable)
-        ▸ mark ▸ part s.given.ending n 0 (codes "/>") refl
+        (void_tag s.context.ending n 0 (codes "<input type=\"checkbox\" ") (λ l t. refl)
+        (omega (arith, room)) ▸ checkable s.context.options.gfm_task_list_item_checkable)
+        ▸ mark ▸ part s.context.ending n 0 (codes "/>") refl
 
 -- ---- each span
 
 abbrev pub Below : Setting → ℕ → Name → List Piece → Type 0
-Below s m name inner = is_blocks (content_of name Blocks) ≡ true → Moves s.given.ending m 0 0 inner
+Below s m name inner = is_blocks (content_of name Blocks) ≡ true → Moves s.context.ending m 0 0
+    inner
 
 pair-moves : (s : Setting) (t : At) (m n : ℕ) → Room m n → (name : Name) → is_pair name ≡ true →
     (inner : List Piece) → Below s m name inner →
-    Moves s.given.ending n 0 0 (prints s.given t name inner)
+    Moves s.context.ending n 0 0 (prints s.context t name inner)
 pair-moves s t m n room name is inner below =
-    let e : List ℕ = s.given.ending in
+    let e : List ℕ = s.context.ending in
     let tag : List ℕ = pair_tag name in
-    subst (Moves e n 0 0) (sym (pair-prints s.given t name is inner))
+    subst (Moves e n 0 0) (sym (pair-prints s.context t name is inner))
     (around e m n room t.around.in_image (60 ∷ (tag ++ (62 ∷ []))) (60 ∷ 47 ∷ (tag ++ (62 ∷ [])))
     (by_pair (λ tag. IsOpening (60 ∷ (tag ++ (62 ∷ [])))) (λ l t. refl) (λ l t. refl)
     (λ l t. refl) name is)
@@ -204,82 +205,82 @@ pair-moves s t m n room name is inner below =
 single-moves : (s : Setting) (t : At) (m n : ℕ) → Room m n → (name : Name) →
     is_single name ≡ true → IsGoodTarget t.found.resource → (inner : List Piece) →
     Inside s t Blocks name inner → Below s m name inner →
-    Moves s.given.ending n 0 0 (prints s.given t name inner)
+    Moves s.context.ending n 0 0 (prints s.context t name inner)
 single-moves s t m n room Link is good inner a below = by t.around.in_image
   where
     label : List ℕ
-    label = layout s.given.ending inner
+    label = layout s.context.ending inner
 
     f : Leads 0 0 m label
-    f = laid s.given.ending m inner (below refl)
+    f = laid s.context.ending m inner (below refl)
 
-    by : (in_image : Bool) → Moves s.given.ending n 0 0 (cond in_image (said label)
-        (anchor s.given.options (leads_to s.given t) label))
-    by true = kept s.given.ending n 0 m label f (omega (arith, room))
-    by false = anchor-moves s.given.ending m n room s.given.options (leads_to s.given t)
+    by : (in_image : Bool) → Moves s.context.ending n 0 0 (cond in_image (said label)
+        (anchor s.context.options (leads_to s.context t) label))
+    by true = kept s.context.ending n 0 m label f (omega (arith, room))
+    by false = anchor-moves s.context.ending m n room s.context.options (leads_to s.context t)
         (target-title s t good) label f
 single-moves s t m n room Image is good inner a below = by t.around.in_image
   where
     label : List ℕ
-    label = layout s.given.ending inner
+    label = layout s.context.ending inner
 
     h : Escaped label
     h = text-holds s Escaped inner a
 
-    by : (in_image : Bool) → Moves s.given.ending n 0 0 (cond in_image (said label)
-        (picture s.given.options (leads_to s.given t) label))
-    by true = plain s.given.ending n 0 label h
-    by false = picture-moves s.given.ending m n room s.given.options (leads_to s.given t)
+    by : (in_image : Bool) → Moves s.context.ending n 0 0 (cond in_image (said label)
+        (picture s.context.options (leads_to s.context t) label))
+    by true = plain s.context.ending n 0 label h
+    by false = picture-moves s.context.ending m n room s.context.options (leads_to s.context t)
         (target-title s t good) label h
 single-moves s t m n room HardBreakEscape is good inner a below =
-    break-moves s.given.ending m n room t.around.in_image
+    break-moves s.context.ending m n room t.around.in_image
 single-moves s t m n room HardBreakTrailing is good inner a below =
-    break-moves s.given.ending m n room t.around.in_image
+    break-moves s.context.ending m n room t.around.in_image
 single-moves s t m n room GfmTaskListItemCheck is good inner a below =
     task-moves s t m n room inner a
 single-moves s t m n room GfmFootnoteCall is good inner a below =
-    let identifier : List ℕ = identifier_of s.given.bytes t.children in
-    let number : ℕ = place_among (distinct s.given.calls) identifier in
+    let identifier : List ℕ = identifier_of s.context.bytes t.children in
+    let number : ℕ = place_among (distinct s.context.calls) identifier in
     let occurrence : ℕ = suc (count_of t.calls identifier) in
-    unless s.given.ending n t.around.in_image
-    (call_tags s.given.options identifier number occurrence)
-    (call-moves s.given.ending m n room s.given.options identifier number occurrence)
+    unless s.context.ending n t.around.in_image
+    (call_tags s.context.options identifier number occurrence)
+    (call-moves s.context.ending m n room s.context.options identifier number occurrence)
 single-moves s t m n room _ is good inner a below = lie is
 
 pub span-moves : (s : Setting) (t : At) (m n : ℕ) → Room m n → (name : Name) →
     t.around.is_escaping ≡ true → is_shown name ≡ true → IsGoodTarget t.found.resource →
     (inner : List Piece) → Inside s t Blocks name inner → Below s m name inner →
-    Moves s.given.ending n 0 0 (prints s.given t name inner)
+    Moves s.context.ending n 0 0 (prints s.context t name inner)
 span-moves s t m n room name e is good inner a below = elim (or_cases (is_pair name) _ is) [
   | inl is ↦ pair-moves s t m n room name is inner below
   | inr c ↦ elim (or_cases (is_code name) (is_single name) c) [
-    | inl is ↦ subst (Moves s.given.ending n 0 0) (sym (code-prints s.given t name is inner))
-        (code-moves s.given.ending m n room t (is_math name) (layout s.given.ending inner)
+    | inl is ↦ subst (Moves s.context.ending n 0 0) (sym (code-prints s.context t name is inner))
+        (code-moves s.context.ending m n room t (is_math name) (layout s.context.ending inner)
         (code-text s t Blocks name e is inner a))
     | inr is ↦ single-moves s t m n room name is good inner a below
   ]
 ]
 
 link-moves : (s : Setting) (t : At) (m n : ℕ) → Room m n → (prefix : List ℕ) (plainly : Bool) →
-    Moves s.given.ending n 0 0 (autolink s.given t plainly prefix)
+    Moves s.context.ending n 0 0 (autolink s.context t plainly prefix)
 link-moves s t m n room prefix plainly = by plainly
   where
     x : List ℕ
-    x = text_in s.given.bytes t.place
+    x = text_in s.context.bytes t.place
 
     led : Target
     led = record { destination = prefix ++ x; title = None }
 
-    by : (plainly : Bool) → Moves s.given.ending n 0 0 (cond plainly (said (encoded true x))
-        (anchor s.given.options led (encoded true x)))
-    by true = plain s.given.ending n 0 (encoded true x) (is_escaped-encoded x)
-    by false = anchor-moves s.given.ending m n room s.given.options led tt (encoded true x)
-        (laid s.given.ending m (said (encoded true x))
-        (plain s.given.ending m 0 (encoded true x) (is_escaped-encoded x)))
+    by : (plainly : Bool) → Moves s.context.ending n 0 0 (cond plainly (said (encoded true x))
+        (anchor s.context.options led (encoded true x)))
+    by true = plain s.context.ending n 0 (encoded true x) (is_escaped-encoded x)
+    by false = anchor-moves s.context.ending m n room s.context.options led tt (encoded true x)
+        (laid s.context.ending m (said (encoded true x))
+        (plain s.context.ending m 0 (encoded true x) (is_escaped-encoded x)))
 
 pub autolink-moves : (s : Setting) (t : At) (m n : ℕ) → Room m n → (name : Name) →
     is_autolink name ≡ true → (inner : List Piece) →
-    Moves s.given.ending n 0 0 (prints s.given t name inner)
+    Moves s.context.ending n 0 0 (prints s.context t name inner)
 autolink-moves s t m n room AutolinkEmail is inner =
     link-moves s t m n room (codes "mailto:") t.around.in_image
 autolink-moves s t m n room AutolinkProtocol is inner =

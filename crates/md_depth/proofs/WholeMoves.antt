@@ -6,18 +6,18 @@ use Rattle.md_text.specs.Html.{any_attribute}
 use Rattle.md_text.specs.declared.options.CompileOptions.{CompileOptions}
 use Rattle.md_tree.specs.Grammar.{IsGrammatical}
 use Rattle.md_meaning.specs.Meaning.{meaning, ending_at}
-use Rattle.md_meaning.specs.Meaning.Around.{outermost}
-use Rattle.md_meaning.specs.Meaning.At.{Given}
+use Rattle.md_meaning.specs.Meaning.Inherited.{outermost}
+use Rattle.md_meaning.specs.Meaning.At.{Context}
 use Rattle.md_meaning.specs.Meaning.Before.{nothing_before}
 use Rattle.md_meaning.specs.Meaning.Finds.{first_ending}
 use Rattle.md_meaning.specs.Meaning.Footnotes.{section}
 use Rattle.md_meaning.specs.Meaning.Layout.{layout}
 use Rattle.md_meaning.specs.Meaning.Nodes.{Outcome, outcome}
-use Rattle.md_shape.specs.Built.{Blocks, IsBuilt}
-use Rattle.md_shape.proofs.Grammatical.{grammatical-built}
+use Rattle.md_content.specs.Built.{Blocks, IsBuilt}
+use Rattle.md_content.proofs.Grammatical.{grammatical-built}
 use Rattle.md_safe.specs.Options.{KeepsGrammar}
 use Rattle.md_safe.proofs.Costs.{Document, read_in}
-use Rattle.md_safe.proofs.Prepared.{outermost-ready, reads-whole, prepared}
+use Rattle.md_safe.proofs.Prepared.{outermost-ready, reads-whole, document_of}
 use Rattle.md_depth.specs.Depth.{height}
 use Rattle.md_depth.specs.Levels.{NestsWithin}
 use Rattle.md_depth.proofs.Machine.{Leads, leads-quiet}
@@ -27,13 +27,13 @@ use Rattle.md_depth.proofs.SectionMoves.{section-moves}
 use Rattle.md_depth.proofs.Reading.{levels-kept}
 
 -- a document and its section
-document-leads : (d : Document) (document : Forest) → IsBuilt d.given.bytes Blocks document →
-    KeepsGrammar d.given.options →
-    Leads 0 0 (2 * height document + 5) (layout d.given.ending
-    ((outcome d.given outermost nothing_before document).pieces
-    ++ section d.given (outcome d.given outermost nothing_before document).footnotes))
+document-leads : (d : Document) (document : Forest) → IsBuilt d.context.bytes Blocks document →
+    KeepsGrammar d.context.options →
+    Leads 0 0 (2 * height document + 5) (layout d.context.ending
+    ((outcome d.context outermost nothing_before document).pieces
+    ++ section d.context (outcome d.context outermost nothing_before document).footnotes))
 document-leads d document built keeps =
-    let all : Outcome = outcome d.given outermost nothing_before document in
+    let all : Outcome = outcome d.context outermost nothing_before document in
     let n : ℕ = 2 * height document in
     let known : Opens d n all = opens d document outermost nothing_before n (record {
       built = built;
@@ -41,9 +41,9 @@ document-leads d document built keeps =
       waits = leads-quiet 0 _ [] refl;
       room = omega arith;
     }) in
-    laid d.given.ending (n + 5) (all.pieces ++ section d.given all.footnotes)
-    (more d.given.ending 0 n (n + 5) all.pieces (omega arith) known.prints
-    ▸ section-moves d.given.ending (n + 5) n d.ending d.given keeps.usual_tag
+    laid d.context.ending (n + 5) (all.pieces ++ section d.context all.footnotes)
+    (more d.context.ending 0 n (n + 5) all.pieces (omega arith) known.prints
+    ▸ section-moves d.context.ending (n + 5) n d.ending d.context keeps.usual_tag
     keeps.usual_attributes all.footnotes known.texts (omega arith))
 
 pub elements-nest : (bytes : List ℕ) (names : List (List ℕ × List ℕ)) (options : CompileOptions)
@@ -52,26 +52,6 @@ pub elements-nest : (bytes : List ℕ) (names : List (List ℕ × List ℕ)) (op
 elements-nest bytes names options document grammatical keeps tree reading =
     let built : IsBuilt bytes Blocks document =
     grammatical-built bytes names document grammatical in
-    let known = prepared bytes names options document built keeps in
-    let ending : List ℕ = ending_at options bytes (first_ending document) in
-    let alone : Given = record {
-      bytes = bytes;
-      names = names;
-      options = options;
-      ending = ending;
-      calls = [];
-      definitions = [];
-    } in
-    let called : Given =
-    record alone { calls = (outcome alone outermost nothing_before document).calls } in
-    let given : Given = record called {
-      definitions = (outcome called outermost nothing_before document).definitions;
-    } in
-    let d : Document = record {
-      given = given;
-      html = keeps.escapes_html;
-      ending = known.0;
-      titles = known.1;
-    } in
+    let d : Document = document_of bytes names options document built keeps in
     levels-kept (2 * height document + 5) (meaning options names bytes document) tree reading
     (document-leads d document built keeps)

@@ -5,7 +5,7 @@ use Rattle.std.proofs.Common.{Global, string_bytes, unwrap_or}
 use Rattle.std.specs.Prelude.{if◌then◌else◌, option_map, slice_get, slice_index_or, slice_set, find}
 use Rattle.std.specs.Option.{option_map_or}
 use Rattle.std.proofs.lemmas.Option.{none-some}
-use Rattle.md_shape.specs.Steps.{noted}
+use Rattle.md_steps.specs.Steps.{noted}
 use Rattle.md_footnotes.specs.Entries.{counts_in, footnotes_in, again, place_in}
 use Rattle.md_footnotes.specs.Words.{text_of}
 use Rattle.md_footnotes.proofs.Tally.{counted}

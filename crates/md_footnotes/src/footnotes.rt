@@ -3,9 +3,9 @@
 ghost use Rattle.std.specs.Prelude.{◌≡◌, ◌∷◌, [], ◌++◌, OnOk, string_bytes};
 ghost use Rattle.md_meaning.specs.Meaning.Layout.{laid_after};
 ghost use Rattle.md_meaning.specs.Meaning.Footnotes.{section};
-ghost use Rattle.md_shape.specs.Sides.{call_pieces};
-ghost use Rattle.md_shape.specs.Steps.{noted};
-ghost use Rattle.md_footnotes.specs.Seen.{given_by};
+ghost use Rattle.md_steps.specs.Sides.{call_pieces};
+ghost use Rattle.md_steps.specs.Steps.{noted};
+ghost use Rattle.md_footnotes.specs.Seen.{context_by};
 
 use crate::called::{Called, Settings};
 use crate::calls::Calls;
@@ -106,7 +106,7 @@ impl Footnotes {
         ending: &str,
     ) -> Result<(), AllocError>
         ensures { OnOk result (string_bytes out.new ≡ laid_after ending.now (string_bytes out.old)
-            (section (given_by options.now self.now.calls) self.now.footnotes)) }
+            (section (context_by options.now self.now.calls) self.now.footnotes)) }
     {
         let settings = Settings {
             alloc,

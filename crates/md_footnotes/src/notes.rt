@@ -2,7 +2,7 @@
 
 ghost use Rattle.std.specs.Prelude.{◌≡◌, [], OnOk, string_bytes, slice_get};
 ghost use Rattle.std.specs.Option.{option_map_or};
-ghost use Rattle.md_shape.specs.Steps.{noted};
+ghost use Rattle.md_steps.specs.Steps.{noted};
 ghost use Rattle.md_footnotes.specs.Words as words;
 
 use crate::places::{Places, place_under, put_last};

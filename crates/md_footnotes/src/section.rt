@@ -4,7 +4,7 @@ ghost use Rattle.std.specs.Prelude.{◌≡◌, ◌∷◌, [], ◌++◌, codes, O
 ghost use Rattle.std.specs.List.{flat_map};
 ghost use Rattle.md_meaning.specs.Meaning.Layout.{laid_after, Text, Needed, Forced, on_own_line};
 ghost use Rattle.md_meaning.specs.Meaning.Footnotes as meaning;
-ghost use Rattle.md_footnotes.specs.Seen.{given_by};
+ghost use Rattle.md_footnotes.specs.Seen.{context_by};
 ghost use Rattle.md_footnotes.specs.Words as words;
 
 use crate::body::push_body;
@@ -67,7 +67,7 @@ fn push_items(
 ) -> Result<(), AllocError>
     ensures { OnOk result
         (string_bytes out.new ≡ laid_after settings.now.ending.now (string_bytes out.old)
-        (flat_map (meaning.item (given_by settings.now.options.now calls.now) notes.now)
+        (flat_map (meaning.item (context_by settings.now.options.now calls.now) notes.now)
         (meaning.distinct calls.now))) }
 {
     let mut index = 0;
@@ -171,7 +171,7 @@ pub(crate) fn push_section(
 ) -> Result<(), AllocError>
     ensures { OnOk result
         (string_bytes out.new ≡ laid_after settings.now.ending.now (string_bytes out.old)
-        (meaning.section (given_by settings.now.options.now calls.now) notes.now)) }
+        (meaning.section (context_by settings.now.options.now calls.now) notes.now)) }
 {
     if calls.is_empty() {
         return Ok(());

@@ -7,14 +7,14 @@ use Rattle.std.proofs.lemmas.List.{length-append}
 use Rattle.md_base.specs.declared.event.Event.{Event}
 use Rattle.md_base.specs.declared.event.Kind.{Kind}
 use Rattle.md_base.specs.declared.event.Kind.TheVariants.{Enter, Exit}
-use Rattle.md_meaning.specs.Meaning.At.{Given}
+use Rattle.md_meaning.specs.Meaning.At.{Context}
 use Rattle.md_meaning.specs.Meaning.Layout.{Piece, Text, Needed, Forced, laid_after, begins_line}
-use Rattle.md_shape.specs.Run.{Noticed, passes, stepped, run}
-use Rattle.md_shape.specs.State.{State, Told}
-use Rattle.md_shape.specs.Steps.{entered, exited, restored, passed, is_passed}
-use Rattle.md_shape.specs.State.{captures}
-use Rattle.md_shape.specs.Sides.{opens, closes}
-use Rattle.md_shape.specs.Steps.{first_or, others_of}
+use Rattle.md_steps.specs.Run.{Noticed, passes, stepped, run}
+use Rattle.md_steps.specs.State.{State, NodeFacts}
+use Rattle.md_steps.specs.Steps.{entered, exited, restored, passed, is_passed}
+use Rattle.md_steps.specs.State.{captures}
+use Rattle.md_steps.specs.Sides.{opens, closes}
+use Rattle.md_steps.specs.Steps.{first_or, others_of}
 use Rattle.md_html.specs.Fits.{ends, may_end, captured_after, fits}
 use Rattle.md_measure.specs.Nesting.{is_none}
 
@@ -123,21 +123,21 @@ some-captured event [] may e f = contrary (ends event) may f
 some-captured event (outer ∷ others) may e f = cc
 
 -- how many texts are captured after an event
-pub stepped-captured : (given : Given) (event : Event) (told : Told) (state : State) →
-    length (stepped given event told state).below ≡ captured_after event (length state.below)
-stepped-captured given event told state = by event.kind refl
+pub stepped-captured : (context : Context) (event : Event) (facts : NodeFacts) (state : State) →
+    length (stepped context event facts state).below ≡ captured_after event (length state.below)
+stepped-captured context event facts state = by event.kind refl
   where
     by : (kind : Kind) → event.kind ≡ kind →
-        length (stepped given event told state).below ≡ captured_after event (length state.below)
+        length (stepped context event facts state).below ≡ captured_after event (length state.below)
     by Enter e =
         ap (λ k. length (State.below (elim k [
           | Enter ↦
-              if is_passed event.name then passed state else entered given told event.name state
-          | Exit ↦ exited given told event.name state
+              if is_passed event.name then passed state else entered context facts event.name state
+          | Exit ↦ exited context facts event.name state
         ]))) e
         ∙ enter-captured (is_passed event.name) (captures event.name) state
-        (entered given told event.name state) (laid_after given.ending state.text
-        (opens given state.around state.cells told event.name)) refl
+        (entered context facts event.name state) (laid_after context.ending state.text
+        (opens context state.scope state.cells facts event.name)) refl
         ∙ ap (λ k.
         if (elim k [ Enter ↦ captures event.name && not (is_passed event.name) | Exit ↦ false ])
         then suc (length state.below)
@@ -146,8 +146,8 @@ stepped-captured given event told state = by event.kind refl
     by Exit e =
         ap (λ k. length (State.below (elim k [
           | Enter ↦
-              if is_passed event.name then passed state else entered given told event.name state
-          | Exit ↦ exited given told event.name state
+              if is_passed event.name then passed state else entered context facts event.name state
+          | Exit ↦ exited context facts event.name state
         ]))) e
         ∙ exit-captured (captures event.name) state.below
         ∙ ap (λ k.
@@ -157,40 +157,42 @@ stepped-captured given event told state = by event.kind refl
         else length state.below)) (sym e)
 
 -- what is before them is no shorter
-stepped-first : (given : Given) (event : Event) (told : Told) (state : State) →
+stepped-first : (context : Context) (event : Event) (facts : NodeFacts) (state : State) →
     may_end event (length state.below) ≡ true →
-    length (first state) ≤ length (first (stepped given event told state))
-stepped-first given event told state may = by event.kind refl
+    length (first state) ≤ length (first (stepped context event facts state))
+stepped-first context event facts state may = by event.kind refl
   where
     by : (kind : Kind) → event.kind ≡ kind →
-        length (first state) ≤ length (first (stepped given event told state))
+        length (first state) ≤ length (first (stepped context event facts state))
     by Enter e =
         subst (λ k. length (first state) ≤ length (first (elim k [
           | Enter ↦
-              if is_passed event.name then passed state else entered given told event.name state
-          | Exit ↦ exited given told event.name state
+              if is_passed event.name then passed state else entered context facts event.name state
+          | Exit ↦ exited context facts event.name state
         ]))) (sym e)
         (enter-first (is_passed event.name) (captures event.name) state
-        (entered given told event.name state)
-        (laid_after given.ending state.text (opens given state.around state.cells told event.name))
-        (laid-grows given.ending state.text (opens given state.around state.cells told event.name))
+        (entered context facts event.name state)
+        (laid_after context.ending state.text (opens context state.scope state.cells facts
+        event.name))
+        (laid-grows context.ending state.text (opens context state.scope state.cells facts
+        event.name))
         refl refl)
     by Exit e =
         let left : State = restored event.name state in
         let inner : List ℕ = if captures event.name then state.text else [] in
-        let pieces = closes given left state.ended told inner event.name in
+        let pieces = closes context left state.ended facts inner event.name in
         subst (λ k. length (first state) ≤ length (first (elim k [
           | Enter ↦
-              if is_passed event.name then passed state else entered given told event.name state
-          | Exit ↦ exited given told event.name state
+              if is_passed event.name then passed state else entered context facts event.name state
+          | Exit ↦ exited context facts event.name state
         ]))) (sym e)
         (subst (λ t. length t
-        ≤ length (outermost (laid_after given.ending left.text pieces) left.below))
+        ≤ length (outermost (laid_after context.ending left.text pieces) left.below))
         (sym (restored-first (captures event.name) state.text state.below (λ none ended.
         some-captured event state.below may none
         (ap (λ k. elim k [ Enter ↦ false | Exit ↦ captures event.name ]) e ∙ ended))))
-        (outermost-grows left.text (laid_after given.ending left.text pieces) left.below
-        (laid-grows given.ending left.text pieces)))
+        (outermost-grows left.text (laid_after context.ending left.text pieces) left.below
+        (laid-grows context.ending left.text pieces)))
 
 -- ---- all that are left
 no-captured : (text : List ℕ) (below : List (List ℕ)) → is_none (length below) ≡ true →
@@ -200,20 +202,20 @@ no-captured text (outer ∷ others) e = cc
 
 -- what is printed before all captured texts is no longer than the text after all events
 pub run-grows :
-    (given : Given) (left : ℕ) (events : List Event) (seen : List Noticed) (state : State) →
+    (context : Context) (left : ℕ) (events : List Event) (seen : List Noticed) (state : State) →
     fits left (length state.below) events seen ≡ true →
-    length (first state) ≤ length (run given left events seen state).text
-run-grows given left [] seen state f = no-captured state.text state.below f
-run-grows given left (event ∷ events) [] state f = cc
-run-grows given (suc left) (event ∷ events) (one ∷ seen) state f =
-    run-grows given left events seen state f
-run-grows given zero (event ∷ events) (one ∷ seen) state f =
-    let next : State = stepped given event one.told state in
+    length (first state) ≤ length (run context left events seen state).text
+run-grows context left [] seen state f = no-captured state.text state.below f
+run-grows context left (event ∷ events) [] state f = cc
+run-grows context (suc left) (event ∷ events) (one ∷ seen) state f =
+    run-grows context left events seen state f
+run-grows context zero (event ∷ events) (one ∷ seen) state f =
+    let next : State = stepped context event one.facts state in
     let both = and_parts (may_end event (length state.below))
     (fits (passes event one.inside) (captured_after event (length state.below)) events seen) f in
     further (length (first state)) (length (first next))
-    (length (run given (passes event one.inside) events seen next).text)
-    (stepped-first given event one.told state both.0)
-    (run-grows given (passes event one.inside) events seen next
+    (length (run context (passes event one.inside) events seen next).text)
+    (stepped-first context event one.facts state both.0)
+    (run-grows context (passes event one.inside) events seen next
     (subst (λ n. fits (passes event one.inside) n events seen ≡ true)
-    (sym (stepped-captured given event one.told state)) both.1))
+    (sym (stepped-captured context event one.facts state)) both.1))

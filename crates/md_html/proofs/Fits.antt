@@ -10,11 +10,11 @@ use Rattle.md_base.specs.declared.event.Name.{Name}
 use Rattle.md_base.specs.declared.event.Point.{Point}
 use Rattle.md_base.specs.Tree.{Forest, Empty, Node, flatten, entering, exiting}
 use Rattle.md_base.specs.Children.{is_empty}
-use Rattle.md_shape.specs.Run.{Noticed, noticed, passes}
-use Rattle.md_shape.specs.State.{told_of}
-use Rattle.md_shape.specs.Steps.{is_passed}
-use Rattle.md_shape.specs.State.{captures}
-use Rattle.md_shape.proofs.Running.{noticed-length}
+use Rattle.md_steps.specs.Run.{Noticed, noticed, passes}
+use Rattle.md_steps.specs.State.{facts_of}
+use Rattle.md_steps.specs.Steps.{is_passed}
+use Rattle.md_steps.specs.State.{captures}
+use Rattle.md_steps.proofs.Running.{noticed-length}
 use Rattle.md_html.specs.Fits.{may_end, captured_after, fits}
 use Rattle.md_html.proofs.FirstText.{one_less}
 
@@ -90,7 +90,7 @@ pub fits-over : (bytes : List â„•) (last : Bool) (forest : Forest) (captured : â
 fits-over bytes last Empty captured tail more f = f
 fits-over bytes last (Node name start end children rest) captured tail more f =
     let here : Noticed = record {
-      told = told_of bytes (last && is_empty rest) children start end;
+      facts = facts_of bytes (last && is_empty rest) children start end;
       inside = suc (length (flatten children));
     }
     in

@@ -5,15 +5,15 @@ use Rattle.std.specs.Prelude.{slice_get, if◌then◌else◌}
 use Rattle.md_base.specs.declared.event.Event.{Event}
 use Rattle.md_base.specs.declared.event.Kind.TheVariants.{Enter, Exit}
 use Rattle.md_base.specs.Tree.{Forest, flatten}
-use Rattle.md_meaning.specs.Meaning.At.{Given}
+use Rattle.md_meaning.specs.Meaning.At.{Context}
 use Rattle.md_tree.specs.Grammar.{IsChecked, IsReadAs}
-use Rattle.md_shape.specs.Run.{Noticed, noticed, passes, stepped, run}
-use Rattle.md_shape.specs.State.{State}
-use Rattle.md_shape.specs.Steps.{entered, exited, passed, is_passed}
-use Rattle.md_told.specs.Told.{IsNoticedAt}
-use Rattle.md_told.proofs.Nodes.{same-document}
-use Rattle.md_emit.specs.Supplies.{Supplies}
-use Rattle.md_emit.specs.declared.given.Given.{Given as Supplied}
+use Rattle.md_steps.specs.Run.{Noticed, noticed, passes, stepped, run}
+use Rattle.md_steps.specs.State.{State}
+use Rattle.md_steps.specs.Steps.{entered, exited, passed, is_passed}
+use Rattle.md_facts.specs.NodeFacts.{IsNoticedAt}
+use Rattle.md_facts.proofs.Nodes.{same-document}
+use Rattle.md_printer.specs.Supplies.{Supplies}
+use Rattle.md_printer.specs.declared.context.Context.{Context as Supplied}
 use Rattle.md_html.specs.Windows.{window}
 use Rattle.md_html.specs.Stepping.{Leafs, Goes}
 use Rattle.md_html.proofs.Stepping.{Seen, seen, stepped-cells, stepped-fences}
@@ -37,26 +37,26 @@ entry-passes event inside e f =
     ap (λ k. elim k [ Enter ↦ if is_passed event.name then inside else 0 | Exit ↦ 0 ]) e
     ∙ ap (λ b. if b then inside else 0) f
 
-entry-steps : (at : Given) (event : Event) (one : Noticed) (state : State) → event.kind ≡ Enter →
+entry-steps : (at : Context) (event : Event) (one : Noticed) (state : State) → event.kind ≡ Enter →
     is_passed event.name ≡ false →
-    stepped at event one.told state ≡ entered at one.told event.name state
+    stepped at event one.facts state ≡ entered at one.facts event.name state
 entry-steps at event one state e f =
     ap (λ k. elim k [
-      | Enter ↦ if is_passed event.name then passed state else entered at one.told event.name state
-      | Exit ↦ exited at one.told event.name state
+      | Enter ↦ if is_passed event.name then passed state else entered at one.facts event.name state
+      | Exit ↦ exited at one.facts event.name state
     ]) e
-    ∙ ap (λ b. if b then passed state else entered at one.told event.name state) f
+    ∙ ap (λ b. if b then passed state else entered at one.facts event.name state) f
 
 exit-passes : (event : Event) (inside : ℕ) → event.kind ≡ Exit → passes event inside ≡ 0
 exit-passes event inside e =
     ap (λ k. elim k [ Enter ↦ if is_passed event.name then inside else 0 | Exit ↦ 0 ]) e
 
-exit-steps : (at : Given) (event : Event) (one : Noticed) (state : State) → event.kind ≡ Exit →
-    stepped at event one.told state ≡ exited at one.told event.name state
+exit-steps : (at : Context) (event : Event) (one : Noticed) (state : State) → event.kind ≡ Exit →
+    stepped at event one.facts state ≡ exited at one.facts event.name state
 exit-steps at event one state e =
     ap (λ k. elim k [
-      | Enter ↦ if is_passed event.name then passed state else entered at one.told event.name state
-      | Exit ↦ exited at one.told event.name state
+      | Enter ↦ if is_passed event.name then passed state else entered at one.facts event.name state
+      | Exit ↦ exited at one.facts event.name state
     ]) e
 
 module _ (code : Supplied) (index to : ℕ) (event : Event) (before after : State)
@@ -68,7 +68,7 @@ module _ (code : Supplied) (index to : ℕ) (event : Event) (before after : Stat
   leaf-next next n p e f = omega (arith, e, f)
 
   -- going on after both events is as going on from the first
-  pub leaf-runs : (at : Given) (document : Forest) (next : ℕ) →
+  pub leaf-runs : (at : Context) (document : Forest) (next : ℕ) →
       next ≡ suc (suc index) → Supplies code at →
       flatten document ≡ code.checked.now.events → index < to →
       slice_get code.checked.now.events index ≡ Some event →
@@ -81,12 +81,13 @@ module _ (code : Supplied) (index to : ℕ) (event : Event) (before after : Stat
       seen code.checked.now document index event flat got in
       let one : Noticed = here.one in
       let all = noticed code.checked.now.bytes true document in
-      let within : State = entered at one.told event.name before in
+      let within : State = entered at one.facts event.name before in
       let rare = not_passed event.name leafs.alone in
       let there = at_index code document (suc index) one flat (leafs.noticed one here.there) in
       ap (λ s. run at 0 (window next to code.checked.now.events) (window next to all) s)
-      (leafs.left at one supplies here.there ∙ sym (alone event.name leafs.alone at one.told before)
-      ∙ ap (λ n. exited at one.told n within) (sym leafs.exits.3)
+      (leafs.left at one supplies here.there ∙ sym
+      (alone event.name leafs.alone at one.facts before)
+      ∙ ap (λ n. exited at one.facts n within) (sym leafs.exits.3)
       ∙ sym (exit-steps at exit one within leafs.exits.2))
       ∙ window-step at code.checked.now.events all (suc index) to next exit one within leafs.within
       leafs.exits.1 there (leaf-next next (suc index) (passes exit one.inside) comes
@@ -97,7 +98,7 @@ module _ (code : Supplied) (index to : ℕ) (event : Event) (before after : Stat
       here.got (leaf-next (suc index) index (passes event one.inside) refl
       (entry-passes event one.inside leafs.enters rare))
 
-  pub leaf-fits : (at : Given) (document : Forest) (next : ℕ) →
+  pub leaf-fits : (at : Context) (document : Forest) (next : ℕ) →
       next ≡ suc (suc index) → Supplies code at →
       flatten document ≡ code.checked.now.events → index < to →
       slice_get code.checked.now.events index ≡ Some event →
@@ -111,7 +112,7 @@ module _ (code : Supplied) (index to : ℕ) (event : Event) (before after : Stat
       let one : Noticed = here.one in
       let all = noticed code.checked.now.bytes true document in
       let events = code.checked.now.events in
-      let within : State = entered at one.told event.name before in
+      let within : State = entered at one.facts event.name before in
       let rare = not_passed event.name leafs.alone in
       let there = at_index code document (suc index) one flat (leafs.noticed one here.there) in
       let inner = window-fits events all index to (suc index) (length before.below) event one
@@ -123,24 +124,24 @@ module _ (code : Supplied) (index to : ℕ) (event : Event) (before after : Stat
       (exit-passes exit one.inside leafs.exits.2)) inner in
       subst (λ n. fits 0 n (window next to events) (window next to all) ≡ true)
       (sym (ap (λ (s : State). length s.below) (leafs.left at one supplies here.there
-      ∙ sym (alone event.name leafs.alone at one.told before)
-      ∙ ap (λ n. exited at one.told n within) (sym leafs.exits.3)
+      ∙ sym (alone event.name leafs.alone at one.facts before)
+      ∙ ap (λ n. exited at one.facts n within) (sym leafs.exits.3)
       ∙ sym (exit-steps at exit one within leafs.exits.2))
-      ∙ stepped-captured at exit one.told within
+      ∙ stepped-captured at exit one.facts within
       ∙ ap (λ n. captured_after exit n) (ap (λ (s : State). length s.below)
       (sym (entry-steps at event one before leafs.enters rare))
-      ∙ stepped-captured at event one.told before)))
+      ∙ stepped-captured at event one.facts before)))
       behind
 
-  module _ (at : Given) (checked : IsChecked code.checked.now) (supplies : Supplies code at)
+  module _ (at : Context) (checked : IsChecked code.checked.now) (supplies : Supplies code at)
       (got : slice_get code.checked.now.events index ≡ Some event) where
     abbrev seen_here : Seen code.checked.now checked.0 index event
     seen_here = seen code.checked.now checked.0 index event (IsReadAs.flattened checked.1) got
 
-    left-so : after ≡ stepped at exit seen_here.one.told before
+    left-so : after ≡ stepped at exit seen_here.one.facts before
     left-so =
         leafs.left at seen_here.one supplies seen_here.there
-        ∙ ap (λ n. exited at seen_here.one.told n before) (sym leafs.exits.3)
+        ∙ ap (λ n. exited at seen_here.one.facts n before) (sym leafs.exits.3)
         ∙ sym (exit-steps at exit seen_here.one before leafs.exits.2)
 
     more : (n : ℕ) → n ≤ index + 1 → n ≤ index + 2
@@ -149,14 +150,14 @@ module _ (code : Supplied) (index to : ℕ) (event : Event) (before after : Stat
     pub leaf-cells : before.cells ≤ index → after.cells ≤ index + 2
     leaf-cells le =
         subst (λ (s : State). s.cells ≤ index + 2) (sym left-so)
-        (more (stepped at exit seen_here.one.told before).cells
-        (stepped-cells at exit seen_here.one.told before index le))
+        (more (stepped at exit seen_here.one.facts before).cells
+        (stepped-cells at exit seen_here.one.facts before index le))
 
     pub leaf-fences : before.fences ≤ index → after.fences ≤ index + 2
     leaf-fences le =
         subst (λ (s : State). s.fences ≤ index + 2) (sym left-so)
-        (more (stepped at exit seen_here.one.told before).fences
-        (stepped-fences at exit seen_here.one.told before index le))
+        (more (stepped at exit seen_here.one.facts before).fences
+        (stepped-fences at exit seen_here.one.facts before index le))
 
 -- what holds up to one end holds up to a later one
 leafs-later : (code : Supplied) (index to end : ℕ) (event : Event) (before after : State) →

@@ -2,14 +2,14 @@
 use Rattle.std.proofs.Common.{◌≡◌, ◌≤◌, ◌<◌, ℕ, true, [], length, sym, ap, ◌∙◌, subst}
 use Rattle.std.proofs.Common.{arith}
 use Rattle.md_base.specs.Tree.{Forest, flatten}
-use Rattle.md_meaning.specs.Meaning.At.{Given}
+use Rattle.md_meaning.specs.Meaning.At.{Context}
 use Rattle.md_meaning.specs.Meaning.Footnotes.{section}
-use Rattle.md_shape.specs.Run.{noticed, run}
-use Rattle.md_shape.specs.State.{State}
-use Rattle.md_shape.specs.Steps.{beginning}
-use Rattle.md_shape.proofs.Running.{noticed-length}
-use Rattle.md_emit.specs.Supplies.{Supplies}
-use Rattle.md_emit.specs.declared.given.Given.{Given as Supplied}
+use Rattle.md_steps.specs.Run.{noticed, run}
+use Rattle.md_steps.specs.State.{State}
+use Rattle.md_steps.specs.Steps.{beginning}
+use Rattle.md_steps.proofs.Running.{noticed-length}
+use Rattle.md_printer.specs.Supplies.{Supplies}
+use Rattle.md_printer.specs.declared.context.Context.{Context as Supplied}
 use Rattle.md_html.specs.Windows.{window}
 use Rattle.md_html.specs.Stepping.{Goes}
 use Rattle.md_html.specs.Fits.{fits}
@@ -36,7 +36,8 @@ goes-on code from index next to end first before after le goes on = record {
     most : (last : ℕ) → end ≤ last → to ≤ last
     most last later = omega (arith, le, later)
 
-module _ (code : Supplied) (at : Given) (document : Forest) (index count : ℕ) (first state : State)
+module _ (code : Supplied) (at : Context) (document : Forest) (index count : ℕ)
+    (first state : State)
     (supplies : Supplies code at) (flat : flatten document ≡ code.checked.now.events)
     (all : count ≡ length code.checked.now.events) (new : first ≡ beginning)
     (goes : Goes code 0 index count first state) where
@@ -99,7 +100,7 @@ module _ (code : Supplied) (at : Given) (document : Forest) (index count : ℕ) 
       more n m f g = omega (arith, f, g)
 
 -- with the section of footnotes it is no shorter
-pub longer-text : (at : Given) (document : Forest) (limit : ℕ) →
+pub longer-text : (at : Context) (document : Forest) (limit : ℕ) →
     limit < length (run at 0 (flatten document) (noticed at.bytes true document) beginning).text →
     limit < length (text_of at document)
 longer-text at document limit lt =

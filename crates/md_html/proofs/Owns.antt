@@ -7,14 +7,14 @@ use Rattle.std.proofs.lemmas.Option.{slice_get-map}
 use Rattle.md_base.specs.declared.event.Name.TheVariants.{Definition}
 use Rattle.md_base.specs.Tree.{Forest, flatten}
 use Rattle.md_pattern.specs.Partners.{definition_entries}
-use Rattle.md_meaning.specs.Meaning.At.{Defined, Given, Target}
+use Rattle.md_meaning.specs.Meaning.At.{Defined, Context, Target}
 use Rattle.md_tree.specs.Grammar.{Handed, IsChecked}
 use Rattle.md_tree.specs.Texts.{EntersAt}
-use Rattle.md_shape.specs.Run.{Noticed, noticed, defined}
-use Rattle.md_told.specs.Told.{IsNoticedAt}
-use Rattle.md_told.specs.Definitions.{within, own_defined}
-use Rattle.md_told.proofs.Noticed.{noticed-entered}
-use Rattle.md_told.proofs.Own.{own-defined, own-length}
+use Rattle.md_steps.specs.Run.{Noticed, noticed, defined}
+use Rattle.md_facts.specs.NodeFacts.{IsNoticedAt}
+use Rattle.md_facts.specs.Definitions.{within, own_defined}
+use Rattle.md_facts.proofs.Noticed.{noticed-entered}
+use Rattle.md_facts.proofs.Own.{own-defined, own-length}
 use Rattle.md_html.specs.Windows.{window}
 
 -- ---- the events of one
@@ -75,10 +75,10 @@ window-all xs n e = take-whole xs (n - 0) (least e)
 
 -- ---- the target of each
 
-abbrev pub targets_of : Given → Forest → List Target
+abbrev pub targets_of : Context → Forest → List Target
 targets_of at document = map (λ (d : Defined). d.target) (defined at document)
 
-module _ (handed : Handed) (document : Forest) (at : Given) (checked : IsChecked handed)
+module _ (handed : Handed) (document : Forest) (at : Context) (checked : IsChecked handed)
     (flat : flatten document ≡ handed.events) where
   pub target-there : (index place : ℕ) (target : Target) (entries : List ℕ) →
       at.bytes ≡ handed.bytes →

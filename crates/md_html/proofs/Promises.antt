@@ -11,10 +11,10 @@ use Rattle.md_text.specs.declared.options.CompileOptions.{CompileOptions}
 use Rattle.md_tree.specs.Grammar.{Handed, IsChecked, IsGrammatical}
 use Rattle.md_tree.proofs.OneTree.{flatten_one}
 use Rattle.md_meaning.specs.Meaning.{meaning}
-use Rattle.md_shape.specs.Built.{IsBuilt, Blocks}
-use Rattle.md_shape.specs.Underlined.{IsUnderlined}
-use Rattle.md_shape.proofs.Grammatical.{grammatical-built}
-use Rattle.md_shape.proofs.Underlines.{grammatical-underlined}
+use Rattle.md_content.specs.Built.{IsBuilt, Blocks}
+use Rattle.md_content.specs.Underlined.{IsUnderlined}
+use Rattle.md_content.proofs.Grammatical.{grammatical-built}
+use Rattle.md_content.proofs.Underlines.{grammatical-underlined}
 use Rattle.md_safe.specs.Options.{KeepsGrammar, KeepsLinks, KeepsImages}
 use Rattle.md_safe.proofs.Whole.{one-reading, safe-links, safe-images}
 use Rattle.md_safe.proofs.WholeIds.{distinct-ids}

@@ -23,9 +23,9 @@ use Rattle.md_tree.specs.Rules.{reading_of, target_of}
 use Rattle.md_tree.specs.Texts.{EntersAt}
 use Rattle.md_tree.specs.Mentions.{mention_of, mentions_of}
 use Rattle.md_tree.specs.Numbers.{definition_for}
-use Rattle.md_tree.proofs.Numbers.{IsTold, ToldAt, told-at}
+use Rattle.md_tree.proofs.Numbers.{IsRecorded, RecordedAt, recorded-at}
 use Rattle.md_pattern.specs.Partners.{definition_entries}
-use Rattle.md_html.specs.Reuse.{is_media, length_at, led_lengths, definition_length}
+use Rattle.md_html.specs.Reuse.{is_media, length_at, resolved_lengths, definition_length}
 use Rattle.md_html.specs.Reuse.{definition_lengths, referred, is_call, entries, call_texts, reuse}
 use Rattle.md_html.specs.Work.{covered, covered_from}
 use Rattle.md_text.specs.declared.options.CompileOptions.{CompileOptions}
@@ -61,12 +61,12 @@ length-capped lengths (Some place) =
 -- one mention further
 pub led-step : (lengths : List ℕ) (leads : Mention → Option ℕ) (mentions : List Mention)
     (index : ℕ) (mention : Mention) → slice_get mentions index ≡ Some mention →
-    led_lengths lengths leads (drop index mentions)
-    ≡ length_at lengths (leads mention) + led_lengths lengths leads (drop (suc index) mentions)
+    resolved_lengths lengths leads (drop index mentions)
+    ≡ length_at lengths (leads mention) + resolved_lengths lengths leads (drop (suc index) mentions)
 led-step lengths leads [] index mention here = cc
 led-step lengths leads (m ∷ mentions) zero mention here =
     let same : m ≡ mention = cc in
-    ap (λ x. length_at lengths (leads x) + led_lengths lengths leads mentions) same
+    ap (λ x. length_at lengths (leads x) + resolved_lengths lengths leads mentions) same
 led-step lengths leads (m ∷ mentions) (suc index) mention here =
     led-step lengths leads mentions index mention here
 
@@ -88,23 +88,23 @@ pub none-led : (bytes : List ℕ) (document : Forest) (events : List Event) (ind
     (event.kind ≡ Exit → is_media event.name ≡ false) →
     definition_for bytes (mentions_of document) mention ≡ None
 none-led bytes document events index event mention flat there here unless =
-    by (told-at document events index event flat there)
+    by (recorded-at document events index event flat there)
   where
     leads : Mention → Type 0
     leads m = definition_for bytes (mentions_of document) m ≡ None
 
     of_kind : (kind : Kind) (fact : Fact) (m : Mention) → event.kind ≡ kind →
-        IsTold event fact m → leads m
-    of_kind Enter fact m is told = subst leads (sym (told.0 is)) refl
-    of_kind Exit fact m is told =
-        let (target, same) = (told.1 is).1 in
+        IsRecorded event fact m → leads m
+    of_kind Enter fact m is recorded = subst leads (sym (recorded.0 is)) refl
+    of_kind Exit fact m is recorded =
+        let (target, same) = (recorded.1 is).1 in
         subst leads (sym same)
         (not-media bytes (mentions_of document) event.name target (unless is))
 
-    by : ToldAt events (facts_at events) (mentions_of document) index event → leads mention
-    by (fact, m, fact_there, m_there, told) =
+    by : RecordedAt events (facts_at events) (mentions_of document) index event → leads mention
+    by (fact, m, fact_there, m_there, recorded) =
         let same : m ≡ mention = cc in
-        subst leads same (of_kind event.kind fact m refl told)
+        subst leads same (of_kind event.kind fact m refl recorded)
 
 -- the first of the events that are left
 pub first-there : (events : List Event) (index : ℕ) (event : Event) (following : List Event) →
@@ -133,17 +133,18 @@ pub mention-at : (document : Forest) (events : List Event) (index : ℕ) (event 
     flatten document ≡ events → slice_get events index ≡ Some event →
     (mention : Mention) × (slice_get (mentions_of document) index ≡ Some mention)
 mention-at document events index event flat there =
-    let (fact, m, fact_there, m_there, told) = told-at document events index event flat there in
+    let (fact, m, fact_there, m_there, recorded) = recorded-at document events index event flat
+    there in
     (m, m_there)
 
 -- there are no mentions after the last event
 pub led-all : (lengths : List ℕ) (leads : Mention → Option ℕ) (document : Forest)
     (events : List Event) (index : ℕ) → flatten document ≡ events → index ≡ length events →
-    led_lengths lengths leads (drop index (mentions_of document)) ≡ 0
+    resolved_lengths lengths leads (drop index (mentions_of document)) ≡ 0
 led-all lengths leads document events index flat end =
     let few : length (mentions_of document) ≤ index =
     omega (arith, mentions-length document, ap length flat, end) in
-    ap (led_lengths lengths leads) (drop_all index (mentions_of document) few)
+    ap (resolved_lengths lengths leads) (drop_all index (mentions_of document) few)
 
 -- the event that enters a definition is one of the events
 pub entered-within : (events : List Event) (index : ℕ) (name : Name) →
@@ -171,7 +172,7 @@ lengths-capped document events flat =
 
 -- if there are no lengths, none is found
 no-lengths : (leads : Mention → Option ℕ) (mentions : List Mention) →
-    led_lengths [] leads mentions ≡ 0
+    resolved_lengths [] leads mentions ≡ 0
 no-lengths leads [] = refl
 no-lengths leads (mention ∷ mentions) =
     let here = nowhere (leads mention) in
@@ -188,7 +189,7 @@ pub none-referred : (bytes : List ℕ) (document : Forest) → definition_entrie
     referred bytes document ≡ 0
 none-referred bytes document none =
     let leads = definition_for bytes (mentions_of document) in
-    ap (λ entries. led_lengths (map (definition_length (flatten document)) entries) leads
+    ap (λ entries. resolved_lengths (map (definition_length (flatten document)) entries) leads
     (mentions_of document)) none
     ∙ no-lengths leads (mentions_of document)
 

@@ -11,16 +11,16 @@ use Rattle.md_base.specs.declared.event.Name.{Name}
 use Rattle.md_base.specs.declared.event.Name.TheVariants.{GfmTableCell}
 use Rattle.md_base.specs.NameTests.{is_fence}
 use Rattle.md_base.specs.Tree.{Forest, flatten, exiting}
-use Rattle.md_meaning.specs.Meaning.At.{Given}
+use Rattle.md_meaning.specs.Meaning.At.{Context}
 use Rattle.md_tree.specs.Grammar.{Handed}
 use Rattle.md_tree.specs.Texts.{EntersAt}
-use Rattle.md_shape.specs.Run.{Noticed, noticed, passes, stepped}
-use Rattle.md_shape.specs.State.{State, Told}
-use Rattle.md_shape.specs.Steps.{entered, exited, passed, is_passed, is_row, is_raw}
-use Rattle.md_shape.specs.Steps.{cells_after}
-use Rattle.md_told.specs.Told.{IsNoticedAt}
-use Rattle.md_told.proofs.Nodes.{NodeAt, node-entered, node-exited}
-use Rattle.md_told.proofs.Noticed.{noticed_in}
+use Rattle.md_steps.specs.Run.{Noticed, noticed, passes, stepped}
+use Rattle.md_steps.specs.State.{State, NodeFacts}
+use Rattle.md_steps.specs.Steps.{entered, exited, passed, is_passed, is_row, is_raw}
+use Rattle.md_steps.specs.Steps.{cells_after}
+use Rattle.md_facts.specs.NodeFacts.{IsNoticedAt}
+use Rattle.md_facts.proofs.Nodes.{NodeAt, node-entered, node-exited}
+use Rattle.md_facts.proofs.Noticed.{noticed_in}
 
 -- ---- the event
 
@@ -101,15 +101,15 @@ row-cells : (b : Bool) (n m : ℕ) → n ≤ m → (if b then 0 else n) ≤ m
 row-cells true n m le = omega arith
 row-cells false n m le = le
 
-pub entered-cells : (given : Given) (told : Told) (name : Name) (state : State) (m : ℕ) →
+pub entered-cells : (context : Context) (facts : NodeFacts) (name : Name) (state : State) (m : ℕ) →
     state.cells ≤ m →
-    (entered given told name state).cells ≤ m
-entered-cells given told name state m le = row-cells (is_row name) state.cells m le
+    (entered context facts name state).cells ≤ m
+entered-cells context facts name state m le = row-cells (is_row name) state.cells m le
 
-pub entered-fences : (given : Given) (told : Told) (name : Name) (state : State) (m : ℕ) →
+pub entered-fences : (context : Context) (facts : NodeFacts) (name : Name) (state : State) (m : ℕ) →
     state.fences ≤ m →
-    (entered given told name state).fences ≤ m
-entered-fences given told name state m le = row-cells (is_raw name) state.fences m le
+    (entered context facts name state).fences ≤ m
+entered-fences context facts name state m le = row-cells (is_raw name) state.fences m le
 
 cells-raised : (name : Name) (n m : ℕ) → n ≤ m → cells_after name n ≤ m + 1
 cells-raised GfmTableCell n m le = omega (arith, le)
@@ -120,36 +120,38 @@ fences-raised true n m le = omega (arith, le)
 fences-raised false n m le = omega (arith, le)
 
 -- one event raises each by one at most
-pub stepped-cells : (given : Given) (event : Event) (told : Told) (state : State) (m : ℕ) →
+pub stepped-cells : (context : Context) (event : Event) (facts : NodeFacts) (state : State)
+    (m : ℕ) →
     state.cells ≤ m →
-    (stepped given event told state).cells ≤ m + 1
-stepped-cells given event told state m le = by event.kind (is_passed event.name)
+    (stepped context event facts state).cells ≤ m + 1
+stepped-cells context event facts state m le = by event.kind (is_passed event.name)
   where
     more : (n : ℕ) → n ≤ m → n ≤ m + 1
     more n f = omega (arith, f)
 
     by : (kind : Kind) (b : Bool) → State.cells (elim kind [
-      | Enter ↦ if b then passed state else entered given told event.name state
-      | Exit ↦ exited given told event.name state
+      | Enter ↦ if b then passed state else entered context facts event.name state
+      | Exit ↦ exited context facts event.name state
     ]) ≤ m + 1
     by Enter true = more state.cells le
-    by Enter false = more (entered given told event.name state).cells
-        (entered-cells given told event.name state m le)
+    by Enter false = more (entered context facts event.name state).cells
+        (entered-cells context facts event.name state m le)
     by Exit b = cells-raised event.name state.cells m le
 
-pub stepped-fences : (given : Given) (event : Event) (told : Told) (state : State) (m : ℕ) →
+pub stepped-fences : (context : Context) (event : Event) (facts : NodeFacts) (state : State)
+    (m : ℕ) →
     state.fences ≤ m →
-    (stepped given event told state).fences ≤ m + 1
-stepped-fences given event told state m le = by event.kind (is_passed event.name)
+    (stepped context event facts state).fences ≤ m + 1
+stepped-fences context event facts state m le = by event.kind (is_passed event.name)
   where
     more : (n : ℕ) → n ≤ m → n ≤ m + 1
     more n f = omega (arith, f)
 
     by : (kind : Kind) (b : Bool) → State.fences (elim kind [
-      | Enter ↦ if b then passed state else entered given told event.name state
-      | Exit ↦ exited given told event.name state
+      | Enter ↦ if b then passed state else entered context facts event.name state
+      | Exit ↦ exited context facts event.name state
     ]) ≤ m + 1
     by Enter true = more state.fences le
-    by Enter false = more (entered given told event.name state).fences
-        (entered-fences given told event.name state m le)
+    by Enter false = more (entered context facts event.name state).fences
+        (entered-fences context facts event.name state m le)
     by Exit b = fences-raised (is_fence event.name) state.fences m le

@@ -13,13 +13,13 @@ use Rattle.md_base.specs.Tree.{Forest, Empty, Node}
 use Rattle.md_base.specs.Children.{is_empty}
 use Rattle.md_pattern.specs.Looseness.{is_loose}
 use Rattle.md_text.specs.declared.options.CompileOptions.{CompileOptions}
-use Rattle.md_meaning.specs.declared.context.Surroundings.{Surroundings}
-use Rattle.md_meaning.specs.Meaning.Around.{inside, outermost}
+use Rattle.md_meaning.specs.declared.surroundings.Surroundings.{Surroundings}
+use Rattle.md_meaning.specs.Meaning.Inherited.{inside, outermost}
 use Rattle.md_tree.specs.Rules.{place}
 use Rattle.md_meaning.specs.Meaning.Finds.{first_ending}
 use Rattle.md_meaning.specs.Meaning.{meaning, ending_at}
 use Rattle.md_meaning.specs.Meaning.Layout.{Piece, Text, Forced, layout, when, on_own_line}
-use Rattle.md_meaning.specs.Meaning.At.{Given, Defined, Footnote, At, Before, text_in}
+use Rattle.md_meaning.specs.Meaning.At.{Context, Defined, Footnote, At, Before, text_in}
 use Rattle.md_meaning.specs.Meaning.Before.{nothing_before, before_children}
 use Rattle.md_meaning.specs.Meaning.Spans.{html}
 use Rattle.md_meaning.specs.Meaning.Means.{prints}
@@ -33,32 +33,34 @@ abbrev pub filtering : Bool → CompileOptions → CompileOptions
 filtering filter options = record options { gfm_tagfilter = filter }
 
 -- the context of nodes, under these options
-abbrev under : Bool → Given → Given
-under filter given = record given { options = filtering filter given.options }
+abbrev under : Bool → Context → Context
+under filter context = record context { options = filtering filter context.options }
 
-html-moot : (filter : Bool) (given : Given) (at : At) → given.options.allow_dangerous_html ≡ false →
-    html (under filter given) at ≡ html given at
-html-moot filter given at h = if_allowed given.options.allow_dangerous_html h
+html-moot : (filter : Bool) (context : Context) (at : At) → context.options.allow_dangerous_html ≡
+    false →
+    html (under filter context) at ≡ html context at
+html-moot filter context at h = if_allowed context.options.allow_dangerous_html h
   where
     if_allowed : (allow : Bool) → allow ≡ false →
-        (if allow && filter then tag_filtered (text_in given.bytes at.place)
-        else text_in given.bytes at.place)
-        ≡ (if allow && given.options.gfm_tagfilter then tag_filtered (text_in given.bytes at.place)
-        else text_in given.bytes at.place)
+        (if allow && filter then tag_filtered (text_in context.bytes at.place)
+        else text_in context.bytes at.place)
+        ≡ (if allow && context.options.gfm_tagfilter then tag_filtered
+        (text_in context.bytes at.place)
+        else text_in context.bytes at.place)
     if_allowed true e = absurd (true≢false e)
     if_allowed false e = refl
 
-means-moot : (filter : Bool) (given : Given) (at : At) →
-    given.options.allow_dangerous_html ≡ false →
+means-moot : (filter : Bool) (context : Context) (at : At) →
+    context.options.allow_dangerous_html ≡ false →
     (name : Name) (inner : List Piece) →
-    prints (under filter given) at name inner ≡ prints given at name inner
-means-moot filter given at h HtmlFlowData inner =
+    prints (under filter context) at name inner ≡ prints context at name inner
+means-moot filter context at h HtmlFlowData inner =
     ap (λ text. Text (encoded at.around.is_escaping text)
-    ∷ []) (html-moot filter given at h)
-means-moot filter given at h HtmlTextData inner =
+    ∷ []) (html-moot filter context at h)
+means-moot filter context at h HtmlTextData inner =
     ap (λ text. Text (encoded at.around.is_escaping text)
-    ∷ []) (html-moot filter given at h)
-means-moot filter given at h _ inner = refl
+    ∷ []) (html-moot filter context at h)
+means-moot filter context at h _ inner = refl
 
 inside-moot : (filter : Bool) (options : CompileOptions) (loose : Bool) (name : Name)
     (around : Surroundings) →
@@ -66,21 +68,22 @@ inside-moot : (filter : Bool) (options : CompileOptions) (loose : Bool) (name : 
 inside-moot filter options loose BlockQuote around = refl
 inside-moot filter options loose _ around = refl
 
-node-moot : (filter : Bool) (given : Given) (at : At) → given.options.allow_dangerous_html ≡ false →
+node-moot : (filter : Bool) (context : Context) (at : At) → context.options.allow_dangerous_html ≡
+    false →
     (name : Name) (inner : Outcome) →
-    node (under filter given) at name inner ≡ node given at name inner
-node-moot filter given at h name inner =
-    ap (λ ps. record (node (under filter given) at name inner) { pieces = ps })
-    (means-moot filter given at h name inner.pieces)
+    node (under filter context) at name inner ≡ node context at name inner
+node-moot filter context at h name inner =
+    ap (λ ps. record (node (under filter context) at name inner) { pieces = ps })
+    (means-moot filter context at h name inner.pieces)
 
-meant-moot : (filter : Bool) (given : Given) → given.options.allow_dangerous_html ≡ false →
+meant-moot : (filter : Bool) (context : Context) → context.options.allow_dangerous_html ≡ false →
     (around : Surroundings) (before : Before) (forest : Forest) →
-    outcome (under filter given) around before forest ≡ outcome given around before forest
-meant-moot filter given h around before Empty = refl
-meant-moot filter given h around before (Node name start end children rest) =
-    let other : Given = under filter given in
+    outcome (under filter context) around before forest ≡ outcome context around before forest
+meant-moot filter context h around before Empty = refl
+meant-moot filter context h around before (Node name start end children rest) =
+    let other : Context = under filter context in
     let own : Before = before_children name children before in
-    let nested : Surroundings = inside given.options (is_loose children) name around in
+    let nested : Surroundings = inside context.options (is_loose children) name around in
     let at : Outcome → At = λ inner. record {
       around = around;
       before = before;
@@ -90,19 +93,19 @@ meant-moot filter given h around before (Node name start end children rest) =
       place = place start end;
       is_last = around.is_outermost && is_empty rest;
     } in
-    let inner : Outcome = outcome given nested own children in
+    let inner : Outcome = outcome context nested own children in
     let here : At = at inner in
     let by : Outcome → (Before → Outcome) → Outcome = λ n later. continued here name n later in
     ap (λ ar. continued (at (outcome other ar own children)) name
     (node other (at (outcome other ar own children)) name (outcome other ar own children))
     (λ next. outcome other around next rest))
-    (inside-moot filter given.options (is_loose children) name around)
+    (inside-moot filter context.options (is_loose children) name around)
     ∙ ap (λ m. continued (at m) name (node other (at m) name m)
-    (λ next. outcome other around next rest)) (meant-moot filter given h nested own children)
+    (λ next. outcome other around next rest)) (meant-moot filter context h nested own children)
     ∙ ap (λ n. by n (λ next. outcome other around next rest))
-    (node-moot filter given here h name inner)
-    ∙ ap (λ m. both (node given here name inner) m) (meant-moot filter given h around
-    (before_next here name (node given here name inner)) rest)
+    (node-moot filter context here h name inner)
+    ∙ ap (λ m. both (node context here name inner) m) (meant-moot filter context h around
+    (before_next here name (node context here name inner)) rest)
 
 ways_back-moot :
     (filter : Bool) (options : CompileOptions) (identifier : List ℕ) (number count : ℕ) →
@@ -115,31 +118,33 @@ ways_back-moot filter options identifier number (suc count) =
     (ways_back-moot filter options identifier number count)
 
 items-moot :
-    (filter : Bool) (given : Given) (footnotes : List Footnote) (identifiers : List (List ℕ)) →
-    flat_map (item (under filter given) footnotes) identifiers
-    ≡ flat_map (item given footnotes) identifiers
-items-moot filter given footnotes [] = refl
-items-moot filter given footnotes (identifier ∷ identifiers) =
-    let number : ℕ = place_among (distinct given.calls) identifier in
+    (filter : Bool) (context : Context) (footnotes : List Footnote) (identifiers : List (List ℕ)) →
+    flat_map (item (under filter context) footnotes) identifiers
+    ≡ flat_map (item context footnotes) identifiers
+items-moot filter context footnotes [] = refl
+items-moot filter context footnotes (identifier ∷ identifiers) =
+    let number : ℕ = place_among (distinct context.calls) identifier in
     let footnote = find (λ (f : Footnote). bytes_eq f.identifier identifier) footnotes in
     ap (λ back. (Forced ∷ Text (codes "<li id=\"")
-    ∷ Text (id_of given.options (codes "fn-") identifier number) ∷ Text (codes "\">")
+    ∷ Text (id_of context.options (codes "fn-") identifier number) ∷ Text (codes "\">")
     ∷ Forced ∷ (body (option_map_or (λ (f : Footnote). f.text) footnote []) back
-    ++ on_own_line (codes "</li>"))) ++ flat_map (item (under filter given) footnotes) identifiers)
-    (ways_back-moot filter given.options identifier number (count_of given.calls identifier))
-    ∙ ap (λ ps. item given footnotes identifier ++ ps)
-    (items-moot filter given footnotes identifiers)
+    ++ on_own_line (codes "</li>"))) ++ flat_map (item (under filter context) footnotes)
+    identifiers)
+    (ways_back-moot filter context.options identifier number (count_of context.calls identifier))
+    ∙ ap (λ ps. item context footnotes identifier ++ ps)
+    (items-moot filter context footnotes identifiers)
 
-section-moot : (filter : Bool) (given : Given) (footnotes : List Footnote) →
-    section (under filter given) footnotes ≡ section given footnotes
-section-moot filter given footnotes =
-    ap (λ ps. when (not (length given.calls == 0)) (section_start given.options
+section-moot : (filter : Bool) (context : Context) (footnotes : List Footnote) →
+    section (under filter context) footnotes ≡ section context footnotes
+section-moot filter context footnotes =
+    ap (λ ps. when (not (length context.calls == 0)) (section_start context.options
     ++ (ps ++ (Forced ∷ Text (codes "</ol>") ∷ Forced ∷ Text (codes "</section>") ∷ Forced ∷ []))))
-    (items-moot filter given footnotes (distinct given.calls))
+    (items-moot filter context footnotes (distinct context.calls))
 
 -- the text of what a document means
-abbrev text_by : Given → Outcome → List ℕ
-text_by given document = layout given.ending (document.pieces ++ section given document.footnotes)
+abbrev text_by : Context → Outcome → List ℕ
+text_by context document = layout context.ending (document.pieces ++ section context
+    document.footnotes)
 
 pub meaning-moot :
     (filter : Bool) (options : CompileOptions) (names : List (List ℕ × List ℕ)) (bytes : List ℕ)
@@ -147,7 +152,7 @@ pub meaning-moot :
     meaning (filtering filter options) names bytes document ≡ meaning options names bytes document
 meaning-moot filter options names bytes document h =
     let ending : List ℕ = ending_at options bytes (first_ending document) in
-    let given : List (List ℕ) → List Defined → Given = λ cs ds. record {
+    let context : List (List ℕ) → List Defined → Context = λ cs ds. record {
       bytes = bytes;
       names = names;
       options = options;
@@ -155,17 +160,17 @@ meaning-moot filter options names bytes document h =
       calls = cs;
       definitions = ds;
     } in
-    let all : Given → Outcome = λ g. outcome g outermost nothing_before document in
-    let calls : List (List ℕ) = (all (given [] [])).calls in
-    let known : List Defined = (all (given calls [])).definitions in
-    let whole : Outcome = all (given calls known) in
+    let all : Context → Outcome = λ g. outcome g outermost nothing_before document in
+    let calls : List (List ℕ) = (all (context [] [])).calls in
+    let known : List Defined = (all (context calls [])).definitions in
+    let whole : Outcome = all (context calls known) in
     let other : List (List ℕ) → List Defined → List ℕ =
-    λ cs ds. text_by (under filter (given cs ds)) (all (under filter (given cs ds))) in
-    ap (λ (m : Outcome). other m.calls (all (under filter (given m.calls []))).definitions)
-    (meant-moot filter (given [] []) h outermost nothing_before document)
+    λ cs ds. text_by (under filter (context cs ds)) (all (under filter (context cs ds))) in
+    ap (λ (m : Outcome). other m.calls (all (under filter (context m.calls []))).definitions)
+    (meant-moot filter (context [] []) h outermost nothing_before document)
     ∙ ap (λ (m : Outcome). other calls m.definitions)
-    (meant-moot filter (given calls []) h outermost nothing_before document)
-    ∙ ap (λ m. text_by (under filter (given calls known)) m)
-    (meant-moot filter (given calls known) h outermost nothing_before document)
+    (meant-moot filter (context calls []) h outermost nothing_before document)
+    ∙ ap (λ m. text_by (under filter (context calls known)) m)
+    (meant-moot filter (context calls known) h outermost nothing_before document)
     ∙ ap (λ ps. layout ending (whole.pieces ++ ps))
-    (section-moot filter (given calls known) whole.footnotes)
+    (section-moot filter (context calls known) whole.footnotes)

@@ -4,12 +4,12 @@ use Rattle.std.proofs.Common.{sym, ap, ◌∙◌, subst, arith}
 use Rattle.std.specs.Prelude.{slice_get}
 use Rattle.md_base.specs.declared.event.Event.{Event}
 use Rattle.md_base.specs.Tree.{Forest, flatten}
-use Rattle.md_meaning.specs.Meaning.At.{Given}
+use Rattle.md_meaning.specs.Meaning.At.{Context}
 use Rattle.md_tree.specs.Grammar.{IsChecked, IsReadAs}
-use Rattle.md_shape.specs.Run.{Noticed, noticed, passes, stepped, run}
-use Rattle.md_shape.specs.State.{State}
-use Rattle.md_emit.specs.Supplies.{Supplies}
-use Rattle.md_emit.specs.declared.given.Given.{Given as Supplied}
+use Rattle.md_steps.specs.Run.{Noticed, noticed, passes, stepped, run}
+use Rattle.md_steps.specs.State.{State}
+use Rattle.md_printer.specs.Supplies.{Supplies}
+use Rattle.md_printer.specs.declared.context.Context.{Context as Supplied}
 use Rattle.md_html.specs.Windows.{window}
 use Rattle.md_html.specs.Stepping.{Steps, Goes}
 use Rattle.md_html.proofs.Stepping.{Seen, seen, stepped-cells, stepped-fences}
@@ -18,7 +18,7 @@ use Rattle.md_html.proofs.Windows.{window-step, window-first, window-drop}
 use Rattle.md_html.proofs.FirstText.{stepped-captured}
 use Rattle.md_html.proofs.Fits.{fits-step}
 
-module _ (code : Supplied) (at : Given) (index : ℕ) (event : Event) (more : ℕ)
+module _ (code : Supplied) (at : Context) (index : ℕ) (event : Event) (more : ℕ)
     (before after : State)
     (checked : IsChecked code.checked.now) (supplies : Supplies code at)
     (got : slice_get code.checked.now.events index ≡ Some event)
@@ -42,18 +42,18 @@ module _ (code : Supplied) (at : Given) (index : ℕ) (event : Event) (more : �
   turn-cells le =
       subst (λ (s : State). s.cells ≤ index + (1 + more))
       (sym (steps at here.one supplies here.there).1)
-      (further (stepped at event here.one.told before).cells
-      (stepped-cells at event here.one.told before index le))
+      (further (stepped at event here.one.facts before).cells
+      (stepped-cells at event here.one.facts before index le))
 
   pub turn-fences : before.fences ≤ index → after.fences ≤ index + (1 + more)
   turn-fences le =
       subst (λ (s : State). s.fences ≤ index + (1 + more))
       (sym (steps at here.one supplies here.there).1)
-      (further (stepped at event here.one.told before).fences
-      (stepped-fences at event here.one.told before index le))
+      (further (stepped at event here.one.facts before).fences
+      (stepped-fences at event here.one.facts before index le))
 
 -- going on after the event is as going on from it
-pub turn-runs : (code : Supplied) (at : Given) (document : Forest) (index to : ℕ) (event : Event)
+pub turn-runs : (code : Supplied) (at : Context) (document : Forest) (index to : ℕ) (event : Event)
     (more : ℕ) (before after : State) → Supplies code at →
     flatten document ≡ code.checked.now.events → index < to →
     slice_get code.checked.now.events index ≡ Some event →
@@ -94,7 +94,7 @@ window-fits events seen i to next captured event one lt got there e f =
     (window-first seen i to one lt there) f))))
 
 -- after the event, in the state that it leaves
-pub turn-fits : (code : Supplied) (at : Given) (document : Forest) (index to : ℕ) (event : Event)
+pub turn-fits : (code : Supplied) (at : Context) (document : Forest) (index to : ℕ) (event : Event)
     (more : ℕ) (before after : State) → Supplies code at →
     flatten document ≡ code.checked.now.events → index < to →
     slice_get code.checked.now.events index ≡ Some event →
@@ -111,7 +111,7 @@ turn-fits code at document index to event more before after supplies flat lt got
     subst (λ n. fits 0 n (window (index + (1 + more)) to code.checked.now.events)
     (window (index + (1 + more)) to all) ≡ true)
     (sym (ap (λ (s : State). length s.below) both.1
-    ∙ stepped-captured at event here.one.told before))
+    ∙ stepped-captured at event here.one.facts before))
     (window-fits code.checked.now.events all index to (index + (1 + more))
     (length before.below) event here.one lt
     got here.got (next (passes event here.one.inside) both.0) f)

@@ -4,9 +4,9 @@ use Rattle.std.proofs.Common.{drop, refl, sym, ap, ◌∙◌, arith}
 use Rattle.std.specs.Prelude.{slice_get}
 use Rattle.std.proofs.lemmas.List.{drop-drop}
 use Rattle.md_base.specs.declared.event.Event.{Event}
-use Rattle.md_meaning.specs.Meaning.At.{Given}
-use Rattle.md_shape.specs.Run.{Noticed, passes, stepped, run}
-use Rattle.md_shape.specs.State.{State}
+use Rattle.md_meaning.specs.Meaning.At.{Context}
+use Rattle.md_steps.specs.Run.{Noticed, passes, stepped, run}
+use Rattle.md_steps.specs.State.{State}
 use Rattle.md_html.specs.Windows.{window}
 
 drop-got : {A : Type 0} (xs : List A) (i : ℕ) (x : A) → slice_get xs i ≡ Some x →
@@ -60,46 +60,48 @@ window-drop xs i to n next e =
     less f = omega (arith, f)
 
 -- events that are skipped
-run-none : (given : Given) (left : ℕ) (events : List Event) (state : State) →
-    run given left events [] state ≡ state
-run-none given left [] state = refl
-run-none given left (event ∷ events) state = refl
+run-none : (context : Context) (left : ℕ) (events : List Event) (state : State) →
+    run context left events [] state ≡ state
+run-none context left [] state = refl
+run-none context left (event ∷ events) state = refl
 
 run-passing :
-    (given : Given) (left : ℕ) (events : List Event) (seen : List Noticed) (state : State) →
-    run given left events seen state ≡ run given 0 (drop left events) (drop left seen) state
-run-passing given zero events seen state = refl
-run-passing given (suc left) [] seen state = refl
-run-passing given (suc left) (event ∷ events) [] state =
-    sym (run-none given 0 (drop left events) state)
-run-passing given (suc left) (event ∷ events) (one ∷ seen) state =
-    run-passing given left events seen state
+    (context : Context) (left : ℕ) (events : List Event) (seen : List Noticed) (state : State) →
+    run context left events seen state ≡ run context 0 (drop left events) (drop left seen) state
+run-passing context zero events seen state = refl
+run-passing context (suc left) [] seen state = refl
+run-passing context (suc left) (event ∷ events) [] state =
+    sym (run-none context 0 (drop left events) state)
+run-passing context (suc left) (event ∷ events) (one ∷ seen) state =
+    run-passing context left events seen state
 
 -- one event further
 pub window-step :
-    (given : Given) (events : List Event) (seen : List Noticed) (i to next : ℕ) (event : Event)
+    (context : Context) (events : List Event) (seen : List Noticed) (i to next : ℕ) (event : Event)
     (one : Noticed) (state : State) → i < to → slice_get events i ≡ Some event →
     slice_get seen i ≡ Some one →
     next ≡ suc i + passes event one.inside →
-    run given 0 (window next to events) (window next to seen) (stepped given event one.told state)
-    ≡ run given 0 (window i to events) (window i to seen) state
-window-step given events seen i to next event one state lt got there e =
-    let after : State = stepped given event one.told state in
-    sym (ap (λ es. run given 0 es (window i to seen) state) (window-first events i to event lt got)
-    ∙ ap (λ ts. run given 0 (event ∷ window (suc i) to events) ts state)
-    (window-first seen i to one lt there) ∙ run-passing given (passes event one.inside)
+    run context 0 (window next to events) (window next to seen)
+    (stepped context event one.facts state)
+    ≡ run context 0 (window i to events) (window i to seen) state
+window-step context events seen i to next event one state lt got there e =
+    let after : State = stepped context event one.facts state in
+    sym (ap (λ es. run context 0 es (window i to seen) state)
+    (window-first events i to event lt got)
+    ∙ ap (λ ts. run context 0 (event ∷ window (suc i) to events) ts state)
+    (window-first seen i to one lt there) ∙ run-passing context (passes event one.inside)
     (window (suc i) to events) (window (suc i) to seen) after
-    ∙ ap (λ es. run given 0 es (drop (passes event one.inside) (window (suc i) to seen)) after)
+    ∙ ap (λ es. run context 0 es (drop (passes event one.inside) (window (suc i) to seen)) after)
     (window-drop events (suc i) to (passes event one.inside) next e)
-    ∙ ap (λ ts. run given 0 (window next to events) ts after)
+    ∙ ap (λ ts. run context 0 (window next to events) ts after)
     (window-drop seen (suc i) to (passes event one.inside) next e))
 
 -- no event is left
-pub window-end : (given : Given) (events : List Event) (seen : List Noticed) (i to : ℕ)
+pub window-end : (context : Context) (events : List Event) (seen : List Noticed) (i to : ℕ)
     (state : State) → to ≤ i →
-    run given 0 (window i to events) (window i to seen) state ≡ state
-window-end given events seen i to state le =
-    ap (λ n. run given 0 (take n (drop i events)) (take n (drop i seen)) state) (none le)
+    run context 0 (window i to events) (window i to seen) state ≡ state
+window-end context events seen i to state le =
+    ap (λ n. run context 0 (take n (drop i events)) (take n (drop i seen)) state) (none le)
   where
     none : to ≤ i → to - i ≡ 0
     none f = omega (arith, f)

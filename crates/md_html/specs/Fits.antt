@@ -4,9 +4,9 @@ use Rattle.std.specs.Prelude.{ℕ, zero, suc, ◌-◌, Bool, true, false, ◌&&�
 use Rattle.std.specs.Prelude.{[], ◌∷◌}
 use Rattle.md_base.specs.declared.event.Event.{Event}
 use Rattle.md_base.specs.declared.event.Kind.TheVariants.{Enter, Exit}
-use Rattle.md_shape.specs.Run.{Noticed, passes}
-use Rattle.md_shape.specs.State.{captures}
-use Rattle.md_shape.specs.Steps.{is_passed}
+use Rattle.md_steps.specs.Run.{Noticed, passes}
+use Rattle.md_steps.specs.State.{captures}
+use Rattle.md_steps.specs.Steps.{is_passed}
 use Rattle.md_measure.specs.Nesting.{is_none}
 
 -- an event begins a captured text, or ends one

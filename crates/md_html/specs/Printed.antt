@@ -6,18 +6,18 @@ use Rattle.md_base.specs.declared.event.Name.TheVariants.{Definition}
 use Rattle.md_text.specs.declared.options.CompileOptions.{CompileOptions}
 use Rattle.md_tree.specs.Grammar.{Handed}
 use Rattle.md_meaning.specs.Meaning.{meaning}
-use Rattle.md_meaning.specs.Meaning.At.{Given, Defined, Target}
+use Rattle.md_meaning.specs.Meaning.At.{Context, Defined, Target}
 use Rattle.md_meaning.specs.Meaning.Footnotes.{section}
 use Rattle.md_meaning.specs.Meaning.Layout.{laid_after}
-use Rattle.md_shape.specs.Run.{Noticed, defined, noticed, run}
-use Rattle.md_shape.specs.State.{State}
-use Rattle.md_shape.specs.Steps.{beginning, entered}
-use Rattle.md_told.specs.Definitions.{within, own_defined}
-use Rattle.md_told.specs.Told.{IsNoticedAt}
-use Rattle.md_emit.specs.Supplies.{Supplies}
-use Rattle.md_emit.specs.declared.given.Given.{Given as Supplied}
+use Rattle.md_steps.specs.Run.{Noticed, defined, noticed, run}
+use Rattle.md_steps.specs.State.{State}
+use Rattle.md_steps.specs.Steps.{beginning, entered}
+use Rattle.md_facts.specs.Definitions.{within, own_defined}
+use Rattle.md_facts.specs.NodeFacts.{IsNoticedAt}
+use Rattle.md_printer.specs.Supplies.{Supplies}
+use Rattle.md_printer.specs.declared.context.Context.{Context as Supplied}
 
-abbrev pub text_of : Given → Forest → List ℕ
+abbrev pub text_of : Context → Forest → List ℕ
 text_of at document =
     let after : State = run at 0 (flatten document) (noticed at.bytes true document) beginning in
     laid_after at.ending after.text (section (record at { calls = after.calls }) after.footnotes)
@@ -31,40 +31,40 @@ IsMeant options given text =
 -- the text is that of all events and of the footnotes' section
 abbrev pub IsPrinted : Supplied → List ℕ → Type 0
 IsPrinted code text =
-    (at : Given) (document : Forest) → Supplies code at →
+    (at : Context) (document : Forest) → Supplies code at →
     flatten document ≡ code.checked.now.events → text ≡ text_of at document
 
 -- that text is longer than this
 abbrev pub IsPrintedOver : Supplied → ℕ → Type 0
 IsPrintedOver code limit =
-    (at : Given) (document : Forest) → Supplies code at →
+    (at : Context) (document : Forest) → Supplies code at →
     flatten document ≡ code.checked.now.events → limit < length (text_of at document)
 
 -- the state is that after all events
 abbrev pub IsRun : Supplied → State → Type 0
 IsRun code after =
-    (at : Given) (document : Forest) → Supplies code at →
+    (at : Context) (document : Forest) → Supplies code at →
     flatten document ≡ code.checked.now.events →
     after ≡ run at 0 (flatten document) (noticed at.bytes true document) beginning
 
 -- the text after all events is longer than this
 abbrev pub IsRunOver : Supplied → ℕ → Type 0
 IsRunOver code limit =
-    (at : Given) (document : Forest) → Supplies code at →
+    (at : Context) (document : Forest) → Supplies code at →
     flatten document ≡ code.checked.now.events → limit < length
     (run at 0 (flatten document) (noticed at.bytes true document) beginning).text
 
 -- the targets are those of the document's definitions
 abbrev pub AreTargets : Supplied → List Target → Type 0
 AreTargets code targets =
-    (at : Given) (document : Forest) → Supplies code at →
+    (at : Context) (document : Forest) → Supplies code at →
     flatten document ≡ code.checked.now.events →
     targets ≡ map (λ (d : Defined). d.target) (defined at document)
 
 -- the target is that of the definition that is entered at an index
 abbrev pub IsTargetAt : Supplied → ℕ → Target → Type 0
 IsTargetAt code index target =
-    (at : Given) (document : Forest) (one : Noticed) → Supplies code at →
+    (at : Context) (document : Forest) (one : Noticed) → Supplies code at →
     flatten document ≡ code.checked.now.events → IsNoticedAt code.checked.now index one →
     target ≡ (own_defined at code.checked.now.events
     (noticed code.checked.now.bytes true document) index one).target
@@ -72,8 +72,8 @@ IsTargetAt code index target =
 -- the state is that after the events of this definition, except its exit
 abbrev pub IsRunAt : Supplied → ℕ → State → Type 0
 IsRunAt code index after =
-    (at : Given) (document : Forest) (one : Noticed) → Supplies code at →
+    (at : Context) (document : Forest) (one : Noticed) → Supplies code at →
     flatten document ≡ code.checked.now.events → IsNoticedAt code.checked.now index one →
     after ≡ run at 0 (within index one.inside code.checked.now.events)
     (within index one.inside (noticed code.checked.now.bytes true document))
-    (entered at one.told Definition beginning)
+    (entered at one.facts Definition beginning)

@@ -5,14 +5,14 @@ ghost use Rattle.md_base.specs.declared.event.Name.TheVariants as name;
 ghost use Rattle.md_meaning.specs.Meaning.At as At;
 ghost use Rattle.md_tree.specs.Grammar.{IsChecked};
 ghost use Rattle.md_tree.specs.Texts.{EntersAt};
-ghost use Rattle.md_shape.specs.Steps.{beginning};
-ghost use Rattle.md_emit.specs.Supplies.{Supplies};
+ghost use Rattle.md_steps.specs.Steps.{beginning};
+ghost use Rattle.md_printer.specs.Supplies.{Supplies};
 ghost use Rattle.md_html.specs.Printed.{AreTargets, IsTargetAt, IsRunAt};
 
 use crate::running::run_events;
 use md_base::Name;
-use md_emit::{Given, Printer, Target};
-use md_told::inside_at;
+use md_facts::inside_at;
+use md_printer::{Context, Printer, Target};
 use md_tree::Checked;
 use std::alloc::AllocError;
 
@@ -21,26 +21,26 @@ use std::alloc::AllocError;
 /// # Errors
 ///
 /// Returns an error only if memory runs out.
-pub(crate) fn targets(given: &Given) -> Result<Vec<Target>, AllocError>
-    requires supplied { (at : At.Given) × Supplies given.now at }
-    ensures { IfOk result (λ targets. AreTargets given.now targets.items) }
+pub(crate) fn targets(context: &Context) -> Result<Vec<Target>, AllocError>
+    requires supplied { (at : At.Context) × Supplies context.now at }
+    ensures { IfOk result (λ targets. AreTargets context.now targets.items) }
 {
-    let mut printer = Printer::new(given.alloc);
-    let targets = gathered(&mut printer, given);
+    let mut printer = Printer::new(context.alloc);
+    let targets = gathered(&mut printer, context);
     drop(printer);
     targets
 }
 
 /// The same, with one printer for all definitions.
-fn gathered<'a>(printer: &mut Printer<'a>, given: &Given<'a>) -> Result<Vec<Target>, AllocError>
-    requires supplied { (at : At.Given) × Supplies given.now at }
-    ensures { IfOk result (λ targets. AreTargets given.now targets.items) }
+fn gathered<'a>(printer: &mut Printer<'a>, context: &Context<'a>) -> Result<Vec<Target>, AllocError>
+    requires supplied { (at : At.Context) × Supplies context.now at }
+    ensures { IfOk result (λ targets. AreTargets context.now targets.items) }
 {
-    grammatical(given.checked);
-    let mut targets = Vec::new(given.alloc);
-    let entries = given.checked.definitions();
+    grammatical(context.checked);
+    let mut targets = Vec::new(context.alloc);
+    let entries = context.checked.definitions();
     for entry in entries {
-        let target = target_at(printer, given, *entry)?;
+        let target = target_at(printer, context, *entry)?;
         targets.push(target)?;
     }
     Ok(targets)
@@ -49,33 +49,33 @@ fn gathered<'a>(printer: &mut Printer<'a>, given: &Given<'a>) -> Result<Vec<Targ
 /// The target of the definition that is entered at an index.
 fn target_at<'a>(
     printer: &mut Printer<'a>,
-    given: &Given<'a>,
+    context: &Context<'a>,
     index: usize,
 ) -> Result<Target, AllocError>
-    requires supplied { (at : At.Given) × Supplies given.now at }
-    requires enters { EntersAt given.now.checked.now.events index name.Definition }
-    ensures { IfOk result (λ target. IsTargetAt given.now index target) }
+    requires supplied { (at : At.Context) × Supplies context.now at }
+    requires enters { EntersAt context.now.checked.now.events index name.Definition }
+    ensures { IfOk result (λ target. IsTargetAt context.now index target) }
 {
-    printer.restart(given.alloc);
-    run_definition(printer, given, index)?;
-    printer.target(given.alloc)
+    printer.restart(context.alloc);
+    run_definition(printer, context, index)?;
+    printer.target(context.alloc)
 }
 
 /// Enters the definition, and prints its own events, except its exit.
 fn run_definition<'a>(
     printer: &mut Printer<'a>,
-    given: &Given<'a>,
+    context: &Context<'a>,
     index: usize,
 ) -> Result<(), AllocError>
-    requires supplied { (at : At.Given) × Supplies given.now at }
-    requires enters { EntersAt given.now.checked.now.events index name.Definition }
+    requires supplied { (at : At.Context) × Supplies context.now at }
+    requires enters { EntersAt context.now.checked.now.events index name.Definition }
     requires new { printer.old ≡ beginning }
-    ensures { OnOk result (IsRunAt given.now index printer.new) }
+    ensures { OnOk result (IsRunAt context.now index printer.new) }
 {
-    let _events = given.checked.events();
-    printer.enter(given, index, Name::Definition)?;
-    let inside = inside_at(given.checked, index);
-    run_events(printer, given, index + 1, index + inside)?;
+    let _events = context.checked.events();
+    printer.enter(context, index, Name::Definition)?;
+    let inside = inside_at(context.checked, index);
+    run_events(printer, context, index + 1, index + inside)?;
     Ok(())
 }
 

@@ -2,14 +2,14 @@
 
 ghost use Rattle.std.specs.Prelude.{IfOk, string_bytes};
 ghost use Rattle.md_meaning.specs.Meaning.At as At;
-ghost use Rattle.md_emit.specs.Supplies.{Supplies};
+ghost use Rattle.md_printer.specs.Supplies.{Supplies};
 ghost use Rattle.md_html.specs.Printed.{IsMeant, IsPrinted};
 
 use crate::definitions::targets;
 use crate::ending::ending_of;
 use crate::running::run_events;
-use md_emit::{Given, Printer};
-use md_shape::laws::steps_print_what_is_meant;
+use md_printer::{Context, Printer};
+use md_steps::laws::steps_print_what_is_meant;
 use md_text::CompileOptions;
 use md_tree::Checked;
 use std::alloc::{AllocError, Global};
@@ -36,7 +36,7 @@ pub fn render(
     steps_print_what_is_meant();
     let ending = ending_of(checked, options);
     let names = checked.names();
-    let alone = Given {
+    let alone = Context {
         alloc,
         checked,
         names,
@@ -45,7 +45,7 @@ pub fn render(
         definitions: &[],
     };
     let definitions = targets(&alone)?;
-    let given = Given {
+    let context = Context {
         alloc,
         checked,
         names,
@@ -53,20 +53,20 @@ pub fn render(
         ending,
         definitions: definitions.as_slice(),
     };
-    print(&given)
+    print(&context)
 }
 
 /// The text of all events and of the footnotes' section.
-fn print(given: &Given) -> Result<String, AllocError>
-    requires supplied { (at : At.Given) × Supplies given.now at }
-    ensures { IfOk result (λ text. IsPrinted given.now (string_bytes text)) }
+fn print(context: &Context) -> Result<String, AllocError>
+    requires supplied { (at : At.Context) × Supplies context.now at }
+    ensures { IfOk result (λ text. IsPrinted context.now (string_bytes text)) }
 {
-    let mut printer = Printer::new(given.alloc);
-    printer.reserve(given.checked.bytes().len());
-    let ran = run_events(&mut printer, given, 0, given.checked.events().len());
+    let mut printer = Printer::new(context.alloc);
+    printer.reserve(context.checked.bytes().len());
+    let ran = run_events(&mut printer, context, 0, context.checked.events().len());
     // This consumes the printer before the run's error is returned, so that no path has to drop its
     // many parts.
-    let text = printer.into_text(given.alloc, given.options, given.ending)?;
+    let text = printer.into_text(context.alloc, context.options, context.ending)?;
     ran?;
     Ok(text)
 }

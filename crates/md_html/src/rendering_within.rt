@@ -3,16 +3,16 @@
 ghost use Rattle.std.specs.Prelude.{◌≡◌, ◌≤◌, IfOk, IfSome, None, true, false, length};
 ghost use Rattle.std.specs.Prelude.{string_bytes};
 ghost use Rattle.md_meaning.specs.Meaning.At as At;
-ghost use Rattle.md_shape.specs.Steps.{beginning};
-ghost use Rattle.md_emit.specs.Supplies.{Supplies};
+ghost use Rattle.md_steps.specs.Steps.{beginning};
+ghost use Rattle.md_printer.specs.Supplies.{Supplies};
 ghost use Rattle.md_html.specs.Printed.{IsMeant, IsPrinted, IsPrintedOver, IsRun, IsRunOver};
 ghost use Rattle.md_html.specs.Within.{IsLonger};
 
 use crate::definitions::targets;
 use crate::ending::ending_of;
 use crate::running::run_events;
-use md_emit::{Given, Printer};
-use md_shape::laws::steps_print_what_is_meant;
+use md_printer::{Context, Printer};
+use md_steps::laws::steps_print_what_is_meant;
 use md_text::CompileOptions;
 use md_tree::Checked;
 use std::alloc::{AllocError, Global};
@@ -52,7 +52,7 @@ pub fn render_within(
     steps_print_what_is_meant();
     let ending = ending_of(checked, options);
     let names = checked.names();
-    let alone = Given {
+    let alone = Context {
         alloc,
         checked,
         names,
@@ -61,7 +61,7 @@ pub fn render_within(
         definitions: &[],
     };
     let definitions = targets(&alone)?;
-    let given = Given {
+    let context = Context {
         alloc,
         checked,
         names,
@@ -69,24 +69,24 @@ pub fn render_within(
         ending,
         definitions: definitions.as_slice(),
     };
-    print_within(&given, limit)
+    print_within(&context, limit)
 }
 
 /// The text of all events and of the footnotes' section, if it doesn't exceed a limit.
-fn print_within(given: &Given, limit: usize) -> Result<Option<String>, AllocError>
-    requires supplied { (at : At.Given) × Supplies given.now at }
+fn print_within(context: &Context, limit: usize) -> Result<Option<String>, AllocError>
+    requires supplied { (at : At.Context) × Supplies context.now at }
     ensures text { IfOk result
-        (λ answer. IfSome answer (λ text. IsPrinted given.now (string_bytes text))) }
+        (λ answer. IfSome answer (λ text. IsPrinted context.now (string_bytes text))) }
     ensures within { IfOk result
         (λ answer. IfSome answer (λ text. length (string_bytes text) ≤ limit)) }
-    ensures too_long { IfOk result (λ answer. answer ≡ None → IsPrintedOver given.now limit) }
+    ensures too_long { IfOk result (λ answer. answer ≡ None → IsPrintedOver context.now limit) }
 {
-    let mut printer = Printer::new(given.alloc);
-    printer.reserve(given.checked.bytes().len());
-    let ran = run_events_within(&mut printer, given, limit);
+    let mut printer = Printer::new(context.alloc);
+    printer.reserve(context.checked.bytes().len());
+    let ran = run_events_within(&mut printer, context, limit);
     // This consumes the printer before the run's result is examined, so that no path has to drop
     // its many parts.
-    let text = printer.into_text(given.alloc, given.options, given.ending)?;
+    let text = printer.into_text(context.alloc, context.options, context.ending)?;
     let is_whole = ran?;
     if is_whole && text.len() <= limit {
         Ok(Some(text))
@@ -98,19 +98,19 @@ fn print_within(given: &Given, limit: usize) -> Result<Option<String>, AllocErro
 /// Prints all events, until the text certainly exceeds a limit; returns whether all were printed.
 fn run_events_within<'a>(
     printer: &mut Printer<'a>,
-    given: &Given<'a>,
+    context: &Context<'a>,
     limit: usize,
 ) -> Result<bool, AllocError>
-    requires supplied { (at : At.Given) × Supplies given.now at }
+    requires supplied { (at : At.Context) × Supplies context.now at }
     requires new { printer.old ≡ beginning }
-    ensures whole { IfOk result (λ whole. whole ≡ true → IsRun given.now printer.new) }
-    ensures too_long { IfOk result (λ whole. whole ≡ false → IsRunOver given.now limit) }
+    ensures whole { IfOk result (λ whole. whole ≡ true → IsRun context.now printer.new) }
+    ensures too_long { IfOk result (λ whole. whole ≡ false → IsRunOver context.now limit) }
 {
-    let count = given.checked.events().len();
+    let count = context.checked.events().len();
     let mut index = 0;
     while index < count {
         let to = count.min(index.saturating_add(AT_ONCE));
-        index = run_events(printer, given, index, to)?;
+        index = run_events(printer, context, index, to)?;
         if printer.is_longer(limit) {
             return Ok(false);
         }

@@ -6,15 +6,15 @@ ghost use Rattle.md_base.specs.declared.event.Name.{Name as AnyName};
 ghost use Rattle.md_meaning.specs.Meaning.At as At;
 ghost use Rattle.md_tree.specs.Found.{EntersSome};
 ghost use Rattle.md_tree.specs.Texts.{EntersAt, ExitsAt};
-ghost use Rattle.md_shape.specs.Run.{Noticed};
-ghost use Rattle.md_shape.specs.Steps.{is_passed};
-ghost use Rattle.md_told.specs.Told.{IsNoticedAt};
-ghost use Rattle.md_emit.specs.Supplies.{Supplies};
+ghost use Rattle.md_steps.specs.Run.{Noticed};
+ghost use Rattle.md_steps.specs.Steps.{is_passed};
+ghost use Rattle.md_facts.specs.NodeFacts.{IsNoticedAt};
+ghost use Rattle.md_printer.specs.Supplies.{Supplies};
 ghost use Rattle.md_html.specs.Stepping.{Steps, Opens, Leafs, Runs, Goes};
 
 use md_base::{Event, Kind, Name};
-use md_emit::{Given, Printer};
-use md_told::{inside_at, is_leaf_among};
+use md_facts::{inside_at, is_leaf_among};
+use md_printer::{Context, Printer};
 use md_tree::Checked;
 use std::alloc::AllocError;
 use std::ops::Range;
@@ -27,28 +27,28 @@ use std::ops::Range;
 /// Returns an error only if memory runs out.
 pub(crate) fn run_events<'a>(
     printer: &mut Printer<'a>,
-    given: &Given<'a>,
+    context: &Context<'a>,
     from: usize,
     to: usize,
 ) -> Result<usize, AllocError>
-    requires supplied { (at : At.Given) × Supplies given.now at }
+    requires supplied { (at : At.Context) × Supplies context.now at }
     requires cells { printer.old.cells ≤ from }
     requires fences { printer.old.fences ≤ from }
-    requires within { to ≤ length given.now.checked.now.events }
+    requires within { to ≤ length context.now.checked.now.events }
     ensures far { IfOk result (λ next. to ≤ next) }
     ensures cells { IfOk result (λ next. printer.new.cells ≤ next) }
     ensures fences { IfOk result (λ next. printer.new.fences ≤ next) }
-    ensures goes { IfOk result (λ next. Goes given.now from next to printer.old printer.new) }
-    ensures ran { OnOk result (Runs given.now from to printer.old printer.new) }
+    ensures goes { IfOk result (λ next. Goes context.now from next to printer.old printer.new) }
+    ensures ran { OnOk result (Runs context.now from to printer.old printer.new) }
 {
-    let events = given.checked.events();
+    let events = context.checked.events();
     let mut index = from;
     while index < to {
         let event = events[index];
-        if leaf(printer, given, events, index..to, event)? {
+        if leaf(printer, context, events, index..to, event)? {
             index += 2;
         } else {
-            let more = step(printer, given, index, event)?;
+            let more = step(printer, context, index, event)?;
             index += 1 + more;
         }
     }
@@ -60,23 +60,23 @@ pub(crate) fn run_events<'a>(
 #[inline(always)]
 fn leaf<'a>(
     printer: &mut Printer<'a>,
-    given: &Given<'a>,
+    context: &Context<'a>,
     events: &[Event],
     rest: Range<usize>,
     event: Event,
 ) -> Result<bool, AllocError>
-    requires among { events.now ≡ given.now.checked.now.events }
-    requires there { slice_get given.now.checked.now.events rest.start ≡ Some event }
+    requires among { events.now ≡ context.now.checked.now.events }
+    requires there { slice_get context.now.checked.now.events rest.start ≡ Some event }
     requires before { rest.start < rest.end }
     ensures left { IfOk result (λ done. done ≡ true
-        → Leafs given.now rest.start rest.end event printer.old printer.new) }
+        → Leafs context.now rest.start rest.end event printer.old printer.new) }
     ensures same { IfOk result (λ done. done ≡ false → printer.new ≡ printer.old) }
 {
     match event.kind {
         Kind::Enter => {
             let index = rest.start;
-            if is_leaf_before(given.checked, events, index, rest.end) {
-                printer.leaf(given, index, index + 1, event.name)
+            if is_leaf_before(context.checked, events, index, rest.end) {
+                printer.leaf(context, index, index + 1, event.name)
             } else {
                 Ok(false)
             }
@@ -105,19 +105,19 @@ fn is_leaf_before(checked: &Checked, events: &[Event], index: usize, to: usize) 
 #[inline(always)]
 fn step<'a>(
     printer: &mut Printer<'a>,
-    given: &Given<'a>,
+    context: &Context<'a>,
     index: usize,
     event: Event,
 ) -> Result<usize, AllocError>
-    requires there { slice_get given.now.checked.now.events index ≡ Some event }
+    requires there { slice_get context.now.checked.now.events index ≡ Some event }
     requires cells { printer.old.cells < 2 ^ 63 }
     requires fences { printer.old.fences < 2 ^ 63 }
-    ensures { IfOk result (λ more. Steps given.now index event more printer.old printer.new) }
+    ensures { IfOk result (λ more. Steps context.now index event more printer.old printer.new) }
 {
     match event.kind {
-        Kind::Enter => open(printer, given, index, event.name),
+        Kind::Enter => open(printer, context, index, event.name),
         Kind::Exit => {
-            printer.exit(given, index, event.name)?;
+            printer.exit(context, index, event.name)?;
             Ok(0)
         }
     }
@@ -127,18 +127,18 @@ fn step<'a>(
 #[inline(always)]
 fn open<'a>(
     printer: &mut Printer<'a>,
-    given: &Given<'a>,
+    context: &Context<'a>,
     index: usize,
     name: Name,
 ) -> Result<usize, AllocError>
-    requires { EntersAt given.now.checked.now.events index name }
-    ensures { IfOk result (λ more. Opens given.now index name more printer.old printer.new) }
+    requires { EntersAt context.now.checked.now.events index name }
+    ensures { IfOk result (λ more. Opens context.now index name more printer.old printer.new) }
 {
     if is_passed_over(name) {
         printer.pass_definition();
-        Ok(inside_at(given.checked, index))
+        Ok(inside_at(context.checked, index))
     } else {
-        printer.enter(given, index, name)?;
+        printer.enter(context, index, name)?;
         Ok(0)
     }
 }

@@ -8,10 +8,8 @@ use crate::reader::Reader;
 use crate::source::Source;
 use crate::strings::write_reference;
 use md_base::Name;
-use md_lines::Span;
-use md_marks::{
-    BareLink, Leaf, Mark, Token, address, domain_end, is_www, next_link_mark, run_length, url, www,
-};
+use md_lines::{Span, find_any};
+use md_marks::{BareLink, Leaf, Mark, Token, address, domain_end, is_www, run_length, url, www};
 use md_writer::Writer;
 use std::alloc::AllocError;
 
@@ -42,7 +40,7 @@ const HTML: Names = Names {
 
 /// The context of a token.
 #[derive(Drop)]
-pub(crate) struct Around<'e> {
+pub(crate) struct LeafContext<'e> {
     pub(crate) leaf: &'e Leaf<'e>,
     pub(crate) source: &'e Source<'e>,
     pub(crate) reader: &'e Reader<'e>,
@@ -62,7 +60,7 @@ pub(crate) fn write_tokens(
     leaf: &Leaf,
     source: &Source,
 ) -> Result<(), AllocError> {
-    let mut around = Around {
+    let mut context = LeafContext {
         leaf,
         source,
         reader,
@@ -73,17 +71,17 @@ pub(crate) fn write_tokens(
     };
     let mut at = leaf.start(0);
     for token in reader.tokens.iter() {
-        if around.note_span(token.mark) {
+        if context.note_span(token.mark) {
             continue;
         }
-        around.write_text(writer, at, token.start)?;
-        around.write_token(writer, token)?;
+        context.write_text(writer, at, token.start)?;
+        context.write_token(writer, token)?;
         at = token.end;
     }
-    around.write_text(writer, at, leaf.last_end())
+    context.write_text(writer, at, leaf.last_end())
 }
 
-impl<'e> Around<'e> {
+impl<'e> LeafContext<'e> {
     /// Counts the open spans; returns whether a token with this mark stays text, as both ends of a
     /// span do that is nested too deep.
     #[inline(always)]
@@ -126,47 +124,60 @@ impl<'e> Around<'e> {
                 writer.leaf(Name::LineEnding, end, self.leaf.next(token.index))
             }
             Mark::FootnoteCall => self.write_call(writer, start, end),
-            Mark::Url
-            | Mark::Address
-            | Mark::BareUrl
-            | Mark::BareWww
-            | Mark::LinkStart
-            | Mark::LinkEnd
-            | Mark::ImageStart
-            | Mark::ImageEnd => self.write_of_link(writer, token),
-        }
-    }
-
-    /// Writes a token of a link or of an image.
-    #[inline(always)]
-    fn write_of_link(&mut self, writer: &mut Writer, token: &Token) -> Result<(), AllocError> {
-        let (start, end) = (token.start, token.end);
-        let (inside, inside_end) = (start.saturating_add(1), end.saturating_sub(1));
-        match token.mark {
-            Mark::Url => self.write_url_link(writer, inside, inside_end),
-            Mark::Address => self.write_link(writer, Name::AutolinkEmail, inside, inside_end),
+            Mark::Url => {
+                self.write_url_link(writer, start.saturating_add(1), end.saturating_sub(1))
+            }
+            Mark::Address => {
+                let (inside, inside_end) = (start.saturating_add(1), end.saturating_sub(1));
+                self.write_link(writer, Name::AutolinkEmail, inside, inside_end)
+            }
             Mark::BareUrl => {
                 self.write_link(writer, Name::GfmAutolinkLiteralProtocol, start, end)
             }
             Mark::BareWww => self.write_link(writer, Name::GfmAutolinkLiteralWww, start, end),
-            Mark::LinkStart => {
-                self.links = self.links.saturating_add(1);
-                write_label_start(writer, Name::Link, start, end)
-            }
-            Mark::ImageStart => {
-                self.images = self.images.saturating_add(1);
-                write_label_start(writer, Name::Image, start, end)
-            }
-            Mark::LinkEnd => {
-                self.links = self.links.saturating_sub(1);
-                self.write_link_end(writer, Name::Link, token)
-            }
-            Mark::ImageEnd => {
-                self.images = self.images.saturating_sub(1);
-                self.write_link_end(writer, Name::Image, token)
-            }
-            _ => Ok(()),
+            Mark::LinkStart => self.start_link(writer, start, end),
+            Mark::LinkEnd => self.end_link(writer, token),
+            Mark::ImageStart => self.start_image(writer, start, end),
+            Mark::ImageEnd => self.end_image(writer, token),
         }
+    }
+
+    /// Writes the start of a link's label.
+    #[inline(always)]
+    fn start_link(
+        &mut self,
+        writer: &mut Writer,
+        start: usize,
+        end: usize,
+    ) -> Result<(), AllocError> {
+        self.links = self.links.saturating_add(1);
+        write_label_start(writer, Name::Link, start, end)
+    }
+
+    /// Writes the end of a link: of its label, and its resource.
+    #[inline(always)]
+    fn end_link(&mut self, writer: &mut Writer, token: &Token) -> Result<(), AllocError> {
+        self.links = self.links.saturating_sub(1);
+        self.write_link_end(writer, Name::Link, token)
+    }
+
+    /// Writes the start of an image's label.
+    #[inline(always)]
+    fn start_image(
+        &mut self,
+        writer: &mut Writer,
+        start: usize,
+        end: usize,
+    ) -> Result<(), AllocError> {
+        self.images = self.images.saturating_add(1);
+        write_label_start(writer, Name::Image, start, end)
+    }
+
+    /// Writes the end of an image: of its label, and its resource.
+    #[inline(always)]
+    fn end_image(&mut self, writer: &mut Writer, token: &Token) -> Result<(), AllocError> {
+        self.images = self.images.saturating_sub(1);
+        self.write_link_end(writer, Name::Image, token)
     }
 
     /// Writes code or math, without the marks of these bytes at both ends.
@@ -226,7 +237,8 @@ impl<'e> Around<'e> {
         let mut at = start;
         let mut no_www_before = start;
         while at < text.len() {
-            at = next_link_mark(self.leaf.bytes, at, text.len());
+            // Each bare link has one of these.
+            at = find_any(self.leaf.bytes, [b'@', b':', b'.'], at, text.len());
             let Some(byte) = text.get(at).copied() else {
                 break;
             };

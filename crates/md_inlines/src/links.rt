@@ -1,7 +1,7 @@
 //! Writes the events of links, images and calls of footnotes.
 
 use crate::brackets::Target;
-use crate::emission::Around;
+use crate::emission::LeafContext;
 use crate::strings::{has_reference, write_url};
 use crate::targets::{Destination, write_destination, write_title};
 use md_base::Name;
@@ -11,7 +11,7 @@ use md_marks::Token;
 use md_writer::Writer;
 use std::alloc::AllocError;
 
-impl<'e> Around<'e> {
+impl<'e> LeafContext<'e> {
     /// Writes an autolink; inside a link it is text.
     pub(crate) fn write_link(
         &self,

@@ -2,7 +2,7 @@
 
 use crate::reader::Reader;
 use md_base::Name;
-use md_lines::{Class, Place, find_byte, is};
+use md_lines::{Class, Place, find_any, is};
 use md_marks::{
     Delimiter, Leaf, Mark, autolink_at, class_after, class_before, domain_end, flanks, is_www,
     run_length, url, www,
@@ -102,7 +102,7 @@ impl<'a> Reader<'a> {
         // Most code is between two single backticks of a line.
         let end = leaf.end(here.line);
         let inside = here.at.saturating_add(1);
-        let close = find_byte(leaf.bytes, b'`', inside, end);
+        let close = find_any(leaf.bytes, [b'`'; 3], inside, end);
         let after = close.saturating_add(1);
         if inside < close && close < end && leaf.bytes.get(after) != Some(&b'`') {
             return self.put(here.line, Mark::Code, here.at, after);

@@ -3,15 +3,10 @@
 ghost use Rattle.std.specs.Prelude.{◌<◌, ◌≤◌, length};
 
 use md_base::Name;
-use md_lines::{Class, is};
+use md_lines::{Class, find_any, is};
 use md_references::reference_length;
 use md_writer::Writer;
-use memchr::memchr2;
 use std::alloc::AllocError;
-use std::simd::prelude::*;
-
-/// The number of bytes that one step reads.
-const LANES: usize = 16;
 
 /// Writes the events of a text with escapes and references.
 pub(crate) fn write_string(
@@ -45,7 +40,7 @@ fn write_decoded(
     let mut from = start;
     let mut at = start;
     while at < text.len() {
-        at = next_code(bytes, at, text.len());
+        at = find_any(bytes, [b'\\', b'&', b'&'], at, text.len());
         if at >= text.len() {
             break;
         }
@@ -64,30 +59,6 @@ fn write_decoded(
         }
     }
     writer.data(from, end)
-}
-
-/// The index of the next backslash or `&` at `from` or later, or `end` or later if there is none
-/// before `end`.
-#[inline(always)]
-fn next_code(bytes: &[u8], from: usize, end: usize) -> usize
-    ensures { from ≤ result }
-{
-    let end = end.min(bytes.len());
-    let mut at = from;
-    while at < end {
-        let rest = &bytes[at..];
-        if rest.len() < LANES {
-            return at.saturating_add(memchr2(b'\\', b'&', rest).unwrap_or(rest.len()));
-        }
-        let block = Simd::<u8, LANES>::from_slice(rest);
-        let codes = block.simd_eq(Simd::splat(b'\\')) | block.simd_eq(Simd::splat(b'&'));
-        let bits = codes.to_bitmask();
-        if bits != 0 {
-            return at + bits.trailing_zeros() as usize;
-        }
-        at += LANES;
-    }
-    at
 }
 
 /// The length of the reference that begins at an index, or of the backslash there that escapes the

@@ -9,7 +9,7 @@ use Rattle.std.proofs.lemmas.Fmt.{length-decimal-le}
 use Rattle.std.proofs.lemmas.List.{length-append}
 use Rattle.md_text.specs.Url.{sanitized}
 use Rattle.md_text.specs.declared.options.CompileOptions.{CompileOptions}
-use Rattle.md_meaning.specs.Meaning.At.{Given, At, identifier_of}
+use Rattle.md_meaning.specs.Meaning.At.{Context, At, identifier_of}
 use Rattle.md_meaning.specs.Meaning.Footnotes.{distinct, place_among, count_of, option_or, id_of}
 use Rattle.md_meaning.specs.Meaning.Footnotes.{call_id, call}
 use Rattle.md_meaning.specs.Meaning.Layout.{Text}
@@ -108,23 +108,23 @@ call_id-short options identifier number occurrence few rare =
       | false ↦ omega (arith, own, which, length-append id (codes "-" ++ decimal occurrence))
     ]
 
-pub call-short : (given : Given) (at : At) → length given.calls < 2 ^ 63 →
+pub call-short : (context : Context) (at : At) → length context.calls < 2 ^ 63 →
     length at.calls < 2 ^ 63 →
-    size (call given at) ≤ call_cost given.options (identifier_of given.bytes at.children)
-call-short given at few rare =
-    let identifier = identifier_of given.bytes at.children in
-    let number = place_among (distinct given.calls) identifier in
+    size (call context at) ≤ call_cost context.options (identifier_of context.bytes at.children)
+call-short context at few rare =
+    let identifier = identifier_of context.bytes at.children in
+    let number = place_among (distinct context.calls) identifier in
     let occurrence = suc (count_of at.calls identifier) in
-    let number_fits = number-few given.calls identifier few in
+    let number_fits = number-few context.calls identifier few in
     let fits : occurrence < 2 ^ 64 = omega (arith, count-few at.calls identifier, rare) in
     omega (
       arith,
       when-size (not at.around.in_image) (Text (codes "<sup><a href=\"#")
-          ∷ Text (id_of given.options (codes "fn-") identifier number) ∷ Text (codes "\" id=\"")
-          ∷ Text (call_id given.options identifier number occurrence)
+          ∷ Text (id_of context.options (codes "fn-") identifier number) ∷ Text (codes "\" id=\"")
+          ∷ Text (call_id context.options identifier number occurrence)
           ∷ Text (codes "\" data-footnote-ref=\"\" aria-describedby=\"footnote-label\">")
           ∷ Text (decimal number) ∷ Text (codes "</a></sup>") ∷ []),
-      id-short given.options (codes "fn-") identifier number (lit≤ tt) number_fits,
-      call_id-short given.options identifier number occurrence number_fits fits,
+      id-short context.options (codes "fn-") identifier number (lit≤ tt) number_fits,
+      call_id-short context.options identifier number occurrence number_fits fits,
       decimal-short number number_fits,
     )

@@ -19,11 +19,11 @@ use Rattle.md_base.specs.Is.{is}
 use Rattle.md_base.specs.NameTests.{is_transparent, leads_to_values}
 use Rattle.md_base.specs.Tree.{Forest, Empty, Node, flatten, entering, exiting}
 use Rattle.md_pattern.specs.Alignments.{alignments, alignment_of}
-use Rattle.md_shape.specs.Content.{Content, Blocks, Spans, Strings, Html, Lines, Fences}
-use Rattle.md_shape.specs.Content.{BeforeLabel, AfterLabel, Sources, Rows, Cells, Parts, Nothing}
-use Rattle.md_shape.specs.Content.{Childless, Fits, is_allowed, content_inside, content_past}
-use Rattle.md_shape.specs.Content.{content_after, content_after_node}
-use Rattle.md_shape.proofs.Standing.{picked}
+use Rattle.md_steps.specs.Content.{Content, Blocks, Spans, Strings, Html, Lines, Fences}
+use Rattle.md_steps.specs.Content.{BeforeLabel, AfterLabel, Sources, Rows, Cells, Parts, Nothing}
+use Rattle.md_steps.specs.Content.{Childless, Fits, is_allowed, content_inside, content_past}
+use Rattle.md_steps.specs.Content.{content_after, content_after_node}
+use Rattle.md_steps.proofs.Standing.{picked}
 use Rattle.md_length.specs.Costs.{nodes}
 use Rattle.md_length.specs.Uses.{cells, columns_in}
 use Rattle.md_length.specs.Work.{is_row, is_column, exits, columns_after}

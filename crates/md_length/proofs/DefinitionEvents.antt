@@ -15,12 +15,12 @@ use Rattle.md_base.specs.Tree.{Forest, Empty, Node, flatten, entering, exiting}
 use Rattle.md_pattern.specs.Partners.{index_after, definition_entries}
 use Rattle.md_tree.specs.Grammar.{IsGrammatical}
 use Rattle.md_meaning.specs.Meaning.Layout.{when}
-use Rattle.md_shape.specs.Built.{Content, Blocks, Sources, Strings, Nothing, IsBuilt}
-use Rattle.md_shape.specs.Built.{content_inside}
-use Rattle.md_shape.specs.Built.{content_after, content_after_node, content_past, may_stand}
-use Rattle.md_shape.proofs.Grammatical.{grammatical-built}
-use Rattle.md_shape.proofs.Staying.{one_or_other}
-use Rattle.md_shape.proofs.Standing.{picked}
+use Rattle.md_content.specs.Built.{Content, Blocks, Sources, Strings, Nothing, IsBuilt}
+use Rattle.md_content.specs.Built.{content_inside}
+use Rattle.md_content.specs.Built.{content_after, content_after_node, content_past, may_stand}
+use Rattle.md_content.proofs.Grammatical.{grammatical-built}
+use Rattle.md_steps.proofs.Staying.{one_or_other}
+use Rattle.md_steps.proofs.Standing.{picked}
 use Rattle.md_length.specs.Reuse.{definition_length, definition_lengths}
 use Rattle.md_length.specs.Work.{before_definition, read_length}
 

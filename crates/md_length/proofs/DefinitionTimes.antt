@@ -12,7 +12,7 @@ use Rattle.md_meaning.specs.Meaning.Layout.{when}
 use Rattle.md_length.specs.Costs.{unit, nodes, cost}
 use Rattle.md_length.specs.Lengths.{lengths}
 use Rattle.md_length.specs.Longest.{longest}
-use Rattle.md_length.specs.Reuse.{length_at, led_lengths}
+use Rattle.md_length.specs.Reuse.{length_at, resolved_lengths}
 use Rattle.md_length.specs.Work.{read_length}
 use Rattle.md_length.proofs.Definitions.{definition_costs}
 use Rattle.md_length.proofs.Lengths.{read-no_less}
@@ -105,12 +105,12 @@ at-times times (most ∷ costs) (one ∷ lengths) (Some (suc place)) h =
 
 pub led-times : (times : ℕ) (costs lengths : List ℕ) (leads : Mention → Option ℕ)
     (mentions : List Mention) → AreTimes times costs lengths →
-    led_lengths costs leads mentions ≤ times * led_lengths lengths leads mentions
+    resolved_lengths costs leads mentions ≤ times * resolved_lengths lengths leads mentions
 led-times times costs lengths leads [] h = omega arith
 led-times times costs lengths leads (mention ∷ mentions) h =
     omega (
       arith,
       at-times times costs lengths (leads mention) h,
       led-times times costs lengths leads mentions h,
-      mul-add times (length_at lengths (leads mention)) (led_lengths lengths leads mentions),
+      mul-add times (length_at lengths (leads mention)) (resolved_lengths lengths leads mentions),
     )

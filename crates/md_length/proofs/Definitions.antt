@@ -16,18 +16,18 @@ use Rattle.md_base.specs.Is.{is}
 use Rattle.md_base.specs.Children.{is_empty}
 use Rattle.md_base.specs.NameTests.{is_transparent}
 use Rattle.md_base.specs.Tree.{Forest, Empty, Node}
-use Rattle.md_meaning.specs.declared.context.Surroundings.{Surroundings}
-use Rattle.md_meaning.specs.Meaning.At.{Given, At, Before, Defined, target_in}
+use Rattle.md_meaning.specs.declared.surroundings.Surroundings.{Surroundings}
+use Rattle.md_meaning.specs.Meaning.At.{Context, At, Before, Defined, target_in}
 use Rattle.md_meaning.specs.Meaning.At.{identifier_of, nothing_found}
 use Rattle.md_meaning.specs.Meaning.Before.{before_children}
 use Rattle.md_meaning.specs.Meaning.Layout.{layout, when}
 use Rattle.md_meaning.specs.Meaning.Nodes.{Outcome, outcome, found_at}
-use Rattle.md_shape.specs.Built.{Content, Sources, IsBuilt, content_inside, content_after_node}
-use Rattle.md_shape.specs.Built.{may_stand, content_of, content_after}
-use Rattle.md_shape.specs.Claim.{inner_of, at_node, node_of, next_before}
-use Rattle.md_shape.specs.Leads.{first_of}
-use Rattle.md_shape.proofs.Staying.{one_or_other}
-use Rattle.md_shape.proofs.Standing.{picked}
+use Rattle.md_content.specs.Built.{Content, Sources, IsBuilt, content_inside, content_after_node}
+use Rattle.md_content.specs.Built.{may_stand, content_of, content_after}
+use Rattle.md_steps.specs.Claim.{inner_of, at_node, node_of, next_before}
+use Rattle.md_content.specs.References.{first_of}
+use Rattle.md_steps.proofs.Staying.{one_or_other}
+use Rattle.md_steps.proofs.Standing.{picked}
 use Rattle.md_length.specs.Costs.{cost}
 use Rattle.md_length.specs.Reuse.{length_at}
 use Rattle.md_length.specs.Uses.{weight}
@@ -40,27 +40,27 @@ abbrev is_sources : Content → Bool
 is_sources content = elim content [ Sources ↦ true | _ ↦ false ]
 
 -- what is kept of a node in a definition or a resource
-source-kept : (given : Given) (at : At) (name : Name) (inner : Outcome) (spent : ℕ) →
-    length given.ending ≤ 2 → (is_transparent name || may_stand Sources name) ≡ true →
+source-kept : (context : Context) (at : At) (name : Name) (inner : Outcome) (spent : ℕ) →
+    length context.ending ≤ 2 → (is_transparent name || may_stand Sources name) ≡ true →
     (is_transparent name ≡ true → kept at.found ≤ spent) →
     (is_transparent name ≡ false → 7 * size inner.pieces ≤ spent) →
-    kept (found_at at name (layout given.ending inner.pieces)) ≤ spent
-source-kept given at DefinitionDestinationString inner spent few may clear strings =
-    omega (arith, strings refl, layout-short given.ending inner.pieces few)
-source-kept given at ResourceDestinationString inner spent few may clear strings =
-    omega (arith, strings refl, layout-short given.ending inner.pieces few)
-source-kept given at DefinitionTitleString inner spent few may clear strings =
-    omega (arith, strings refl, layout-short given.ending inner.pieces few)
-source-kept given at ResourceTitleString inner spent few may clear strings =
-    omega (arith, strings refl, layout-short given.ending inner.pieces few)
-source-kept given at DefinitionLabelString inner spent few may clear strings = omega arith
-source-kept given at GfmFootnoteDefinitionLabelString inner spent few may clear strings =
+    kept (found_at at name (layout context.ending inner.pieces)) ≤ spent
+source-kept context at DefinitionDestinationString inner spent few may clear strings =
+    omega (arith, strings refl, layout-short context.ending inner.pieces few)
+source-kept context at ResourceDestinationString inner spent few may clear strings =
+    omega (arith, strings refl, layout-short context.ending inner.pieces few)
+source-kept context at DefinitionTitleString inner spent few may clear strings =
+    omega (arith, strings refl, layout-short context.ending inner.pieces few)
+source-kept context at ResourceTitleString inner spent few may clear strings =
+    omega (arith, strings refl, layout-short context.ending inner.pieces few)
+source-kept context at DefinitionLabelString inner spent few may clear strings = omega arith
+source-kept context at GfmFootnoteDefinitionLabelString inner spent few may clear strings =
     omega arith
-source-kept given at LineEnding inner spent few may clear strings = omega arith
-source-kept given at BlockQuotePrefix inner spent few may clear strings = clear refl
-source-kept given at SpaceOrTab inner spent few may clear strings = clear refl
-source-kept given at (Other number) inner spent few may clear strings = clear refl
-source-kept given at _ inner spent few may clear strings = lie may
+source-kept context at LineEnding inner spent few may clear strings = omega arith
+source-kept context at BlockQuotePrefix inner spent few may clear strings = clear refl
+source-kept context at SpaceOrTab inner spent few may clear strings = clear refl
+source-kept context at (Other number) inner spent few may clear strings = clear refl
+source-kept context at _ inner spent few may clear strings = lie may
 
 -- only strings and line endings stand there
 solid-strings : (name : Name) → (is_transparent name || may_stand Sources name) ≡ true →
@@ -83,30 +83,30 @@ after-sources (Node name start end children rest) =
     ap (λ c. content_after c rest)
     (one_or_other (is_transparent name) (after-sources children) refl) ∙ after-sources rest
 
-sources-short : (given : Given) (around : Surroundings) (before : Before) (forest : Forest) →
-    length given.ending ≤ 2 → IsBuilt given.bytes Sources forest →
-    kept (outcome given around before forest).found ≤ cost given.names forest
-sources-short given around before Empty few built = omega arith
-sources-short given around before (Node name start end children rest) few built =
+sources-short : (context : Context) (around : Surroundings) (before : Before) (forest : Forest) →
+    length context.ending ≤ 2 → IsBuilt context.bytes Sources forest →
+    kept (outcome context around before forest).found ≤ cost context.names forest
+sources-short context around before Empty few built = omega arith
+sources-short context around before (Node name start end children rest) few built =
     let last : Bool = around.is_outermost && is_empty rest in
-    let inner : Outcome = inner_of given around before name children in
-    let at : At = at_node given around before last name start end children in
-    let here : Outcome = node_of given around before last name start end children in
-    let next : Before = next_before given around before last name start end children in
-    let later : Outcome = outcome given around next rest in
-    let own = source-kept given at name inner (cost given.names children) few built.0
-    (λ clear. sources-short given (around_in given around name children)
+    let inner : Outcome = inner_of context around before name children in
+    let at : At = at_node context around before last name start end children in
+    let here : Outcome = node_of context around before last name start end children in
+    let next : Before = next_before context around before last name start end children in
+    let later : Outcome = outcome context around next rest in
+    let own = source-kept context at name inner (cost context.names children) few built.0
+    (λ clear. sources-short context (around_in context around name children)
     (before_children name children before) children few
-    (subst (λ b. IsBuilt given.bytes (if b then Sources else content_of name Sources) children)
+    (subst (λ b. IsBuilt context.bytes (if b then Sources else content_of name Sources) children)
     clear built.2))
     (λ solid. omega (
       arith,
-      strings-short given (around_in given around name children)
+      strings-short context (around_in context around name children)
           (before_children name children before) (content_inside Sources name) children built.2
           (solid-strings name built.0 solid),
     )) in
-    let after = sources-short given around next rest few
-    (subst (λ c. IsBuilt given.bytes c rest)
+    let after = sources-short context around next rest few
+    (subst (λ c. IsBuilt context.bytes c rest)
     (one_or_other (is_transparent name) (after-sources children) refl) built.3) in
     omega (arith, own, after, both-kept later.found here.found)
 
@@ -130,44 +130,44 @@ below-append [] ys ms ns h k = subst (λ ms. AreBelow ys (ms ++ ns)) (sym h) k
 below-append (x ∷ xs) ys [] ns h k = absurd h
 below-append (x ∷ xs) ys (m ∷ ms) ns h k = (h.0, below-append xs ys ms ns h.1 k)
 
-pub definitions-below : (given : Given) (around : Surroundings) (before : Before)
-    (content : Content) (forest : Forest) → length given.ending ≤ 2 →
-    IsBuilt given.bytes content forest →
-    AreBelow (outcome given around before forest).definitions
-    (definition_costs given.names forest)
-definitions-below given around before content Empty few built = refl
-definitions-below given around before content (Node name start end children rest) few built =
+pub definitions-below : (context : Context) (around : Surroundings) (before : Before)
+    (content : Content) (forest : Forest) → length context.ending ≤ 2 →
+    IsBuilt context.bytes content forest →
+    AreBelow (outcome context around before forest).definitions
+    (definition_costs context.names forest)
+definitions-below context around before content Empty few built = refl
+definitions-below context around before content (Node name start end children rest) few built =
     let last : Bool = around.is_outermost && is_empty rest in
-    let inner : Outcome = inner_of given around before name children in
-    let next : Before = next_before given around before last name start end children in
-    let later : Outcome = outcome given around next rest in
+    let inner : Outcome = inner_of context around before name children in
+    let next : Before = next_before context around before last name start end children in
+    let later : Outcome = outcome context around next rest in
     let own : Defined = record {
-      identifier = identifier_of given.bytes children;
+      identifier = identifier_of context.bytes children;
       target = target_in inner.found;
     } in
     below-append (inner.definitions ++ when (is Definition name) (own ∷ [])) later.definitions
-    (definition_costs given.names children
-    ++ when (is Definition name) (cost given.names children ∷ []))
-    (definition_costs given.names rest)
+    (definition_costs context.names children
+    ++ when (is Definition name) (cost context.names children ∷ []))
+    (definition_costs context.names rest)
     (below-append inner.definitions (when (is Definition name) (own ∷ []))
-    (definition_costs given.names children)
-    (when (is Definition name) (cost given.names children ∷ []))
-    (definitions-below given (around_in given around name children)
+    (definition_costs context.names children)
+    (when (is Definition name) (cost context.names children ∷ []))
+    (definitions-below context (around_in context around name children)
     (before_children name children before) (content_inside content name) children few built.2)
     (own-below name built.2))
-    (definitions-below given around next (content_after_node content name children) rest few
+    (definitions-below context around next (content_after_node content name children) rest few
     built.3)
   where
-    own-below : (name : Name) → IsBuilt given.bytes (content_inside content name) children →
+    own-below : (name : Name) → IsBuilt context.bytes (content_inside content name) children →
         AreBelow (when (is Definition name) (record {
-          identifier = identifier_of given.bytes children;
-          target = target_in (inner_of given around before name children).found;
-        } ∷ [])) (when (is Definition name) (cost given.names children ∷ []))
+          identifier = identifier_of context.bytes children;
+          target = target_in (inner_of context around before name children).found;
+        } ∷ [])) (when (is Definition name) (cost context.names children ∷ []))
     own-below Definition inside = (
       omega (
         arith,
-        target-kept (inner_of given around before Definition children).found,
-        sources-short given (around_in given around Definition children)
+        target-kept (inner_of context around before Definition children).found,
+        sources-short context (around_in context around Definition children)
             (before_children Definition children before) children few inside,
       ),
       refl,

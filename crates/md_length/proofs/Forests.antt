@@ -17,16 +17,16 @@ use Rattle.md_base.specs.Children.{is_empty, or_else}
 use Rattle.md_base.specs.NameTests.{is_transparent}
 use Rattle.md_base.specs.Tree.{Forest, Empty, Node}
 use Rattle.md_tree.specs.declared.mention.Referral.TheVariants as referral
-use Rattle.md_meaning.specs.declared.context.Surroundings.{Surroundings}
-use Rattle.md_meaning.specs.Meaning.At.{Target, Given, At, Before}
+use Rattle.md_meaning.specs.declared.surroundings.Surroundings.{Surroundings}
+use Rattle.md_meaning.specs.Meaning.At.{Target, Context, At, Before}
 use Rattle.md_meaning.specs.Meaning.At.{identifier_of}
 use Rattle.md_meaning.specs.Meaning.Before.{before_children}
 use Rattle.md_meaning.specs.Meaning.Layout.{when}
 use Rattle.md_meaning.specs.Meaning.Nodes.{Outcome, outcome}
-use Rattle.md_shape.specs.Built.{Content, IsBuilt, content_inside, content_after_node}
-use Rattle.md_shape.specs.Claim.{inner_of, at_node, node_of, next_before}
-use Rattle.md_shape.specs.Leads.{Everywhere}
-use Rattle.md_shape.specs.Underlined.{waits_past, waits_after, IsUnderlined}
+use Rattle.md_content.specs.Built.{Content, IsBuilt, content_inside, content_after_node}
+use Rattle.md_steps.specs.Claim.{inner_of, at_node, node_of, next_before}
+use Rattle.md_content.specs.References.{Everywhere}
+use Rattle.md_content.specs.Underlined.{waits_past, waits_after, IsUnderlined}
 use Rattle.md_length.specs.Costs.{cost, nodes}
 use Rattle.md_length.specs.Sound.{IsSound}
 use Rattle.md_length.specs.Uses.{uses, columns_in}
@@ -38,14 +38,14 @@ use Rattle.md_length.proofs.NodesShort.{is_source, Known, node-short}
 
 -- ---- nodes
 -- what some nodes print and what is kept of them
-abbrev pub AreShort : Given → Surroundings → Before → Bool → Forest → Type 0
-AreShort given around before waits forest =
-    size (outcome given around before forest).pieces
-    + kept (outcome given around before forest).found
-    + notes (outcome given around before forest).footnotes
+abbrev pub AreShort : Context → Surroundings → Before → Bool → Forest → Type 0
+AreShort context around before waits forest =
+    size (outcome context around before forest).pieces
+    + kept (outcome context around before forest).found
+    + notes (outcome context around before forest).footnotes
     + held (waits_after waits forest)
-    (unwrap_or (outcome given around before forest).found.heading before.heading)
-    ≤ cost given.names forest + uses given before.columns forest + held waits before.heading
+    (unwrap_or (outcome context around before forest).found.heading before.heading)
+    ≤ cost context.names forest + uses context before.columns forest + held waits before.heading
 
 unwrap-else : (later first : Option (List ℕ)) (before : List ℕ) →
     unwrap_or (or_else later first) before ≡ unwrap_or later (unwrap_or first before)
@@ -70,43 +70,45 @@ found_some : (resource : Option Target) → Finds referral.Missing resource →
 found_some resource (inl never) = cc
 found_some resource (inr found) = found
 
-pub nodes-short : (given : Given) (around : Surroundings) (before : Before) (waits : Bool)
-    (content : Content) (forest : Forest) → length given.ending ≤ 2 → length given.calls < 2 ^ 63 →
+pub nodes-short : (context : Context) (around : Surroundings) (before : Before) (waits : Bool)
+    (content : Content) (forest : Forest) → length context.ending ≤ 2 → length context.calls < 2 ^
+    63 →
     length before.calls + nodes forest < 2 ^ 63 → Everywhere IsSound forest →
-    IsBuilt given.bytes content forest → IsUnderlined waits forest →
-    AreShort given around before waits forest
-nodes-short given around before waits content Empty ending few rare sound built under = omega arith
-nodes-short given around before waits content (Node name start end children rest) ending few rare
+    IsBuilt context.bytes content forest → IsUnderlined waits forest →
+    AreShort context around before waits forest
+nodes-short context around before waits content Empty ending few rare sound built under = omega
+    arith
+nodes-short context around before waits content (Node name start end children rest) ending few rare
     sound built under =
     let last : Bool = around.is_outermost && is_empty rest in
-    let inner : Outcome = inner_of given around before name children in
-    let at : At = at_node given around before last name start end children in
-    let here : Outcome = node_of given around before last name start end children in
-    let next : Before = next_before given around before last name start end children in
-    let later : Outcome = outcome given around next rest in
+    let inner : Outcome = inner_of context around before name children in
+    let at : At = at_node context around before last name start end children in
+    let here : Outcome = node_of context around before last name start end children in
+    let next : Before = next_before context around before last name start end children in
+    let later : Outcome = outcome context around next rest in
     let clear : Bool = is_transparent name in
     let begun : Bool = if clear then waits else false in
-    let inside : AreShort given (around_in given around name children)
+    let inside : AreShort context (around_in context around name children)
     (before_children name children before) begun children =
-    nodes-short given (around_in given around name children)
+    nodes-short context (around_in context around name children)
     (before_children name children before) begun (content_inside content name) children ending few
     (omega (arith, rare)) sound.1 built.2 under.1 in
     let outer : List ℕ = before.heading in
     let heading : List ℕ = (before_children name children before).heading in
     let columns : List AlignKind = columns_in before.columns name children in
-    let spent : ℕ = cost given.names children + uses given columns children in
+    let spent : ℕ = cost context.names children + uses context columns children in
     let one : List (List ℕ) =
-    when (is GfmFootnoteCall name) (identifier_of given.bytes children ∷ []) in
+    when (is GfmFootnoteCall name) (identifier_of context.bytes children ∷ []) in
     let few_one : length one ≤ 1 = one-short (is GfmFootnoteCall name) _ in
     let inner_few : length inner.calls ≤ nodes children =
-    calls-few given (around_in given around name children)
+    calls-few context (around_in context around name children)
     (before_children name children before) children in
     let at_few = length-append before.calls inner.calls in
-    let known : Known given at waits (waits_after waits children) inner name spent = record {
+    let known : Known context at waits (waits_after waits children) inner name spent = record {
       ending = ending;
       sound = sound.0;
       resource = λ h.
-          found_some inner.found.resource (resource-found given (around_in given around name
+          found_some inner.found.resource (resource-found context (around_in context around name
           children)
           (before_children name children before) children referral.Missing sound.1 h);
       calls = few;
@@ -119,7 +121,7 @@ nodes-short given around before waits content (Node name start end children rest
       );
       strings = λ h. omega (
         arith,
-        strings-short given (around_in given around name children)
+        strings-short context (around_in context around name children)
             (before_children name children before) (content_inside content name) children built.2
             (source-strings content name h),
       );
@@ -131,7 +133,8 @@ nodes-short given around before waits content (Node name start end children rest
         ap (λ b. held (if b then waits else false) (if b then outer else [])) e,
       );
     } in
-    let own_short = node-short given at waits (waits_after waits children) inner name spent known in
+    let own_short = node-short context at waits (waits_after waits children) inner name spent known
+    in
     let rest_few : length next.calls + nodes rest < 2 ^ 63 =
     omega (
       arith,
@@ -142,8 +145,9 @@ nodes-short given around before waits content (Node name start end children rest
       rare,
     ) in
     let waits_next : Bool = if clear then waits_after waits children else waits_past waits name in
-    let after : AreShort given around next waits_next rest =
-    nodes-short given around next waits_next (content_after_node content name children) rest ending
+    let after : AreShort context around next waits_next rest =
+    nodes-short context around next waits_next (content_after_node content name children) rest
+    ending
     few rest_few sound.2 built.3 under.2 in
     let last_heading = ap (λ h. held (waits_after waits_next rest) h)
     (unwrap-else later.found.heading here.found.heading outer) in

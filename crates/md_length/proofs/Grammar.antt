@@ -35,16 +35,16 @@ use Rattle.md_pattern.specs.Shape.{inner_role, inner_before}
 use Rattle.md_meaning.specs.Meaning.{ending_at}
 use Rattle.md_meaning.specs.Meaning.At.{text_in}
 use Rattle.md_meaning.specs.Meaning.Finds.{first_ending}
-use Rattle.md_shape.specs.Content.{Content, Blocks, Spans, Sources, Fits, is_allowed}
-use Rattle.md_shape.specs.Content.{content_inside}
-use Rattle.md_shape.specs.Content.{content_past, content_after_node, content_of}
-use Rattle.md_shape.specs.Leads.{Everywhere}
-use Rattle.md_shape.proofs.ContentFits.{shaped-fits}
-use Rattle.md_shape.proofs.FineNodes.{fine, IsFine, AreFine}
-use Rattle.md_shape.proofs.RanksAndNumbers.{text_fits}
-use Rattle.md_shape.proofs.TextsThere.{everywhere}
-use Rattle.md_shape.proofs.Staying.{node-stays}
-use Rattle.md_shape.proofs.Standing.{picked}
+use Rattle.md_steps.specs.Content.{Content, Blocks, Spans, Sources, Fits, is_allowed}
+use Rattle.md_steps.specs.Content.{content_inside}
+use Rattle.md_steps.specs.Content.{content_past, content_after_node, content_of}
+use Rattle.md_content.specs.References.{Everywhere}
+use Rattle.md_steps.proofs.ContentFits.{shaped-fits}
+use Rattle.md_content.proofs.FineNodes.{fine, IsFine, AreFine}
+use Rattle.md_content.proofs.RanksAndNumbers.{text_fits}
+use Rattle.md_content.proofs.TextsThere.{everywhere}
+use Rattle.md_steps.proofs.Staying.{node-stays}
+use Rattle.md_steps.proofs.Standing.{picked}
 use Rattle.md_length.specs.Sound.{IsSound}
 
 -- ---- no resource stands in a label or a prefix

@@ -20,9 +20,9 @@ use Rattle.md_pattern.specs.declared.kinds.Role.{Role}
 use Rattle.md_pattern.specs.Spine.{spine, shown}
 use Rattle.md_pattern.specs.Shape.{AreShaped, IsStanding}
 use Rattle.md_pattern.specs.Standing.{standing_of}
-use Rattle.md_shape.specs.Content.{Rows, Cells, Parts, Fits, is_allowed}
-use Rattle.md_shape.specs.Content.{content_inside, content_after, content_after_node, content_of}
-use Rattle.md_shape.proofs.Staying.{one_or_other, childless}
+use Rattle.md_steps.specs.Content.{Rows, Cells, Parts, Fits, is_allowed}
+use Rattle.md_steps.specs.Content.{content_inside, content_after, content_after_node, content_of}
+use Rattle.md_steps.proofs.Staying.{one_or_other, childless}
 use Rattle.md_length.specs.Uses.{cells, columns_in}
 use Rattle.md_length.proofs.Cells.{no-cells}
 use Rattle.md_length.proofs.Spined.{spined, after, after-append, spined-split, still, is_first_row}

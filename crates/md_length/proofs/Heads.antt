@@ -19,9 +19,9 @@ use Rattle.md_pattern.specs.declared.kinds.Role.TheVariants as role
 use Rattle.md_pattern.specs.Shape.{AreShaped, IsStanding, inner_role, inner_before}
 use Rattle.md_pattern.specs.Standing.{standing_of}
 use Rattle.md_tree.specs.Grammar.{IsGrammatical}
-use Rattle.md_shape.proofs.ContentFits.{shaped-fits}
-use Rattle.md_shape.specs.Content.{Content, Blocks, Fits}
-use Rattle.md_shape.specs.Content.{content_inside, content_after_node}
+use Rattle.md_steps.proofs.ContentFits.{shaped-fits}
+use Rattle.md_steps.specs.Content.{Content, Blocks, Fits}
+use Rattle.md_steps.specs.Content.{content_inside, content_after_node}
 use Rattle.md_length.specs.Uses.{cells, columns_in}
 use Rattle.md_length.specs.Work.{is_column, cells as counted}
 use Rattle.md_length.proofs.Cells.{values}

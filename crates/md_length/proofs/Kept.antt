@@ -14,14 +14,14 @@ use Rattle.md_base.specs.Tree.{Forest, Empty, Node}
 use Rattle.md_tree.specs.declared.mention.Referral.{Referral}
 use Rattle.md_tree.specs.declared.mention.Referral.TheVariants as referral
 use Rattle.md_tree.specs.Rules.{place, target_of}
-use Rattle.md_meaning.specs.declared.context.Surroundings.{Surroundings}
-use Rattle.md_meaning.specs.Meaning.At.{Target, Given, At, Before, Found}
+use Rattle.md_meaning.specs.declared.surroundings.Surroundings.{Surroundings}
+use Rattle.md_meaning.specs.Meaning.At.{Target, Context, At, Before, Found}
 use Rattle.md_meaning.specs.Meaning.At.{target_in, identifier_of}
 use Rattle.md_meaning.specs.Meaning.Before.{before_children}
 use Rattle.md_meaning.specs.Meaning.Layout.{when}
 use Rattle.md_meaning.specs.Meaning.Media.{target_defined}
 use Rattle.md_meaning.specs.Meaning.Nodes.{Outcome, outcome}
-use Rattle.md_shape.specs.Claim.{inner_of, next_before}
+use Rattle.md_steps.specs.Claim.{inner_of, next_before}
 use Rattle.md_length.specs.Costs.{nodes}
 use Rattle.md_length.specs.Uses.{weight, led}
 use Rattle.md_length.proofs.Strings.{around_in}
@@ -69,49 +69,49 @@ target-kept found = by found.destination
     by (Some text) = omega arith
 
 -- ---- the calls
-pub calls-few : (given : Given) (around : Surroundings) (before : Before) (forest : Forest) →
-    length (outcome given around before forest).calls ≤ nodes forest
-calls-few given around before Empty = lit≤ tt
-calls-few given around before (Node name start end children rest) =
+pub calls-few : (context : Context) (around : Surroundings) (before : Before) (forest : Forest) →
+    length (outcome context around before forest).calls ≤ nodes forest
+calls-few context around before Empty = lit≤ tt
+calls-few context around before (Node name start end children rest) =
     let last : Bool = around.is_outermost && is_empty rest in
-    let inner : Outcome = inner_of given around before name children in
-    let next : Before = next_before given around before last name start end children in
+    let inner : Outcome = inner_of context around before name children in
+    let next : Before = next_before context around before last name start end children in
     let one : List (List ℕ) =
-    when (is GfmFootnoteCall name) (identifier_of given.bytes children ∷ []) in
+    when (is GfmFootnoteCall name) (identifier_of context.bytes children ∷ []) in
     let few : length one ≤ 1 = elim (is GfmFootnoteCall name) as
-    (λ b. length (when b (identifier_of given.bytes children ∷ [])) ≤ 1) [
+    (λ b. length (when b (identifier_of context.bytes children ∷ [])) ≤ 1) [
       | true ↦ lit≤ tt
       | false ↦ lit≤ tt
     ] in
     omega (
       arith,
-      calls-few given (around_in given around name children)
+      calls-few context (around_in context around name children)
           (before_children name children before) children,
-      calls-few given around next rest,
-      length-append (inner.calls ++ one) (outcome given around next rest).calls,
+      calls-few context around next rest,
+      length-append (inner.calls ++ one) (outcome context around next rest).calls,
       length-append inner.calls one,
       few,
     )
 
 -- ---- the target of a link or an image
-pub media-leads : (given : Given) (at : At) (resource : Option Target) →
+pub media-leads : (context : Context) (at : At) (resource : Option Target) →
     (target_of at.children referral.Missing ≡ referral.Missing → ⊥) →
     (target_of at.children referral.Missing ≡ referral.Resource → is_some resource ≡ true) →
-    weight (unwrap_or resource (target_defined given (identifier_of given.bytes at.children)))
-    ≤ led given at.children + option_map_or weight resource 0
-media-leads given at (Some target) some found = omega arith
-media-leads given at None some found =
+    weight (unwrap_or resource (target_defined context (identifier_of context.bytes at.children)))
+    ≤ led context at.children + option_map_or weight resource 0
+media-leads context at (Some target) some found = omega arith
+media-leads context at None some found =
     by (target_of at.children referral.Missing) some found
   where
     target : Target
-    target = target_defined given (identifier_of given.bytes at.children)
+    target = target_defined context (identifier_of context.bytes at.children)
 
     by : (left : Referral) → (left ≡ referral.Missing → ⊥) →
         (left ≡ referral.Resource → false ≡ true) →
-        weight (target_defined given (identifier_of given.bytes at.children))
+        weight (target_defined context (identifier_of context.bytes at.children))
         ≤ (elim left [
           | referral.Label place ↦
-              weight (target_defined given (identifier_of given.bytes at.children))
+              weight (target_defined context (identifier_of context.bytes at.children))
           | _ ↦ 0
         ]) + 0
     by referral.Missing some found = absurd (some refl)

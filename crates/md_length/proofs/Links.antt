@@ -20,17 +20,17 @@ use Rattle.md_tree.specs.declared.mention.Mention.{Mention}
 use Rattle.md_tree.specs.declared.mention.Mention.TheVariants.{Reference}
 use Rattle.md_tree.specs.declared.mention.Referral.{Referral}
 use Rattle.md_tree.specs.declared.mention.Referral.TheVariants as referral
-use Rattle.md_meaning.specs.Meaning.At.{Given, identifier_of}
-use Rattle.md_meaning.specs.Meaning.Around.{outermost}
+use Rattle.md_meaning.specs.Meaning.At.{Context, identifier_of}
+use Rattle.md_meaning.specs.Meaning.Inherited.{outermost}
 use Rattle.md_meaning.specs.Meaning.Before.{nothing_before}
 use Rattle.md_meaning.specs.Meaning.Media.{target_defined}
-use Rattle.md_shape.specs.Built.{Blocks}
-use Rattle.md_shape.specs.Leads.{Everywhere, LeadsAlike, defined_in, first_of}
-use Rattle.md_shape.proofs.Alike.{leads-alike}
-use Rattle.md_shape.proofs.Grammatical.{grammatical-built}
-use Rattle.md_shape.proofs.Listed.{definitions-listed}
+use Rattle.md_content.specs.Built.{Blocks}
+use Rattle.md_content.specs.References.{Everywhere, ResolvesAlike, defined_in, first_of}
+use Rattle.md_content.proofs.Alike.{leads-alike}
+use Rattle.md_content.proofs.Grammatical.{grammatical-built}
+use Rattle.md_content.proofs.Listed.{definitions-listed}
 use Rattle.md_length.specs.Lengths.{lengths}
-use Rattle.md_length.specs.Reuse.{length_at, led_lengths}
+use Rattle.md_length.specs.Reuse.{length_at, resolved_lengths}
 use Rattle.md_length.specs.Reuse.{referred as reused}
 use Rattle.md_length.specs.Uses.{referred, led, weight}
 use Rattle.md_length.specs.Reuse.{is_media}
@@ -42,33 +42,33 @@ use Rattle.md_length.proofs.DefinitionTimes.{half_unit, costs-times, led-times}
 
 -- ---- links and images
 led-append : (lengths : List ℕ) (leads : Mention → Option ℕ) (xs ys : List Mention) →
-    led_lengths lengths leads (xs ++ ys)
-    ≡ led_lengths lengths leads xs + led_lengths lengths leads ys
+    resolved_lengths lengths leads (xs ++ ys)
+    ≡ resolved_lengths lengths leads xs + resolved_lengths lengths leads ys
 led-append lengths leads [] ys = omega arith
 led-append lengths leads (x ∷ xs) ys = omega (arith, led-append lengths leads xs ys)
 
 -- a link or an image refers to a definition with this known
-abbrev IsLed : Given → List ℕ → (Mention → Option ℕ) → Name → Point → Point → Forest → Type 0
-IsLed given costs leads name start end children = led given children
+abbrev IsLed : Context → List ℕ → (Mention → Option ℕ) → Name → Point → Point → Forest → Type 0
+IsLed context costs leads name start end children = led context children
     ≤ length_at costs (leads (mention_of reading.Media (target_of children referral.Missing)))
 
-links-led : (given : Given) (costs : List ℕ) (leads : Mention → Option ℕ) (forest : Forest) →
-    Everywhere (IsLed given costs leads) forest →
-    referred given forest ≤ led_lengths costs leads (mentions_of forest)
-links-led given costs leads Empty each = omega arith
-links-led given costs leads (Node name start end children rest) each =
+links-led : (context : Context) (costs : List ℕ) (leads : Mention → Option ℕ) (forest : Forest) →
+    Everywhere (IsLed context costs leads) forest →
+    referred context forest ≤ resolved_lengths costs leads (mentions_of forest)
+links-led context costs leads Empty each = omega arith
+links-led context costs leads (Node name start end children rest) each =
     let mention : Mention =
     mention_of (reading_of (standing_of name)) (target_of children referral.Missing) in
     omega (
       arith,
       own name each.0,
-      links-led given costs leads children each.1,
-      links-led given costs leads rest each.2,
+      links-led context costs leads children each.1,
+      links-led context costs leads rest each.2,
       led-append costs leads (mentions_of children) (mention ∷ mentions_of rest),
     )
   where
-    own : (name : Name) → IsLed given costs leads name start end children →
-        (if is_media name then led given children else 0) ≤ length_at costs
+    own : (name : Name) → IsLed context costs leads name start end children →
+        (if is_media name then led context children else 0) ≤ length_at costs
         (leads (mention_of (reading_of (standing_of name)) (target_of children referral.Missing)))
     own Link h = h
     own Image h = h
@@ -78,7 +78,7 @@ links-led given costs leads (Node name start end children rest) each =
 target-led : (bytes : List ℕ) (names : List (List ℕ × List ℕ)) (options : CompileOptions)
     (document : Forest) → IsGrammatical bytes names document →
     (name : Name) (start end : Point) (children : Forest) →
-    LeadsAlike bytes document name start end children →
+    ResolvesAlike bytes document name start end children →
     IsLed (given_in options names bytes document) (definition_costs names document)
     (definition_for bytes (mentions_of document)) name start end children
 target-led bytes names options document grammatical name start end children alike =
@@ -87,21 +87,21 @@ target-led bytes names options document grammatical name start end children alik
     costs : List ℕ
     costs = definition_costs names document
 
-    called : Given
+    called : Context
     called = called_in options names bytes document
 
-    given : Given
-    given = given_in options names bytes document
+    context : Context
+    context = given_in options names bytes document
 
     identifier : List ℕ
     identifier = identifier_of bytes children
 
-    found : weight (target_defined given identifier)
+    found : weight (target_defined context identifier)
         ≤ length_at costs (first_of (defined_in bytes document) identifier)
-    found = subst (λ known. weight (target_defined given identifier)
+    found = subst (λ known. weight (target_defined context identifier)
         ≤ length_at costs (first_of known identifier))
         (definitions-listed called outermost nothing_before document)
-        (first-below given.definitions costs identifier
+        (first-below context.definitions costs identifier
         (definitions-below called outermost nothing_before Blocks document
         (grammatical-ending options bytes names document grammatical)
         (grammatical-built bytes names document grammatical)))
@@ -109,13 +109,13 @@ target-led bytes names options document grammatical name start end children alik
     by : (left : Referral) → ((label : Position) → left ≡ referral.Label label →
         definition_for bytes (mentions_of document) (Reference label)
         ≡ first_of (defined_in bytes document) identifier) →
-        (elim left [ referral.Label at ↦ weight (target_defined given identifier) | _ ↦ 0 ])
+        (elim left [ referral.Label at ↦ weight (target_defined context identifier) | _ ↦ 0 ])
         ≤ length_at costs
         (definition_for bytes (mentions_of document) (mention_of reading.Media left))
     by referral.Missing same = omega arith
     by referral.Resource same = omega arith
     by (referral.Label label) same =
-        subst (λ place. weight (target_defined given identifier) ≤ length_at costs place)
+        subst (λ place. weight (target_defined context identifier) ≤ length_at costs place)
         (sym (same label refl)) found
 
 pub referred-short : (options : CompileOptions) (names : List (List ℕ × List ℕ)) (bytes : List ℕ)
@@ -129,11 +129,11 @@ referred-short options names bytes document is =
     (each document (leads-alike bytes names document is)) in
     let times = led-times (half_unit names) costs (tree_lengths document) leads
     (mentions_of document) (costs-times names document) in
-    let same = ap (λ ls. half_unit names * led_lengths ls leads (mentions_of document))
+    let same = ap (λ ls. half_unit names * resolved_lengths ls leads (mentions_of document))
     (document-lengths bytes names document is) in
     omega (arith, led_all, times, same)
   where
-    each : (forest : Forest) → Everywhere (LeadsAlike bytes document) forest →
+    each : (forest : Forest) → Everywhere (ResolvesAlike bytes document) forest →
         Everywhere (IsLed (given_in options names bytes document) (definition_costs names document)
         (definition_for bytes (mentions_of document))) forest
     each Empty alike = tt

@@ -19,15 +19,15 @@ use Rattle.md_base.specs.Children.{is_empty, or_else, first_on_spine}
 use Rattle.md_base.specs.NameTests.{is_transparent}
 use Rattle.md_base.specs.Tree.{Forest, Empty, Node}
 use Rattle.md_tree.specs.Rules.{place}
-use Rattle.md_meaning.specs.declared.context.Surroundings.{Surroundings}
-use Rattle.md_meaning.specs.Meaning.At.{Given, Before, identifier_of, text_in}
+use Rattle.md_meaning.specs.declared.surroundings.Surroundings.{Surroundings}
+use Rattle.md_meaning.specs.Meaning.At.{Context, Before, identifier_of, text_in}
 use Rattle.md_meaning.specs.Meaning.Before.{before_children}
 use Rattle.md_meaning.specs.Meaning.Finds.{first_named, in_first_named}
 use Rattle.md_meaning.specs.Meaning.Layout.{when}
 use Rattle.md_meaning.specs.Meaning.Nodes.{Outcome, outcome}
-use Rattle.md_shape.specs.Built.{Content, IsBuilt, IsFit, rank_in, content_inside}
-use Rattle.md_shape.specs.Built.{content_after_node}
-use Rattle.md_shape.specs.Claim.{inner_of, next_before}
+use Rattle.md_content.specs.Built.{Content, IsBuilt, IsFit, rank_in, content_inside}
+use Rattle.md_content.specs.Built.{content_after_node}
+use Rattle.md_steps.specs.Claim.{inner_of, next_before}
 use Rattle.md_length.specs.Costs.{own, unit, cost, nodes}
 use Rattle.md_length.specs.Lengths.{lengths}
 use Rattle.md_length.specs.Uses.{number_length, used, uses, columns_in, call_cost, numbers}
@@ -42,36 +42,36 @@ rank-short : (n : ℕ) → n ≤ 6 → length (decimal n) ≤ 1
 rank-short n few = length-decimal-le 1 n (lit< tt) (omega arith) (omega arith)
 
 -- what a node uses beside what is summed up apart
-own-parts : (given : Given) (columns : List AlignKind) (bytes : List ℕ) (name : Name)
+own-parts : (context : Context) (columns : List AlignKind) (bytes : List ℕ) (name : Name)
     (start end : Point) (children : Forest) → IsFit bytes name start end children →
-    used given columns name children
-    ≤ (if is ListOrdered name then number_length given.bytes children else 0) + 2
-    + (if is_media name then led given children else 0)
+    used context columns name children
+    ≤ (if is ListOrdered name then number_length context.bytes children else 0) + 2
+    + (if is_media name then led context children else 0)
     + 32 * (if is GfmTableRow name then length columns else 0)
     + (if is GfmFootnoteCall name
-    then call_cost given.options (identifier_of given.bytes children) else 0)
-own-parts given columns bytes ListOrdered start end children fit = omega arith
-own-parts given columns bytes HeadingAtx start end children fit =
+    then call_cost context.options (identifier_of context.bytes children) else 0)
+own-parts context columns bytes ListOrdered start end children fit = omega arith
+own-parts context columns bytes HeadingAtx start end children fit =
     omega (arith, rank-short (rank_in children) fit.1)
-own-parts given columns bytes Link start end children fit = omega arith
-own-parts given columns bytes Image start end children fit = omega arith
-own-parts given columns bytes GfmTableRow start end children fit = omega arith
-own-parts given columns bytes GfmFootnoteCall start end children fit = omega arith
-own-parts given columns bytes _ start end children fit = omega arith
+own-parts context columns bytes Link start end children fit = omega arith
+own-parts context columns bytes Image start end children fit = omega arith
+own-parts context columns bytes GfmTableRow start end children fit = omega arith
+own-parts context columns bytes GfmFootnoteCall start end children fit = omega arith
+own-parts context columns bytes _ start end children fit = omega arith
 
-pub uses-parts : (given : Given) (columns : List AlignKind) (bytes : List ℕ) (content : Content)
+pub uses-parts : (context : Context) (columns : List AlignKind) (bytes : List ℕ) (content : Content)
     (forest : Forest) → IsBuilt bytes content forest →
-    uses given columns forest
-    ≤ numbers given.bytes forest + 2 * nodes forest + referred given forest
-    + 32 * cells columns forest + called (call_cost given.options) given.bytes forest
-uses-parts given columns bytes content Empty built = omega arith
-uses-parts given columns bytes content (Node name start end children rest) built =
+    uses context columns forest
+    ≤ numbers context.bytes forest + 2 * nodes forest + referred context forest
+    + 32 * cells columns forest + called (call_cost context.options) context.bytes forest
+uses-parts context columns bytes content Empty built = omega arith
+uses-parts context columns bytes content (Node name start end children rest) built =
     omega (
       arith,
-      own-parts given columns bytes name start end children built.1,
-      uses-parts given (columns_in columns name children) bytes (content_inside content name)
+      own-parts context columns bytes name start end children built.1,
+      uses-parts context (columns_in columns name children) bytes (content_inside content name)
           children built.2,
-      uses-parts given columns bytes (content_after_node content name children) rest built.3,
+      uses-parts context columns bytes (content_after_node content name children) rest built.3,
     )
 
 -- ---- all that the nodes may print
@@ -93,22 +93,22 @@ sum-append : (f : List ℕ → ℕ) (xs ys : List (List ℕ)) →
 sum-append f [] ys = omega arith
 sum-append f (x ∷ xs) ys = omega (arith, sum-append f xs ys)
 
-pub calls-sum : (f : List ℕ → ℕ) (given : Given) (around : Surroundings) (before : Before)
+pub calls-sum : (f : List ℕ → ℕ) (context : Context) (around : Surroundings) (before : Before)
     (forest : Forest) →
-    sum_of f (outcome given around before forest).calls ≡ called f given.bytes forest
-calls-sum f given around before Empty = refl
-calls-sum f given around before (Node name start end children rest) =
+    sum_of f (outcome context around before forest).calls ≡ called f context.bytes forest
+calls-sum f context around before Empty = refl
+calls-sum f context around before (Node name start end children rest) =
     let last : Bool = around.is_outermost && is_empty rest in
-    let inner : Outcome = inner_of given around before name children in
-    let next : Before = next_before given around before last name start end children in
-    let identifier = identifier_of given.bytes children in
+    let inner : Outcome = inner_of context around before name children in
+    let next : Before = next_before context around before last name start end children in
+    let identifier = identifier_of context.bytes children in
     let one : List (List ℕ) = when (is GfmFootnoteCall name) (identifier ∷ []) in
     omega (
       arith,
-      calls-sum f given (around_in given around name children)
+      calls-sum f context (around_in context around name children)
           (before_children name children before) children,
-      calls-sum f given around next rest,
-      sum-append f (inner.calls ++ one) (outcome given around next rest).calls,
+      calls-sum f context around next rest,
+      sum-append f (inner.calls ++ one) (outcome context around next rest).calls,
       sum-append f inner.calls one,
       one-sum (is GfmFootnoteCall name) identifier,
     )

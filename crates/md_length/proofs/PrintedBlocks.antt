@@ -24,8 +24,8 @@ use name_variants.{HeadingAtx, HeadingSetextText}
 use name_variants.{HeadingSetextUnderlineSequence}
 use name_variants.{Paragraph}
 use Rattle.md_base.specs.declared.event.Position.{Position}
-use Rattle.md_meaning.specs.Meaning.Around.{is_tight}
-use Rattle.md_meaning.specs.Meaning.At.{Given, At, text_in}
+use Rattle.md_meaning.specs.Meaning.Inherited.{is_tight}
+use Rattle.md_meaning.specs.Meaning.At.{Context, At, text_in}
 use Rattle.md_meaning.specs.Meaning.Before.{is_first_fence}
 use Rattle.md_meaning.specs.Meaning.Blocks.{list_start, without_zeros, ends_in_line, atx_rank}
 use Rattle.md_meaning.specs.Meaning.Blocks.{underline_rank, code_end, runs_out, is_unclosed}
@@ -48,19 +48,20 @@ zeros-short (digit ∷ digits) = elim (digit == 48 && nat_lt 0 (length digits)) 
       | false ↦ omega arith
     ]
 
-start-short : (given : Given) (at : At) →
-    size (list_start given at)
-    ≤ 16 + option_map_or (λ place. length (text_in given.bytes place)) (number_in_list at.children)
+start-short : (context : Context) (at : At) →
+    size (list_start context at)
+    ≤ 16 + option_map_or (λ place. length (text_in context.bytes place))
+    (number_in_list at.children)
     0
-start-short given at = by (number_in_list at.children)
+start-short context at = by (number_in_list at.children)
   where
     number : Option Position → List ℕ
-    number found = without_zeros (option_map_or (text_in given.bytes) found (codes "1"))
+    number found = without_zeros (option_map_or (text_in context.bytes) found (codes "1"))
 
     by : (found : Option Position) →
         size (when (not (bytes_eq (number found) (codes "1")))
         (Text (codes " start=\"") ∷ Text (number found) ∷ Text (codes "\"") ∷ []))
-        ≤ 16 + option_map_or (λ place. length (text_in given.bytes place)) found 0
+        ≤ 16 + option_map_or (λ place. length (text_in context.bytes place)) found 0
     by None = omega (
       arith,
       when-size (not (bytes_eq (number None) (codes "1")))
@@ -71,7 +72,7 @@ start-short given at = by (number_in_list at.children)
       arith,
       when-size (not (bytes_eq (number (Some place)) (codes "1")))
           (Text (codes " start=\"") ∷ Text (number (Some place)) ∷ Text (codes "\"") ∷ []),
-      zeros-short (text_in given.bytes place),
+      zeros-short (text_in context.bytes place),
     )
 
 heading-short : (rank : ℕ) (inner : List Piece) →
@@ -83,8 +84,8 @@ heading-short rank inner =
       size-append inner (said (codes "</h" ++ (decimal rank ++ codes ">"))),
     )
 
-rank-one : (given : Given) (at : At) → length (decimal (underline_rank given at)) ≤ 1
-rank-one given at = elim (is_at 45 given.bytes at.place.start.index) as
+rank-one : (context : Context) (at : At) → length (decimal (underline_rank context at)) ≤ 1
+rank-one context at = elim (is_at 45 context.bytes at.place.start.index) as
     (λ b. length (decimal (if b then 2 else 1)) ≤ 1) [
       | true ↦ length-decimal-le 1 2 (lit< tt) (lit< tt) (lit< tt)
       | false ↦ length-decimal-le 1 1 (lit< tt) (lit< tt) (lit< tt)
@@ -141,65 +142,66 @@ is_wrap name = elim name [
   | _ ↦ false
 ]
 
-pub wrap-short : (given : Given) (at : At) (inner : List Piece) (name : Name) → is_wrap name ≡ true
+pub wrap-short : (context : Context) (at : At) (inner : List Piece) (name : Name) → is_wrap name ≡
+    true
     →
-    IsShort given at inner name
-wrap-short given at inner BlockQuote h =
+    IsShort context at inner name
+wrap-short context at inner BlockQuote h =
     omega (arith, size-append inner (on_own_line (codes "</blockquote>")))
-wrap-short given at inner ListOrdered h =
+wrap-short context at inner ListOrdered h =
     omega (
       arith,
-      start-short given at,
-      size-append (list_start given at)
+      start-short context at,
+      size-append (list_start context at)
           (said (codes ">") ++ (inner ++ (Forced ∷ said (codes "</ol>")))),
       size-append inner (Forced ∷ said (codes "</ol>")),
     )
-wrap-short given at inner ListUnordered h =
+wrap-short context at inner ListUnordered h =
     omega (arith, size-append inner (Forced ∷ said (codes "</ul>")))
-wrap-short given at inner ListItem h =
+wrap-short context at inner ListItem h =
     omega (
       arith,
       size-append inner ((if ends_in_line at then [] else Needed ∷ [])
           ++ said (codes "</li>")),
       item_end-short (ends_in_line at),
     )
-wrap-short given at inner Paragraph h = elim (is_tight at.around.container) as
+wrap-short context at inner Paragraph h = elim (is_tight at.around.container) as
     (λ b. size (if b then inner else on_own_line (codes "<p>") ++ (inner ++ said (codes "</p>")))
-    ≤ size inner + (unit given.names + 42 * 0) + 0) [
+    ≤ size inner + (unit context.names + 42 * 0) + 0) [
       | true ↦ omega arith
       | false ↦ omega (arith, size-append inner (said (codes "</p>")))
     ]
-wrap-short given at inner HeadingAtx h = omega (arith, heading-short (atx_rank at) inner)
-wrap-short given at inner HeadingSetextText h = omega arith
-wrap-short given at inner HeadingSetextUnderlineSequence h =
+wrap-short context at inner HeadingAtx h = omega (arith, heading-short (atx_rank at) inner)
+wrap-short context at inner HeadingSetextText h = omega arith
+wrap-short context at inner HeadingSetextUnderlineSequence h =
     omega (
       arith,
-      heading-short (underline_rank given at) (said at.before.heading),
-      rank-one given at,
+      heading-short (underline_rank context at) (said at.before.heading),
+      rank-one context at,
     )
-wrap-short given at inner CodeIndented h =
+wrap-short context at inner CodeIndented h =
     omega (arith, size-append inner (code_end at), code_end-short at)
-wrap-short given at inner CodeFenced h = omega (arith, fenced-short at (codes "<pre><code") inner)
-wrap-short given at inner MathFlow h =
+wrap-short context at inner CodeFenced h = omega (arith, fenced-short at (codes "<pre><code") inner)
+wrap-short context at inner MathFlow h =
     omega (
       arith,
       fenced-short at (codes "<pre><code class=\"language-math math-display\"") inner,
     )
-wrap-short given at inner CodeFencedFence h =
+wrap-short context at inner CodeFencedFence h =
     omega (
       arith,
       size-append inner (when (is_first_fence at) (said (codes ">"))),
       when-size (is_first_fence at) (said (codes ">")),
     )
-wrap-short given at inner MathFlowFence h =
+wrap-short context at inner MathFlowFence h =
     omega (
       arith,
       size-append inner (when (is_first_fence at) (said (codes ">"))),
       when-size (is_first_fence at) (said (codes ">")),
     )
-wrap-short given at inner CodeFencedFenceInfo h =
+wrap-short context at inner CodeFencedFenceInfo h =
     omega (arith, size-append inner (said (codes "\"")))
-wrap-short given at inner CodeFencedFenceMeta h = omega arith
-wrap-short given at inner MathFlowFenceMeta h = omega arith
-wrap-short given at inner HtmlFlow h = omega arith
-wrap-short given at inner _ h = lie h
+wrap-short context at inner CodeFencedFenceMeta h = omega arith
+wrap-short context at inner MathFlowFenceMeta h = omega arith
+wrap-short context at inner HtmlFlow h = omega arith
+wrap-short context at inner _ h = lie h

@@ -15,7 +15,7 @@ use name_variants.{Emphasis, Strong, GfmStrikethrough}
 use name_variants.{GfmTaskListItemCheck, GfmTaskListItemValueChecked, HardBreakEscape}
 use name_variants.{HardBreakTrailing, ThematicBreak}
 use Rattle.md_text.specs.declared.options.CompileOptions.{CompileOptions}
-use Rattle.md_meaning.specs.Meaning.At.{Target, Given, At}
+use Rattle.md_meaning.specs.Meaning.At.{Target, Context, At}
 use Rattle.md_meaning.specs.Meaning.Layout.{Piece, Text, layout, said}
 use Rattle.md_meaning.specs.Meaning.Media.{leads_to, anchor, picture}
 use Rattle.md_meaning.specs.Meaning.Media.{medium}
@@ -68,24 +68,24 @@ span-short at start inner end = elim at.around.in_image as
       | false ↦ omega (arith, size-append start (inner ++ end), size-append inner end)
     ]
 
-task-short : (given : Given) → size (task_start given) ≤ 40
-task-short given =
+task-short : (context : Context) → size (task_start context) ≤ 40
+task-short context =
     omega (
       arith,
-      when-size (not given.options.gfm_task_list_item_checkable)
+      when-size (not context.options.gfm_task_list_item_checkable)
           (said (codes "disabled=\"\" ")),
     )
 
 medium-short : (tag : CompileOptions → Target → List ℕ → List Piece) →
     ((options : CompileOptions) (target : Target) (label : List ℕ) →
     size (tag options target label) ≤ 32 + weight target + length label) →
-    (given : Given) (at : At) (label : List ℕ) →
-    size (medium tag given at label) ≤ 32 + weight (leads_to given at) + length label
-medium-short tag short given at label = elim at.around.in_image as
-    (λ b. size (if b then said label else tag given.options (leads_to given at) label)
-    ≤ 32 + weight (leads_to given at) + length label) [
+    (context : Context) (at : At) (label : List ℕ) →
+    size (medium tag context at label) ≤ 32 + weight (leads_to context at) + length label
+medium-short tag short context at label = elim at.around.in_image as
+    (λ b. size (if b then said label else tag context.options (leads_to context at) label)
+    ≤ 32 + weight (leads_to context at) + length label) [
       | true ↦ omega arith
-      | false ↦ short given.options (leads_to given at) label
+      | false ↦ short context.options (leads_to context at) label
     ]
 
 abbrev pub is_spanned : Name → Bool
@@ -107,48 +107,48 @@ is_spanned name = elim name [
   | _ ↦ false
 ]
 
-pub spanned-short : (given : Given) (at : At) (inner : List Piece) (name : Name) →
-    length given.ending ≤ 2 → is_spanned name ≡ true → IsShort given at inner name
-spanned-short given at inner CodeText few h =
+pub spanned-short : (context : Context) (at : At) (inner : List Piece) (name : Name) →
+    length context.ending ≤ 2 → is_spanned name ≡ true → IsShort context at inner name
+spanned-short context at inner CodeText few h =
     omega (
       arith,
-      code-short at (codes "<code>") (layout given.ending inner),
-      layout-short given.ending inner few,
+      code-short at (codes "<code>") (layout context.ending inner),
+      layout-short context.ending inner few,
     )
-spanned-short given at inner MathText few h =
+spanned-short context at inner MathText few h =
     omega (
       arith,
       code-short at (codes "<code class=\"language-math math-inline\">")
-          (layout given.ending inner),
-      layout-short given.ending inner few,
+          (layout context.ending inner),
+      layout-short context.ending inner few,
     )
-spanned-short given at inner Emphasis few h =
+spanned-short context at inner Emphasis few h =
     omega (arith, span-short at (said (codes "<em>")) inner (said (codes "</em>")))
-spanned-short given at inner Strong few h =
+spanned-short context at inner Strong few h =
     omega (arith, span-short at (said (codes "<strong>")) inner (said (codes "</strong>")))
-spanned-short given at inner GfmStrikethrough few h =
+spanned-short context at inner GfmStrikethrough few h =
     omega (arith, span-short at (said (codes "<del>")) inner (said (codes "</del>")))
-spanned-short given at inner HardBreakEscape few h =
+spanned-short context at inner HardBreakEscape few h =
     omega (arith, when-size (not at.around.in_image) (said (codes "<br />")))
-spanned-short given at inner HardBreakTrailing few h =
+spanned-short context at inner HardBreakTrailing few h =
     omega (arith, when-size (not at.around.in_image) (said (codes "<br />")))
-spanned-short given at inner ThematicBreak few h = omega arith
-spanned-short given at inner GfmTaskListItemCheck few h =
-    omega (arith, span-short at (task_start given) inner (said (codes "/>")), task-short given)
-spanned-short given at inner GfmTaskListItemValueChecked few h =
+spanned-short context at inner ThematicBreak few h = omega arith
+spanned-short context at inner GfmTaskListItemCheck few h =
+    omega (arith, span-short at (task_start context) inner (said (codes "/>")), task-short context)
+spanned-short context at inner GfmTaskListItemValueChecked few h =
     omega (arith, when-size (not at.around.in_image) (said (codes "checked=\"\" ")))
-spanned-short given at inner Link few h =
+spanned-short context at inner Link few h =
     omega (
       arith,
-      medium-short anchor anchor-short given at (layout given.ending inner),
-      layout-short given.ending inner few,
+      medium-short anchor anchor-short context at (layout context.ending inner),
+      layout-short context.ending inner few,
     )
-spanned-short given at inner Image few h =
+spanned-short context at inner Image few h =
     omega (
       arith,
-      medium-short picture picture-short given at (layout given.ending inner),
-      layout-short given.ending inner few,
+      medium-short picture picture-short context at (layout context.ending inner),
+      layout-short context.ending inner few,
     )
-spanned-short given at inner Resource few h = omega arith
-spanned-short given at inner ReferenceString few h = omega arith
-spanned-short given at inner _ few h = lie h
+spanned-short context at inner Resource few h = omega arith
+spanned-short context at inner ReferenceString few h = omega arith
+spanned-short context at inner _ few h = lie h

@@ -18,7 +18,7 @@ use name_variants.{GfmFootnoteDefinition, GfmFootnoteDefinitionPrefix, GfmFootno
 use name_variants.{GfmTable, GfmTableHead, GfmTableBody}
 use name_variants.{GfmTableRow, GfmTableCell, GfmTableDelimiterRow}
 use name_variants.{Frontmatter}
-use Rattle.md_meaning.specs.Meaning.At.{Given, At}
+use Rattle.md_meaning.specs.Meaning.At.{Context, At}
 use Rattle.md_meaning.specs.Meaning.Layout.{Piece, layout, on_own_line}
 use Rattle.md_meaning.specs.Meaning.Tables.{cell, cell_of, row_end, align_attribute}
 use Rattle.md_length.proofs.Pieces.{size, size-append, layout-short}
@@ -84,22 +84,27 @@ is_tabled name = elim name [
   | _ ↦ false
 ]
 
-pub tabled-short : (given : Given) (at : At) (inner : List Piece) (name : Name) →
-    length given.ending ≤ 2 → is_tabled name ≡ true → IsShort given at inner name
-tabled-short given at inner GfmTable few h =
+pub tabled-short : (context : Context) (at : At) (inner : List Piece) (name : Name) →
+    length context.ending ≤ 2 → is_tabled name ≡ true → IsShort context at inner name
+tabled-short context at inner GfmTable few h =
     omega (arith, size-append inner (on_own_line (codes "</table>")))
-tabled-short given at inner GfmTableHead few h =
+tabled-short context at inner GfmTableHead few h =
     omega (arith, size-append inner (on_own_line (codes "</thead>")))
-tabled-short given at inner GfmTableBody few h =
+tabled-short context at inner GfmTableBody few h =
     omega (arith, size-append inner (on_own_line (codes "</tbody>")))
-tabled-short given at inner GfmTableRow few h =
+tabled-short context at inner GfmTableRow few h =
     omega (arith, size-append inner (row_end at), row_end-short at)
-tabled-short given at inner GfmTableCell few h =
-    omega (arith, cell-short at (layout given.ending inner), layout-short given.ending inner few)
-tabled-short given at inner GfmTableDelimiterRow few h = omega arith
-tabled-short given at inner GfmFootnoteCall few h = omega arith
-tabled-short given at inner GfmFootnoteDefinition few h = omega arith
-tabled-short given at inner GfmFootnoteDefinitionPrefix few h = omega arith
-tabled-short given at inner Definition few h = omega arith
-tabled-short given at inner Frontmatter few h = omega arith
-tabled-short given at inner _ few h = lie h
+tabled-short context at inner GfmTableCell few h =
+    omega (
+      arith,
+      cell-short at (layout context.ending inner),
+      layout-short context.ending inner
+          few,
+    )
+tabled-short context at inner GfmTableDelimiterRow few h = omega arith
+tabled-short context at inner GfmFootnoteCall few h = omega arith
+tabled-short context at inner GfmFootnoteDefinition few h = omega arith
+tabled-short context at inner GfmFootnoteDefinitionPrefix few h = omega arith
+tabled-short context at inner Definition few h = omega arith
+tabled-short context at inner Frontmatter few h = omega arith
+tabled-short context at inner _ few h = lie h

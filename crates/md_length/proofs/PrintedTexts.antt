@@ -27,7 +27,7 @@ use Rattle.md_text.specs.Encode.{encoded}
 use Rattle.md_text.specs.Filter.{tag_filtered}
 use Rattle.md_text.specs.Url.{link_protocols, image_protocols}
 use Rattle.md_text.specs.declared.options.CompileOptions.{CompileOptions}
-use Rattle.md_meaning.specs.Meaning.At.{Target, Given, At, text_in}
+use Rattle.md_meaning.specs.Meaning.At.{Target, Context, At, text_in}
 use Rattle.md_meaning.specs.Meaning.Blocks.{atx_rank}
 use Rattle.md_meaning.specs.Meaning.Blocks.{chunk}
 use Rattle.md_meaning.specs.Meaning.Footnotes.{call}
@@ -47,35 +47,35 @@ use Rattle.md_length.proofs.Texts.{encoded-short, filtered-short, sanitized-shor
 use Rattle.md_length.proofs.Texts.{sanitized_with-short}
 
 -- what is printed at a node beside its own text and what its children print
-abbrev pub extra : Given → At → Name → ℕ
-extra given at name = elim name [
-  | ListOrdered ↦ number_length given.bytes at.children
+abbrev pub extra : Context → At → Name → ℕ
+extra context at name = elim name [
+  | ListOrdered ↦ number_length context.bytes at.children
   | HeadingAtx ↦ 2 * length (decimal (atx_rank at))
   | HeadingSetextUnderlineSequence ↦ length at.before.heading
-  | Link ↦ weight (leads_to given at)
-  | Image ↦ weight (leads_to given at)
+  | Link ↦ weight (leads_to context at)
+  | Image ↦ weight (leads_to context at)
   | GfmTableRow ↦ 32 * length at.before.columns
-  | GfmFootnoteCall ↦ size (call given at)
+  | GfmFootnoteCall ↦ size (call context at)
   | _ ↦ 0
 ]
 
-abbrev pub IsShort : Given → At → List Piece → Name → Type 0
-IsShort given at inner name = size (prints given at name inner)
-    ≤ size inner + (unit given.names + 42 * own name at.place) + extra given at name
+abbrev pub IsShort : Context → At → List Piece → Name → Type 0
+IsShort context at inner name = size (prints context at name inner)
+    ≤ size inner + (unit context.names + 42 * own name at.place) + extra context at name
 
 -- ---- texts
 place-short : (bytes : List ℕ) (place : Position) →
     length (text_in bytes place) ≤ suc (span place.start place.end)
 place-short bytes place = text-short bytes place.start place.end
 
-pub escaped-short : (given : Given) (at : At) →
-    size (escaped at (text_in given.bytes at.place))
+pub escaped-short : (context : Context) (at : At) →
+    size (escaped at (text_in context.bytes at.place))
     ≤ 6 + 6 * span at.place.start at.place.end
-escaped-short given at =
+escaped-short context at =
     omega (
       arith,
-      encoded-short at.around.is_escaping (text_in given.bytes at.place),
-      place-short given.bytes at.place,
+      encoded-short at.around.is_escaping (text_in context.bytes at.place),
+      place-short context.bytes at.place,
     )
 
 url-short : (any : Bool) (protocols : List (List ℕ)) (text : List ℕ) →
@@ -111,73 +111,74 @@ picture-short options target label =
     )
 
 -- an autolink links to its text with a prefix of at most seven bytes
-autolink-short : (given : Given) (at : At) (plain : Bool) (prefix : List ℕ) → length prefix ≤ 7 →
-    size (autolink given at plain prefix) ≤ 86 + 12 * span at.place.start at.place.end
-autolink-short given at true prefix few =
+autolink-short : (context : Context) (at : At) (plain : Bool) (prefix : List ℕ) → length prefix ≤
+    7 →
+    size (autolink context at plain prefix) ≤ 86 + 12 * span at.place.start at.place.end
+autolink-short context at true prefix few =
     omega (
       arith,
-      encoded-short true (text_in given.bytes at.place),
-      place-short given.bytes at.place,
+      encoded-short true (text_in context.bytes at.place),
+      place-short context.bytes at.place,
     )
-autolink-short given at false prefix few =
-    let text = text_in given.bytes at.place in
+autolink-short context at false prefix few =
+    let text = text_in context.bytes at.place in
     let target : Target = record { destination = prefix ++ text; title = None } in
     omega (
       arith,
-      anchor-short given.options target (encoded true text),
+      anchor-short context.options target (encoded true text),
       encoded-short true text,
-      place-short given.bytes at.place,
+      place-short context.bytes at.place,
       length-append prefix text,
       few,
     )
 
-pub line_ending-short : (given : Given) (at : At) →
-    size (line_ending given at) ≤ 1 + span at.place.start at.place.end
-line_ending-short given at = by at.around.in_code (is_dropped at)
+pub line_ending-short : (context : Context) (at : At) →
+    size (line_ending context at) ≤ 1 + span at.place.start at.place.end
+line_ending-short context at = by at.around.in_code (is_dropped at)
   where
     by : (code dropped : Bool) → size (if code then said (codes " ")
-        else (if dropped then [] else said (text_in given.bytes at.place)))
+        else (if dropped then [] else said (text_in context.bytes at.place)))
         ≤ 1 + span at.place.start at.place.end
     by true dropped = omega arith
     by false true = omega arith
-    by false false = omega (arith, place-short given.bytes at.place)
+    by false false = omega (arith, place-short context.bytes at.place)
 
-html-short : (given : Given) (at : At) →
-    length (html given at) ≤ 4 + 4 * span at.place.start at.place.end
-html-short given at = by (given.options.allow_dangerous_html && given.options.gfm_tagfilter)
+html-short : (context : Context) (at : At) →
+    length (html context at) ≤ 4 + 4 * span at.place.start at.place.end
+html-short context at = by (context.options.allow_dangerous_html && context.options.gfm_tagfilter)
   where
-    by : (filters : Bool) → length (if filters then tag_filtered (text_in given.bytes at.place)
-        else text_in given.bytes at.place) ≤ 4 + 4 * span at.place.start at.place.end
+    by : (filters : Bool) → length (if filters then tag_filtered (text_in context.bytes at.place)
+        else text_in context.bytes at.place) ≤ 4 + 4 * span at.place.start at.place.end
     by true = omega (
       arith,
-      filtered-short (text_in given.bytes at.place),
-      place-short given.bytes at.place,
+      filtered-short (text_in context.bytes at.place),
+      place-short context.bytes at.place,
     )
-    by false = omega (arith, place-short given.bytes at.place)
+    by false = omega (arith, place-short context.bytes at.place)
 
-raw-short : (given : Given) (at : At) →
-    size (escaped at (html given at)) ≤ 24 + 24 * span at.place.start at.place.end
-raw-short given at =
-    omega (arith, encoded-short at.around.is_escaping (html given at), html-short given at)
+raw-short : (context : Context) (at : At) →
+    size (escaped at (html context at)) ≤ 24 + 24 * span at.place.start at.place.end
+raw-short context at =
+    omega (arith, encoded-short at.around.is_escaping (html context at), html-short context at)
 
-pub reference-short : (given : Given) (at : At) →
-    size (escaped at (reference given at)) ≤ 24 + 6 * longest given.names
-reference-short given at =
+pub reference-short : (context : Context) (at : At) →
+    size (escaped at (reference context at)) ≤ 24 + 6 * longest context.names
+reference-short context at =
     let last = slice_get at.before.spine (length at.before.spine - 1) in
     omega (
       arith,
-      encoded-short at.around.is_escaping (reference given at),
-      decoded-short given.names (option_map_or marker last 38) (text_in given.bytes at.place),
+      encoded-short at.around.is_escaping (reference context at),
+      decoded-short context.names (option_map_or marker last 38) (text_in context.bytes at.place),
     )
 
-chunk-short : (given : Given) (at : At) →
-    size (chunk given at) ≤ 48 + 6 * span at.place.start at.place.end
-chunk-short given at =
+chunk-short : (context : Context) (at : At) →
+    size (chunk context at) ≤ 48 + 6 * span at.place.start at.place.end
+chunk-short context at =
     omega (
       arith,
       encoded-short true
-          (unwrap_or (serialized_between given.bytes at.place.start at.place.end) []),
-      serialized-short given.bytes at.place.start at.place.end,
+          (unwrap_or (serialized_between context.bytes at.place.start at.place.end) []),
+      serialized-short context.bytes at.place.start at.place.end,
     )
 
 abbrev pub is_leaf : Name → Bool
@@ -203,41 +204,42 @@ is_leaf name = elim name [
   | _ ↦ false
 ]
 
-pub leaf-short : (given : Given) (at : At) (inner : List Piece) (name : Name) → is_leaf name ≡ true
+pub leaf-short : (context : Context) (at : At) (inner : List Piece) (name : Name) → is_leaf name ≡
+    true
     →
-    IsShort given at inner name
-leaf-short given at inner Data h = omega (arith, escaped-short given at)
-leaf-short given at inner CharacterEscapeValue h = omega (arith, escaped-short given at)
-leaf-short given at inner CodeTextData h = omega (arith, escaped-short given at)
-leaf-short given at inner MathTextData h = omega (arith, escaped-short given at)
-leaf-short given at inner CharacterReferenceValue h = omega (arith, reference-short given at)
-leaf-short given at inner LineEnding h = omega (arith, line_ending-short given at)
-leaf-short given at inner BlankLineEnding h =
+    IsShort context at inner name
+leaf-short context at inner Data h = omega (arith, escaped-short context at)
+leaf-short context at inner CharacterEscapeValue h = omega (arith, escaped-short context at)
+leaf-short context at inner CodeTextData h = omega (arith, escaped-short context at)
+leaf-short context at inner MathTextData h = omega (arith, escaped-short context at)
+leaf-short context at inner CharacterReferenceValue h = omega (arith, reference-short context at)
+leaf-short context at inner LineEnding h = omega (arith, line_ending-short context at)
+leaf-short context at inner BlankLineEnding h =
     omega (arith, when-size at.is_last (Needed ∷ []))
-leaf-short given at inner CodeFlowChunk h = omega (arith, chunk-short given at)
-leaf-short given at inner MathFlowChunk h = omega (arith, chunk-short given at)
-leaf-short given at inner HtmlFlowData h = omega (arith, raw-short given at)
-leaf-short given at inner HtmlTextData h = omega (arith, raw-short given at)
-leaf-short given at inner AutolinkEmail h =
-    omega (arith, autolink-short given at at.around.in_image (codes "mailto:") (lit≤ tt))
-leaf-short given at inner AutolinkProtocol h =
-    omega (arith, autolink-short given at at.around.in_image [] (lit≤ tt))
-leaf-short given at inner GfmAutolinkLiteralEmail h =
+leaf-short context at inner CodeFlowChunk h = omega (arith, chunk-short context at)
+leaf-short context at inner MathFlowChunk h = omega (arith, chunk-short context at)
+leaf-short context at inner HtmlFlowData h = omega (arith, raw-short context at)
+leaf-short context at inner HtmlTextData h = omega (arith, raw-short context at)
+leaf-short context at inner AutolinkEmail h =
+    omega (arith, autolink-short context at at.around.in_image (codes "mailto:") (lit≤ tt))
+leaf-short context at inner AutolinkProtocol h =
+    omega (arith, autolink-short context at at.around.in_image [] (lit≤ tt))
+leaf-short context at inner GfmAutolinkLiteralEmail h =
     omega (
       arith,
-      autolink-short given at (at.around.in_image || at.around.in_link)
+      autolink-short context at (at.around.in_image || at.around.in_link)
           (codes "mailto:") (lit≤ tt),
     )
-leaf-short given at inner GfmAutolinkLiteralWww h =
+leaf-short context at inner GfmAutolinkLiteralWww h =
     omega (
       arith,
-      autolink-short given at (at.around.in_image || at.around.in_link)
+      autolink-short context at (at.around.in_image || at.around.in_link)
           (codes "http://") (lit≤ tt),
     )
-leaf-short given at inner GfmAutolinkLiteralMailto h =
-    omega (arith, autolink-short given at (at.around.in_image || at.around.in_link) [] (lit≤ tt))
-leaf-short given at inner GfmAutolinkLiteralProtocol h =
-    omega (arith, autolink-short given at (at.around.in_image || at.around.in_link) [] (lit≤ tt))
-leaf-short given at inner GfmAutolinkLiteralXmpp h =
-    omega (arith, autolink-short given at (at.around.in_image || at.around.in_link) [] (lit≤ tt))
-leaf-short given at inner _ h = lie h
+leaf-short context at inner GfmAutolinkLiteralMailto h =
+    omega (arith, autolink-short context at (at.around.in_image || at.around.in_link) [] (lit≤ tt))
+leaf-short context at inner GfmAutolinkLiteralProtocol h =
+    omega (arith, autolink-short context at (at.around.in_image || at.around.in_link) [] (lit≤ tt))
+leaf-short context at inner GfmAutolinkLiteralXmpp h =
+    omega (arith, autolink-short context at (at.around.in_image || at.around.in_link) [] (lit≤ tt))
+leaf-short context at inner _ h = lie h

@@ -15,13 +15,13 @@ use Rattle.md_pattern.specs.Standing.{standing_of}
 use Rattle.md_tree.specs.declared.mention.Referral.{Referral}
 use Rattle.md_tree.specs.declared.mention.Referral.TheVariants as referral
 use Rattle.md_tree.specs.Rules.{place, target_of, target_after}
-use Rattle.md_meaning.specs.declared.context.Surroundings.{Surroundings}
-use Rattle.md_meaning.specs.Meaning.At.{Given, At, Before, Target}
+use Rattle.md_meaning.specs.declared.surroundings.Surroundings.{Surroundings}
+use Rattle.md_meaning.specs.Meaning.At.{Context, At, Before, Target}
 use Rattle.md_meaning.specs.Meaning.Before.{before_children}
 use Rattle.md_meaning.specs.Meaning.Layout.{layout}
 use Rattle.md_meaning.specs.Meaning.Nodes.{Outcome, outcome, found_at}
-use Rattle.md_shape.specs.Claim.{inner_of, at_node, node_of, next_before}
-use Rattle.md_shape.specs.Leads.{Everywhere}
+use Rattle.md_steps.specs.Claim.{inner_of, at_node, node_of, next_before}
+use Rattle.md_content.specs.References.{Everywhere}
 use Rattle.md_length.specs.Sound.{IsSound}
 use Rattle.md_length.proofs.Strings.{around_in}
 
@@ -62,24 +62,24 @@ joined : (before : Referral) (here later : Option Target) → Finds before here 
 joined before here later (inl was) = inl was
 joined before here later (inr found) = inr (first-found later here found)
 
-pub resource-found : (given : Given) (around : Surroundings) (before : Before) (forest : Forest)
+pub resource-found : (context : Context) (around : Surroundings) (before : Before) (forest : Forest)
     (found : Referral) → Everywhere IsSound forest →
     target_of forest found ≡ referral.Resource →
-    Finds found (outcome given around before forest).found.resource
-resource-found given around before Empty found sound h = inl h
-resource-found given around before (Node name start end children rest) found sound h =
+    Finds found (outcome context around before forest).found.resource
+resource-found context around before Empty found sound h = inl h
+resource-found context around before (Node name start end children rest) found sound h =
     let last : Bool = around.is_outermost && is_empty rest in
-    let at : At = at_node given around before last name start end children in
-    let here : Outcome = node_of given around before last name start end children in
-    let next : Before = next_before given around before last name start end children in
-    let later : Outcome = outcome given around next rest in
+    let at : At = at_node context around before last name start end children in
+    let here : Outcome = node_of context around before last name start end children in
+    let next : Before = next_before context around before last name start end children in
+    let later : Outcome = outcome context around next rest in
     let middle : Referral =
     target_after (standing_of name) found (target_of children) (place start end) in
-    let text = layout given.ending (inner_of given around before name children).pieces in
-    elim (resource-found given around next rest middle sound.2 h) [
+    let text = layout context.ending (inner_of context around before name children).pieces in
+    elim (resource-found context around next rest middle sound.2 h) [
       | inl was ↦ joined found here.found.resource later.found.resource
           (node-finds at name text children start end found sound.0
-          (resource-found given (around_in given around name children)
+          (resource-found context (around_in context around name children)
           (before_children name children before) children found sound.1) was)
       | inr is ↦ inr (later-found later.found.resource here.found.resource is)
     ]

@@ -11,7 +11,7 @@ use Rattle.std.specs.Fmt.{decimal}
 use Rattle.std.proofs.Math.Nat.{suc-mul}
 use Rattle.std.proofs.lemmas.List.{length-append, length-take, length-drop}
 use Rattle.md_text.specs.declared.options.CompileOptions.{CompileOptions}
-use Rattle.md_meaning.specs.Meaning.At.{Footnote, Given}
+use Rattle.md_meaning.specs.Meaning.At.{Footnote, Context}
 use Rattle.md_meaning.specs.Meaning.Footnotes.{distinct, place_among, count_of, option_or}
 use Rattle.md_meaning.specs.Meaning.Footnotes.{call_id, backreference, backreferences}
 use Rattle.md_meaning.specs.Meaning.Footnotes.{unended_length, body, item, section_start, section}
@@ -95,25 +95,26 @@ body-short text back =
       | false ↦ omega arith
     ]
 
-item-short : (given : Given) (footnotes : List Footnote) (identifier : List ℕ) →
-    length given.calls < 2 ^ 63 → size (item given footnotes identifier)
-    ≤ item_cost given.options identifier + first_text footnotes identifier
-    + count_of given.calls identifier * back_cost given.options identifier
-item-short given footnotes identifier few =
-    let number = place_among (distinct given.calls) identifier in
-    let fits = number-few given.calls identifier few in
+item-short : (context : Context) (footnotes : List Footnote) (identifier : List ℕ) →
+    length context.calls < 2 ^ 63 → size (item context footnotes identifier)
+    ≤ item_cost context.options identifier + first_text footnotes identifier
+    + count_of context.calls identifier * back_cost context.options identifier
+item-short context footnotes identifier few =
+    let number = place_among (distinct context.calls) identifier in
+    let fits = number-few context.calls identifier few in
     let footnote = find (λ footnote. bytes_eq footnote.identifier identifier) footnotes in
     let text : List ℕ = option_map_or (λ footnote. footnote.text) footnote [] in
     let same_text : length text ≡ first_text footnotes identifier = chosen footnote in
-    let back = backreferences given.options identifier number (count_of given.calls identifier) in
-    let rare : count_of given.calls identifier < 2 ^ 63 =
-    omega (arith, count-few given.calls identifier, few) in
+    let back = backreferences context.options identifier number (count_of context.calls identifier)
+    in
+    let rare : count_of context.calls identifier < 2 ^ 63 =
+    omega (arith, count-few context.calls identifier, few) in
     omega (
       arith,
-      id-short given.options (codes "fn-") identifier number (lit≤ tt) fits,
+      id-short context.options (codes "fn-") identifier number (lit≤ tt) fits,
       body-short text back,
       same_text,
-      backs-short given.options identifier number (count_of given.calls identifier) fits rare,
+      backs-short context.options identifier number (count_of context.calls identifier) fits rare,
       size-append (body text back) (on_own_line (codes "</li>")),
     )
   where
@@ -122,18 +123,20 @@ item-short given footnotes identifier few =
     chosen None = refl
     chosen (Some footnote) = refl
 
-items-short : (given : Given) (footnotes : List Footnote) (identifiers : List (List ℕ)) →
-    length given.calls < 2 ^ 63 → size (flat_map (item given footnotes) identifiers)
-    ≤ sum_of (item_cost given.options) identifiers + sum_of (first_text footnotes) identifiers
-    + sum_of (λ identifier. count_of given.calls identifier * back_cost given.options identifier)
+items-short : (context : Context) (footnotes : List Footnote) (identifiers : List (List ℕ)) →
+    length context.calls < 2 ^ 63 → size (flat_map (item context footnotes) identifiers)
+    ≤ sum_of (item_cost context.options) identifiers + sum_of (first_text footnotes) identifiers
+    + sum_of (λ identifier. count_of context.calls identifier * back_cost context.options
+    identifier)
     identifiers
-items-short given footnotes [] few = omega arith
-items-short given footnotes (identifier ∷ identifiers) few =
+items-short context footnotes [] few = omega arith
+items-short context footnotes (identifier ∷ identifiers) few =
     omega (
       arith,
-      item-short given footnotes identifier few,
-      items-short given footnotes identifiers few,
-      size-append (item given footnotes identifier) (flat_map (item given footnotes) identifiers),
+      item-short context footnotes identifier few,
+      items-short context footnotes identifiers few,
+      size-append (item context footnotes identifier)
+          (flat_map (item context footnotes) identifiers),
     )
 
 filter-sum : (f : List ℕ → ℕ) (test : List ℕ → Bool) (identifiers : List (List ℕ)) →
@@ -173,23 +176,25 @@ start-short options =
     )
 
 -- the section, for its calls and its footnotes
-pub section-short : (given : Given) (footnotes : List Footnote) → length given.calls < 2 ^ 63 →
-    size (section given footnotes) ≤ for_document given.options + notes footnotes
-    + sum_of (item_cost given.options) given.calls + sum_of (back_cost given.options) given.calls
-section-short given footnotes few =
-    let apart = distinct-apart given.calls in
-    let items = flat_map (item given footnotes) (distinct given.calls) in
+pub section-short : (context : Context) (footnotes : List Footnote) → length context.calls < 2 ^
+    63 →
+    size (section context footnotes) ≤ for_document context.options + notes footnotes
+    + sum_of (item_cost context.options) context.calls + sum_of (back_cost context.options)
+    context.calls
+section-short context footnotes few =
+    let apart = distinct-apart context.calls in
+    let items = flat_map (item context footnotes) (distinct context.calls) in
     let last : List Piece =
     Forced ∷ Text (codes "</ol>") ∷ Forced ∷ Text (codes "</section>") ∷ Forced ∷ [] in
     omega (
       arith,
-      when-size (not (length given.calls == 0))
-          (section_start given.options ++ (items ++ last)),
-      size-append (section_start given.options) (items ++ last),
+      when-size (not (length context.calls == 0))
+          (section_start context.options ++ (items ++ last)),
+      size-append (section_start context.options) (items ++ last),
       size-append items last,
-      start-short given.options,
-      items-short given footnotes (distinct given.calls) few,
-      distinct-sum (item_cost given.options) given.calls,
-      counted (back_cost given.options) (distinct given.calls) given.calls apart,
-      texts-once footnotes (distinct given.calls) apart,
+      start-short context.options,
+      items-short context footnotes (distinct context.calls) few,
+      distinct-sum (item_cost context.options) context.calls,
+      counted (back_cost context.options) (distinct context.calls) context.calls apart,
+      texts-once footnotes (distinct context.calls) apart,
     )

@@ -21,8 +21,8 @@ use Rattle.md_pattern.specs.declared.kinds.Symbol.{Symbol}
 use Rattle.md_pattern.specs.declared.kinds.Symbol.TheVariants as symbol
 use Rattle.md_pattern.specs.declared.kinds.Role.TheVariants as role
 use Rattle.md_pattern.specs.Spine.{IsTail, IsGrouped, Matches}
-use Rattle.md_shape.proofs.Letters.{fits-all, grouped-all}
-use Rattle.md_shape.proofs.LoneSymbols.{once-is, follows}
+use Rattle.md_content.proofs.Letters.{fits-all, grouped-all}
+use Rattle.md_content.proofs.LoneSymbols.{once-is, follows}
 
 -- ---- one symbol before all others
 -- the one comes first and once, and after it these

@@ -15,19 +15,20 @@ use Rattle.md_base.specs.Is.{is}
 use Rattle.md_base.specs.Children.{is_empty}
 use Rattle.md_base.specs.NameTests.{is_transparent}
 use Rattle.md_base.specs.Tree.{Forest, Empty, Node}
-use Rattle.md_meaning.specs.declared.context.Surroundings.{Surroundings}
-use Rattle.md_meaning.specs.Meaning.Around.{inside as around_inside}
+use Rattle.md_meaning.specs.declared.surroundings.Surroundings.{Surroundings}
+use Rattle.md_meaning.specs.Meaning.Inherited.{inside as around_inside}
 use Rattle.md_meaning.specs.Meaning.Before.{before_children}
-use Rattle.md_meaning.specs.Meaning.At.{Given, At, Before, Footnote, identifier_of}
+use Rattle.md_meaning.specs.Meaning.At.{Context, At, Before, Footnote, identifier_of}
 use Rattle.md_pattern.specs.Looseness.{is_loose}
 use Rattle.md_meaning.specs.Meaning.Layout.{Piece, layout, when}
 use Rattle.md_meaning.specs.Meaning.Means.{prints}
 use Rattle.md_meaning.specs.Meaning.Nodes.{Outcome, outcome}
-use Rattle.md_shape.specs.Claim.{inner_of, at_node, next_before}
-use Rattle.md_shape.specs.Built.{Content, Strings, Nothing}
-use Rattle.md_shape.specs.Built.{may_stand, is_string, content_inside, content_past, content_after}
-use Rattle.md_shape.specs.Built.{content_after_node, IsBuilt}
-use Rattle.md_shape.proofs.Standing.{picked}
+use Rattle.md_steps.specs.Claim.{inner_of, at_node, next_before}
+use Rattle.md_content.specs.Built.{Content, Strings, Nothing}
+use Rattle.md_content.specs.Built.{may_stand, is_string, content_inside, content_past}
+use Rattle.md_content.specs.Built.{content_after}
+use Rattle.md_content.specs.Built.{content_after_node, IsBuilt}
+use Rattle.md_steps.proofs.Standing.{picked}
 use Rattle.md_length.specs.Longest.{longest}
 use Rattle.md_length.specs.Costs.{own, cost}
 use Rattle.md_length.proofs.Pieces.{size, size-append}
@@ -37,9 +38,9 @@ both_of : {a b : Bool} → (a && b) ≡ true → (a ≡ true) × (b ≡ true)
 both_of {a} {b} h = and_parts a b h
 
 -- the surroundings of a node's children
-abbrev pub around_in : Given → Surroundings → Name → Forest → Surroundings
-around_in given around name children =
-    around_inside given.options (is_loose children) name around
+abbrev pub around_in : Context → Surroundings → Name → Forest → Surroundings
+around_in context around name children =
+    around_inside context.options (is_loose children) name around
 
 -- strings stand there, or nothing
 abbrev pub has_strings : Content → Bool
@@ -94,23 +95,23 @@ node-strings content name children h =
     one_of_two (is_transparent name) (content_after content children) (content_past content name)
     (after-strings content children h) (past-strings content name h)
 
-plain-short : (given : Given) (at : At) (inner : List Piece) (name : Name) →
+plain-short : (context : Context) (at : At) (inner : List Piece) (name : Name) →
     is_plain name ≡ true →
-    size (prints given at name inner)
-    ≤ size inner + (24 + 6 * longest given.names + 6 * own name at.place)
-plain-short given at inner Data h = omega (arith, escaped-short given at)
-plain-short given at inner CharacterEscapeValue h = omega (arith, escaped-short given at)
-plain-short given at inner CodeTextData h = omega (arith, escaped-short given at)
-plain-short given at inner MathTextData h = omega (arith, escaped-short given at)
-plain-short given at inner CharacterReferenceValue h = omega (arith, reference-short given at)
-plain-short given at inner LineEnding h = omega (arith, line_ending-short given at)
-plain-short given at inner CharacterReferenceMarker h = omega arith
-plain-short given at inner CharacterReferenceMarkerNumeric h = omega arith
-plain-short given at inner CharacterReferenceMarkerHexadecimal h = omega arith
-plain-short given at inner BlockQuotePrefix h = omega arith
-plain-short given at inner SpaceOrTab h = omega arith
-plain-short given at inner (Other number) h = omega arith
-plain-short given at inner _ h = lie h
+    size (prints context at name inner)
+    ≤ size inner + (24 + 6 * longest context.names + 6 * own name at.place)
+plain-short context at inner Data h = omega (arith, escaped-short context at)
+plain-short context at inner CharacterEscapeValue h = omega (arith, escaped-short context at)
+plain-short context at inner CodeTextData h = omega (arith, escaped-short context at)
+plain-short context at inner MathTextData h = omega (arith, escaped-short context at)
+plain-short context at inner CharacterReferenceValue h = omega (arith, reference-short context at)
+plain-short context at inner LineEnding h = omega (arith, line_ending-short context at)
+plain-short context at inner CharacterReferenceMarker h = omega arith
+plain-short context at inner CharacterReferenceMarkerNumeric h = omega arith
+plain-short context at inner CharacterReferenceMarkerHexadecimal h = omega arith
+plain-short context at inner BlockQuotePrefix h = omega arith
+plain-short context at inner SpaceOrTab h = omega arith
+plain-short context at inner (Other number) h = omega arith
+plain-short context at inner _ h = lie h
 
 not_note : (name : Name) → is_plain name ≡ true → is GfmFootnoteDefinition name ≡ false
 not_note GfmFootnoteDefinition h = lie h
@@ -125,27 +126,31 @@ pub notes-append : (xs ys : List Footnote) → notes (xs ++ ys) ≡ notes xs + n
 notes-append [] ys = omega arith
 notes-append (x ∷ xs) ys = omega (arith, notes-append xs ys)
 
-pub strings-short : (given : Given) (around : Surroundings) (before : Before) (content : Content)
-    (forest : Forest) → IsBuilt given.bytes content forest → has_strings content ≡ true →
-    7 * size (outcome given around before forest).pieces
-    + notes (outcome given around before forest).footnotes ≤ cost given.names forest
-strings-short given around before content Empty built strings = omega arith
-strings-short given around before content (Node name start end children rest) built strings =
+pub strings-short : (context : Context) (around : Surroundings) (before : Before)
+    (content : Content)
+    (forest : Forest) → IsBuilt context.bytes content forest → has_strings content ≡ true →
+    7 * size (outcome context around before forest).pieces
+    + notes (outcome context around before forest).footnotes ≤ cost context.names forest
+strings-short context around before content Empty built strings = omega arith
+strings-short context around before content (Node name start end children rest) built strings =
     let last : Bool = around.is_outermost && is_empty rest in
-    let inner : Outcome = inner_of given around before name children in
-    let at : At = at_node given around before last name start end children in
-    let next : Before = next_before given around before last name start end children in
+    let inner : Outcome = inner_of context around before name children in
+    let at : At = at_node context around before last name start end children in
+    let next : Before = next_before context around before last name start end children in
     let plain = plain-in content name strings built.0 in
-    let inside = strings-short given (around_in given around name children)
+    let inside = strings-short context (around_in context around name children)
     (before_children name children before) (content_inside content name) children built.2 plain.1 in
-    let after = strings-short given around next (content_after_node content name children) rest
+    let after = strings-short context around next (content_after_node content name children) rest
     built.3 (node-strings content name children strings) in
-    let here = plain-short given at inner.pieces name plain.0 in
-    let text = layout given.ending inner.pieces in
+    let here = plain-short context at inner.pieces name plain.0 in
+    let text = layout context.ending inner.pieces in
     let noted : List Footnote = when (is GfmFootnoteDefinition name)
-    (record { identifier = identifier_of given.bytes children; text = text } ∷ []) in
+    (record { identifier = identifier_of context.bytes children; text = text } ∷ []) in
     let none : notes noted ≡ 0 =
-    ap (λ b. notes (when b (record { identifier = identifier_of given.bytes children; text = text }
+    ap (λ b. notes (when b (record {
+      identifier = identifier_of context.bytes children;
+      text = text;
+    }
     ∷ []))) (not_note name plain.0) in
     omega (
       arith,
@@ -153,7 +158,7 @@ strings-short given around before content (Node name start end children rest) bu
       inside,
       after,
       none,
-      size-append (prints given at name inner.pieces) (outcome given around next rest).pieces,
+      size-append (prints context at name inner.pieces) (outcome context around next rest).pieces,
       notes-append inner.footnotes noted,
-      notes-append (inner.footnotes ++ noted) (outcome given around next rest).footnotes,
+      notes-append (inner.footnotes ++ noted) (outcome context around next rest).footnotes,
     )

@@ -24,9 +24,9 @@ use Rattle.md_pattern.specs.declared.kinds.Role.TheVariants as role
 use Rattle.md_pattern.specs.Spine.{spine, Matches}
 use Rattle.md_pattern.specs.Shape.{AreShaped, IsStanding, inner_role, inner_before}
 use Rattle.md_pattern.specs.Standing.{standing_of}
-use Rattle.md_shape.specs.Content.{Rows, Fits, is_allowed}
-use Rattle.md_shape.specs.Content.{content_inside}
-use Rattle.md_shape.proofs.Staying.{childless}
+use Rattle.md_steps.specs.Content.{Rows, Fits, is_allowed}
+use Rattle.md_steps.specs.Content.{content_inside}
+use Rattle.md_steps.proofs.Staying.{childless}
 use Rattle.md_length.specs.Uses.{cells, columns_in}
 use Rattle.md_length.specs.Work.{is_column, cells as counted}
 use Rattle.md_length.proofs.Cells.{values, aligned-few, rows-counted}

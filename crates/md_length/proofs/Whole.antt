@@ -10,15 +10,15 @@ use Rattle.md_base.specs.Tree.{Forest, Empty, Node}
 use Rattle.md_text.specs.declared.options.CompileOptions.{CompileOptions}
 use Rattle.md_tree.specs.Grammar.{IsGrammatical}
 use Rattle.md_meaning.specs.Meaning.{ending_at, meaning}
-use Rattle.md_meaning.specs.Meaning.Around.{outermost}
-use Rattle.md_meaning.specs.Meaning.At.{Given, identifier_of}
+use Rattle.md_meaning.specs.Meaning.Inherited.{outermost}
+use Rattle.md_meaning.specs.Meaning.At.{Context, identifier_of}
 use Rattle.md_meaning.specs.Meaning.Before.{nothing_before}
 use Rattle.md_meaning.specs.Meaning.Finds.{first_ending}
 use Rattle.md_meaning.specs.Meaning.Footnotes.{section}
 use Rattle.md_meaning.specs.Meaning.Nodes.{Outcome, outcome}
-use Rattle.md_shape.specs.Built.{Blocks}
-use Rattle.md_shape.proofs.Grammatical.{grammatical-built}
-use Rattle.md_shape.proofs.Underlines.{grammatical-underlined}
+use Rattle.md_content.specs.Built.{Blocks}
+use Rattle.md_content.proofs.Grammatical.{grammatical-built}
+use Rattle.md_content.proofs.Underlines.{grammatical-underlined}
 use Rattle.md_length.specs.Costs.{unit, nodes}
 use Rattle.md_length.specs.Lengths.{lengths}
 use Rattle.md_length.specs.Uses.{referred, cells, called, call_cost, back_cost}
@@ -73,7 +73,7 @@ calls-few-nodes bytes (Node name start end children rest) =
 
 -- the context of a document's nodes: first without calls and definitions, then with the calls, then
 -- also with the definitions
-abbrev pub alone_in : CompileOptions → List (List ℕ × List ℕ) → List ℕ → Forest → Given
+abbrev pub alone_in : CompileOptions → List (List ℕ × List ℕ) → List ℕ → Forest → Context
 alone_in options names bytes document = record {
   bytes = bytes;
   names = names;
@@ -83,12 +83,12 @@ alone_in options names bytes document = record {
   definitions = [];
 }
 
-abbrev pub called_in : CompileOptions → List (List ℕ × List ℕ) → List ℕ → Forest → Given
+abbrev pub called_in : CompileOptions → List (List ℕ × List ℕ) → List ℕ → Forest → Context
 called_in options names bytes document =
     let alone = alone_in options names bytes document in
     record alone { calls = (outcome alone outermost nothing_before document).calls }
 
-abbrev pub given_in : CompileOptions → List (List ℕ × List ℕ) → List ℕ → Forest → Given
+abbrev pub given_in : CompileOptions → List (List ℕ × List ℕ) → List ℕ → Forest → Context
 given_in options names bytes document =
     let called = called_in options names bytes document in record called {
       definitions = (outcome called outermost nothing_before document).definitions;
@@ -101,16 +101,16 @@ pub meaning-short : (options : CompileOptions) (names : List (List ℕ × List �
     + 331 * lengths document + referred (given_in options names bytes document) document
     + 32 * cells [] document + called (λ identifier. 1) bytes document * call_fixed options
 meaning-short options names bytes document is few =
-    let alone : Given = alone_in options names bytes document in
-    let given : Given = given_in options names bytes document in
-    let all : Outcome = outcome given outermost nothing_before document in
+    let alone : Context = alone_in options names bytes document in
+    let context : Context = given_in options names bytes document in
+    let all : Outcome = outcome context outermost nothing_before document in
     let ending = grammatical-ending options bytes names document is in
     let built = grammatical-built bytes names document is in
     let under = grammatical-underlined bytes names document is in
     let sound = grammatical-sound bytes names document is in
-    let calls : length given.calls < 2 ^ 63 =
+    let calls : length context.calls < 2 ^ 63 =
     omega (arith, calls-few alone outermost nothing_before document, few) in
-    let printed = nodes-short given outermost nothing_before false Blocks document ending calls
+    let printed = nodes-short context outermost nothing_before false Blocks document ending calls
     (omega (arith, few)) sound built under in
     let total : List ℕ → ℕ = λ (identifier : List ℕ). call_cost options identifier
     + (item_cost options identifier + back_cost options identifier) in
@@ -120,12 +120,12 @@ meaning-short options names bytes document is few =
       arith,
       printed,
       split,
-      layout-short given.ending (all.pieces ++ section given all.footnotes) ending,
-      size-append all.pieces (section given all.footnotes),
-      section-short given all.footnotes calls,
+      layout-short context.ending (all.pieces ++ section context all.footnotes) ending,
+      size-append all.pieces (section context all.footnotes),
+      section-short context all.footnotes calls,
       calls-sum (item_cost options) alone outermost nothing_before document,
       calls-sum (back_cost options) alone outermost nothing_before document,
-      uses-parts given [] bytes Blocks document built,
+      uses-parts context [] bytes Blocks document built,
       cost-split names document,
       numbers-short bytes document,
       labels-short bytes document,

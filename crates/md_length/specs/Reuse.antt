@@ -35,15 +35,15 @@ length_at lengths None = 0
 length_at lengths (Some place) = option_map_or (λ found. found) (slice_get lengths place) 0
 
 -- for each of some mentions the length of the definition that it refers to
-abbrev pub led_lengths : List ℕ → (Mention → Option ℕ) → List Mention → ℕ
-led_lengths lengths leads [] = 0
-led_lengths lengths leads (mention ∷ mentions) =
-    length_at lengths (leads mention) + led_lengths lengths leads mentions
+abbrev pub resolved_lengths : List ℕ → (Mention → Option ℕ) → List Mention → ℕ
+resolved_lengths lengths leads [] = 0
+resolved_lengths lengths leads (mention ∷ mentions) =
+    length_at lengths (leads mention) + resolved_lengths lengths leads mentions
 
 -- for each link and image that refers to a definition, the length of that definition
 abbrev pub referred : List ℕ → Forest → ℕ
 referred bytes document =
-    led_lengths (definition_lengths document) (definition_for bytes (mentions_of document))
+    resolved_lengths (definition_lengths document) (definition_for bytes (mentions_of document))
     (mentions_of document)
 
 abbrev pub is_media : Name → Bool

@@ -13,10 +13,10 @@ use Rattle.md_pattern.specs.Alignments.{alignments}
 use Rattle.md_text.specs.declared.options.CompileOptions.{CompileOptions}
 use Rattle.md_tree.specs.declared.mention.Referral.TheVariants.{Missing, Label}
 use Rattle.md_tree.specs.Rules.{target_of}
-use Rattle.md_meaning.specs.Meaning.At.{Target, Given, identifier_of, text_in}
+use Rattle.md_meaning.specs.Meaning.At.{Target, Context, identifier_of, text_in}
 use Rattle.md_meaning.specs.Meaning.Finds.{number_in_list}
 use Rattle.md_meaning.specs.Meaning.Media.{target_defined}
-use Rattle.md_shape.specs.Built.{rank_in}
+use Rattle.md_content.specs.Built.{rank_in}
 use Rattle.md_length.specs.Reuse.{is_media, option_length}
 
 -- the length of a target when it is printed
@@ -33,9 +33,9 @@ abbrev pub call_cost : CompileOptions → List ℕ → ℕ
 call_cost options identifier = 140 + 2 * id_cost options identifier
 
 -- the length of the definition that a link or an image refers to
-abbrev pub led : Given → Forest → ℕ
-led given children = elim (target_of children Missing) [
-  | Label place ↦ weight (target_defined given (identifier_of given.bytes children))
+abbrev pub led : Context → Forest → ℕ
+led context children = elim (target_of children Missing) [
+  | Label place ↦ weight (target_defined context (identifier_of context.bytes children))
   | _ ↦ 0
 ]
 
@@ -44,14 +44,14 @@ abbrev pub number_length : List ℕ → Forest → ℕ
 number_length bytes children =
     option_map_or (λ place. length (text_in bytes place)) (number_in_list children) 0
 
-abbrev pub used : Given → List AlignKind → Name → Forest → ℕ
-used given columns name children = elim name [
-  | ListOrdered ↦ number_length given.bytes children
+abbrev pub used : Context → List AlignKind → Name → Forest → ℕ
+used context columns name children = elim name [
+  | ListOrdered ↦ number_length context.bytes children
   | HeadingAtx ↦ 2 * length (decimal (rank_in children))
-  | Link ↦ led given children
-  | Image ↦ led given children
+  | Link ↦ led context children
+  | Image ↦ led context children
   | GfmTableRow ↦ 32 * length columns
-  | GfmFootnoteCall ↦ call_cost given.options (identifier_of given.bytes children)
+  | GfmFootnoteCall ↦ call_cost context.options (identifier_of context.bytes children)
   | _ ↦ 0
 ]
 
@@ -59,11 +59,11 @@ used given columns name children = elim name [
 abbrev pub columns_in : List AlignKind → Name → Forest → List AlignKind
 columns_in columns name children = if is GfmTable name then alignments children else columns
 
-abbrev pub uses : Given → List AlignKind → Forest → ℕ
-uses given columns Empty = 0
-uses given columns (Node name start end children rest) =
-    used given columns name children + uses given (columns_in columns name children) children
-    + uses given columns rest
+abbrev pub uses : Context → List AlignKind → Forest → ℕ
+uses context columns Empty = 0
+uses context columns (Node name start end children rest) =
+    used context columns name children + uses context (columns_in columns name children) children
+    + uses context columns rest
 
 -- the length of a backreference to a call
 abbrev pub back_cost : CompileOptions → List ℕ → ℕ
@@ -88,11 +88,11 @@ numbers bytes (Node name start end children rest) =
     + numbers bytes rest
 
 -- the lengths of definitions for the links and images that refer to them
-abbrev pub referred : Given → Forest → ℕ
-referred given Empty = 0
-referred given (Node name start end children rest) =
-    (if is_media name then led given children else 0) + referred given children
-    + referred given rest
+abbrev pub referred : Context → Forest → ℕ
+referred context Empty = 0
+referred context (Node name start end children rest) =
+    (if is_media name then led context children else 0) + referred context children
+    + referred context rest
 
 -- for each row of a table its columns
 abbrev pub cells : List AlignKind → Forest → ℕ

@@ -9,7 +9,7 @@ use Rattle.md_base.specs.declared.event.Name.TheVariants.{Definition}
 use Rattle.md_base.specs.declared.event.Name.TheVariants.{GfmTableDelimiterCellValue}
 pub use Rattle.md_base.specs.NameTests.{is_table}
 use Rattle.md_tree.specs.Texts.{is_text_name, is_identifier_name}
-pub use Rattle.md_shape.specs.Steps.{is_row}
+pub use Rattle.md_steps.specs.Steps.{is_row}
 
 -- the text of a node of this name is read, or the node has an identifier
 abbrev pub is_read : Name → Bool

@@ -13,7 +13,7 @@ mod trim;
 
 pub use class::{Class, is};
 pub use cursor::{Cursor, Place};
-pub use find::find_byte;
+pub use find::find_any;
 pub use line::{Line, after_ending, line_end};
 pub use link::{Title, read_destination, read_label, read_title};
 pub use span::Span;

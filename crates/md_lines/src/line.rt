@@ -117,7 +117,7 @@ fn run_in(bytes: &[u8], at: usize) -> usize
 
 /// The index of the lowest set bit, or the number of lanes if none is set.
 #[inline(always)]
-fn first_set(marks: u64) -> usize
+pub(crate) fn first_set(marks: u64) -> usize
     ensures { result ≡ (if marks == 0 then 16 else trailing_zeros w64 marks) }
 {
     if marks == 0 {

@@ -5,7 +5,7 @@ ghost use Rattle.md_lines.specs.Reading.{left};
 
 use crate::class::{Class, is};
 use crate::cursor::{Cursor, Place};
-use crate::find::find_byte;
+use crate::find::find_any;
 use crate::line::Line;
 
 /// The result of reading an attribute.
@@ -115,7 +115,7 @@ fn skip_quoted(cursor: &mut Cursor<'_>, quote: u8) -> bool
     ensures { left cursor.new ≤ left cursor.old }
 {
     'lines: loop {
-        let at = find_byte(cursor.bytes, quote, cursor.at, cursor.end);
+        let at = find_any(cursor.bytes, [quote; 3], cursor.at, cursor.end);
         if at < cursor.end {
             cursor.at = at + 1;
             return true;

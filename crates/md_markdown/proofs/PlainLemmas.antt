@@ -1,7 +1,8 @@
 -- A document that is shown as it is written matches the grammar, whatever its text is.
 use Rattle.std.proofs.Common.{◌+◌, ◌*◌, ◌≤◌, ◌<◌, arith}
 use Rattle.std.proofs.Common.{◌≡◌, ◌∙◌, Bool, ℕ, zero, suc, ◌-◌, List, [], ◌∷◌, ◌++◌, true}
-use Rattle.std.proofs.Common.{false, ◌&&◌, if◌then◌else◌, refl, ap, sym, subst, length, nat_le, Some}
+use Rattle.std.proofs.Common.{false, ◌&&◌, if◌then◌else◌, refl, ap, sym, subst, length, nat_le}
+use Rattle.std.proofs.Common.{Some}
 use Rattle.std.proofs.Common.{None, take, replicate, All, codes}
 use Rattle.std.specs.Option.{unwrap_or}
 use Rattle.std.specs.Str.{IsUtf8}
@@ -187,7 +188,8 @@ module _ (events : List Event) (bytes text : List ℕ)
     plain (length text),
     record {
       flattened = sym same;
-      grammatical = subst (λ b. IsGrammatical b (name_table names) (plain (length text))) (sym value)
+      grammatical = subst (λ b. IsGrammatical b (name_table names) (plain (length text)))
+          (sym value)
           (grammatical text (name_table names) utf8);
     },
   )

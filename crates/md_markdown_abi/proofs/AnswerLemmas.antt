@@ -174,7 +174,8 @@ module _ (bytes : List ℕ) (options : CMarkdownOptions) where
           (λ other. absurd (other refl))
       of (NotUtf8 index) h = told_fields 34 index 0 (omega arith) (inl (omega arith))
           (λ other. absurd (other refl)) (λ _. refl)
-      of OutputTooLong h = told_fields 33 0 0 (omega arith) (inl (omega arith)) (λ _. refl) (λ _. refl)
+      of OutputTooLong h = told_fields 33 0 0 (omega arith) (inl (omega arith)) (λ _. refl)
+          (λ _. refl)
       of TooMuchWork h = told_fields 37 0 0 (omega arith) (inr refl) (λ _. refl) (λ _. refl)
       of (Failed cause) h = fault_fields cause h
 

@@ -1,5 +1,6 @@
 -- From the promises about a text, and the reason why there is none, to C's answer.
-use Rattle.std.proofs.Common.{◌+◌, ◌*◌, ◌≡◌, ℕ, ◌≤◌, Bool, true, List, Option, Some, Result, Ok, Err}
+use Rattle.std.proofs.Common.{◌+◌, ◌*◌, ◌≡◌, ℕ, ◌≤◌, Bool, true, List, Option, Some, Result, Ok}
+use Rattle.std.proofs.Common.{Err}
 use Rattle.std.proofs.Common.{take, [], ◌∷◌, ◌++◌, IfErr, is_some, refl, sym, ap, ◌∙◌}
 use Rattle.std.proofs.Common.{subst}
 use Rattle.std.specs.Prelude.{None, IsErrAnd, option_map, slice_get}
@@ -74,7 +75,8 @@ plain_of bytes text given options plain same has made safe contained tree nestin
     }
 
 pub made_text : (bytes : List ℕ) (given : CMarkdownOptions) (rel prefix : Option (List ℕ))
-    (plain whole : List ℕ) (start : ℕ) → IsPlainOf bytes given plain → text_of given.rel ≡ Some rel →
+    (plain whole : List ℕ) (start : ℕ) → IsPlainOf bytes given plain → text_of given.rel ≡ Some
+    rel →
     text_of given.heading_ids ≡ Some prefix →
     ((x : List Token) → IsTokenized plain x → IsListedAfter prefix (with_rel rel x) start whole) →
     (IsBuiltAsWritten plain → IsBuiltAsWritten (take start whole)) →

@@ -64,7 +64,8 @@ built-slugs text list whole start is at built =
 
 -- ---- of a document
 pub made_slugged : (bytes : List ℕ) (given : CMarkdownOptions) (rel : Option (List ℕ))
-    (plain whole : List ℕ) (start : ℕ) → IsPlainOf bytes given plain → text_of given.rel ≡ Some rel →
+    (plain whole : List ℕ) (start : ℕ) → IsPlainOf bytes given plain → text_of given.rel ≡ Some
+    rel →
     ((x : List Token) → IsTokenized plain x → IsSluggedAfter (with_rel rel x) start whole) →
     (IsBuiltAsWritten plain → IsBuiltAsWritten (take start whole)) →
     start ≤ given.max_output → IsSluggedText bytes given start whole

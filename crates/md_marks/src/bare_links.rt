@@ -4,10 +4,6 @@ ghost use Rattle.std.specs.Prelude.{◌≤◌, length};
 
 use md_base::Name;
 use md_lines::{Class, is};
-use std::simd::prelude::*;
-
-/// The number of bytes that one step reads.
-const LANES: usize = 16;
 
 /// A bare link: the event's name, and its range.
 #[derive(Clone, Copy, Debug, PartialEq, Eq)]
@@ -15,34 +11,6 @@ pub struct BareLink {
     pub name: Name,
     pub start: usize,
     pub end: usize,
-}
-
-/// The index of the next `@`, `:` or full stop at `from` or later, one of which each bare link has;
-/// `end` or later if there is none before `end`.
-pub fn next_link_mark(bytes: &[u8], from: usize, end: usize) -> usize
-    ensures { from ≤ result }
-{
-    let end = end.min(bytes.len());
-    let mut at = from;
-    while at < end {
-        let rest = &bytes[at..];
-        if rest.len() < LANES {
-            let index = rest
-                .iter()
-                .position(|byte| matches!(*byte, b'@' | b':' | b'.'));
-            return at.saturating_add(index.unwrap_or(rest.len()));
-        }
-        let block = Simd::<u8, LANES>::from_slice(rest);
-        let marks = block.simd_eq(Simd::splat(b'@'))
-            | block.simd_eq(Simd::splat(b':'))
-            | block.simd_eq(Simd::splat(b'.'));
-        let bits = marks.to_bitmask();
-        if bits != 0 {
-            return at + bits.trailing_zeros() as usize;
-        }
-        at += LANES;
-    }
-    at
 }
 
 /// The link with `://` at `colon`, which begins at `low` or later and ends before `high`. A link

@@ -1,7 +1,7 @@
 //! Finds the ends of inline code and math.
 
 use crate::leaf::{Leaf, run_length};
-use md_lines::{Place, find_byte};
+use md_lines::{Place, find_any};
 use memchr::memchr;
 use std::alloc::{AllocError, Global};
 
@@ -66,7 +66,7 @@ impl Ticks {
         let text = bytes.get(..end).unwrap_or(b"");
         let mut at = from;
         while at < text.len() {
-            let start = find_byte(bytes, b'`', at, text.len());
+            let start = find_any(bytes, [b'`'; 3], at, text.len());
             if start >= text.len() {
                 break;
             }

@@ -1,8 +1,8 @@
 -- The meaning of a document (`Meaning`), which a reader must believe, with worked trees (`Trees`),
--- and a few definitions for contracts and lemmas about what the compiler reads (`Given`,
+-- and a few definitions for contracts and lemmas about what the compiler reads (`Context`,
 -- `Surroundings`, `Places`).
 pub mod Surroundings
-pub mod Given
+pub mod Texts
 pub mod Places
 pub mod Meaning
 pub mod FootnoteHeading

@@ -1,6 +1,6 @@
 -- The meaning of a document: its text.
 pub mod Layout
-pub mod Around
+pub mod Inherited
 pub mod At
 pub mod Finds
 pub mod Before
@@ -18,8 +18,8 @@ use Rattle.md_text.specs.LineEnding.{ending_text}
 use Rattle.md_base.specs.Tree.{Forest}
 use Rattle.md_text.specs.declared.options.CompileOptions.{CompileOptions}
 use Rattle.md_meaning.specs.Meaning.Layout.{layout}
-use Rattle.md_meaning.specs.Meaning.Around.{outermost}
-use Rattle.md_meaning.specs.Meaning.At.{Given, text_in}
+use Rattle.md_meaning.specs.Meaning.Inherited.{outermost}
+use Rattle.md_meaning.specs.Meaning.At.{Context, text_in}
 use Rattle.md_meaning.specs.Meaning.Finds.{first_ending}
 use Rattle.md_meaning.specs.Meaning.Before.{nothing_before}
 use Rattle.md_meaning.specs.Meaning.Nodes.{Outcome, outcome}
@@ -35,7 +35,7 @@ ending_at options bytes place =
 abbrev pub meaning : CompileOptions → List (List ℕ × List ℕ) → List ℕ → Forest → List ℕ
 meaning options names bytes document =
     let ending = ending_at options bytes (first_ending document) in
-    let alone : Given = record {
+    let alone : Context = record {
       bytes = bytes;
       names = names;
       options = options;
@@ -43,10 +43,10 @@ meaning options names bytes document =
       calls = [];
       definitions = [];
     } in
-    let called : Given =
+    let called : Context =
     record alone { calls = (outcome alone outermost nothing_before document).calls } in
-    let given = record called {
+    let context = record called {
       definitions = (outcome called outermost nothing_before document).definitions;
     } in
-    let all : Outcome = outcome given outermost nothing_before document in
-    layout ending (all.pieces ++ section given all.footnotes)
+    let all : Outcome = outcome context outermost nothing_before document in
+    layout ending (all.pieces ++ section context all.footnotes)

@@ -9,7 +9,7 @@ use Rattle.md_base.specs.Tree.{Forest}
 use Rattle.md_base.specs.NameTests.{is_label_text, is_footnote_label}
 use Rattle.md_base.specs.Children.{first_on_spine}
 use Rattle.md_tree.specs.Rules.{columns}
-use Rattle.md_meaning.specs.Given.{label_of}
+use Rattle.md_meaning.specs.Texts.{label_of}
 
 -- the position of a node
 abbrev pub position : Point → Point → Forest → Position

@@ -1,7 +1,7 @@
 //! The meaning of a Markdown document: the text that its tree prints.
 #![tactic(auto)]
 
-mod context;
 pub mod laws;
+mod surroundings;
 
-pub use context::{Container, Surroundings};
+pub use surroundings::{Container, Surroundings};

@@ -1,4 +1,4 @@
 -- One event more, for each measure; what a measure says of a document.
 pub mod Measuring
 pub mod Nesting
-pub mod Told
+pub mod Summary

@@ -1,6 +1,7 @@
 -- One event more: each claim about what follows is the claim before it about the event and what
 -- follows.
-use Rattle.std.proofs.Common.{◌≡◌, ℕ, zero, suc, ◌+◌, ◌-◌, ◌*◌, ◌^◌, ◌≤◌, Bool, true, false, List, [], ◌∷◌}
+use Rattle.std.proofs.Common.{◌≡◌, ℕ, zero, suc, ◌+◌, ◌-◌, ◌*◌, ◌^◌, ◌≤◌, Bool, true, false, List}
+use Rattle.std.proofs.Common.{[], ◌∷◌}
 use Rattle.std.proofs.Common.{◌++◌, length, max, refl, ap, sym, ◌∙◌, arith, subst}
 use Rattle.std.specs.Prelude.{◌||◌, if◌then◌else◌}
 use Rattle.std.proofs.Math.Seq.{append_snoc}
@@ -130,7 +131,8 @@ grows : (before after few more : ℕ) → after ≤ before + 1 → before ≤ fe
     after ≤ more
 grows before after few more step held one = omega (arith, step, held, one)
 
-one-longer : (events : List Event) (event : Event) → length (events ++ event ∷ []) ≡ length events + 1
+one-longer : (events : List Event) (event : Event) → length (events ++ event ∷ []) ≡ length events +
+    1
 one-longer events event = length-append events (event ∷ [])
 
 module _ (event : Event) (events : List Event) (before : ℕ) (few : before ≤ length events) where

@@ -140,8 +140,8 @@ nested (Node name start end children rest) in_link after =
     || not (is Image name) && has_nested_link (link || in_link) children)
     || has_nested_link in_link rest) || nests in_link 0 after) (sym (is_link-is name))
 
-pub told_of_document : (document : Forest) (events : List Event) → flatten document ≡ events →
+pub summary_of_document : (document : Forest) (events : List Event) → flatten document ≡ events →
     nests false 0 events ≡ has_nested_link false document
-told_of_document document events flat =
+summary_of_document document events flat =
     ap (λ es. nests false 0 es) (sym flat ∙ sym (append-nil (flatten document)))
     ∙ nested document false [] ∙ or-false (has_nested_link false document)

@@ -10,8 +10,8 @@ use md_base::{Event, Kind, Name};
 /// The open links and images, and whether a link contained a link so far.
 #[derive(Clone, Copy)]
 pub struct Links {
-    /// Whether a link is open that isn't in an image. After the end of a link in a link it is false;
-    /// `nested` is true by then.
+    /// Whether a link is open that isn't in an image. After the end of a link in a link it is
+    /// false, but `nested` is true by then.
     pub in_link: bool,
     /// How many images are open.
     pub images: usize,

@@ -1,5 +1,6 @@
 -- A page around a text that is built as it is written is built with that text's forest.
-use Rattle.std.proofs.Common.{◌≡◌, ℕ, true, false, List, [], ◌∷◌, ◌++◌, map, refl, sym, ap, ◌∙◌, subst}
+use Rattle.std.proofs.Common.{◌≡◌, ℕ, true, false, List, [], ◌∷◌, ◌++◌, map, refl, sym, ap, ◌∙◌}
+use Rattle.std.proofs.Common.{subst}
 use Rattle.std.proofs.Common.{append_assoc, codes}
 use Rattle.std.specs.List.{list_all}
 use Rattle.md_text.specs.Encode.{encoded}

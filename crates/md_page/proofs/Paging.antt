@@ -16,7 +16,7 @@ use Rattle.md_safe.specs.PageTokens.{charset as charset_seen, page_text, plain_t
 use Rattle.md_safe.specs.SafeTokens.{has_safe_links, has_safe_images}
 use Rattle.md_safe.proofs.LineFeeds.{line_feeds-append, line_feeds-escaped}
 use Rattle.md_safe.proofs.Steps.{loud, along, rcdata-runs}
-use Rattle.md_safe.proofs.TagRuns.{element-runs, void-runs, end-runs}
+use Rattle.md_safe.proofs.TagLeads.{element-runs, void-runs, end-runs}
 use Rattle.md_safe.proofs.OneRun.{one_run}
 use Rattle.md_safe.proofs.TokenTests.{all-append, all-characters}
 use Rattle.md_safe.proofs.SafeTokens.{links-pass, images-pass}

@@ -3,7 +3,7 @@ use Rattle.std.specs.Str.{bytes_eq}
 use Rattle.std.specs.Prelude.{◌≡◌, ℕ, Bool, true, not, if◌then◌else◌, nat_eq, List, [], ◌∷◌, ◌++◌}
 use Rattle.std.specs.Prelude.{codes}
 use Rattle.std.specs.List.{list_all, starts_with}
-use Rattle.md_shape.specs.Built.{is_digit}
+use Rattle.md_content.specs.Built.{is_digit}
 use Rattle.md_safe.specs.Token.{Token, TokenAttribute, StartTag}
 use Rattle.md_page.specs.Added.{shown}
 

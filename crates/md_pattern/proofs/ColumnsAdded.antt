@@ -11,11 +11,11 @@ use Rattle.md_base.specs.Tree.{Forest}
 use Rattle.md_base.specs.NameTests.{is_table, leads_to_values}
 use Rattle.md_base.specs.Is.{is}
 use Rattle.md_pattern.specs.Alignments.{alignment_of, alignments}
-use Rattle.md_pattern.specs.Told.{nothing_told, told_over, alignment}
+use Rattle.md_pattern.specs.Summary.{empty_summary, summary_over, alignment}
 use Rattle.md_pattern.specs.Columns.{Collected, part_of, collects_where, collects_in, entered_where}
 use Rattle.md_pattern.specs.Columns.{columns_entered, exited_where, columns_exited, tables_of}
 use Rattle.md_pattern.specs.Columns.{columns_after}
-use Rattle.md_pattern.proofs.Telling.{alignment-told}
+use Rattle.md_pattern.proofs.Summaries.{alignment-summary}
 
 abbrev is_table_part : Part → Bool
 is_table_part part.Table = true
@@ -66,7 +66,7 @@ cond-nil true none = refl
 cond-nil false none = refl
 
 columns_part : (p : Part) (children : Forest) (collects : Bool) (columns : Collected) →
-    exited_where p (told_over children nothing_told) collects
+    exited_where p (summary_over children empty_summary) collects
     (columns_after children (collects_where p collects) (entered_where p columns))
     ≡ columns_next (is_table_part p) (is_value_part p) (is_leads_part p) children collects columns
 columns_part part.Table children collects columns =
@@ -85,12 +85,13 @@ columns_part part.Value children collects columns =
     both_made columns.starts _ _ _ _
     (ap (λ tables. columns.tables ++ tables) (sym (append-nil (tables_of children)))) (by collects)
   where
-    by : (c : Bool) → cond c ((columns.pending ++ []) ++ alignment (told_over children nothing_told)
+    by : (c : Bool) → cond c ((columns.pending ++ []) ++ alignment
+        (summary_over children empty_summary)
         ∷ []) (columns.pending ++ []) ≡ columns.pending ++ cond c (alignment_of children ∷ []) []
     by true =
-        ap (λ before. before ++ alignment (told_over children nothing_told) ∷ [])
+        ap (λ before. before ++ alignment (summary_over children empty_summary) ∷ [])
         (append-nil columns.pending)
-        ∙ ap (λ column. columns.pending ++ column ∷ []) (alignment-told children)
+        ∙ ap (λ column. columns.pending ++ column ∷ []) (alignment-summary children)
     by false = refl
 columns_part part.Apart children collects columns =
     both_made columns.starts _ _ _ _
@@ -98,7 +99,7 @@ columns_part part.Apart children collects columns =
     (ap (λ none. columns.pending ++ none) (sym (cond-nil collects [])))
 
 pub columns_node : (name : Name) (children : Forest) (collects : Bool) (columns : Collected) →
-    columns_exited name (told_over children nothing_told) collects
+    columns_exited name (summary_over children empty_summary) collects
     (columns_after children (collects_in name collects) (columns_entered name columns))
     ≡ columns_next (is_table name) (is GfmTableDelimiterCellValue name) (leads_to_values name)
     children collects columns

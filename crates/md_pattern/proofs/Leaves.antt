@@ -10,7 +10,7 @@ use Rattle.md_pattern.specs.declared.facts.Fact.{Fact}
 use Rattle.md_pattern.specs.declared.facts.OpenNode.{OpenNode}
 use Rattle.md_base.specs.NameTests.{is_table}
 use Rattle.md_base.proofs.Lies.{lie}
-use Rattle.md_pattern.specs.Told.{nothing_told}
+use Rattle.md_pattern.specs.Summary.{empty_summary}
 use Rattle.md_pattern.specs.Columns.{Collected, columns_entered, columns_exited}
 use Rattle.md_pattern.specs.Facts.{PassState, sought_inside, opened, followed, fact_of}
 use Rattle.md_pattern.specs.Facts.{partner_alone, definitions_with, passed_entry, passed_exit}
@@ -22,7 +22,7 @@ plain-entered GfmTable columns plain = lie (sym plain)
 plain-entered _ columns plain = refl
 
 plain-fact : (name : Name) (exit table : ℕ) (around : Sought) → is_table name ≡ false →
-    partner_alone exit ≡ fact_of name exit table 0 (sought_inside name around) nothing_told
+    partner_alone exit ≡ fact_of name exit table 0 (sought_inside name around) empty_summary
 plain-fact GfmTable exit table around plain = lie (sym plain)
 plain-fact _ exit table around plain = refl
 
@@ -31,9 +31,9 @@ abbrev pub after_leaf : Name → PassState → PassState
 after_leaf name pass = record {
   facts = (pass.facts ++ fact_of name (length pass.facts + 1)
       (length (Collected.tables (columns_entered name pass.columns))) 0
-      (sought_inside name (OpenNode.sought pass.here)) nothing_told ∷ [])
+      (sought_inside name (OpenNode.sought pass.here)) empty_summary ∷ [])
       ++ partner_alone (length pass.facts) ∷ [];
-  columns = columns_exited name nothing_told (OpenNode.collects pass.here)
+  columns = columns_exited name empty_summary (OpenNode.collects pass.here)
       (columns_entered name pass.columns);
   definitions = definitions_with name (length pass.facts) pass.definitions;
   here = followed name (opened (length pass.facts) name pass.here) pass.here;
@@ -55,7 +55,7 @@ passed-leaf name pass =
     record (after_leaf name pass) { facts = fs ++ partner_alone (length pass.facts) ∷ [] })
     (facts-leaf pass.facts (partner_alone 0) (λ exit. fact_of name exit (length (Collected.tables
     (columns_entered name pass.columns))) 0 (sought_inside name (OpenNode.sought pass.here))
-    nothing_told))
+    empty_summary))
 
 -- the same, by what each step gave
 pub passed-leaf_by :
@@ -63,7 +63,7 @@ pub passed-leaf_by :
     (once twice : List Fact) (definitions : List ℕ) → is_table name ≡ false →
     entry ≡ length pass.facts →
     once ≡ pass.facts ++ partner_alone (entry + 1) ∷ [] → twice ≡ once ++ partner_alone entry ∷ [] →
-    columns ≡ columns_exited name nothing_told (OpenNode.collects pass.here) pass.columns →
+    columns ≡ columns_exited name empty_summary (OpenNode.collects pass.here) pass.columns →
     definitions ≡ definitions_with name entry pass.definitions →
     here ≡ followed name (opened entry name pass.here) pass.here →
     record {
@@ -77,7 +77,7 @@ pub passed-leaf_by :
 passed-leaf_by name pass entry here columns once twice definitions plain e1 e5 e6 e7 e8 e9 =
     rw (e9, e8, e7, e6, e5, e1) (ap (λ f. record {
       facts = (pass.facts ++ f ∷ []) ++ partner_alone (length pass.facts) ∷ [];
-      columns = columns_exited name nothing_told (OpenNode.collects pass.here) pass.columns;
+      columns = columns_exited name empty_summary (OpenNode.collects pass.here) pass.columns;
       definitions = definitions_with name (length pass.facts) pass.definitions;
       here = followed name (opened (length pass.facts) name pass.here) pass.here;
       outer = pass.outer;
@@ -85,5 +85,5 @@ passed-leaf_by name pass entry here columns once twice definitions plain e1 e5 e
     (length (Collected.tables (columns_entered name pass.columns)))
     (OpenNode.sought pass.here) plain)
     ∙ ap (λ c. record (after_leaf name pass) {
-      columns = columns_exited name nothing_told (OpenNode.collects pass.here) c;
+      columns = columns_exited name empty_summary (OpenNode.collects pass.here) c;
     }) (sym (plain-entered name pass.columns plain)) ∙ passed-leaf name pass)

@@ -1,10 +1,10 @@
 -- The lemmas on places in a pattern: each fits a byte, and which patterns let a spine be empty.
 pub mod PlaceLemmas
--- That the pass from event to event finds what is defined of a tree: `Passing`, `Telling` and
+-- That the pass from event to event finds what is defined of a tree: `Passing`, `Summaries` and
 -- `FirstIndex`. `Opens` and `Leaves` are for the steps of the code.
 pub mod Loosened
 pub mod OneMoreChild
-pub mod Telling
+pub mod Summaries
 pub mod Opens
 pub mod ColumnsAdded
 pub mod CountedFacts

@@ -4,12 +4,12 @@ use Rattle.md_base.specs.declared.event.Name.{Name}
 use Rattle.md_base.specs.declared.event.Name.TheVariants as name_variants
 use name_variants.{BlankLineEnding, ListItem, GfmTableDelimiterMarker, SpaceOrTab, ListItemPrefix}
 use name_variants.{BlockQuotePrefix, BlockQuote}
-use Rattle.md_pattern.specs.declared.told.Last.{Last}
-use Rattle.md_pattern.specs.declared.told.Last.TheVariants as final
-use Rattle.md_pattern.specs.declared.told.Told.{Told}
+use Rattle.md_pattern.specs.declared.summary.Last.{Last}
+use Rattle.md_pattern.specs.declared.summary.Last.TheVariants as final
+use Rattle.md_pattern.specs.declared.summary.Summary.{Summary}
 use Rattle.md_base.specs.Is.{is}
-use Rattle.md_pattern.specs.Told.{spaced, is_bare_last, quote_as, parts, loosens, is_nothing}
-use Rattle.md_pattern.specs.Told.{is_marker_last, told_with}
+use Rattle.md_pattern.specs.Summary.{spaced, is_bare_last, quote_as, parts, loosens, is_nothing}
+use Rattle.md_pattern.specs.Summary.{is_marker_last, summary_with}
 
 -- the last child is a block quote's prefix
 abbrev pub is_quote_last : Last → Bool
@@ -43,16 +43,16 @@ quote_quote : (l : Last) → is_quote_last (quote_as l) ≡ false
 quote_quote final.QuotePrefix = refl
 quote_quote _ = refl
 
-pub quote_with : (name : Name) (own told : Told) →
-    is_quote_last (Told.last (told_with name own told)) ≡ is BlockQuotePrefix name
-quote_with BlankLineEnding own told = refl
-quote_with ListItem own told = quote_item (is_bare_last own.last)
-quote_with GfmTableDelimiterMarker own told = refl
-quote_with SpaceOrTab own told = quote_spaced told.last
-quote_with ListItemPrefix own told = refl
-quote_with BlockQuotePrefix own told = refl
-quote_with BlockQuote own told = quote_quote own.last
-quote_with _ own told = refl
+pub quote_with : (name : Name) (own summary : Summary) →
+    is_quote_last (Summary.last (summary_with name own summary)) ≡ is BlockQuotePrefix name
+quote_with BlankLineEnding own summary = refl
+quote_with ListItem own summary = quote_item (is_bare_last own.last)
+quote_with GfmTableDelimiterMarker own summary = refl
+quote_with SpaceOrTab own summary = quote_spaced summary.last
+quote_with ListItemPrefix own summary = refl
+quote_with BlockQuotePrefix own summary = refl
+quote_with BlockQuote own summary = quote_quote own.last
+quote_with _ own summary = refl
 
 marker_spaced : (l : Last) → is_marker_last (spaced l) ≡ false
 marker_spaced final.Prefix = refl
@@ -67,16 +67,16 @@ marker_quote : (l : Last) → is_marker_last (quote_as l) ≡ false
 marker_quote final.QuotePrefix = refl
 marker_quote _ = refl
 
-pub marker_with : (name : Name) (own told : Told) →
-    is_marker_last (Told.last (told_with name own told)) ≡ is GfmTableDelimiterMarker name
-marker_with BlankLineEnding own told = refl
-marker_with ListItem own told = marker_item (is_bare_last own.last)
-marker_with GfmTableDelimiterMarker own told = refl
-marker_with SpaceOrTab own told = marker_spaced told.last
-marker_with ListItemPrefix own told = refl
-marker_with BlockQuotePrefix own told = refl
-marker_with BlockQuote own told = marker_quote own.last
-marker_with _ own told = refl
+pub marker_with : (name : Name) (own summary : Summary) →
+    is_marker_last (Summary.last (summary_with name own summary)) ≡ is GfmTableDelimiterMarker name
+marker_with BlankLineEnding own summary = refl
+marker_with ListItem own summary = marker_item (is_bare_last own.last)
+marker_with GfmTableDelimiterMarker own summary = refl
+marker_with SpaceOrTab own summary = marker_spaced summary.last
+marker_with ListItemPrefix own summary = refl
+marker_with BlockQuotePrefix own summary = refl
+marker_with BlockQuote own summary = marker_quote own.last
+marker_with _ own summary = refl
 
 nothing_spaced : (l : Last) → is_nothing (spaced l) ≡ false
 nothing_spaced final.Prefix = refl
@@ -91,62 +91,64 @@ nothing_quote : (l : Last) → is_nothing (quote_as l) ≡ false
 nothing_quote final.QuotePrefix = refl
 nothing_quote _ = refl
 
-pub nothing_with : (name : Name) (own told : Told) →
-    is_nothing (Told.last (told_with name own told)) ≡ false
-nothing_with BlankLineEnding own told = refl
-nothing_with ListItem own told = nothing_item (is_bare_last own.last)
-nothing_with GfmTableDelimiterMarker own told = refl
-nothing_with SpaceOrTab own told = nothing_spaced told.last
-nothing_with ListItemPrefix own told = refl
-nothing_with BlockQuotePrefix own told = refl
-nothing_with BlockQuote own told = nothing_quote own.last
-nothing_with _ own told = refl
+pub nothing_with : (name : Name) (own summary : Summary) →
+    is_nothing (Summary.last (summary_with name own summary)) ≡ false
+nothing_with BlankLineEnding own summary = refl
+nothing_with ListItem own summary = nothing_item (is_bare_last own.last)
+nothing_with GfmTableDelimiterMarker own summary = refl
+nothing_with SpaceOrTab own summary = nothing_spaced summary.last
+nothing_with ListItemPrefix own summary = refl
+nothing_with BlockQuotePrefix own summary = refl
+nothing_with BlockQuote own summary = nothing_quote own.last
+nothing_with _ own summary = refl
 
-pub begins_with : (name : Name) (own told : Told) →
-    Told.begins_with_marker (told_with name own told)
-    ≡ (told.begins_with_marker || (is GfmTableDelimiterMarker name && is_nothing told.last))
-begins_with BlankLineEnding own told = or-false told.begins_with_marker
-begins_with ListItem own told = or-false told.begins_with_marker
-begins_with GfmTableDelimiterMarker own told = refl
-begins_with SpaceOrTab own told = or-false told.begins_with_marker
-begins_with ListItemPrefix own told = or-false told.begins_with_marker
-begins_with BlockQuotePrefix own told = or-false told.begins_with_marker
-begins_with BlockQuote own told = or-false told.begins_with_marker
-begins_with _ own told = or-false told.begins_with_marker
+pub begins_with : (name : Name) (own summary : Summary) →
+    Summary.begins_with_marker (summary_with name own summary)
+    ≡ (summary.begins_with_marker || (is GfmTableDelimiterMarker name && is_nothing summary.last))
+begins_with BlankLineEnding own summary = or-false summary.begins_with_marker
+begins_with ListItem own summary = or-false summary.begins_with_marker
+begins_with GfmTableDelimiterMarker own summary = refl
+begins_with SpaceOrTab own summary = or-false summary.begins_with_marker
+begins_with ListItemPrefix own summary = or-false summary.begins_with_marker
+begins_with BlockQuotePrefix own summary = or-false summary.begins_with_marker
+begins_with BlockQuote own summary = or-false summary.begins_with_marker
+begins_with _ own summary = or-false summary.begins_with_marker
 
-pub without_with : (name : Name) (own told : Told) → Told.without_items (told_with name own told)
-    ≡ (told.without_items || (is BlankLineEnding name && parts told.last))
-without_with BlankLineEnding own told = refl
-without_with ListItem own told = or-false told.without_items
-without_with GfmTableDelimiterMarker own told = or-false told.without_items
-without_with SpaceOrTab own told = or-false told.without_items
-without_with ListItemPrefix own told = or-false told.without_items
-without_with BlockQuotePrefix own told = or-false told.without_items
-without_with BlockQuote own told = or-false told.without_items
-without_with _ own told = or-false told.without_items
+pub without_with : (name : Name) (own summary : Summary) → Summary.without_items
+    (summary_with name own summary)
+    ≡ (summary.without_items || (is BlankLineEnding name && parts summary.last))
+without_with BlankLineEnding own summary = refl
+without_with ListItem own summary = or-false summary.without_items
+without_with GfmTableDelimiterMarker own summary = or-false summary.without_items
+without_with SpaceOrTab own summary = or-false summary.without_items
+without_with ListItemPrefix own summary = or-false summary.without_items
+without_with BlockQuotePrefix own summary = or-false summary.without_items
+without_with BlockQuote own summary = or-false summary.without_items
+without_with _ own summary = or-false summary.without_items
 
-pub item_with : (name : Name) (own told : Told) → Told.of_item (told_with name own told)
-    ≡ (told.of_item || (is BlankLineEnding name && loosens told.last))
-item_with BlankLineEnding own told = refl
-item_with ListItem own told = or-false told.of_item
-item_with GfmTableDelimiterMarker own told = or-false told.of_item
-item_with SpaceOrTab own told = or-false told.of_item
-item_with ListItemPrefix own told = or-false told.of_item
-item_with BlockQuotePrefix own told = or-false told.of_item
-item_with BlockQuote own told = or-false told.of_item
-item_with _ own told = or-false told.of_item
+pub item_with : (name : Name) (own summary : Summary) → Summary.of_item
+    (summary_with name own summary)
+    ≡ (summary.of_item || (is BlankLineEnding name && loosens summary.last))
+item_with BlankLineEnding own summary = refl
+item_with ListItem own summary = or-false summary.of_item
+item_with GfmTableDelimiterMarker own summary = or-false summary.of_item
+item_with SpaceOrTab own summary = or-false summary.of_item
+item_with ListItemPrefix own summary = or-false summary.of_item
+item_with BlockQuotePrefix own summary = or-false summary.of_item
+item_with BlockQuote own summary = or-false summary.of_item
+item_with _ own summary = or-false summary.of_item
 
-pub loose_item_with : (name : Name) (own told : Told) →
-    Told.has_loose_item (told_with name own told)
-    ≡ (told.has_loose_item || (is ListItem name && own.of_item))
-loose_item_with BlankLineEnding own told = or-false told.has_loose_item
-loose_item_with ListItem own told = refl
-loose_item_with GfmTableDelimiterMarker own told = or-false told.has_loose_item
-loose_item_with SpaceOrTab own told = or-false told.has_loose_item
-loose_item_with ListItemPrefix own told = or-false told.has_loose_item
-loose_item_with BlockQuotePrefix own told = or-false told.has_loose_item
-loose_item_with BlockQuote own told = or-false told.has_loose_item
-loose_item_with _ own told = or-false told.has_loose_item
+pub loose_item_with : (name : Name) (own summary : Summary) →
+    Summary.has_loose_item (summary_with name own summary)
+    ≡ (summary.has_loose_item || (is ListItem name && own.of_item))
+loose_item_with BlankLineEnding own summary = or-false summary.has_loose_item
+loose_item_with ListItem own summary = refl
+loose_item_with GfmTableDelimiterMarker own summary = or-false summary.has_loose_item
+loose_item_with SpaceOrTab own summary = or-false summary.has_loose_item
+loose_item_with ListItemPrefix own summary = or-false summary.has_loose_item
+loose_item_with BlockQuotePrefix own summary = or-false summary.has_loose_item
+loose_item_with BlockQuote own summary = or-false summary.has_loose_item
+loose_item_with _ own summary = or-false summary.has_loose_item
 
 parts_spaced : (l : Last) → parts (spaced l) ≡ true
 parts_spaced final.Prefix = refl
@@ -161,16 +163,17 @@ parts_quote : (l : Last) → parts (quote_as l) ≡ true
 parts_quote final.QuotePrefix = refl
 parts_quote _ = refl
 
-pub parts_with : (name : Name) (own told : Told) → parts (Told.last (told_with name own told))
+pub parts_with : (name : Name) (own summary : Summary) → parts
+    (Summary.last (summary_with name own summary))
     ≡ not (is ListItem name && is_bare_last own.last)
-parts_with BlankLineEnding own told = refl
-parts_with ListItem own told = parts_item (is_bare_last own.last)
-parts_with GfmTableDelimiterMarker own told = refl
-parts_with SpaceOrTab own told = parts_spaced told.last
-parts_with ListItemPrefix own told = refl
-parts_with BlockQuotePrefix own told = refl
-parts_with BlockQuote own told = parts_quote own.last
-parts_with _ own told = refl
+parts_with BlankLineEnding own summary = refl
+parts_with ListItem own summary = parts_item (is_bare_last own.last)
+parts_with GfmTableDelimiterMarker own summary = refl
+parts_with SpaceOrTab own summary = parts_spaced summary.last
+parts_with ListItemPrefix own summary = refl
+parts_with BlockQuotePrefix own summary = refl
+parts_with BlockQuote own summary = parts_quote own.last
+parts_with _ own summary = refl
 
 loosens_spaced : (l : Last) → loosens (spaced l) ≡ not_prefix l
 loosens_spaced final.Prefix = refl
@@ -185,16 +188,17 @@ loosens_quote : (l : Last) → loosens (quote_as l) ≡ true
 loosens_quote final.QuotePrefix = refl
 loosens_quote _ = refl
 
-pub loosens_with : (name : Name) (own told : Told) → loosens (Told.last (told_with name own told))
-    ≡ cond (is SpaceOrTab name) (not_prefix told.last) (not (is ListItemPrefix name))
-loosens_with BlankLineEnding own told = refl
-loosens_with ListItem own told = loosens_item (is_bare_last own.last)
-loosens_with GfmTableDelimiterMarker own told = refl
-loosens_with SpaceOrTab own told = loosens_spaced told.last
-loosens_with ListItemPrefix own told = refl
-loosens_with BlockQuotePrefix own told = refl
-loosens_with BlockQuote own told = loosens_quote own.last
-loosens_with _ own told = refl
+pub loosens_with : (name : Name) (own summary : Summary) → loosens
+    (Summary.last (summary_with name own summary))
+    ≡ cond (is SpaceOrTab name) (not_prefix summary.last) (not (is ListItemPrefix name))
+loosens_with BlankLineEnding own summary = refl
+loosens_with ListItem own summary = loosens_item (is_bare_last own.last)
+loosens_with GfmTableDelimiterMarker own summary = refl
+loosens_with SpaceOrTab own summary = loosens_spaced summary.last
+loosens_with ListItemPrefix own summary = refl
+loosens_with BlockQuotePrefix own summary = refl
+loosens_with BlockQuote own summary = loosens_quote own.last
+loosens_with _ own summary = refl
 
 prefix_spaced : (l : Last) → not_prefix (spaced l) ≡ true
 prefix_spaced final.Prefix = refl
@@ -209,16 +213,17 @@ prefix_quote : (l : Last) → not_prefix (quote_as l) ≡ true
 prefix_quote final.QuotePrefix = refl
 prefix_quote _ = refl
 
-pub prefix_with : (name : Name) (own told : Told) → not_prefix (Told.last (told_with name own told))
+pub prefix_with : (name : Name) (own summary : Summary) → not_prefix
+    (Summary.last (summary_with name own summary))
     ≡ not (is ListItemPrefix name)
-prefix_with BlankLineEnding own told = refl
-prefix_with ListItem own told = prefix_item (is_bare_last own.last)
-prefix_with GfmTableDelimiterMarker own told = refl
-prefix_with SpaceOrTab own told = prefix_spaced told.last
-prefix_with ListItemPrefix own told = refl
-prefix_with BlockQuotePrefix own told = refl
-prefix_with BlockQuote own told = prefix_quote own.last
-prefix_with _ own told = refl
+prefix_with BlankLineEnding own summary = refl
+prefix_with ListItem own summary = prefix_item (is_bare_last own.last)
+prefix_with GfmTableDelimiterMarker own summary = refl
+prefix_with SpaceOrTab own summary = prefix_spaced summary.last
+prefix_with ListItemPrefix own summary = refl
+prefix_with BlockQuotePrefix own summary = refl
+prefix_with BlockQuote own summary = prefix_quote own.last
+prefix_with _ own summary = refl
 
 -- nothing stands after a marker in a node of this name, by its own last child
 abbrev pub bare_by : Name → Last → Bool
@@ -232,16 +237,17 @@ bare_quote : (l : Last) → is_bare_last (quote_as l) ≡ is_quote_last l
 bare_quote final.QuotePrefix = refl
 bare_quote _ = refl
 
-pub bare_with : (name : Name) (own told : Told) → is_bare_last (Told.last (told_with name own told))
-    ≡ cond (is SpaceOrTab name) (is_bare_last (spaced told.last)) (bare_by name own.last)
-bare_with BlankLineEnding own told = refl
-bare_with ListItem own told = bare_item (is_bare_last own.last)
-bare_with GfmTableDelimiterMarker own told = refl
-bare_with SpaceOrTab own told = refl
-bare_with ListItemPrefix own told = refl
-bare_with BlockQuotePrefix own told = refl
-bare_with BlockQuote own told = bare_quote own.last
-bare_with _ own told = refl
+pub bare_with : (name : Name) (own summary : Summary) → is_bare_last
+    (Summary.last (summary_with name own summary))
+    ≡ cond (is SpaceOrTab name) (is_bare_last (spaced summary.last)) (bare_by name own.last)
+bare_with BlankLineEnding own summary = refl
+bare_with ListItem own summary = bare_item (is_bare_last own.last)
+bare_with GfmTableDelimiterMarker own summary = refl
+bare_with SpaceOrTab own summary = refl
+bare_with ListItemPrefix own summary = refl
+bare_with BlockQuotePrefix own summary = refl
+bare_with BlockQuote own summary = bare_quote own.last
+bare_with _ own summary = refl
 
 bare_spaced_twice : (l : Last) → is_bare_last (spaced (spaced l)) ≡ false
 bare_spaced_twice final.Prefix = refl
@@ -256,13 +262,13 @@ bare_spaced_quote : (l : Last) → is_bare_last (spaced (quote_as l)) ≡ is_quo
 bare_spaced_quote final.QuotePrefix = refl
 bare_spaced_quote _ = refl
 
-pub bare_spaced_with : (name : Name) (own told : Told) →
-    is_bare_last (spaced (Told.last (told_with name own told))) ≡ bare_by name own.last
-bare_spaced_with BlankLineEnding own told = refl
-bare_spaced_with ListItem own told = bare_spaced_item (is_bare_last own.last)
-bare_spaced_with GfmTableDelimiterMarker own told = refl
-bare_spaced_with SpaceOrTab own told = bare_spaced_twice told.last
-bare_spaced_with ListItemPrefix own told = refl
-bare_spaced_with BlockQuotePrefix own told = refl
-bare_spaced_with BlockQuote own told = bare_spaced_quote own.last
-bare_spaced_with _ own told = refl
+pub bare_spaced_with : (name : Name) (own summary : Summary) →
+    is_bare_last (spaced (Summary.last (summary_with name own summary))) ≡ bare_by name own.last
+bare_spaced_with BlankLineEnding own summary = refl
+bare_spaced_with ListItem own summary = bare_spaced_item (is_bare_last own.last)
+bare_spaced_with GfmTableDelimiterMarker own summary = refl
+bare_spaced_with SpaceOrTab own summary = bare_spaced_twice summary.last
+bare_spaced_with ListItemPrefix own summary = refl
+bare_spaced_with BlockQuotePrefix own summary = refl
+bare_spaced_with BlockQuote own summary = bare_spaced_quote own.last
+bare_spaced_with _ own summary = refl

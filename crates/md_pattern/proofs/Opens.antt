@@ -8,7 +8,7 @@ use Rattle.md_base.specs.declared.event.Name.{Name}
 use Rattle.md_pattern.specs.declared.facts.Fact.{Fact}
 use Rattle.md_pattern.specs.declared.facts.OpenNode.{OpenNode}
 use Rattle.md_pattern.specs.Columns.{Collected, columns_exited}
-use Rattle.md_pattern.specs.Told.{nothing_told}
+use Rattle.md_pattern.specs.Summary.{empty_summary}
 use Rattle.md_base.specs.NameTests.{is_table}
 use Rattle.md_pattern.specs.Facts.{PassState, opens, next_outer, others_outer, grounded, opened}
 use Rattle.md_pattern.specs.Facts.{followed, fact_of, partner_alone, definitions_with, passed_entry}
@@ -89,8 +89,8 @@ pub passed_exit-by :
     left ≡ grounded pass.outer →
     here ≡ next_outer left → stack ≡ after ∷ others_outer left → after ≡ followed name own here →
     facts ≡ set pass.facts own.entry (fact_of name (length pass.facts) (length pass.columns.tables)
-    own.contributing own.sought own.told) ++ partner_alone own.entry ∷ [] →
-    columns ≡ columns_exited name own.told here.collects pass.columns →
+    own.contributing own.sought own.summary) ++ partner_alone own.entry ∷ [] →
+    columns ≡ columns_exited name own.summary here.collects pass.columns →
     definitions ≡ definitions_with name own.entry pass.definitions →
     record {
       facts = facts;
@@ -121,7 +121,7 @@ pub passed_leaf-by :
     is_table name ≡ false →
     entry ≡ length pass.facts → once ≡ pass.facts ++ partner_alone (entry + 1) ∷ [] →
     twice ≡ once ++ partner_alone entry ∷ [] → here ≡ pass.here → stack ≡ after ∷ pass.outer →
-    columns ≡ columns_exited name nothing_told here.collects pass.columns →
+    columns ≡ columns_exited name empty_summary here.collects pass.columns →
     definitions ≡ definitions_with name entry pass.definitions →
     after ≡ followed name (opened entry name here) here →
     record {
@@ -135,5 +135,5 @@ passed_leaf-by name pass entry here after columns once twice definitions stack p
     once_is twice_is here_is stack_is columns_is definitions_is after_is =
     rw stack_is (passed-leaf_by name pass entry after columns once twice definitions plain
     entry_is once_is twice_is
-    (columns_is ∙ ap (λ h. columns_exited name nothing_told (OpenNode.collects h) pass.columns)
+    (columns_is ∙ ap (λ h. columns_exited name empty_summary (OpenNode.collects h) pass.columns)
     here_is) definitions_is (after_is ∙ ap (λ h. followed name (opened entry name h) h) here_is))

@@ -8,7 +8,7 @@ use Rattle.std.proofs.lemmas.List.{set_at}
 use Rattle.md_base.specs.declared.event.Name.{Name}
 use Rattle.md_base.specs.declared.event.Name.TheVariants.{GfmTableDelimiterCellValue}
 use Rattle.md_base.specs.declared.event.Event.{Event}
-use Rattle.md_pattern.specs.declared.told.Told.{Told}
+use Rattle.md_pattern.specs.declared.summary.Summary.{Summary}
 use Rattle.md_pattern.specs.declared.seeking.Sought.{Sought}
 use Rattle.md_pattern.specs.declared.facts.Fact.{Fact}
 use Rattle.md_pattern.specs.declared.facts.OpenNode.{OpenNode}
@@ -18,7 +18,7 @@ use Rattle.md_base.specs.NameTests.{leads_to_values}
 use Rattle.md_base.specs.Is.{is}
 use Rattle.md_pattern.specs.Alignments.{alignments}
 use Rattle.md_pattern.specs.Partners.{index_after, definition_entries}
-use Rattle.md_pattern.specs.Told.{nothing_told, told_over, looseness}
+use Rattle.md_pattern.specs.Summary.{empty_summary, summary_over, looseness}
 use Rattle.md_pattern.specs.Seeking.{search_of}
 use Rattle.md_pattern.specs.Columns.{Collected, part_of, collects_in, columns_entered}
 use Rattle.md_pattern.specs.Columns.{columns_exited, tables_of, columns_after}
@@ -33,17 +33,18 @@ use Rattle.md_pattern.proofs.CountedFacts.{length_table}
 
 -- ---- a node's fact
 fact_same : (name : Name) (exit tables contributing index : ℕ) (children : Forest)
-    (sought : Sought) (told : Told) →
+    (sought : Sought) (summary : Summary) →
     fact_of name exit tables contributing (sought_over index children (sought_inside name sought))
-    told ≡ fact_of name exit tables contributing (sought_over index children (search_of name)) told
-fact_same name exit tables contributing index children sought told = by (is_transparent name)
+    summary ≡ fact_of name exit tables contributing (sought_over index children (search_of name))
+    summary
+fact_same name exit tables contributing index children sought summary = by (is_transparent name)
   where
     fact_where : Bool → Sought → Fact
     fact_where through own = record {
       partner = exit;
       read_at = cond (is_table name) tables
           (cond (is_item name) contributing (cond through 0 own.read_at));
-      looseness = looseness told;
+      looseness = looseness summary;
     }
 
     by : (through : Bool) →
@@ -112,7 +113,7 @@ exit_after index tables name children pass e t =
     let ended = Collected.tables (columns_entered name pass.columns) ++ tables_of children in
     let contributing = contributing_over (suc index) children 0 in
     let sought = sought_over (suc index) children (sought_inside name pass.here.sought) in
-    let told = told_over children nothing_told in
+    let summary = summary_over children empty_summary in
     let definitions = (pass.definitions ++ definition_entries (suc index) children)
     ++ cond (is_link_definition name) (index ∷ []) [] in
     let exit_is : length found ≡ index_after (suc index) children =
@@ -121,14 +122,15 @@ exit_after index tables name children pass e t =
     let tables_are : length ended ≡ tables_after tables children =
     length_tables children tables (Collected.tables (columns_entered name pass.columns))
     (ap length (entered_tables (part_of name) pass.columns) ∙ t) in
-    let fact_is : fact_of name (length found) (length ended) contributing sought told
+    let fact_is : fact_of name (length found) (length ended) contributing sought summary
     ≡ fact_at index tables name children =
-    ap (λ n. fact_of name n (length ended) contributing sought told) exit_is
-    ∙ ap (λ n. fact_of name (index_after (suc index) children) n contributing sought told)
+    ap (λ n. fact_of name n (length ended) contributing sought summary) exit_is
+    ∙ ap (λ n. fact_of name (index_after (suc index) children) n contributing sought summary)
     tables_are
     ∙ fact_same name (index_after (suc index) children) (tables_after tables children) contributing
-    (suc index) children pass.here.sought told in
-    let put : set found index (fact_of name (length found) (length ended) contributing sought told)
+    (suc index) children pass.here.sought summary in
+    let put : set found index (fact_of name (length found) (length ended) contributing sought
+    summary)
     ≡ (pass.facts ++ fact_at index tables name children ∷ []) ++ inner =
     ap (λ (f : Fact). set found index f) fact_is
     ∙ ap (λ fs. set fs index (fact_at index tables name children))
@@ -136,7 +138,7 @@ exit_after index tables name children pass e t =
     ∙ set_at pass.facts (partner_alone 0) inner (fact_at index tables name children) index e
     ∙ sym (append_assoc pass.facts (fact_at index tables name children ∷ []) inner) in
     ap (λ fs. state pass.outer here definitions (fs ++ partner_alone index
-    ∷ []) (columns_exited name told pass.here.collects (columns_after children
+    ∷ []) (columns_exited name summary pass.here.collects (columns_after children
     (collects_in name pass.here.collects) (columns_entered name pass.columns)))) put
     ∙ ap (λ columns. state pass.outer here definitions
     (((pass.facts ++ fact_at index tables name children ∷ []) ++ inner) ++ partner_alone index ∷ [])

@@ -13,8 +13,10 @@ use Rattle.md_pattern.specs.declared.kinds.Symbol.TheVariants as symbol
 use Rattle.md_pattern.specs.declared.kinds.Role.{Role}
 use Rattle.md_pattern.specs.declared.kinds.Role.TheVariants as role
 use Rattle.md_pattern.specs.declared.state.Stage.TheVariants.{Whole}
-use Rattle.md_pattern.specs.Places.{At, at, places, symbols, all_roles, place_at, told, told_from}
-use Rattle.md_pattern.specs.Places.{moves, moved_from, leads, lead_from, state_at, AreRows, AreEnds}
+use Rattle.md_pattern.specs.Places.{At, at, places, symbols, all_roles, place_at, decoded}
+use Rattle.md_pattern.specs.Places.{decoded_from}
+use Rattle.md_pattern.specs.Places.{moves, moved_from, encodes_row, encodes_rows_from, state_at}
+use Rattle.md_pattern.specs.Places.{AreRows, AreEnds}
 use Rattle.md_pattern.specs.Places.{AreStarts}
 use Rattle.md_pattern.specs.declared.state.State.{State}
 use Rattle.md_pattern.specs.declared.state.Stage.{Stage}
@@ -35,41 +37,43 @@ role-numbered _ = refl
 
 -- ---- the places that rows encode
 
-length-told : (n : ℕ) (rows : List (List ℕ)) → length (told_from n rows) ≡ length rows
-unfolding told_from
-length-told n [] = refl
-length-told n (row ∷ rows) = ap suc (length-told (n + 1) rows)
+length-decoded : (n : ℕ) (rows : List (List ℕ)) → length (decoded_from n rows) ≡ length rows
+unfolding decoded_from
+length-decoded n [] = refl
+length-decoded n (row ∷ rows) = ap suc (length-decoded (n + 1) rows)
 
-told-row : (n i k : ℕ) (rows : List (List ℕ)) → n + i ≡ k → i < length rows →
-    get_or (told_from n rows) i [] ≡ map (λ letter. told k letter) (get_or rows i [])
-unfolding told_from
-told-row n i k [] e inside = absurd (omega (arith, inside))
-told-row n zero k (row ∷ rows) e inside =
-    ap (λ m. map (λ letter. told m letter) row) (omega (arith, e))
-told-row n (suc i) k (row ∷ rows) e inside =
-    told-row (n + 1) i k rows (omega (arith, e)) (omega (arith, inside))
+decoded-row : (n i k : ℕ) (rows : List (List ℕ)) → n + i ≡ k → i < length rows →
+    get_or (decoded_from n rows) i [] ≡ map (λ letter. decoded k letter) (get_or rows i [])
+unfolding decoded_from
+decoded-row n i k [] e inside = absurd (omega (arith, inside))
+decoded-row n zero k (row ∷ rows) e inside =
+    ap (λ m. map (λ letter. decoded m letter) row) (omega (arith, e))
+decoded-row n (suc i) k (row ∷ rows) e inside =
+    decoded-row (n + 1) i k rows (omega (arith, e)) (omega (arith, inside))
 
-lead-row : (n i k : ℕ) (rows : List (List ℕ)) → n + i ≡ k → i < length rows →
-    lead_from n rows ≡ true →
-    list_all (λ letter. leads k letter) (get_or rows i []) ≡ true
-unfolding lead_from
-lead-row n i k [] e inside all = absurd (omega (arith, inside))
-lead-row n zero k (row ∷ rows) e inside all =
-    subst (λ m. list_all (λ letter. leads m letter) row ≡ true) (omega (arith, e))
-    (and_parts (list_all (λ letter. leads n letter) row) (lead_from (n + 1) rows) all).0
-lead-row n (suc i) k (row ∷ rows) e inside all =
-    lead-row (n + 1) i k rows (omega (arith, e)) (omega (arith, inside))
-    (and_parts (list_all (λ letter. leads n letter) row) (lead_from (n + 1) rows) all).1
+encodes-row : (n i k : ℕ) (rows : List (List ℕ)) → n + i ≡ k → i < length rows →
+    encodes_rows_from n rows ≡ true →
+    list_all (λ letter. encodes_row k letter) (get_or rows i []) ≡ true
+unfolding encodes_rows_from
+encodes-row n i k [] e inside all = absurd (omega (arith, inside))
+encodes-row n zero k (row ∷ rows) e inside all =
+    subst (λ m. list_all (λ letter. encodes_row m letter) row ≡ true) (omega (arith, e))
+    (and_parts (list_all (λ letter. encodes_row n letter) row) (encodes_rows_from (n + 1) rows)
+    all).0
+encodes-row n (suc i) k (row ∷ rows) e inside all =
+    encodes-row (n + 1) i k rows (omega (arith, e)) (omega (arith, inside))
+    (and_parts (list_all (λ letter. encodes_row n letter) row) (encodes_rows_from (n + 1) rows)
+    all).1
 
-letter-leads : (k i : ℕ) (row : List ℕ) → i < length row →
-    list_all (λ letter. leads k letter) row ≡ true →
-    leads k (get_or row i 0) ≡ true
-letter-leads k i [] inside all = absurd (omega (arith, inside))
-letter-leads k zero (letter ∷ row) inside all =
-    (and_parts (leads k letter) (list_all (λ l. leads k l) row) all).0
-letter-leads k (suc i) (letter ∷ row) inside all =
-    letter-leads k i row (omega (arith, inside))
-    (and_parts (leads k letter) (list_all (λ l. leads k l) row) all).1
+letter-encodes_row : (k i : ℕ) (row : List ℕ) → i < length row →
+    list_all (λ letter. encodes_row k letter) row ≡ true →
+    encodes_row k (get_or row i 0) ≡ true
+letter-encodes_row k i [] inside all = absurd (omega (arith, inside))
+letter-encodes_row k zero (letter ∷ row) inside all =
+    (and_parts (encodes_row k letter) (list_all (λ l. encodes_row k l) row) all).0
+letter-encodes_row k (suc i) (letter ∷ row) inside all =
+    letter-encodes_row k i row (omega (arith, inside))
+    (and_parts (encodes_row k letter) (list_all (λ l. encodes_row k l) row) all).1
 
 counted : length places ≡ 114
 unfolding places
@@ -81,40 +85,41 @@ symbols-counted = refl
 
 rows-counted : (rows : List (List ℕ)) → AreRows rows → length rows ≡ 114
 rows-counted rows are =
-    sym (length-told 0 rows) ∙ ap length are.tell
+    sym (length-decoded 0 rows) ∙ ap length are.decodes
     ∙ length-map places (λ place. moves place) ∙ counted
 
-row-told : (rows : List (List ℕ)) (i : ℕ) → AreRows rows → i < length rows →
-    map (λ letter. told i letter) (get_or rows i []) ≡ moves (place_at i)
-row-told rows i are inside =
+row-decoded : (rows : List (List ℕ)) (i : ℕ) → AreRows rows → i < length rows →
+    map (λ letter. decoded i letter) (get_or rows i []) ≡ moves (place_at i)
+row-decoded rows i are inside =
     let few : i < length places = subst (λ n. i < n) (rows-counted rows are ∙ sym counted) inside in
-    sym (told-row 0 i i rows (omega arith) inside) ∙ ap (λ all. get_or all i []) are.tell
+    sym (decoded-row 0 i i rows (omega arith) inside) ∙ ap (λ all. get_or all i []) are.decodes
     ∙ get_or-map (λ place. moves place) places i (at role.Childless 0 Whole) [] few
 
 row-long : (rows : List (List ℕ)) (i : ℕ) → AreRows rows → i < length rows →
     length (get_or rows i []) ≡ 47
 row-long rows i are inside =
-    sym (length-map (get_or rows i []) (λ letter. told i letter))
-    ∙ ap length (row-told rows i are inside)
+    sym (length-map (get_or rows i []) (λ letter. decoded i letter))
+    ∙ ap length (row-decoded rows i are inside)
     ∙ length-map symbols (λ seen. moved_from (place_at i) seen) ∙ symbols-counted
 
-pub letter-told : (rows : List (List ℕ)) (i k : ℕ) (seen : Symbol) → AreRows rows →
+pub letter-decoded : (rows : List (List ℕ)) (i k : ℕ) (seen : Symbol) → AreRows rows →
     i < length rows → k < 47 →
     get_or symbols k symbol.Text ≡ seen →
-    told i (get_or (get_or rows i []) k 0) ≡ moved_from (place_at i) seen
-letter-told rows i k seen are inside few is =
+    decoded i (get_or (get_or rows i []) k 0) ≡ moved_from (place_at i) seen
+letter-decoded rows i k seen are inside few is =
     let row = get_or rows i [] in
-    sym (get_or-map (λ letter. told i letter) row k 0 None
+    sym (get_or-map (λ letter. decoded i letter) row k 0 None
     (subst (λ n. k < n) (sym (row-long rows i are inside)) few))
-    ∙ ap (λ all. get_or all k None) (row-told rows i are inside)
+    ∙ ap (λ all. get_or all k None) (row-decoded rows i are inside)
     ∙ get_or-map (λ seen. moved_from (place_at i) seen) symbols k symbol.Text None
     (subst (λ n. k < n) (sym symbols-counted) few) ∙ ap (λ s. moved_from (place_at i) s) is
 
 pub letter-led : (rows : List (List ℕ)) (i k : ℕ) → AreRows rows → i < length rows → k < 47 →
-    leads i (get_or (get_or rows i []) k 0) ≡ true
+    encodes_row i (get_or (get_or rows i []) k 0) ≡ true
 letter-led rows i k are inside few =
-    letter-leads i k (get_or rows i []) (subst (λ n. k < n) (sym (row-long rows i are inside)) few)
-    (lead-row 0 i i rows (omega arith) inside are.lead)
+    letter-encodes_row i k (get_or rows i []) (subst (λ n. k < n) (sym (row-long rows i are inside))
+    few)
+    (encodes-row 0 i i rows (omega arith) inside are.encodes)
 
 get_or-outside : (xs : List At) (i : ℕ) (d : At) → length xs ≤ i → get_or xs i d ≡ d
 get_or-outside [] i d past = refl
@@ -141,9 +146,9 @@ led : (a b c : Bool) (x : ℕ) → (a ≡ true → ⊥) → (a || (b && c)) ≡ 
 led true b c x other all = absurd (other refl)
 led false b c x other all = and_parts b c all
 
-pub leads-some : (i letter : ℕ) → (letter ≡ 46 → ⊥) → leads i letter ≡ true →
+pub encodes_row-some : (i letter : ℕ) → (letter ≡ 46 → ⊥) → encodes_row i letter ≡ true →
     (letter ≤ 122) × (109 ≤ i + letter)
-leads-some i letter other all =
+encodes_row-some i letter other all =
     let both = led (eqb letter 46) (leb letter 122) (leb 109 (i + letter)) 0
     (λ is. other (eqb-true letter 46 is)) all in
     (leb-true letter 122 both.0, leb-true 109 (i + letter) both.1)

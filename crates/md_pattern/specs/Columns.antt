@@ -9,11 +9,11 @@ use name_variants.{GfmTable, GfmTableHead, GfmTableDelimiterRow, GfmTableDelimit
 use name_variants.{BlockQuotePrefix, SpaceOrTab, Other}
 use Rattle.md_pattern.specs.declared.columns.Part.{Part}
 use Rattle.md_pattern.specs.declared.columns.Part.TheVariants as part
-use Rattle.md_pattern.specs.declared.told.Told.{Told}
+use Rattle.md_pattern.specs.declared.summary.Summary.{Summary}
 use Rattle.md_base.specs.Tree.{Forest, Empty, Node}
 use Rattle.md_base.specs.NameTests.{is_table}
 use Rattle.md_pattern.specs.Alignments.{alignments}
-use Rattle.md_pattern.specs.Told.{alignment}
+use Rattle.md_pattern.specs.Summary.{alignment}
 
 -- the role of a node in the alignments of a table
 abbrev pub part_of : Name → Part
@@ -78,12 +78,12 @@ value_ended column collects columns = record columns {
 }
 
 -- the state after the exit of a node
-abbrev pub exited_where : Part → Told → Bool → Collected → Collected
+abbrev pub exited_where : Part → Summary → Bool → Collected → Collected
 exited_where part.Table own collects columns = table_ended columns
 exited_where part.Value own collects columns = value_ended (alignment own) collects columns
 exited_where _ own collects columns = columns
 
-abbrev pub columns_exited : Name → Told → Bool → Collected → Collected
+abbrev pub columns_exited : Name → Summary → Bool → Collected → Collected
 columns_exited name own collects columns = exited_where (part_of name) own collects columns
 
 -- the alignments of the tables among some nodes, in the order of their exits

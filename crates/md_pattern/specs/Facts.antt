@@ -11,7 +11,7 @@ use name_variants.{GfmTableDelimiterCellValue, GfmTableDelimiterMarker, SpaceOrT
 use Rattle.md_base.specs.declared.event.Kind.{Kind}
 use Rattle.md_base.specs.declared.event.Kind.TheVariants.{Enter, Exit}
 use Rattle.md_base.specs.declared.event.Event.{Event}
-use Rattle.md_pattern.specs.declared.told.Told.{Told}
+use Rattle.md_pattern.specs.declared.summary.Summary.{Summary}
 use Rattle.md_pattern.specs.declared.seeking.Sought.{Sought}
 use Rattle.md_pattern.specs.declared.facts.Fact.{Fact}
 use Rattle.md_pattern.specs.declared.facts.OpenNode.{OpenNode}
@@ -19,7 +19,7 @@ use Rattle.md_base.specs.Tree.{Forest, Empty, Node}
 use Rattle.md_base.specs.NameTests.{is_transparent, is_item, is_table, is_link_definition}
 use Rattle.md_base.specs.NameTests.{contributes}
 use Rattle.md_pattern.specs.Partners.{index_after}
-use Rattle.md_pattern.specs.Told.{nothing_told, told_with, told_over, looseness}
+use Rattle.md_pattern.specs.Summary.{empty_summary, summary_with, summary_over, looseness}
 use Rattle.md_pattern.specs.Seeking.{search_of, seen}
 use Rattle.md_pattern.specs.Columns.{Collected, nothing_collected, collects_in, columns_entered}
 use Rattle.md_pattern.specs.Columns.{columns_exited}
@@ -31,7 +31,7 @@ document_node = record {
   contributing = 0;
   collects = false;
   sought = search_of Paragraph;
-  told = nothing_told;
+  summary = empty_summary;
 }
 
 -- the search on a spine: a new one, or that of the parent if the node is transparent
@@ -54,7 +54,7 @@ opened entry name around = record {
   contributing = 0;
   collects = collects_in name around.collects;
   sought = sought_inside name around.sought;
-  told = nothing_told;
+  summary = empty_summary;
 }
 
 -- an open node after one of its children
@@ -64,7 +64,7 @@ followed name own around = record {
   contributing = contributing_after name own.entry around.contributing;
   collects = around.collects;
   sought = sought_after name own.entry own.sought around.sought;
-  told = told_with name own.told around.told;
+  summary = summary_with name own.summary around.summary;
 }
 
 -- where to find what is read of a node: the number of the table, the last contributing child, or
@@ -103,11 +103,11 @@ is_common name = elim name [
 ]
 
 -- the fact of a node that exits at an index
-abbrev pub fact_of : Name → ℕ → ℕ → ℕ → Sought → Told → Fact
-fact_of name exit table contributing sought told = record {
+abbrev pub fact_of : Name → ℕ → ℕ → ℕ → Sought → Summary → Fact
+fact_of name exit table contributing sought summary = record {
   partner = exit;
   read_at = read_at_of name table contributing sought;
-  looseness = looseness told;
+  looseness = looseness summary;
 }
 
 -- the fact at an exit, and at an entry before its exit
@@ -169,7 +169,7 @@ passed_entry name pass = record {
 abbrev pub fact_here : Name → PassState → Fact
 fact_here name pass =
     fact_of name (length pass.facts) (length pass.columns.tables) pass.here.contributing
-    pass.here.sought pass.here.told
+    pass.here.sought pass.here.summary
 
 -- the entries of definitions, with the entry of one more node
 abbrev pub definitions_with : Name → ℕ → List ℕ → List ℕ
@@ -182,7 +182,8 @@ passed_exit name pass = record {
   facts =
       set pass.facts pass.here.entry (fact_here name pass) ++ partner_alone pass.here.entry ∷ [];
   columns =
-      columns_exited name pass.here.told (OpenNode.collects (next_outer pass.outer)) pass.columns;
+      columns_exited name pass.here.summary (OpenNode.collects (next_outer pass.outer))
+      pass.columns;
   definitions = definitions_with name pass.here.entry pass.definitions;
   here = followed name pass.here (next_outer pass.outer);
   outer = others_outer pass.outer;
@@ -219,7 +220,7 @@ followed_over index forest here = record {
   contributing = contributing_over index forest here.contributing;
   collects = here.collects;
   sought = sought_over index forest here.sought;
-  told = told_over forest here.told;
+  summary = summary_over forest here.summary;
 }
 
 -- how many tables have ended after a node, and after some nodes
@@ -236,7 +237,7 @@ abbrev pub fact_at : ℕ → ℕ → Name → Forest → Fact
 fact_at index tables name children =
     fact_of name (index_after (suc index) children) (tables_after tables children)
     (contributing_over (suc index) children 0)
-    (sought_over (suc index) children (search_of name)) (told_over children nothing_told)
+    (sought_over (suc index) children (search_of name)) (summary_over children empty_summary)
 
 -- the fact at each event of the nodes, in order: the first event has this index, and so many tables
 -- have ended before

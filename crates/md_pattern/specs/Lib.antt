@@ -8,12 +8,12 @@ pub mod Shape
 pub mod Steps
 pub mod Places
 -- The inferred facts about a node. `Looseness`, `Alignments`, `Partners` and `Ending` define them
--- by the rules; `Told`, `Columns`, `Seeking` and `Facts` event by event, as the pass finds them;
+-- by the rules; `Summary`, `Columns`, `Seeking` and `Facts` event by event, as the pass finds them;
 -- `FactWords` as it stores them.
 pub mod Looseness
 pub mod Blanks
 pub mod Alignments
-pub mod Told
+pub mod Summary
 pub mod Columns
 pub mod Seeking
 pub mod Ending

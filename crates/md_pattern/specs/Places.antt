@@ -13,7 +13,7 @@ use Rattle.md_pattern.specs.declared.state.Stage.TheVariants.{Setext}
 use Rattle.md_pattern.specs.declared.state.State.{State}
 use Rattle.md_pattern.specs.Pattern.{pattern_of}
 use Rattle.md_pattern.specs.Steps.{moved, is_complete}
-use Rattle.md_pattern.specs.declared.places.Place.{Place}
+use Rattle.md_pattern.specs.declared.spine_state.SpineState.{SpineState}
 
 -- the progress in reading the spine of a node with a role, without its last symbol
 pub record At : Type 0 where
@@ -118,36 +118,37 @@ abbrev pub place_at : ℕ → At
 place_at number = get_or places number (at role.Childless 0 Whole)
 
 -- the progress that the code's place encodes, with the last symbol
-abbrev pub state_of : Place → Option Symbol → State
+abbrev pub state_of : SpineState → Option Symbol → State
 state_of place before = state_at (place_at place.number) before
 
 -- a letter in a row: no place, or a place relative to this row
-abbrev pub told : ℕ → ℕ → Option At
-told number letter = if letter == 46 then None else Some (place_at (number + letter - 109))
+abbrev pub decoded : ℕ → ℕ → Option At
+decoded number letter = if letter == 46 then None else Some (place_at (number + letter - 109))
 
 -- the places that the rows from this number encode
-unfoldable pub told_from : ℕ → List (List ℕ) → List (List (Option At))
-told_from number [] = []
-told_from number (row ∷ rows) = map (λ letter. told number letter) row ∷ told_from (number + 1) rows
+unfoldable pub decoded_from : ℕ → List (List ℕ) → List (List (Option At))
+decoded_from number [] = []
+decoded_from number (row ∷ rows) = map (λ letter. decoded number letter) row ∷ decoded_from
+    (number + 1) rows
 
 -- the places that a row must encode
 abbrev pub moves : At → List (Option At)
 moves place = map (λ seen. moved_from place seen) symbols
 
 -- a letter encodes a row
-abbrev pub leads : ℕ → ℕ → Bool
-leads number letter =
+abbrev pub encodes_row : ℕ → ℕ → Bool
+encodes_row number letter =
     letter == 46 || (nat_le letter 122 && nat_le 109 (number + letter))
 
-unfoldable pub lead_from : ℕ → List (List ℕ) → Bool
-lead_from number [] = true
-lead_from number (row ∷ rows) =
-    list_all (λ letter. leads number letter) row && lead_from (number + 1) rows
+unfoldable pub encodes_rows_from : ℕ → List (List ℕ) → Bool
+encodes_rows_from number [] = true
+encodes_rows_from number (row ∷ rows) =
+    list_all (λ letter. encodes_row number letter) row && encodes_rows_from (number + 1) rows
 
 -- each row encodes the places after each symbol
 pub record AreRows (rows : List (List ℕ)) : Type 0 where
-  pub tell : told_from 0 rows ≡ map (λ place. moves place) places
-  pub lead : lead_from 0 rows ≡ true
+  pub decodes : decoded_from 0 rows ≡ map (λ place. moves place) places
+  pub encodes : encodes_rows_from 0 rows ≡ true
 
 -- each place has a letter that says whether a spine may end there
 abbrev pub AreEnds : List ℕ → Type 0

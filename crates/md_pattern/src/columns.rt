@@ -3,7 +3,7 @@
 ghost use Rattle.std.specs.Prelude.{◌≡◌, OnOk, IfOk, length, map, drop};
 ghost use Rattle.md_pattern.specs.Columns as spec;
 
-use crate::told::{Told, alignment};
+use crate::summary::{Summary, alignment};
 use md_base::{AlignKind, Name};
 use std::alloc::{AllocError, Global};
 use std::marker::Model;
@@ -118,7 +118,7 @@ impl Columns {
         &mut self,
         alloc: Global,
         name: Name,
-        own: Told,
+        own: Summary,
         collects: bool,
     ) -> Result<(), AllocError>
         ensures { OnOk result (self.new ≡ spec.columns_exited name own collects self.old) }

@@ -15,7 +15,7 @@ pub use self::list::FactList;
 use self::nodes::{document_node, fact_of, opened, partner_alone, push_node};
 use crate::columns::Columns;
 use crate::seeking::Sought;
-use crate::told::{Looseness, Told};
+use crate::summary::{Looseness, Summary};
 use md_base::name_tests::is_link_definition;
 use md_base::{AlignKind, Event, Kind, Name};
 use std::alloc::{AllocError, Global};
@@ -46,7 +46,7 @@ pub struct OpenNode {
     /// The state of the search on the spine that its children belong to.
     pub sought: Sought,
     /// The looseness and the alignment by its children so far.
-    pub told: Told,
+    pub summary: Summary,
     /// Whether a value in it belongs to the table that contains it.
     pub collects: bool,
 }

@@ -6,17 +6,17 @@
 mod columns;
 mod facts;
 mod kinds;
-mod places;
 mod seeking;
 mod shape;
+mod spine_state;
 mod standings;
 mod state;
-mod told;
+mod summary;
 
 pub use facts::{Fact, FactList, Facts, Pass, exits_line_ending};
 pub use kinds::{Reading, Role, Standing, Symbol};
-pub use places::Place;
 pub use shape::role_for;
+pub use spine_state::SpineState;
 pub use standings::standing_of;
 pub use state::State;
-pub use told::Looseness;
+pub use summary::Looseness;

@@ -1,30 +1,34 @@
 -- Texts in a row.
-use Rattle.std.proofs.Common.{◌≡◌, ℕ, true, false, List, [], ◌∷◌, ◌++◌, refl, sym, ap, ◌∙◌, subst}
+use Rattle.std.proofs.Common.{◌≡◌, ℕ, Bool, ◌&&◌, true, false, List, [], ◌∷◌, ◌++◌, refl, sym, ap}
+use Rattle.std.proofs.Common.{◌∙◌, subst}
 use Rattle.std.proofs.Common.{append-nil, append_assoc}
-use Rattle.md_text.specs.Html.{Forest, IsReading}
-use Rattle.md_safe.specs.Input.{with_line_feeds}
+use Rattle.md_text.specs.Html.{Attribute, Forest, is_forest, written, IsReading, HasOneReadingWith}
+use Rattle.md_safe.specs.Input.{with_line_feeds, begins_with_line_feed}
 use Rattle.md_safe.specs.Token.{Token, EndOfFile}
 use Rattle.md_safe.specs.TokenizerStates.{Data}
 use Rattle.md_safe.specs.Tokenizer.{IsRun, IsTokenized}
 use Rattle.md_safe.specs.Tokens.{tokens}
-use Rattle.md_safe.specs.Leads.{Leads}
+use Rattle.md_safe.specs.Tokenizes.{Tokenizes}
 use Rattle.md_safe.specs.Embedded.{EndsInDataState, HasTokensAfter, splits_newline}
+use Rattle.md_safe.specs.Embedded.{ends_with_return}
 use Rattle.md_safe.proofs.Seams.{line_feeds-apart, line_feeds-split}
-use Rattle.md_safe.proofs.ForestLeads.{reading-ends}
+use Rattle.md_safe.proofs.ForestLeads.{forest-ends, reading-ends}
 use Rattle.md_safe.proofs.Joining.{leads-on, runs-on, run-on}
 
 pub alone : (text after : List ℕ) (emits : List Token) → EndsInDataState text emits →
     splits_newline text after ≡ false →
-    Leads Data (with_line_feeds (text ++ after)) emits (with_line_feeds after)
+    Tokenizes Data (with_line_feeds (text ++ after)) emits (with_line_feeds after)
 alone text after emits h n =
-    subst (λ x. Leads Data x emits (with_line_feeds after)) (sym (line_feeds-apart text after n))
+    subst (λ x. Tokenizes Data x emits (with_line_feeds after))
+    (sym (line_feeds-apart text after n))
     (h (with_line_feeds after))
 
 pub split : (text after : List ℕ) (emits : List Token) → EndsInDataState text emits →
     splits_newline text (10 ∷ after) ≡ true →
-    Leads Data (with_line_feeds (text ++ (10 ∷ after))) emits (with_line_feeds after)
+    Tokenizes Data (with_line_feeds (text ++ (10 ∷ after))) emits (with_line_feeds after)
 split text after emits h n =
-    subst (λ x. Leads Data x emits (with_line_feeds after)) (sym (line_feeds-split text after n))
+    subst (λ x. Tokenizes Data x emits (with_line_feeds after))
+    (sym (line_feeds-split text after n))
     (h (with_line_feeds after))
 
 pub tokenized : (text after : List ℕ) (emits later : List Token) → EndsInDataState text emits →
@@ -49,11 +53,35 @@ own-tokens text emits h =
     (runs-on Data (with_line_feeds text ++ []) [] emits (EndOfFile ∷ []) (h [])
     record { steps = 1; emits = refl })
 
+-- ---- a forest, before what doesn't begin with LF, and alone
+
+pub in_place : (f : Forest) (r : List ℕ) (t : List Token) → is_forest f ≡ true →
+    begins_with_line_feed r ≡ false →
+    IsTokenized r t → IsTokenized (written f ++ r) (tokens f ++ t)
+in_place f r t h n k =
+    tokenized (written f) r (tokens f) t (forest-ends f h) (never (ends_with_return (written f)) n)
+    k
+  where
+    never : (b : Bool) → begins_with_line_feed r ≡ false → (b && begins_with_line_feed r) ≡ false
+    never true n = n
+    never false n = refl
+
+pub whole : (f : Forest) → is_forest f ≡ true →
+    IsTokenized (written f) (tokens f ++ (EndOfFile ∷ []))
+whole f h = own-tokens (written f) (tokens f) (forest-ends f h)
+
+pub reading-runs : (p : Attribute → Bool) (text : List ℕ) (one : HasOneReadingWith p text) →
+    IsTokenized text (tokens one.forest ++ (EndOfFile ∷ []))
+reading-runs p text one =
+    own-tokens text (tokens one.forest) (reading-ends text one.forest one.reading)
+
+-- ---- several texts
+
 pub join : (before text : List ℕ) (earlier emits : List Token) → EndsInDataState before earlier →
     EndsInDataState text emits → splits_newline before text ≡ false →
     EndsInDataState (before ++ text) (earlier ++ emits)
 join before text earlier emits h k n after =
-    subst (λ x. Leads Data x (earlier ++ emits) after)
+    subst (λ x. Tokenizes Data x (earlier ++ emits) after)
     (sym (append_assoc (with_line_feeds before) (with_line_feeds text) after)
     ∙ ap (λ x. x ++ after) (sym (line_feeds-apart before text n)))
     (leads-on Data (with_line_feeds before ++ (with_line_feeds text ++ after)) (with_line_feeds text
@@ -71,10 +99,10 @@ pub between : (before text after : List ℕ) (earlier : List Token) (f : Forest)
     EndsInDataState before earlier →
     IsReading text f → splits_newline before text ≡ false →
     splits_newline (before ++ text) after ≡ false →
-    Leads Data (with_line_feeds (before ++ (text ++ after))) (earlier ++ tokens f)
+    Tokenizes Data (with_line_feeds (before ++ (text ++ after))) (earlier ++ tokens f)
     (with_line_feeds after)
 between before text after earlier f h reading n m =
-    subst (λ x. Leads Data (with_line_feeds x) (earlier ++ tokens f) (with_line_feeds after))
+    subst (λ x. Tokenizes Data (with_line_feeds x) (earlier ++ tokens f) (with_line_feeds after))
     (append_assoc before text after) (alone (before ++ text) after (earlier ++ tokens f)
     (joined before text earlier f h reading n) m)
 

@@ -1,14 +1,13 @@
 -- Blocks occur only in blocks, and a condition on blocks alone covers no more after nodes.
 use Rattle.std.proofs.Common.{◌≡◌, true, false, refl}
 use Rattle.std.proofs.lemmas.Bool.{cond_both}
-use Rattle.md_base.proofs.Lies.{lie}
 use Rattle.md_base.specs.declared.event.Name.{Name}
 use Rattle.md_base.specs.Tree.{Forest}
 use Rattle.md_base.specs.NameTests.{is_transparent}
-use Rattle.md_shape.specs.Built.{Content, Blocks, Spans, Strings, FirstFence, FirstMathFence}
-use Rattle.md_shape.specs.Built.{Chunks, InfoAndMeta, MetaAlone, Done, Nothing, Sources, is_info}
-use Rattle.md_shape.specs.Built.{content_of, content_past, content_after, content_inside}
-use Rattle.md_shape.specs.Built.{content_after_node}
+use Rattle.md_content.specs.Built.{Content, Blocks}
+use Rattle.md_content.specs.Built.{InfoAndMeta, MetaAlone, Nothing, is_info}
+use Rattle.md_content.specs.Built.{content_of, content_past, content_after, content_inside}
+use Rattle.md_content.specs.Built.{content_after_node}
 use Rattle.md_safe.proofs.Contents.{stays-after}
 use Rattle.md_safe.proofs.Insides.{is_blocks, of-blocks}
 
@@ -22,17 +21,9 @@ inside-blocks content name =
 past-blocks : (content : Content) (name : Name) → is_blocks (content_past content name) ≡ true →
     is_blocks content ≡ true
 past-blocks Blocks name h = refl
-past-blocks Spans name h = h
-past-blocks Strings name h = h
-past-blocks FirstFence name h = lie h
-past-blocks FirstMathFence name h = lie h
-past-blocks Chunks name h = h
 past-blocks InfoAndMeta name h = cond_both (is_info name) MetaAlone Nothing
     (λ c. is_blocks c ≡ true → false ≡ true) (λ _ h. h) (λ _ h. h) h
-past-blocks MetaAlone name h = h
-past-blocks Done name h = h
-past-blocks Nothing name h = h
-past-blocks Sources name h = h
+past-blocks _ name h = h
 
 -- a condition on blocks alone covers no more after nodes
 pub asked-after-node : (A : Type 0) (content : Content) (name : Name) (children : Forest) →

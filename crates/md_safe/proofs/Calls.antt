@@ -8,15 +8,14 @@ use Rattle.md_text.specs.Url.{sanitized}
 use Rattle.md_text.specs.Html.{Attribute, HasReadingWith, is_tag, elements}
 use Rattle.md_text.proofs.EncodeLaws.{is_escaped-encoded}
 use Rattle.md_text.proofs.EscapedLemmas.{escaped-append, sanitized-escaped}
-use Rattle.md_text.proofs.HtmlJoin.{nothing, text, join}
+use Rattle.md_text.proofs.HtmlJoin.{text, join}
 use Rattle.md_text.specs.declared.options.CompileOptions.{CompileOptions}
 use Rattle.md_meaning.specs.Meaning.Layout.{Piece, Text}
 use Rattle.md_meaning.specs.Meaning.Footnotes.{option_or, id_of, call_id, backreference}
 use Rattle.md_meaning.specs.Meaning.Footnotes.{backreferences}
 use Rattle.md_safe.proofs.Texts.{Escaped, decimal-escaped}
-use Rattle.md_safe.proofs.Claim.{Claim, reading}
 use Rattle.md_safe.proofs.Laid.{Adds}
-use Rattle.md_safe.proofs.Tags.{IsTest, attribute, element-read, adds-flat}
+use Rattle.md_safe.proofs.Tags.{IsTest, attribute, Tagged, adds-flat}
 use Rattle.md_safe.proofs.Media.{pass_four}
 
 -- a text of the options, escaped
@@ -77,26 +76,23 @@ pub call-regrouped : (v w n : List ℕ)
     ≡ call_text v w n
 call-regrouped v w n = simp append_assoc
 
-call-read : (p : Claim) (options : CompileOptions) (test : IsTest p.test options) (v w n : List ℕ) →
-    Escaped v →
-    p.test (attribute (codes "id") w) ≡ true →
-    Escaped w → Escaped n → p.holds (call_text v w n)
-call-read p options test v w n h passes g k =
-    subst p.holds (call-regrouped v w n)
-    (element-read p (codes "sup") []
+call-read : (test : Attribute → Bool) (Q R : List ℕ → Type 0) (options : CompileOptions) →
+    IsTest test options → Tagged test Q R (codes "a") → Tagged test R R (codes "sup") →
+    (v w n : List ℕ) → Escaped v → test (attribute (codes "id") w) ≡ true → Escaped w → Q n →
+    R (call_text v w n)
+call-read test Q R options known a sup v w n h passes g r =
+    subst R (call-regrouped v w n) (sup []
     (codes "<a href=\"#" ++ (v ++ (codes "\" id=\"" ++ (w
     ++ (codes "\" data-footnote-ref=\"\" aria-describedby=\"footnote-label\">"
-    ++ (n ++ codes "</a>"))))))
-    refl refl
-    (element-read p (codes "a") (attribute (codes "href") (35 ∷ v) ∷ attribute (codes "id") w
+    ++ (n ++ codes "</a>")))))) refl refl
+    (a (attribute (codes "href") (35 ∷ v) ∷ attribute (codes "id") w
     ∷ attribute (codes "data-footnote-ref") []
     ∷ attribute (codes "aria-describedby") (codes "footnote-label") ∷ []) n (a_call v w h g)
-    (pass_four p.test (attribute (codes "href") (35 ∷ v)) (attribute (codes "id") w)
+    (pass_four test (attribute (codes "href") (35 ∷ v)) (attribute (codes "id") w)
     (attribute (codes "data-footnote-ref") [])
     (attribute (codes "aria-describedby") (codes "footnote-label"))
-    (test.anchor v) passes (test.other (codes "data-footnote-ref") [] refl)
-    (test.other (codes "aria-describedby") (codes "footnote-label") refl))
-    (p.plain n (text p.test n k))))
+    (known.anchor v) passes (known.other (codes "data-footnote-ref") [] refl)
+    (known.other (codes "aria-describedby") (codes "footnote-label") refl)) r))
 
 -- the tags of a call
 abbrev pub call_tags : CompileOptions → List ℕ → ℕ → ℕ → List Piece
@@ -107,18 +103,19 @@ call_tags options identifier number occurrence =
     ∷ Text (decimal number) ∷ Text (codes "</a></sup>") ∷ []
 
 -- a call
-pub adds-call :
-    (p : Claim) (ending : List ℕ) (options : CompileOptions) (test : IsTest p.test options)
+pub adds-call : (test : Attribute → Bool) (Q R : List ℕ → Type 0) (ending : List ℕ)
+    (options : CompileOptions) → IsTest test options → Tagged test Q R (codes "a") →
+    Tagged test R R (codes "sup") → ((x : List ℕ) → Escaped x → Q x) →
     (identifier : List ℕ) (number occurrence : ℕ) →
-    p.test (attribute (codes "id") (call_id options identifier number occurrence)) ≡ true →
-    Adds ending p.holds (call_tags options identifier number occurrence)
-adds-call p ending options test identifier number occurrence passes =
-    adds-flat ending p.holds (call_tags options identifier number occurrence) refl
-    (call-read p options test (id_of options (codes "fn-") identifier number)
+    test (attribute (codes "id") (call_id options identifier number occurrence)) ≡ true →
+    Adds ending R (call_tags options identifier number occurrence)
+adds-call test Q R ending options known a sup said identifier number occurrence passes =
+    adds-flat ending R (call_tags options identifier number occurrence) refl
+    (call-read test Q R options known a sup (id_of options (codes "fn-") identifier number)
     (call_id options identifier number occurrence)
     (decimal number) (id-escaped options (codes "fn-") identifier number refl) passes
     (call_id-escaped options identifier number occurrence)
-    (decimal-escaped number))
+    (said (decimal number) (decimal-escaped number)))
 
 -- which of its footnote's calls it is, from the second on
 abbrev pub occurrence_mark : ℕ → List ℕ
@@ -128,56 +125,62 @@ occurrence_mark occurrence =
 abbrev pub arrow : List ℕ
 arrow = 226 ∷ 134 ∷ 169 ∷ []
 
-mark-read : (p : Attribute → Bool) (occurrence : ℕ) → HasReadingWith p (occurrence_mark occurrence)
-mark-read p occurrence =
-    cond_both (occurrence == 1) [] (codes "<sup>" ++ (decimal occurrence ++ codes "</sup>"))
-    (HasReadingWith p) (λ _. nothing p)
-    (λ _. element-read (reading p) (codes "sup") [] (decimal occurrence) refl refl
-    (text p (decimal occurrence) (decimal-escaped occurrence)))
-
 pub a_back : (v t : List ℕ) → Escaped v → Escaped t →
     is_tag elements (codes "a") (attribute (codes "href") (35 ∷ v)
     ∷ attribute (codes "data-footnote-backref") [] ∷ attribute (codes "aria-label") t
     ∷ attribute (codes "class") (codes "data-footnote-backref") ∷ []) ≡ true
 a_back v t h g = rw (h, g) refl
 
-back-read : (p : Attribute → Bool) (options : CompileOptions) (test : IsTest p options)
-    (v t m : List ℕ) → Escaped v →
-    Escaped t → HasReadingWith p m
-    → HasReadingWith p
-    (codes "<a href=\"#" ++ (v ++ (codes "\" data-footnote-backref=\"\" aria-label=\""
-    ++ (t ++ (codes "\" class=\"data-footnote-backref\">" ++ (arrow ++ (m ++ codes "</a>")))))))
-back-read p options test v t m h g r =
-    element-read (reading p) (codes "a") (attribute (codes "href") (35 ∷ v)
-    ∷ attribute (codes "data-footnote-backref") [] ∷ attribute (codes "aria-label") t
-    ∷ attribute (codes "class") (codes "data-footnote-backref") ∷ [])
-    (arrow ++ m) (a_back v t h g)
-    (pass_four p (attribute (codes "href") (35 ∷ v)) (attribute (codes "data-footnote-backref") [])
-    (attribute (codes "aria-label") t) (attribute (codes "class") (codes "data-footnote-backref"))
-    (test.anchor v) (test.other (codes "data-footnote-backref") [] refl)
-    (test.other (codes "aria-label") t refl)
-    (test.other (codes "class") (codes "data-footnote-backref") refl))
-    (join p arrow m (text p arrow refl) r)
+-- what escaped texts fulfil, and two in a row
+pub record IsText (Q : List ℕ → Type 0) : Type 0 where
+  pub text : (x : List ℕ) → Escaped x → Q x
+  pub both : (x y : List ℕ) → Q x → Q y → Q (x ++ y)
 
-backreference-read : (p : Attribute → Bool) (options : CompileOptions) (test : IsTest p options)
-    (identifier : List ℕ)
-    (number occurrence : ℕ) → HasReadingWith p (backreference options identifier number occurrence)
-backreference-read p options test identifier number occurrence =
-    back-read p options test (call_id options identifier number occurrence)
-    (option_or (option_map string_bytes options.gfm_footnote_back_label) (codes "Back to content"))
-    (occurrence_mark occurrence) (call_id-escaped options identifier number occurrence)
+-- a way back to a call
+backreference-read : (test : Attribute → Bool) (Q R : List ℕ → Type 0)
+    (options : CompileOptions) → IsTest test options → IsText Q → Tagged test Q R (codes "a") →
+    Tagged test Q Q (codes "sup") → (identifier : List ℕ) (number occurrence : ℕ) →
+    R (backreference options identifier number occurrence)
+backreference-read test Q R options known inside a sup identifier number occurrence =
+    let v : List ℕ = call_id options identifier number occurrence in
+    let t : List ℕ =
+    option_or (option_map string_bytes options.gfm_footnote_back_label) (codes "Back to content") in
+    let mark : Q (occurrence_mark occurrence) =
+    cond_both (occurrence == 1) [] (codes "<sup>" ++ (decimal occurrence ++ codes "</sup>"))
+    Q (λ _. inside.text [] refl) (λ _. sup [] (decimal occurrence) refl refl
+    (inside.text (decimal occurrence) (decimal-escaped occurrence))) in
+    a (attribute (codes "href") (35 ∷ v) ∷ attribute (codes "data-footnote-backref") []
+    ∷ attribute (codes "aria-label") t
+    ∷ attribute (codes "class") (codes "data-footnote-backref") ∷ [])
+    (arrow ++ occurrence_mark occurrence) (a_back v t
+    (call_id-escaped options identifier number occurrence)
     (option-escaped (option_map string_bytes options.gfm_footnote_back_label)
-    (codes "Back to content") refl) (mark-read p occurrence)
+    (codes "Back to content") refl))
+    (pass_four test (attribute (codes "href") (35 ∷ v))
+    (attribute (codes "data-footnote-backref") []) (attribute (codes "aria-label") t)
+    (attribute (codes "class") (codes "data-footnote-backref"))
+    (known.anchor v) (known.other (codes "data-footnote-backref") [] refl)
+    (known.other (codes "aria-label") t refl)
+    (known.other (codes "class") (codes "data-footnote-backref") refl))
+    (inside.both arrow (occurrence_mark occurrence) (inside.text arrow refl) mark)
 
 -- the ways back to calls
-pub backreferences-read : (p : Attribute → Bool) (options : CompileOptions)
-    (test : IsTest p options) (identifier : List ℕ) (number count : ℕ) →
-    HasReadingWith p (backreferences options identifier number count)
-backreferences-read p options test identifier number zero = nothing p
-backreferences-read p options test identifier number (suc count) =
-    join p (backreferences options identifier number count) ((cond (count == 0) [] (32 ∷ []))
+pub backreferences-read : (test : Attribute → Bool) (Q R : List ℕ → Type 0)
+    (options : CompileOptions) → IsTest test options → IsText Q → IsText R →
+    Tagged test Q R (codes "a") → Tagged test Q Q (codes "sup") →
+    (identifier : List ℕ) (number count : ℕ) → R (backreferences options identifier number count)
+backreferences-read test Q R options known inside around a sup identifier number zero =
+    around.text [] refl
+backreferences-read test Q R options known inside around a sup identifier number (suc count) =
+    around.both (backreferences options identifier number count) ((cond (count == 0) [] (32 ∷ []))
     ++ backreference options identifier number (suc count))
-    (backreferences-read p options test identifier number count)
-    (join p (cond (count == 0) [] (32 ∷ [])) (backreference options identifier number (suc count))
-    (cond_both (count == 0) [] (32 ∷ []) (HasReadingWith p) (λ _. nothing p)
-    (λ _. text p (32 ∷ []) refl)) (backreference-read p options test identifier number (suc count)))
+    (backreferences-read test Q R options known inside around a sup identifier number count)
+    (around.both (cond (count == 0) [] (32 ∷ []))
+    (backreference options identifier number (suc count))
+    (around.text (cond (count == 0) [] (32 ∷ [])) (cond_both (count == 0) [] (32 ∷ []) Escaped
+    (λ _. refl) (λ _. refl)))
+    (backreference-read test Q R options known inside a sup identifier number (suc count)))
+
+-- of what has a reading
+pub reads-text : (test : Attribute → Bool) → IsText (HasReadingWith test)
+reads-text test = record { text = text test; both = join test }

@@ -6,30 +6,31 @@ use Rattle.std.proofs.lemmas.Bool.{cond_both}
 use Rattle.md_base.proofs.Lies.{lie}
 use Rattle.md_base.specs.declared.event.Name.{Name}
 use Rattle.md_base.specs.declared.event.Name.TheVariants as name_variants
-use name_variants.{Other, BlockQuotePrefix, SpaceOrTab, GfmFootnoteDefinition}
+use name_variants.{GfmFootnoteDefinition}
 use Rattle.md_base.specs.Is.{is as named}
 use Rattle.md_base.specs.Tree.{Forest, Empty, Node}
 use Rattle.md_base.specs.NameTests.{is_transparent}
 use Rattle.md_base.specs.Children.{is_empty}
 use Rattle.md_pattern.specs.Looseness.{is_loose}
 use Rattle.md_tree.specs.Rules.{place}
-use Rattle.md_meaning.specs.declared.context.Surroundings.{Surroundings}
-use Rattle.md_meaning.specs.Meaning.Around.{inside}
+use Rattle.md_meaning.specs.declared.surroundings.Surroundings.{Surroundings}
+use Rattle.md_meaning.specs.Meaning.Inherited.{inside}
 use Rattle.md_meaning.specs.Meaning.At.{Footnote, Before, At, identifier_of}
 use Rattle.md_meaning.specs.Meaning.Before.{before_children}
 use Rattle.md_meaning.specs.Meaning.Layout.{layout, when}
 use Rattle.md_meaning.specs.Meaning.Nodes.{Outcome, node, before_next, outcome}
-use Rattle.md_shape.specs.Built.{Blocks, is_part, is_source, may_stand, content_of, content_inside}
-use Rattle.md_shape.specs.Built.{IsBuilt}
+use Rattle.md_content.specs.Built.{Blocks, is_part, is_source, may_stand, content_of}
+use Rattle.md_content.specs.Built.{content_inside}
+use Rattle.md_content.specs.Built.{IsBuilt}
 use Rattle.md_safe.proofs.Following.{second}
 use Rattle.md_safe.proofs.Insides.{is_blocks}
 use Rattle.md_safe.proofs.Nodes.{not_part}
 use Rattle.md_safe.proofs.Findings.{AreFound}
 use Rattle.md_safe.proofs.Forests.{Ready, ready-inside, ready-after, inside-means}
 use Rattle.md_safe.proofs.Forests.{found-at, Means as SafeMeans, means as safe-means}
-use Rattle.md_safe.proofs.Costs.{Document, read_in}
-use Rattle.md_safe.proofs.PlainCosts.{no_footnotes}
-use Rattle.md_safe.specs.Contents.{Content, Phrasing}
+use Rattle.md_safe.proofs.Costs.{through-node, Document, read_in}
+use Rattle.md_safe.proofs.PlainCosts.{is_blocks-same, no_footnotes}
+use Rattle.md_safe.specs.Contents.{Content, Phrasing, Flow}
 use Rattle.md_safe.specs.Links.{has_nested_link}
 use Rattle.md_safe.specs.Placed.{sort_of, IsPlaced, may_stand as may_place}
 use Rattle.md_safe.proofs.Linking.{is_spans, with_links, place_in, inner_place, inner-place-with}
@@ -40,8 +41,9 @@ use Rattle.md_safe.proofs.ContainedLaid.{lays-nothing, lays-both}
 use Rattle.md_safe.proofs.SpanContents.{Prints, Known, Own}
 use Rattle.md_safe.proofs.Spans.{Spanning}
 use Rattle.md_safe.proofs.Blocks.{solid-node}
-use Rattle.md_safe.proofs.FlowFindings.{IsHeading, AreFlow, flow-append, heading-found, note-found}
-use Rattle.md_safe.proofs.FlowFindings.{still-outside, is_blocks-same, heading-both}
+use Rattle.md_safe.proofs.Findings.{texts-append}
+use Rattle.md_safe.proofs.FlowFindings.{IsHeading, AreFlow, heading-found, note-found}
+use Rattle.md_safe.proofs.FlowFindings.{still-outside, heading-both}
 use Rattle.md_safe.proofs.FlowFindings.{heading-next, heading-inside}
 use Rattle.md_safe.proofs.Contents.{after-blocks}
 
@@ -56,29 +58,19 @@ through :
     (nested : Bool) (d : Document) (content : Content) (name : Name) (t : At) (inner : Outcome) →
     is_transparent name ≡ true →
     t.found ≡ inner.found → Means nested d content inner →
-    Means nested d content (node d.given t name inner)
-through nested d content (Other number) t inner is same m = record {
-  prints = m.prints;
-  heading = subst (λ found. IsHeading nested found.heading) (sym same) m.heading;
-  texts = subst (AreFlow nested) (sym (append-nil inner.footnotes)) m.texts;
-}
-through nested d content BlockQuotePrefix t inner is same m = record {
-  prints = m.prints;
-  heading = subst (λ found. IsHeading nested found.heading) (sym same) m.heading;
-  texts = subst (AreFlow nested) (sym (append-nil inner.footnotes)) m.texts;
-}
-through nested d content SpaceOrTab t inner is same m = record {
-  prints = m.prints;
-  heading = subst (λ found. IsHeading nested found.heading) (sym same) m.heading;
-  texts = subst (AreFlow nested) (sym (append-nil inner.footnotes)) m.texts;
-}
-through nested d content _ t inner is same m = lie is
+    Means nested d content (node d.context t name inner)
+through nested d content name t inner is same m =
+    subst (Means nested d content) (sym (through-node d.context t name inner is same)) (record {
+      prints = m.prints;
+      heading = m.heading;
+      texts = subst (AreFlow nested) (sym (append-nil inner.footnotes)) m.texts;
+    })
 
 -- what is known where some nodes stand
 pub record Fits (nested : Bool) (d : Document) (around : Surroundings) (before : Before)
     (content : Content) (forest : Forest) : Type 0 where
-  pub white : IsWhite d.given.ending
-  pub built : IsBuilt d.given.bytes Blocks forest
+  pub white : IsWhite d.context.ending
+  pub built : IsBuilt d.context.bytes Blocks forest
   pub placed : IsPlaced (with_links content) forest
   pub ready : Ready (read_in d) around before Blocks
   pub outside : around.in_image ≡ false
@@ -95,18 +87,19 @@ solid-means :
     Means nested d (place_in nested content name) inner) →
     (is_blocks (content_inside Blocks name) ≡ false → inner.footnotes ≡ []) →
     (is_spans content ≡ true → Spanning t content name) →
-    Means nested d content (node d.given t name inner)
+    Means nested d content (node d.context t name inner)
 solid-means nested d content name t inner solid whole stands k own none g =
     let own-prints : Own nested d content name inner.pieces = λ is. (own (same ∙ is)).prints in
     let noted : Footnote = record {
-      identifier = identifier_of d.given.bytes t.children;
-      text = layout d.given.ending inner.pieces;
+      identifier = identifier_of d.context.bytes t.children;
+      text = layout d.context.ending inner.pieces;
     } in
     record {
       prints = solid-node nested d t content name solid whole stands inner.pieces k own-prints g;
       heading = heading-found nested d content name t inner solid stands own-prints;
       texts =
-          flow-append nested inner.footnotes (when (named GfmFootnoteDefinition name) (noted ∷ []))
+          texts-append (Stands nested Flow) inner.footnotes
+          (when (named GfmFootnoteDefinition name) (noted ∷ []))
           (inner-texts (is_blocks (content_inside Blocks name)) refl)
           (cond_both (named GfmFootnoteDefinition name) (noted ∷ []) [] (AreFlow nested)
           (λ is. (note-found nested d content name inner is stands own-prints, tt)) (λ _. tt));
@@ -129,12 +122,12 @@ any-node :
     Means nested d (inner_place nested content name) inner) →
     (is_blocks (content_inside Blocks name) ≡ false → inner.footnotes ≡ []) →
     (is_spans content ≡ true → Spanning t content name) →
-    Means nested d content (node d.given t name inner)
+    Means nested d content (node d.context t name inner)
 any-node nested d content name t inner same k stands placed own none g =
     by (is_transparent name) refl
   where
     by : (looked : Bool) → is_transparent name ≡ looked →
-        Means nested d content (node d.given t name inner)
+        Means nested d content (node d.context t name inner)
     by true e = through nested d content name t inner e same (subst (λ c. Means nested d c inner)
         (ap (λ b. cond b content (place_in nested content name)) e)
         (own (ap (λ b. is_blocks (cond b Blocks (content_of name Blocks))) e)))
@@ -150,16 +143,16 @@ any-node nested d content name t inner same k stands placed own none g =
 pub means : (nested : Bool) (d : Document) (forest : Forest) (around : Surroundings)
     (before : Before) (content : Content)
     → Fits nested d around before content forest →
-    Means nested d content (outcome d.given around before forest)
+    Means nested d content (outcome d.context around before forest)
 means nested d Empty around before content f = record {
-  prints = lays-nothing nested d.given.ending content;
+  prints = lays-nothing nested d.context.ending content;
   heading = tt;
   texts = tt;
 }
 means nested d (Node name start end children rest) around before content f =
-    let around' : Surroundings = inside d.given.options (is_loose children) name around in
+    let around' : Surroundings = inside d.context.options (is_loose children) name around in
     let before' : Before = before_children name children before in
-    let inner : Outcome = outcome d.given around' before' children in
+    let inner : Outcome = outcome d.context around' before' children in
     let t : At = record {
       around = around;
       before = before;
@@ -169,9 +162,9 @@ means nested d (Node name start end children rest) around before content f =
       place = place start end;
       is_last = around.is_outermost && is_empty rest;
     } in
-    let here : Outcome = node d.given t name inner in
+    let here : Outcome = node d.context t name inner in
     let next : Before = before_next t name here in
-    let others : Outcome = outcome d.given around next rest in
+    let others : Outcome = outcome d.context around next rest in
     let within : Ready (read_in d) around' before' (content_inside Blocks name) =
     ready-inside (read_in d) around before Blocks name children f.built.0 f.ready in
     let known : SafeMeans (read_in d) around' (content_inside Blocks name) children inner =
@@ -183,17 +176,17 @@ means nested d (Node name start end children rest) around before content f =
     (inner_place nested content name) inner = λ is.
     means nested d children around' before' (inner_place nested content name) (record {
       white = f.white;
-      built = subst (λ c. IsBuilt d.given.bytes c children)
+      built = subst (λ c. IsBuilt d.context.bytes c children)
           (is_blocks-same (content_inside Blocks name) is) f.built.2;
       placed =
           subst (λ c. IsPlaced c children) (sym (inner-place-with nested content name)) f.placed.1;
       ready = subst (Ready (read_in d) around' before')
           (is_blocks-same (content_inside Blocks name) is) within;
-      outside = still-outside d.given.options (is_loose children) name around is f.outside;
+      outside = still-outside d.context.options (is_loose children) name around is f.outside;
       heading = heading-inside nested (is_transparent name) before.heading f.heading;
       linked =
-          linked-inside nested d.given.options (is_loose children) content name around f.linked;
-      unnested = λ no. unnested-inside d.given.options (is_loose children) name around start end
+          linked-inside nested d.context.options (is_loose children) content name around f.linked;
+      unnested = λ no. unnested-inside d.context.options (is_loose children) name around start end
           children rest is (f.unnested no);
     }) in
     let one : Means nested d content here =
@@ -217,7 +210,7 @@ means nested d (Node name start end children rest) around before content f =
     }) in
     let later : Means nested d content others = means nested d rest around next content (record {
       white = f.white;
-      built = subst (λ c. IsBuilt d.given.bytes c rest) (after-blocks name children) f.built.3;
+      built = subst (λ c. IsBuilt d.context.bytes c rest) (after-blocks name children) f.built.3;
       placed = f.placed.2;
       ready = subst (Ready (read_in d) around next) (after-blocks name children)
           (ready-after (read_in d) t Blocks name here f.built.0 f.built.2 found f.ready);
@@ -228,8 +221,10 @@ means nested d (Node name start end children rest) around before content f =
     }) in
     record {
       prints =
-          lays-both nested d.given.ending content here.pieces others.pieces one.prints later.prints;
+          lays-both nested d.context.ending content here.pieces others.pieces one.prints
+          later.prints;
       heading =
           heading-both nested here.found.heading others.found.heading one.heading later.heading;
-      texts = flow-append nested here.footnotes others.footnotes one.texts later.texts;
+      texts = texts-append (Stands nested Flow) here.footnotes others.footnotes one.texts
+          later.texts;
     }

@@ -9,9 +9,9 @@ use Rattle.md_text.proofs.HtmlJoin.{nothing}
 use Rattle.md_base.specs.Tree.{Forest, Empty, Node}
 use Rattle.md_base.specs.NameTests.{is_transparent, is_fence as fence_name}
 use Rattle.md_base.specs.Children.{spine_names}
-use Rattle.md_shape.specs.Built.{Content, Blocks, Spans, Strings, FirstFence, FirstMathFence}
-use Rattle.md_shape.specs.Built.{Chunks, InfoAndMeta, MetaAlone, Done, Nothing, Sources}
-use Rattle.md_shape.specs.Built.{content_past, content_after, content_after_node}
+use Rattle.md_content.specs.Built.{Content, Blocks, Spans, Strings, FirstFence, FirstMathFence}
+use Rattle.md_content.specs.Built.{Chunks, InfoAndMeta, MetaAlone, Done, Nothing, Sources}
+use Rattle.md_content.specs.Built.{content_past, content_after, content_after_node}
 use Rattle.md_safe.proofs.Texts.{Escaped}
 use Rattle.md_safe.proofs.Claim.{Claim}
 use Rattle.md_safe.proofs.Elements.{IsDone}

@@ -13,12 +13,13 @@ use Rattle.md_base.specs.Tree.{Forest, Empty, Node}
 use Rattle.md_base.specs.NameTests.{is_transparent, is_call}
 use Rattle.md_base.specs.Children.{or_else}
 use Rattle.md_text.proofs.HtmlIds.{Counts, counts-join}
-use Rattle.md_meaning.specs.declared.context.Surroundings.{Surroundings}
+use Rattle.md_meaning.specs.declared.surroundings.Surroundings.{Surroundings}
 use Rattle.md_meaning.specs.Meaning.At.{Before, At}
 use Rattle.md_meaning.specs.Meaning.Nodes.{Outcome, before_next, outcome}
-use Rattle.md_shape.specs.Underlined.{waits_past, waits_after, IsUnderlined}
-use Rattle.md_shape.specs.Built.{Blocks, is_part, is_source, may_stand, content_of, content_inside}
-use Rattle.md_shape.specs.Built.{IsBuilt}
+use Rattle.md_content.specs.Underlined.{waits_past, waits_after, IsUnderlined}
+use Rattle.md_content.specs.Built.{Blocks, is_part, is_source, may_stand, content_of}
+use Rattle.md_content.specs.Built.{content_inside}
+use Rattle.md_content.specs.Built.{IsBuilt}
 use Rattle.md_safe.proofs.Laid.{adds-append, adds-nothing}
 use Rattle.md_safe.proofs.Contents.{after-blocks}
 use Rattle.md_safe.proofs.Insides.{is_blocks}
@@ -37,7 +38,7 @@ use Rattle.md_safe.proofs.SpecialCosts.{BelowBlocks, IsAwaited, special-spent}
 -- what is known where some nodes stand: blocks, each underline where a heading waits for it
 pub record Fits (d : Document) (around : Surroundings) (before : Before) (waits : Bool)
     (forest : Forest) : Type 0 where
-  pub built : IsBuilt d.given.bytes Blocks forest
+  pub built : IsBuilt d.context.bytes Blocks forest
   pub ready : Ready (read_in d) around before Blocks
   pub underlined : IsUnderlined waits forest
 
@@ -75,12 +76,12 @@ heading-both (Some x) first before = refl
 
 pub spent : (d : Document) (w : List ℕ) (forest : Forest) (around : Surroundings) (before : Before)
     (waits : Bool) (m : ℕ) → Fits d around before waits forest → Waiting w waits m before.heading →
-    Costs d w before m (waits_after waits forest) (outcome d.given around before forest)
+    Costs d w before m (waits_after waits forest) (outcome d.context around before forest)
 spent d w Empty around before waits m f h = record {
   body = 0;
   left = m;
   notes = 0;
-  prints = adds-nothing d.given.ending (Counts w 0) (counts-none w);
+  prints = adds-nothing d.context.ending (Counts w 0) (counts-none w);
   heading = h;
   texts = tt;
   few = omega arith;
@@ -97,7 +98,7 @@ spent d w (Node name start end children rest) around before waits m f h =
     let t : At = at_of d p name in
     let here : Outcome = here_of d p name in
     let next : Before = before_next t name here in
-    let others : Outcome = outcome d.given around next rest in
+    let others : Outcome = outcome d.context around next rest in
     let waits' : Bool =
     cond (is_transparent name) (waits_after waits children) (waits_past waits name) in
     let within : Ready (read_in d) (inner_around d p name) (inner_before p name)
@@ -125,7 +126,7 @@ spent d w (Node name start end children rest) around before waits m f h =
     by name p waits m k h f.underlined.0 (λ is.
     spent d w children (inner_around d p name) (inner_before p name)
     (cond (is_transparent name) waits false) (cond (is_transparent name) m 0) (record {
-      built = subst (λ c. IsBuilt d.given.bytes c children)
+      built = subst (λ c. IsBuilt d.context.bytes c children)
           (is_blocks-same (content_inside Blocks name) is) f.built.2;
       ready = subst (Ready (read_in d) (inner_around d p name) (inner_before p name))
           (is_blocks-same (content_inside Blocks name) is) within;
@@ -133,7 +134,7 @@ spent d w (Node name start end children rest) around before waits m f h =
     }) (heading-inside (is_transparent name) waits m before.heading h)) in
     let later : Costs d w next one.left (waits_after waits' rest) others =
     spent d w rest around next waits' one.left (record {
-      built = subst (λ c. IsBuilt d.given.bytes c rest) (after-blocks name children) f.built.3;
+      built = subst (λ c. IsBuilt d.context.bytes c rest) (after-blocks name children) f.built.3;
       ready = subst (Ready (read_in d) around next) (after-blocks name children)
           (ready-after (read_in d) t Blocks name here f.built.0 f.built.2 own f.ready);
       underlined = f.underlined.2;
@@ -142,7 +143,7 @@ spent d w (Node name start end children rest) around before waits m f h =
       body = one.body + later.body;
       left = later.left;
       notes = one.notes + later.notes;
-      prints = adds-append d.given.ending (Counts w one.body) (Counts w later.body)
+      prints = adds-append d.context.ending (Counts w one.body) (Counts w later.body)
           (Counts w (one.body + later.body)) here.pieces others.pieces
           (counts-join w one.body later.body) one.prints later.prints;
       heading = subst (Waiting w (waits_after waits' rest) later.left)

@@ -1,10 +1,10 @@
 -- How often an id stands in the section of footnotes, and in a document: at most once.
-use Rattle.std.proofs.Common.{◌≡◌, ℕ, ◌+◌, ◌≤◌, ◌<◌, ◌^◌, Bool, true, false, not, ◌==◌, cond, List}
+use Rattle.std.proofs.Common.{◌≡◌, ℕ, ◌+◌, ◌≤◌, ◌<◌, ◌^◌, Bool, true, false, cond, List}
 use Rattle.std.proofs.Common.{[], ◌∷◌, ◌++◌, length, refl, sym, ap, ◌∙◌, subst, arith, append_assoc}
 use Rattle.std.proofs.Common.{codes, bytes_eq}
 use Rattle.std.specs.Prelude.{Some, find}
 use Rattle.std.specs.Option.{option_map_or}
-use Rattle.std.proofs.lemmas.Bool.{or_parts, cond_both}
+use Rattle.std.proofs.lemmas.Bool.{or_parts}
 use Rattle.md_text.specs.Html.{any_attribute}
 use Rattle.md_text.proofs.HtmlJoin.{join}
 use Rattle.md_base.specs.Tree.{Forest}
@@ -13,15 +13,15 @@ use Rattle.md_text.specs.Html.{opening_tag, closing_tag}
 use Rattle.md_text.proofs.HtmlIds.{occurs, occurs-append, Counts, counts-more, counts-join}
 use Rattle.md_text.proofs.HtmlIds.{counts-enclosed}
 use Rattle.std.specs.List.{flat_map}
-use Rattle.md_meaning.specs.Meaning.Around.{outermost}
+use Rattle.md_meaning.specs.Meaning.Inherited.{outermost}
 use Rattle.md_meaning.specs.Meaning.At.{Footnote}
 use Rattle.md_meaning.specs.Meaning.Before.{nothing_before}
-use Rattle.md_meaning.specs.Meaning.Footnotes.{id_of, distinct, place_among, item, section_start}
+use Rattle.md_meaning.specs.Meaning.Footnotes.{id_of, distinct, place_among, item}
 use Rattle.md_meaning.specs.Meaning.Footnotes.{section}
-use Rattle.md_meaning.specs.Meaning.Layout.{Piece, layout}
+use Rattle.md_meaning.specs.Meaning.Layout.{layout}
 use Rattle.md_meaning.specs.Meaning.Nodes.{Outcome, outcome}
-use Rattle.md_shape.specs.Built.{Blocks, IsBuilt}
-use Rattle.md_shape.specs.Underlined.{waits_after, IsUnderlined}
+use Rattle.md_content.specs.Built.{Blocks, IsBuilt}
+use Rattle.md_content.specs.Underlined.{waits_after, IsUnderlined}
 use Rattle.md_meaning.proofs.Identifiers.{is_in, Apart, same, distinct-apart, bytes_eq-sym}
 use Rattle.md_safe.specs.Options.{KeepsGrammar}
 use Rattle.md_safe.proofs.Texts.{Escaped}
@@ -30,9 +30,9 @@ use Rattle.md_safe.proofs.Laid.{adds-append, adds-nothing, adds-alone}
 use Rattle.md_safe.proofs.Tags.{Turns, bracket-tag, attribute}
 use Rattle.md_safe.proofs.Calls.{label-escaped, id-escaped}
 use Rattle.md_safe.proofs.Spot.{Setting, Prints}
-use Rattle.md_safe.proofs.Section.{turn-after, li_id, item-prints, section-around, section_end}
+use Rattle.md_safe.proofs.Section.{turn-after, li_id, item-prints, section-around}
 use Rattle.md_safe.proofs.Section.{text_among, heading_label_of}
-use Rattle.md_safe.proofs.Counted.{counting, counts-heading, TextsCount}
+use Rattle.md_safe.proofs.Counted.{counts-heading, TextsCount}
 use Rattle.md_safe.proofs.BlockNodes.{holds-none}
 use Rattle.md_safe.proofs.Costs.{Document, counted_in, read_in, counts-none, Costs}
 use Rattle.md_safe.proofs.CountedForest.{spent}
@@ -119,7 +119,7 @@ texts-for w n (footnote ∷ footnotes) identifiers apart h =
 
 -- an item's tags around a text
 item-turn : (d : Document) (w : List ℕ) (n : ℕ) (v : List ℕ) → Escaped v →
-    Turns (counting w n) (counting w (occurs w (read_back v ∷ []) + n))
+    Turns (Counts w n) (Counts w (occurs w (read_back v ∷ []) + n))
     (codes "<li id=\"" ++ (v ++ (codes "\">" ++ []))) (codes "</li>")
 item-turn d w n v h x held =
     let hit : ℕ = occurs w (read_back v ∷ []) in
@@ -139,73 +139,70 @@ items-counted : (d : Document) (w : List ℕ) (footnotes : List Footnote) (n : �
     (identifiers : List (List ℕ)) →
     TextsFor w n footnotes identifiers
     → Prints (counted_in d w 0)
-    (Counts w (occurs w (note_ids d.given.options d.given.calls identifiers) + n))
-    (flat_map (item d.given footnotes) identifiers)
+    (Counts w (occurs w (note_ids d.context.options d.context.calls identifiers) + n))
+    (flat_map (item d.context footnotes) identifiers)
 items-counted d w footnotes n [] texts =
-    adds-nothing d.given.ending (Counts w (0 + n))
+    adds-nothing d.context.ending (Counts w (0 + n))
     (counts-more w 0 (0 + n) [] (omega arith) (counts-none w))
 items-counted d w footnotes n (identifier ∷ others) texts =
-    let number : ℕ = place_among (distinct d.given.calls) identifier in
-    let id : List ℕ = id_of d.given.options (codes "fn-") identifier number in
+    let number : ℕ = place_among (distinct d.context.calls) identifier in
+    let id : List ℕ = id_of d.context.options (codes "fn-") identifier number in
     let hit : ℕ = occurs w (read_back id ∷ []) in
-    let later : ℕ = occurs w (note_ids d.given.options d.given.calls others) in
-    let total : ℕ = occurs w (note_ids d.given.options d.given.calls (identifier ∷ others)) + n in
-    adds-append d.given.ending (Counts w (hit + texts.0)) (Counts w (later + texts.1))
-    (Counts w total) (item d.given footnotes identifier) (flat_map (item d.given footnotes) others)
+    let later : ℕ = occurs w (note_ids d.context.options d.context.calls others) in
+    let total : ℕ = occurs w (note_ids d.context.options d.context.calls (identifier ∷ others)) + n
+    in
+    adds-append d.context.ending (Counts w (hit + texts.0)) (Counts w (later + texts.1))
+    (Counts w total) (item d.context footnotes identifier)
+    (flat_map (item d.context footnotes) others)
     (λ x y a b. counts-more w ((hit + texts.0) + (later + texts.1)) total (x ++ y)
     (omega (
-      occurs-first w (read_back id) (note_ids d.given.options d.given.calls others),
+      occurs-first w (read_back id) (note_ids d.context.options d.context.calls others),
       texts.2,
       arith,
     ))
     (counts-join w (hit + texts.0) (later + texts.1) x y a b))
     (item-prints (counted_in d w texts.0) (counted_in d w (hit + texts.0)).p footnotes identifier
-    (item-turn d w texts.0 id (id-escaped d.given.options (codes "fn-") identifier number refl))
+    (item-turn d w texts.0 id (id-escaped d.context.options (codes "fn-") identifier number refl))
     texts.3)
     (items-counted d w footnotes texts.1 others texts.4)
 
 -- the heading, and the tags of the section around its items
-section-counted : (d : Document) (w : List ℕ) → KeepsGrammar d.given.options →
+section-counted : (d : Document) (w : List ℕ) → KeepsGrammar d.context.options →
     (footnotes : List Footnote) (n : ℕ) →
-    TextsFor w n footnotes (distinct d.given.calls)
+    TextsFor w n footnotes (distinct d.context.calls)
     → Prints (counted_in d w 0) (Counts w (occurs w label_id
-    + (occurs w (note_ids d.given.options d.given.calls (distinct d.given.calls)) + n)))
-    (section d.given footnotes)
+    + (occurs w (note_ids d.context.options d.context.calls (distinct d.context.calls)) + n)))
+    (section d.context footnotes)
 section-counted d w keeps footnotes n texts =
-    let k : ℕ = occurs w (note_ids d.given.options d.given.calls (distinct d.given.calls)) + n in
+    let k : ℕ = occurs w (note_ids d.context.options d.context.calls (distinct d.context.calls)) + n
+    in
     let s : Setting = counted_in d w k in
     let q : Claim = (counted_in d w (occurs w label_id + k)).p in
-    let label : List ℕ = heading_label_of d.given.options in
-    let items : List Piece = flat_map (item d.given footnotes) (distinct d.given.calls) in
-    cond_both (not (length d.given.calls == 0))
-    (section_start d.given.options ++ (items ++ section_end)) []
-    (Prints (counted_in d w 0) (Counts w (occurs w label_id + k)))
-    (λ _.
-    section-around s q (turn-after s.p q (codes "<section data-footnotes=\"\" class=\"footnotes\">")
-    (codes "</section>")
+    let label : List ℕ = heading_label_of d.context.options in
+    section-around s q (turn-after s.p.holds q.holds q.holds
+    (codes "<section data-footnotes=\"\" class=\"footnotes\">") (codes "</section>")
     (codes "<h2 id=\"footnote-label\" class=\"sr-only\">" ++ (label ++ codes "</h2>"))
     (bracket-tag q (codes "section") (attribute (codes "data-footnotes") []
     ∷ attribute (codes "class") (codes "footnotes") ∷ []) refl refl)
     (λ x held. counts-join w (occurs w label_id) k
     (codes "<h2 id=\"footnote-label\" class=\"sr-only\">" ++ (label ++ codes "</h2>")) x
-    (counts-heading w label (label-escaped d.given.options)) held))
-    keeps.usual_tag keeps.usual_attributes items
-    (items-counted d w footnotes n (distinct d.given.calls) texts))
-    (λ _. adds-nothing d.given.ending (Counts w (occurs w label_id + k))
-    (counts-more w 0 (occurs w label_id + k) [] (omega arith) (counts-none w)))
+    (counts-heading w label (label-escaped d.context.options)) held))
+    keeps.usual_tag keeps.usual_attributes footnotes
+    (items-counted d w footnotes n (distinct d.context.calls) texts)
 
 -- an id occurs in a document at most as often as its heading, its footnotes and its calls have it
 pub document-counts : (d : Document) (w : List ℕ) (document : Forest) →
-    KeepsGrammar d.given.options →
-    IsBuilt d.given.bytes Blocks document → IsUnderlined false document →
-    (outcome d.given outermost nothing_before document).calls ≡ d.given.calls →
+    KeepsGrammar d.context.options →
+    IsBuilt d.context.bytes Blocks document → IsUnderlined false document →
+    (outcome d.context outermost nothing_before document).calls ≡ d.context.calls →
     Counts w
-    (occurs w label_id + occurs w (note_ids d.given.options d.given.calls (distinct d.given.calls))
-    + occurs w (ids_after d.given.options d.given.calls [] d.given.calls))
-    (layout d.given.ending ((outcome d.given outermost nothing_before document).pieces
-    ++ section d.given (outcome d.given outermost nothing_before document).footnotes))
+    (occurs w label_id + occurs w (note_ids d.context.options d.context.calls
+    (distinct d.context.calls))
+    + occurs w (ids_after d.context.options d.context.calls [] d.context.calls))
+    (layout d.context.ending ((outcome d.context outermost nothing_before document).pieces
+    ++ section d.context (outcome d.context outermost nothing_before document).footnotes))
 document-counts d w document keeps built underlined called =
-    let all : Outcome = outcome d.given outermost nothing_before document in
+    let all : Outcome = outcome d.context outermost nothing_before document in
     let b : Costs d w nothing_before 0 (waits_after false document) all =
     spent d w document outermost nothing_before false 0
     (record {
@@ -218,38 +215,41 @@ document-counts d w document keeps built underlined called =
       };
       underlined = underlined;
     }) tt in
-    let noted : ℕ = occurs w (note_ids d.given.options d.given.calls (distinct d.given.calls)) in
+    let noted : ℕ = occurs w (note_ids d.context.options d.context.calls (distinct d.context.calls))
+    in
     let rest : ℕ = occurs w label_id + (noted + b.notes) in
-    let last : Prints (counted_in d w 0) (Counts w rest) (section d.given all.footnotes) =
+    let last : Prints (counted_in d w 0) (Counts w rest) (section d.context all.footnotes) =
     section-counted d w keeps all.footnotes b.notes (texts-for w b.notes all.footnotes
-    (distinct d.given.calls) (distinct-apart d.given.calls) b.texts) in
+    (distinct d.context.calls) (distinct-apart d.context.calls) b.texts) in
     counts-more w (b.body + rest)
     (occurs w label_id + noted
-    + occurs w (ids_after d.given.options d.given.calls [] d.given.calls))
-    (layout d.given.ending (all.pieces ++ section d.given all.footnotes))
+    + occurs w (ids_after d.context.options d.context.calls [] d.context.calls))
+    (layout d.context.ending (all.pieces ++ section d.context all.footnotes))
     (omega (
       b.few,
-      ap (λ calls. occurs w (ids_after d.given.options d.given.calls [] calls)) called,
+      ap (λ calls. occurs w (ids_after d.context.options d.context.calls [] calls)) called,
       arith,
     ))
-    (adds-alone d.given.ending (Counts w (b.body + rest))
-    (all.pieces ++ section d.given all.footnotes)
-    (adds-append d.given.ending (Counts w b.body) (Counts w rest) (Counts w (b.body + rest))
-    all.pieces (section d.given all.footnotes) (counts-join w b.body rest) b.prints last))
+    (adds-alone d.context.ending (Counts w (b.body + rest))
+    (all.pieces ++ section d.context all.footnotes)
+    (adds-append d.context.ending (Counts w b.body) (Counts w rest) (Counts w (b.body + rest))
+    all.pieces (section d.context all.footnotes) (counts-join w b.body rest) b.prints last))
 
 -- each id stands in a document once at most
 pub document-counted : (d : Document) (w : List ℕ) (document : Forest) →
-    KeepsGrammar d.given.options →
-    d.given.options.gfm_footnote_number_ids ≡ true → IsBuilt d.given.bytes Blocks document →
-    IsUnderlined false document → length d.given.calls + 2 < 2 ^ 64 →
-    (outcome d.given outermost nothing_before document).calls ≡ d.given.calls
-    → Counts w 1 (layout d.given.ending ((outcome d.given outermost nothing_before document).pieces
-    ++ section d.given (outcome d.given outermost nothing_before document).footnotes))
+    KeepsGrammar d.context.options →
+    d.context.options.gfm_footnote_number_ids ≡ true → IsBuilt d.context.bytes Blocks document →
+    IsUnderlined false document → length d.context.calls + 2 < 2 ^ 64 →
+    (outcome d.context outermost nothing_before document).calls ≡ d.context.calls
+    → Counts w 1 (layout d.context.ending ((outcome d.context outermost nothing_before
+    document).pieces
+    ++ section d.context (outcome d.context outermost nothing_before document).footnotes))
 document-counted d w document keeps on built underlined small called =
     counts-more w
-    (occurs w label_id + occurs w (note_ids d.given.options d.given.calls (distinct d.given.calls))
-    + occurs w (ids_after d.given.options d.given.calls [] d.given.calls)) 1
-    (layout d.given.ending ((outcome d.given outermost nothing_before document).pieces
-    ++ section d.given (outcome d.given outermost nothing_before document).footnotes))
-    (document-once d.given.options on w d.given.calls small)
+    (occurs w label_id + occurs w (note_ids d.context.options d.context.calls
+    (distinct d.context.calls))
+    + occurs w (ids_after d.context.options d.context.calls [] d.context.calls)) 1
+    (layout d.context.ending ((outcome d.context outermost nothing_before document).pieces
+    ++ section d.context (outcome d.context outermost nothing_before document).footnotes))
+    (document-once d.context.options on w d.context.calls small)
     (document-counts d w document keeps built underlined called)

@@ -8,7 +8,7 @@ use Rattle.md_safe.specs.TokenizerStates.{Data}
 use Rattle.md_safe.specs.Tokenizer.{IsRun}
 use Rattle.md_safe.proofs.OneRun.{one_run}
 use Rattle.md_safe.proofs.Steps.{attribute}
-use Rattle.md_safe.specs.Leads.{Leads}
+use Rattle.md_safe.specs.Tokenizes.{Tokenizes}
 use Rattle.md_safe.specs.Embedded.{EndsInDataState}
 use Rattle.md_safe.proofs.Joining.{runs-on}
 
@@ -23,7 +23,7 @@ any-later p (a ∷ x) y h = by (p a) (list_any p (x ++ y)) (any-later p x y h)
 -- the rest would be emitted, and isn't
 lost : (p : Token → Bool) (input mid : List ℕ) (t u all : List Token) → IsRun Data mid u →
     IsRun Data input all →
-    list_any p u ≡ true → list_any p all ≡ false → Leads Data input t mid → ⊥
+    list_any p u ≡ true → list_any p all ≡ false → Tokenizes Data input t mid → ⊥
 lost p input mid t u all k l has hasn't h =
     by (list_any p all)
     (ap (list_any p) (one_run Data input all (t ++ u) l (runs-on Data input mid t u h k))
@@ -68,7 +68,7 @@ value emits h =
     record { steps = 29; emits = refl } record { steps = 29; emits = refl } refl
     refl (h (codes "\">"))
 
-pub two_feeds : Leads Data (10 ∷ []) (Character 10 ∷ []) (10 ∷ []) → ⊥
+pub two_feeds : Tokenizes Data (10 ∷ []) (Character 10 ∷ []) (10 ∷ []) → ⊥
 two_feeds h =
     by (one_run Data (10 ∷ []) (Character 10 ∷ EndOfFile ∷ [])
     (Character 10 ∷ Character 10 ∷ EndOfFile ∷ [])

@@ -2,25 +2,26 @@
 use Rattle.std.proofs.Common.{◌≡◌, ℕ, Bool, true, false, not, cond, List, [], ◌∷◌, ◌++◌, refl}
 use Rattle.std.proofs.Common.{sym, ap, ◌∙◌, subst, inl, inr, append_assoc, append-nil, codes}
 use Rattle.std.specs.List.{list_any}
-use Rattle.std.proofs.lemmas.Bool.{or_cases, cond-true}
+use Rattle.std.proofs.lemmas.Bool.{or_cases}
 use Rattle.md_base.proofs.Lies.{lie}
 use Rattle.md_base.specs.declared.event.Name.{Name}
 use Rattle.md_base.specs.declared.event.Name.TheVariants.{LineEnding}
 use Rattle.md_base.specs.NameTests.{is_fence as fence_name}
 use Rattle.md_pattern.specs.Looseness.{is_loose}
-use Rattle.md_meaning.specs.Meaning.Around.{inside}
-use Rattle.md_meaning.specs.Meaning.At.{Given, At}
+use Rattle.md_meaning.specs.Meaning.Inherited.{inside}
+use Rattle.md_meaning.specs.Meaning.At.{Context, At}
 use Rattle.md_meaning.specs.Meaning.Before.{is_first_fence}
 use Rattle.md_meaning.specs.Meaning.Layout.{Piece, Text, said, when}
 use Rattle.md_meaning.specs.Meaning.Means.{prints}
-use Rattle.md_shape.specs.Built.{Content, FirstFence, FirstMathFence, Chunks, InfoAndMeta}
-use Rattle.md_shape.specs.Built.{MetaAlone, Nothing, is_line, is_fence, is_code_fence}
-use Rattle.md_shape.specs.Built.{is_math_fence, may_stand, content_of}
+use Rattle.md_content.specs.Built.{Content, FirstFence, FirstMathFence, Chunks, InfoAndMeta}
+use Rattle.md_content.specs.Built.{MetaAlone, Nothing, is_line, is_fence, is_code_fence}
+use Rattle.md_content.specs.Built.{is_math_fence, may_stand, content_of}
+use Rattle.md_steps.proofs.Standing.{picked}
 use Rattle.md_safe.proofs.Texts.{Escaped}
 use Rattle.md_safe.proofs.Laid.{adds-append, adds-text, adds-weaker}
 use Rattle.md_safe.proofs.RawElements.{IsRaw, IsInCode, raw-code, raw-math, code_tag, math_tag}
 use Rattle.md_safe.proofs.Contents.{Holds}
-use Rattle.md_safe.proofs.Insides.{told}
+use Rattle.md_safe.proofs.Insides.{allowed_inside}
 use Rattle.md_safe.proofs.Following.{same_fence}
 use Rattle.md_safe.proofs.Spot.{Setting, IsFitAt, Prints, Inside}
 use Rattle.md_safe.proofs.FlowNodes.{line-escaped}
@@ -37,27 +38,25 @@ begun : (s : Setting) (has_fence : Bool) (holds within later : List ℕ → Type
 begun s true holds within later both e inner rest a b = lie (sym e)
 begun s false holds within later both e inner rest a b =
     subst (Prints s holds) (sym (append_assoc inner (said (codes ">")) rest))
-    (adds-append s.given.ending within (λ w. (y : List ℕ) × (w ≡ 62 ∷ y) × later y) holds inner
+    (adds-append s.context.ending within (λ w. (y : List ℕ) × (w ≡ 62 ∷ y) × later y) holds inner
     (Text (codes ">") ∷ rest)
     (λ x w f g. subst (λ w. holds (x ++ w)) (sym g.1) (both x g.0 f g.2)) a
-    (adds-append s.given.ending (λ x. x ≡ codes ">") later (λ w. (y : List ℕ) × (w ≡ 62 ∷ y)
+    (adds-append s.context.ending (λ x. x ≡ codes ">") later (λ w. (y : List ℕ) × (w ≡ 62 ∷ y)
     × later y) (said (codes ">")) rest (λ x y f g. (y, ap (λ x. x ++ y) f, g))
-    (adds-text s.given.ending (λ x. x ≡ codes ">") (codes ">") refl) b))
+    (adds-text s.context.ending (λ x. x ≡ codes ">") (codes ">") refl) b))
 
 -- the text of a fence, and its content
-fence-pieces : (given : Given) (t : At) (name : Name) (inner : List Piece) →
-    cond (fence_name name) (prints given t name inner)
-    (inner ++ when (is_first_fence t) (said (codes ">")))
-    ≡ inner ++ when (is_first_fence t) (said (codes ">"))
-fence-pieces given t LineEnding inner = refl
-fence-pieces given t _ inner = refl
-
-fence-prints : (given : Given) (t : At) (name : Name) → fence_name name ≡ true →
+fence-prints : (context : Context) (t : At) (name : Name) → fence_name name ≡ true →
     (inner : List Piece) →
-    prints given t name inner ≡ inner ++ when (is_first_fence t) (said (codes ">"))
-fence-prints given t name is inner =
-    sym (cond-true (fence_name name) (prints given t name inner)
-    (inner ++ when (is_first_fence t) (said (codes ">"))) is) ∙ fence-pieces given t name inner
+    prints context t name inner ≡ inner ++ when (is_first_fence t) (said (codes ">"))
+fence-prints context t name is inner =
+    picked (fence_name name) (prints context t name inner) _ (by name) is
+  where
+    by : (name : Name) → cond (fence_name name) (prints context t name inner)
+        (inner ++ when (is_first_fence t) (said (codes ">")))
+        ≡ inner ++ when (is_first_fence t) (said (codes ">"))
+    by LineEnding = refl
+    by _ = refl
 
 in-code : (name : Name) → cond (is_code_fence name) (content_of name FirstFence) InfoAndMeta
     ≡ InfoAndMeta
@@ -74,40 +73,39 @@ in-chunks LineEnding = refl
 in-chunks _ = refl
 
 -- the pieces of the children, if the content of the node is known
-pub inside-is : (s : Setting) (t : At) (content told : Content) (name : Name) (inner : List Piece) →
-    content_of name content ≡ told → Inside s t content name inner →
-    Prints s (Holds s.p (inside s.given.options (is_loose t.children) name t.around).is_escaping
-    (inside s.given.options (is_loose t.children) name t.around).in_image told) inner
-inside-is s t content told name inner e a = subst (λ c. Prints s
-    (Holds s.p (inside s.given.options (is_loose t.children) name t.around).is_escaping
-    (inside s.given.options (is_loose t.children) name t.around).in_image c) inner) e a
+pub inside-is : (s : Setting) (t : At) (content allowed_inside : Content) (name : Name)
+    (inner : List Piece) →
+    content_of name content ≡ allowed_inside → Inside s t content name inner →
+    Prints s (Holds s.p (inside s.context.options (is_loose t.children) name t.around).is_escaping
+    (inside s.context.options (is_loose t.children) name t.around).in_image allowed_inside) inner
+inside-is s t content allowed_inside name inner e a = subst (λ c. Prints s
+    (Holds s.p (inside s.context.options (is_loose t.children) name t.around).is_escaping
+    (inside s.context.options (is_loose t.children) name t.around).in_image c) inner) e a
 
 pub code_fence-node : (s : Setting) (t : At) (name : Name) →
     list_any fence_name t.before.spine ≡ false →
     is_code_fence name ≡ true → (inner rest : List Piece) → Inside s t FirstFence name inner →
     Prints s Escaped rest →
-    Prints s (IsRaw s.p code_tag) (prints s.given t name inner ++ rest)
+    Prints s (IsRaw s.p code_tag) (prints s.context t name inner ++ rest)
 code_fence-node s t name e is inner rest a b =
     subst (λ x. Prints s (IsRaw s.p code_tag) (x ++ rest))
-    (sym (fence-prints s.given t name ((told FirstFence name is).fence refl) inner))
+    (sym (fence-prints s.context t name ((allowed_inside FirstFence name is).fence refl) inner))
     (begun s (list_any fence_name t.before.spine) (IsRaw s.p code_tag) (IsInCode s.p) Escaped
     (raw-code s.p) e inner rest (inside-is s t FirstFence InfoAndMeta name inner
-    (sym (cond-true (is_code_fence name) (content_of name FirstFence) InfoAndMeta is)
-    ∙ in-code name) a) b)
+    (picked (is_code_fence name) (content_of name FirstFence) InfoAndMeta (in-code name) is) a) b)
 
 pub math_fence-node : (s : Setting) (t : At) (name : Name) →
     list_any fence_name t.before.spine ≡ false →
     is_math_fence name ≡ true → (inner rest : List Piece) → Inside s t FirstMathFence name inner →
-    Prints s Escaped rest → Prints s (IsRaw s.p math_tag) (prints s.given t name inner ++ rest)
+    Prints s Escaped rest → Prints s (IsRaw s.p math_tag) (prints s.context t name inner ++ rest)
 math_fence-node s t name e is inner rest a b =
     subst (λ x. Prints s (IsRaw s.p math_tag) (x ++ rest))
-    (sym (fence-prints s.given t name ((told FirstMathFence name is).fence refl) inner))
+    (sym (fence-prints s.context t name ((allowed_inside FirstMathFence name is).fence refl) inner))
     (begun s (list_any fence_name t.before.spine) (IsRaw s.p math_tag) IsNil Escaped
     (λ x y f h. subst (λ x. IsRaw s.p math_tag (x ++ (62 ∷ y))) (sym f)
-    (raw-math s.p s.given.options s.test y h)) e inner rest
+    (raw-math s.p s.context.options s.test y h)) e inner rest
     (inside-is s t FirstMathFence MetaAlone name inner
-    (sym (cond-true (is_math_fence name) (content_of name FirstMathFence) MetaAlone is)
-    ∙ in-math name) a) b)
+    (picked (is_math_fence name) (content_of name FirstMathFence) MetaAlone (in-math name) is) a) b)
 
 -- a later fence prints nothing
 closed : (s : Setting) (has_fence : Bool) → has_fence ≡ true → (inner : List Piece) →
@@ -115,20 +113,19 @@ closed : (s : Setting) (has_fence : Bool) → has_fence ≡ true → (inner : Li
     Prints s Escaped (inner ++ when (not has_fence) (said (codes ">")))
 closed s true e inner a =
     subst (Prints s Escaped) (sym (append-nil inner))
-    (adds-weaker s.given.ending IsNil Escaped inner (λ x e. subst Escaped (sym e) refl) a)
+    (adds-weaker s.context.ending IsNil Escaped inner (λ x e. subst Escaped (sym e) refl) a)
 closed s false e inner a = lie e
 
 pub line-node : (s : Setting) (t : At) (name : Name) → list_any fence_name t.before.spine ≡ true →
     may_stand Chunks name ≡ true → IsFitAt s t name → (inner : List Piece) →
     Inside s t Chunks name inner →
-    Prints s Escaped (prints s.given t name inner)
+    Prints s Escaped (prints s.context t name inner)
 line-node s t name e is fit inner a = elim (or_cases (is_line name) (is_fence name) is) [
   | inl is ↦ line-escaped s t name is fit inner
   | inr is ↦
       let fence : fence_name name ≡ true = sym (same_fence name) ∙ is in
-      subst (Prints s Escaped) (sym (fence-prints s.given t name fence inner))
+      subst (Prints s Escaped) (sym (fence-prints s.context t name fence inner))
       (closed s (list_any fence_name t.before.spine) e inner
       (inside-is s t Chunks Nothing name inner
-      (sym (cond-true (fence_name name) (content_of name Chunks) Nothing fence)
-      ∙ in-chunks name) a))
+      (picked (fence_name name) (content_of name Chunks) Nothing (in-chunks name) fence) a))
 ]

@@ -13,7 +13,7 @@ use Rattle.md_base.specs.Children.{or_else}
 use Rattle.md_meaning.specs.Meaning.At.{Target, Defined, Footnote, Found, nothing_found, At}
 use Rattle.md_meaning.specs.Meaning.Layout.{Piece, layout}
 use Rattle.md_meaning.specs.Meaning.Nodes.{found_at}
-use Rattle.md_shape.specs.Built.{Content, Blocks, Sources, may_stand, content_inside, IsBuilt}
+use Rattle.md_content.specs.Built.{Content, Blocks, Sources, may_stand, content_inside, IsBuilt}
 use Rattle.md_safe.proofs.Texts.{Escaped}
 use Rattle.md_safe.proofs.Media.{IsEscapedTitle}
 use Rattle.md_safe.proofs.Contents.{Holds}
@@ -56,18 +56,21 @@ pub record AreFound (s : Setting) (content : Content) (found : Found) : Type 0 w
   pub resource : IsGoodTarget found.resource
 
 -- the texts of some footnotes are as claimed
+abbrev pub AreTexts : (List ℕ → Type 0) → List Footnote → Type 0
+AreTexts Q [] = Unit {0}
+AreTexts Q (footnote ∷ others) = Q footnote.text × AreTexts Q others
+
 abbrev pub AreRead : Setting → List Footnote → Type 0
-AreRead s [] = Unit {0}
-AreRead s (footnote ∷ others) = Reads s footnote.text × AreRead s others
+AreRead s footnotes = AreTexts (Reads s) footnotes
 
 pub titles-append : (xs ys : List Defined) → AreTitles xs → AreTitles ys → AreTitles (xs ++ ys)
 titles-append [] ys a b = b
 titles-append (x ∷ xs) ys a b = (a.0, titles-append xs ys a.1 b)
 
-pub read-append : (s : Setting) (xs ys : List Footnote) → AreRead s xs → AreRead s ys →
-    AreRead s (xs ++ ys)
-read-append s [] ys a b = b
-read-append s (x ∷ xs) ys a b = (a.0, read-append s xs ys a.1 b)
+pub texts-append : (Q : List ℕ → Type 0) (xs ys : List Footnote) → AreTexts Q xs →
+    AreTexts Q ys → AreTexts Q (xs ++ ys)
+texts-append Q [] ys a b = b
+texts-append Q (x ∷ xs) ys a b = (a.0, texts-append Q xs ys a.1 b)
 
 -- a node and its children: what may stand where, and what the children print
 pub record Inner (s : Setting) (t : At) (content : Content) (name : Name)
@@ -75,7 +78,7 @@ pub record Inner (s : Setting) (t : At) (content : Content) (name : Name)
   pub stands : (is_transparent name || may_stand content name) ≡ true
   pub fit : IsFitAt s t name
   pub suits : Suits t.around.is_escaping t.around.in_image content
-  pub built : IsBuilt s.given.bytes (content_inside content name) t.children
+  pub built : IsBuilt s.context.bytes (content_inside content name) t.children
   pub before : PrintsBefore s t (content_inside content name) name inner
   pub found : AreFound s (content_inside content name) t.found
 
@@ -85,10 +88,11 @@ nothing-found s content = record { heading = λ _. tt; title = tt; resource = tt
 -- what is found where a node stands
 pub found-node : (s : Setting) (t : At) (content : Content) (name : Name) (inner : List Piece) →
     Inner s t content name inner →
-    AreFound s content (found_at t name (layout s.given.ending inner))
+    AreFound s content (found_at t name (layout s.context.ending inner))
 found-node s t content HeadingSetextText inner i = record {
   heading = λ is.
-      blocks-read s t.around.is_escaping t.around.in_image content is (layout s.given.ending inner)
+      blocks-read s t.around.is_escaping t.around.in_image content is
+      (layout s.context.ending inner)
       (text-holds s (Holds s.p t.around.is_escaping t.around.in_image content) inner
       (inside-alone s t content HeadingSetextText i.stands i.fit i.built inner i.before));
   title = tt;
@@ -120,10 +124,10 @@ found-node s t content _ inner i = record { heading = λ _. tt; title = tt; reso
 -- the text of a footnote that is the node
 pub note-node : (s : Setting) (t : At) (content : Content) (name : Name) (inner : List Piece) →
     Inner s t content name inner → named GfmFootnoteDefinition name ≡ true →
-    Reads s (layout s.given.ending inner)
+    Reads s (layout s.context.ending inner)
 note-node s t content GfmFootnoteDefinition inner i is =
     blocks-read s t.around.is_escaping t.around.in_image content (note-blocks content i.stands)
-    (layout s.given.ending inner)
+    (layout s.context.ending inner)
     (text-holds s (Holds s.p t.around.is_escaping t.around.in_image content) inner
     (inside-alone s t content GfmFootnoteDefinition i.stands i.fit i.built inner i.before))
 note-node s t content _ inner i is = lie is

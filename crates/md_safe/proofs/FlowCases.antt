@@ -1,102 +1,96 @@
 -- What blocks and spans print where flow content stands.
-use Rattle.std.proofs.Common.{◌≡◌, Bool, true, false, ◌||◌, cond, List, [], ◌∷◌, ◌++◌, refl, sym}
-use Rattle.std.proofs.Common.{◌∙◌, subst, inl, inr, codes}
-use Rattle.std.proofs.lemmas.Bool.{or_cases, cond-true}
+use Rattle.std.proofs.Common.{not, ◌&&◌, ◌≡◌, Bool, true, false, ◌||◌, cond, List, [], ◌∷◌, ◌++◌}
+use Rattle.std.proofs.Common.{refl, sym}
+use Rattle.std.proofs.Common.{◌∙◌, subst, codes}
 use Rattle.md_base.proofs.Lies.{lie}
 use Rattle.md_base.specs.declared.event.Name.{Name}
 use Rattle.md_base.specs.declared.event.Name.TheVariants as name_variants
-use name_variants.{LineEnding, BlockQuote, ListOrdered, ListUnordered, CodeIndented, HtmlFlow}
+use name_variants.{ListItem, LineEnding, BlockQuote, ListOrdered, ListUnordered, CodeIndented}
+use name_variants.{HtmlFlow}
 use name_variants.{HeadingAtx, HeadingSetextUnderlineSequence, GfmTable, Paragraph, ThematicBreak}
+use Rattle.md_base.specs.Is.{is as named}
 use Rattle.md_base.specs.NameTests.{is_transparent}
 use Rattle.md_meaning.specs.Meaning.At.{At}
 use Rattle.md_pattern.specs.Looseness.{is_loose}
-use Rattle.md_meaning.specs.declared.context.Surroundings.{Surroundings}
-use Rattle.md_meaning.specs.Meaning.Around.{inside, is_tight}
+use Rattle.md_meaning.specs.declared.surroundings.Surroundings.{Surroundings}
+use Rattle.md_meaning.specs.Meaning.Inherited.{inside, is_tight}
 use Rattle.md_meaning.specs.Meaning.Layout.{Piece, Needed, Forced, said, on_own_line}
 use Rattle.md_meaning.specs.Meaning.Means.{prints}
 use Rattle.md_meaning.specs.Meaning.Spans.{is_at}
 use Rattle.md_meaning.specs.Meaning.Blocks.{atx_rank, underline_rank, fenced}
-use Rattle.md_shape.specs.Built.{Blocks, FirstFence, FirstMathFence, is_part, is_source}
-use Rattle.md_safe.proofs.Laid.{Adds, adds-text, adds-weaker}
-use Rattle.md_safe.proofs.RawElements.{IsRaw, code_tag, math_tag}
+use Rattle.md_content.specs.Built.{Blocks, FirstFence, FirstMathFence, is_part, is_source}
+use Rattle.md_steps.proofs.Standing.{picked}
+use Rattle.md_safe.proofs.SpanContents.{NodePrints}
+use Rattle.md_safe.proofs.Cases.{either}
+use Rattle.md_safe.proofs.Laid.{Adds, adds-text, adds-needed}
+use Rattle.md_safe.proofs.Tags.{framed-text, framed-needed, framed-forced}
+use Rattle.md_safe.proofs.RawElements.{code_tag, math_tag}
 use Rattle.md_safe.proofs.Contents.{Holds}
 use Rattle.md_safe.proofs.Insides.{is_raw}
-use Rattle.md_safe.proofs.FlowNodes.{is_math, raw_tag, raw-prints, in-raw, setext-fits}
+use Rattle.md_safe.proofs.FlowNodes.{is_flow, is_math, raw_tag, raw-prints, in-raw, setext-fits}
 use Rattle.md_safe.proofs.FenceNodes.{inside-is}
 use Rattle.md_safe.proofs.Costs.{Document, read_in}
 use Rattle.md_safe.specs.Contents.{Content, Flow, Phrasing, Items, Parts}
 use Rattle.md_safe.specs.Placed.{sort_of, is_inner, may_stand}
-use Rattle.md_safe.proofs.Stands.{Stands, stands-void, turns-plain, IsWhite}
+use Rattle.md_safe.proofs.Stands.{Stands, stands-void, turns-plain, IsWhite, white_beside}
 use Rattle.md_safe.proofs.ContainedLaid.{lays-white, lays-both, lays-wider, lays-turned}
-use Rattle.md_safe.proofs.ContainedLaid.{spaced-text, spaced-needed, spaced-forced, white-needed}
 use Rattle.md_safe.proofs.SpanContents.{Prints, Known, Own, flat}
 use Rattle.md_safe.proofs.Spans.{is_inline, inline-node, Spanning}
 use Rattle.md_safe.proofs.OwnLines.{block-pair}
 use Rattle.md_safe.proofs.HeadingsAndLists.{heading-node, ordered-node}
-use Rattle.md_safe.proofs.CodeBlocks.{indented-node, fenced-end, turns-info, turns-math, IsOpened}
-use Rattle.md_safe.proofs.CodeBlocks.{fenced-node}
+use Rattle.md_safe.proofs.CodeBlocks.{indented-node, turns-info, turns-math, fenced-node}
 
 -- blocks that print tags or HTML, but code and math between fences
 abbrev is_block : Name → Bool
-is_block name = elim name [
-  | BlockQuote ↦ true
-  | ListOrdered ↦ true
-  | ListUnordered ↦ true
-  | Paragraph ↦ true
-  | ThematicBreak ↦ true
-  | HeadingAtx ↦ true
-  | HeadingSetextUnderlineSequence ↦ true
-  | CodeIndented ↦ true
-  | HtmlFlow ↦ true
-  | GfmTable ↦ true
-  | _ ↦ false
-]
+is_block name =
+    named GfmTable name || (is_flow name && not (is_raw name || named ListItem name))
 
-paragraph-node : (nested : Bool) (d : Document) (tight : Bool) → IsWhite d.given.ending →
+paragraph-node : (nested : Bool) (d : Document) (tight : Bool) → IsWhite d.context.ending →
     (inner : List Piece) →
     Prints nested d Phrasing inner →
     Prints nested d Flow
     (cond tight inner (on_own_line (codes "<p>") ++ (inner ++ said (codes "</p>"))))
-paragraph-node nested d true w inner a = lays-wider nested d.given.ending inner a
+paragraph-node nested d true w inner a = lays-wider nested d.context.ending inner a
 paragraph-node nested d false w inner a =
-    lays-turned nested d.given.ending Phrasing Flow (codes "<p>") (codes "</p>")
+    lays-turned nested d.context.ending Phrasing Flow (codes "<p>") (codes "</p>")
     (on_own_line (codes "<p>")) inner
     (said (codes "</p>")) refl refl (turns-plain nested Phrasing Flow (codes "p") refl refl)
-    (spaced-needed d.given.ending (codes "<p>") w) a (spaced-text d.given.ending (codes "</p>"))
+    (framed-needed white_beside d.context.ending (codes "<p>") w) a
+    (framed-text white_beside d.context.ending (codes "</p>"))
 
 block-node : (nested : Bool) (d : Document) (t : At) (name : Name) → is_block name ≡ true →
-    (inner : List Piece) →
-    Known nested d t name inner → Own nested d Flow name inner →
-    Prints nested d Flow (prints d.given t name inner)
+    NodePrints nested d t Flow name
 block-node nested d t BlockQuote is inner k a = block-pair nested d Flow Flow (codes "<blockquote>")
     (codes "</blockquote>") k.white
     refl refl (turns-plain nested Flow Flow (codes "blockquote") refl refl) inner (a refl)
 block-node nested d t ListOrdered is inner k a =
     ordered-node nested d t k.white k.fit inner (a refl)
 block-node nested d t ListUnordered is inner k a =
-    lays-turned nested d.given.ending Items Flow (codes "<ul>") (codes "</ul>")
+    lays-turned nested d.context.ending Items Flow (codes "<ul>") (codes "</ul>")
     (on_own_line (codes "<ul>")) inner (Forced
     ∷ said (codes "</ul>")) refl refl (turns-plain nested Items Flow (codes "ul") refl refl)
-    (spaced-needed d.given.ending (codes "<ul>") k.white) (a refl) (spaced-forced d.given.ending
-    (codes "</ul>") k.white)
+    (framed-needed white_beside d.context.ending (codes "<ul>") k.white) (a refl)
+    (framed-forced white_beside d.context.ending (codes "</ul>") k.white)
 block-node nested d t Paragraph is inner k a =
     paragraph-node nested d (is_tight t.around.container) k.white inner (a refl)
 block-node nested d t ThematicBreak is inner k a =
-    lays-both nested d.given.ending Flow (Needed ∷ []) (said (codes "<hr />"))
-    (lays-white nested d.given.ending Flow (Needed ∷ []) refl (white-needed d.given.ending k.white))
+    lays-both nested d.context.ending Flow (Needed ∷ []) (said (codes "<hr />"))
+    (lays-white nested d.context.ending Flow (Needed ∷ []) refl
+    (adds-needed white_beside d.context.ending k.white))
     (flat nested d Flow (said (codes "<hr />")) refl
-    (stands-void nested Flow (codes "hr") [] refl refl))
+    (stands-void nested Flow (codes "hr") refl [] refl refl))
 block-node nested d t HeadingAtx is inner k a =
     heading-node nested d (atx_rank t) k.white (k.fit.0, k.fit.1) inner (a refl)
 block-node nested d t HeadingSetextUnderlineSequence is inner k a =
-    heading-node nested d (underline_rank d.given t) k.white
-    (setext-fits (is_at 45 d.given.bytes t.place.start.index)) (said t.before.heading)
-    (adds-text d.given.ending (Stands nested Phrasing) t.before.heading k.heading)
+    heading-node nested d (underline_rank d.context t) k.white
+    (setext-fits (is_at 45 d.context.bytes t.place.start.index)) (said t.before.heading)
+    (adds-text d.context.ending (Stands nested Phrasing) t.before.heading k.heading)
 block-node nested d t CodeIndented is inner k a = indented-node nested d t k.white inner (a refl)
 block-node nested d t HtmlFlow is inner k a =
-    lays-both nested d.given.ending Flow (Needed ∷ []) inner
-    (lays-white nested d.given.ending Flow (Needed ∷ []) refl (white-needed d.given.ending k.white))
-    (lays-wider nested d.given.ending inner (a refl))
+    lays-both nested d.context.ending Flow (Needed ∷ []) inner
+    (lays-white nested d.context.ending Flow (Needed ∷ []) refl
+    (adds-needed white_beside d.context.ending k.white))
+    (lays-wider nested d.context.ending inner (a refl))
 block-node nested d t GfmTable is inner k a = block-pair nested d Parts Flow (codes "<table>")
     (codes "</table>") k.white refl refl
     (turns-plain nested Parts Flow (codes "table") refl refl) inner (a refl)
@@ -105,26 +99,21 @@ block-node nested d t _ is inner k a = lie is
 -- code and math in lines
 raw-node : (nested : Bool) (d : Document) (t : At) (name : Name) → is_raw name ≡ true →
     (inner : List Piece) →
-    Known nested d t name inner → Prints nested d Flow (prints d.given t name inner)
+    Known nested d t name inner → Prints nested d Flow (prints d.context t name inner)
 raw-node nested d t name is inner k =
-    subst (Prints nested d Flow) (sym (raw-prints d.given t name is inner))
+    subst (Prints nested d Flow) (sym (raw-prints d.context t name is inner))
     (by (is_math name) (inside-is (read_in d) t Blocks
     (cond (is_math name) FirstMathFence FirstFence) name inner (in-raw name is) k.within))
   where
     around : Surroundings
-    around = inside d.given.options (is_loose t.children) name t.around
+    around = inside d.context.options (is_loose t.children) name t.around
 
-    by : (math : Bool) → Adds d.given.ending (Holds (read_in d).p around.is_escaping around.in_image
+    by : (math : Bool) → Adds d.context.ending (Holds (read_in d).p around.is_escaping
+        around.in_image
         (cond math FirstMathFence FirstFence)) inner →
         Prints nested d Flow (fenced t (raw_tag math) inner)
-    by true a = fenced-node nested d math_tag k.white inner _
-        (adds-weaker d.given.ending (IsRaw (read_in d).p math_tag) (IsOpened nested math_tag) inner
-        (λ x r. (r.attributes, r.body, r.whole, r.escaped, turns-math nested r.attributes r.info))
-        a) (fenced-end d t k.white)
-    by false a = fenced-node nested d code_tag k.white inner _
-        (adds-weaker d.given.ending (IsRaw (read_in d).p code_tag) (IsOpened nested code_tag) inner
-        (λ x r. (r.attributes, r.body, r.whole, r.escaped, turns-info nested r.attributes r.info))
-        a) (fenced-end d t k.white)
+    by true a = fenced-node nested d t math_tag (turns-math nested) k.white inner a
+    by false a = fenced-node nested d t code_tag (turns-info nested) k.white inner a
 
 -- each name is of one of the tables
 covered : (name : Name) →
@@ -143,59 +132,39 @@ outer name h = by (is_inner (sort_of name)) h
     by false h = refl
 
 -- what blocks and spans print
-pub flow-node : (nested : Bool) (d : Document) (t : At) (name : Name) →
-    is_transparent name ≡ false → (is_part name || is_source name) ≡ false
-    → may_stand Flow (sort_of name) ≡ true → (inner : List Piece) → Known nested d t name inner →
-    Own nested d Flow name inner →
-    Prints nested d Flow (prints d.given t name inner)
+pub flow-node : (nested : Bool) (d : Document) (t : At) (name : Name) → is_transparent name ≡ false
+    → (is_part name || is_source name) ≡ false → may_stand Flow (sort_of name) ≡ true → NodePrints
+    nested d t Flow name
 flow-node nested d t name solid whole stands inner k a =
-    elim (or_cases (is_transparent name) _ (covered name)) [
-      | inl is ↦ lie (sym solid ∙ is)
-      | inr c ↦ elim (or_cases (is_part name || is_source name) _ c) [
-        | inl is ↦ lie (sym whole ∙ is)
-        | inr c ↦ elim (or_cases (is_inline name) _ c) [
-          | inl is ↦ lays-wider nested d.given.ending (prints d.given t name inner)
-              (inline-node nested d Phrasing t name is inner k a (record {
-                spans = refl;
-                free = λ _. refl;
-                plain = λ _. refl;
-              }))
-          | inr c ↦ elim (or_cases (is_block name) _ c) [
-            | inl is ↦ block-node nested d t name is inner k a
-            | inr c ↦ elim (or_cases (is_raw name) (is_inner (sort_of name)) c) [
-              | inl is ↦ raw-node nested d t name is inner k
-              | inr is ↦ lie (sym (outer name stands) ∙ is)
-            ]
-          ]
-        ]
-      ]
-    ]
+    either (is_transparent name) _ (covered name) (λ is. lie (sym solid ∙ is)) (λ c.
+    either (is_part name || is_source name) _ c (λ is. lie (sym whole ∙ is)) (λ c.
+    either (is_inline name) _ c
+    (λ is. lays-wider nested d.context.ending (prints d.context t name inner)
+    (inline-node nested d Phrasing t name is inner k a
+    (record { spans = refl; free = λ _. refl; plain = λ _. refl }))) (λ c.
+    either (is_block name) _ c (λ is. block-node nested d t name is inner k a) (λ c.
+    either (is_raw name) (is_inner (sort_of name)) c (λ is. raw-node nested d t name is inner k)
+    (λ is. lie (sym (outer name stands) ∙ is))))))
 
 -- neither a block nor a part of another is a span
-other-sorts : (name : Name) → cond (is_block name || (is_raw name || is_inner (sort_of name)))
-    (may_stand Phrasing (sort_of name)) false ≡ false
-other-sorts LineEnding = refl
-other-sorts _ = refl
-
 no_block : (name : Name) → (is_block name || (is_raw name || is_inner (sort_of name))) ≡ true →
     may_stand Phrasing (sort_of name) ≡ false
-no_block name is = sym (cond-true (is_block name || (is_raw name || is_inner (sort_of name)))
-    (may_stand Phrasing (sort_of name)) false is) ∙ other-sorts name
+no_block name is = picked (is_block name || (is_raw name || is_inner (sort_of name)))
+    (may_stand Phrasing (sort_of name)) false (by name) is
+  where
+    by : (name : Name) → cond (is_block name || (is_raw name || is_inner (sort_of name)))
+        (may_stand Phrasing (sort_of name)) false ≡ false
+    by LineEnding = refl
+    by _ = refl
 
 pub spans-node : (nested : Bool) (d : Document) (content : Content) (t : At) (name : Name) →
     is_transparent name ≡ false →
     (is_part name || is_source name) ≡ false → may_stand Phrasing (sort_of name) ≡ true →
     (inner : List Piece) →
     Known nested d t name inner → Own nested d content name inner → Spanning t content name →
-    Prints nested d content (prints d.given t name inner)
+    Prints nested d content (prints d.context t name inner)
 spans-node nested d content t name solid whole stands inner k a g =
-    elim (or_cases (is_transparent name) _ (covered name)) [
-      | inl is ↦ lie (sym solid ∙ is)
-      | inr c ↦ elim (or_cases (is_part name || is_source name) _ c) [
-        | inl is ↦ lie (sym whole ∙ is)
-        | inr c ↦ elim (or_cases (is_inline name) _ c) [
-          | inl is ↦ inline-node nested d content t name is inner k a g
-          | inr c ↦ lie (sym (no_block name c) ∙ stands)
-        ]
-      ]
-    ]
+    either (is_transparent name) _ (covered name) (λ is. lie (sym solid ∙ is)) (λ c.
+    either (is_part name || is_source name) _ c (λ is. lie (sym whole ∙ is)) (λ c.
+    either (is_inline name) _ c (λ is. inline-node nested d content t name is inner k a g)
+    (λ c. lie (sym (no_block name c) ∙ stands))))

@@ -1,5 +1,5 @@
 -- What is found among blocks: phrasing content as a heading's text, flow content of footnotes.
-use Rattle.std.proofs.Common.{◌≡◌, ℕ, Bool, true, false, cond, List, [], ◌∷◌, ◌++◌, refl, sym}
+use Rattle.std.proofs.Common.{◌≡◌, ℕ, Bool, true, false, cond, List, [], refl, sym}
 use Rattle.std.proofs.Common.{subst}
 use Rattle.std.specs.Prelude.{Option, Some, None, unwrap_or}
 use Rattle.md_base.proofs.Lies.{lie}
@@ -11,14 +11,15 @@ use Rattle.md_base.specs.Is.{is as named}
 use Rattle.md_base.specs.NameTests.{is_transparent}
 use Rattle.md_base.specs.Children.{or_else}
 use Rattle.md_text.specs.declared.options.CompileOptions.{CompileOptions}
-use Rattle.md_meaning.specs.declared.context.Surroundings.{Surroundings}
-use Rattle.md_meaning.specs.Meaning.Around.{inside}
+use Rattle.md_meaning.specs.declared.surroundings.Surroundings.{Surroundings}
+use Rattle.md_meaning.specs.Meaning.Inherited.{inside}
 use Rattle.md_meaning.specs.Meaning.At.{Footnote, At}
 use Rattle.md_meaning.specs.Meaning.Layout.{layout}
 use Rattle.md_meaning.specs.Meaning.Nodes.{Outcome, found_at}
-use Rattle.md_shape.specs.Built.{Content as Grammatical, Blocks, content_inside}
+use Rattle.md_content.specs.Built.{Blocks, content_inside}
 use Rattle.md_safe.proofs.Laid.{adds-alone}
 use Rattle.md_safe.proofs.Insides.{is_blocks}
+use Rattle.md_safe.proofs.Findings.{AreTexts}
 use Rattle.md_safe.proofs.Costs.{Document}
 use Rattle.md_safe.specs.Contents.{Content, Flow, Phrasing}
 use Rattle.md_safe.specs.Placed.{Block, sort_of, may_stand as may_place}
@@ -33,13 +34,7 @@ IsHeading nested (Some x) = Stands nested Phrasing x
 
 -- the texts of some footnotes are flow content
 abbrev pub AreFlow : (nested : Bool) → List Footnote → Type 0
-AreFlow nested [] = Unit {0}
-AreFlow nested (footnote ∷ others) = Stands nested Flow footnote.text × AreFlow nested others
-
-pub flow-append : (nested : Bool) (xs ys : List Footnote) → AreFlow nested xs → AreFlow nested ys →
-    AreFlow nested (xs ++ ys)
-flow-append nested [] ys a b = b
-flow-append nested (x ∷ xs) ys a b = (a.0, flow-append nested xs ys a.1 b)
+AreFlow nested footnotes = AreTexts (Stands nested Flow) footnotes
 
 -- blocks stand in flow content
 block-flow : (content : Content) → may_place (with_links content) Block ≡ true → content ≡ Flow
@@ -51,9 +46,9 @@ pub heading-found :
     (nested : Bool) (d : Document) (content : Content) (name : Name) (t : At) (inner : Outcome) →
     is_transparent name ≡ false → may_place (with_links content) (sort_of name) ≡ true →
     Own nested d content name inner.pieces → IsHeading nested (found_at t name
-    (layout d.given.ending inner.pieces)).heading
+    (layout d.context.ending inner.pieces)).heading
 heading-found nested d content HeadingSetextText t inner solid stands a =
-    adds-alone d.given.ending (Stands nested Phrasing) inner.pieces
+    adds-alone d.context.ending (Stands nested Phrasing) inner.pieces
     (subst (λ c. Prints nested d (place_in nested c HeadingSetextText) inner.pieces)
     (block-flow content stands) (a refl))
 heading-found nested d content (Other number) t inner solid stands a = lie (sym solid)
@@ -65,9 +60,10 @@ heading-found nested d content _ t inner solid stands a = tt
 pub note-found : (nested : Bool) (d : Document) (content : Content) (name : Name)
     (inner : Outcome) →
     named GfmFootnoteDefinition name ≡ true → may_place (with_links content) (sort_of name) ≡ true →
-    Own nested d content name inner.pieces → Stands nested Flow (layout d.given.ending inner.pieces)
+    Own nested d content name inner.pieces → Stands nested Flow
+    (layout d.context.ending inner.pieces)
 note-found nested d content GfmFootnoteDefinition inner is stands a =
-    adds-alone d.given.ending (Stands nested Flow) inner.pieces
+    adds-alone d.context.ending (Stands nested Flow) inner.pieces
     (subst (λ c. Prints nested d (place_in nested c GfmFootnoteDefinition) inner.pieces)
     (block-flow content stands) (a refl))
 note-found nested d content _ inner is stands a = lie is
@@ -79,10 +75,6 @@ pub still-outside : (options : CompileOptions) (loose : Bool) (name : Name)
     (inside options loose name around).in_image ≡ false
 still-outside options loose Image around blocks out = lie blocks
 still-outside options loose _ around blocks out = out
-
-pub is_blocks-same : (content : Grammatical) → is_blocks content ≡ true → content ≡ Blocks
-is_blocks-same Blocks h = refl
-is_blocks-same _ h = lie h
 
 pub heading-both : (nested : Bool) (first later : Option (List ℕ)) → IsHeading nested first →
     IsHeading nested later →

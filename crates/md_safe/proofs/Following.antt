@@ -9,13 +9,13 @@ use Rattle.md_base.specs.declared.event.Name.TheVariants.{LineEnding}
 use Rattle.md_base.specs.Tree.{Forest, Empty, Node}
 use Rattle.md_base.specs.NameTests.{is_transparent, is_fence as fence_name}
 use Rattle.md_base.specs.Children.{spine_names}
-use Rattle.md_shape.specs.Built.{Content, Blocks, Spans, Strings, FirstFence, FirstMathFence}
-use Rattle.md_shape.specs.Built.{Chunks, InfoAndMeta, MetaAlone, Done, Nothing, Sources, is_fence}
-use Rattle.md_shape.specs.Built.{is_info, may_stand}
-use Rattle.md_shape.specs.Built.{content_of, content_past, content_after, content_inside}
-use Rattle.md_shape.specs.Built.{content_after_node, IsBuilt}
+use Rattle.md_content.specs.Built.{Content, FirstFence, FirstMathFence}
+use Rattle.md_content.specs.Built.{Chunks, InfoAndMeta, MetaAlone, Nothing, is_fence}
+use Rattle.md_content.specs.Built.{is_info, may_stand}
+use Rattle.md_content.specs.Built.{content_of, content_past, content_after, content_inside}
+use Rattle.md_content.specs.Built.{content_after_node, IsBuilt}
 use Rattle.md_safe.proofs.Contents.{Follows, spine_after_node}
-use Rattle.md_safe.proofs.Insides.{is_chunks, told}
+use Rattle.md_safe.proofs.Insides.{is_chunks, allowed_inside}
 
 -- the two tests of fences are one
 pub same_fence : (name : Name) → is_fence name ≡ fence_name name
@@ -50,20 +50,14 @@ first_fence names more h =
 follows-past : (content : Content) (name : Name) (names : List Name) →
     may_stand content name ≡ true →
     Follows content names → Follows (content_past content name) (names ++ (name ∷ []))
-follows-past Blocks name names h f = tt
-follows-past Spans name names h f = tt
-follows-past Strings name names h f = tt
 follows-past FirstFence name names h f =
-    last_fence names name ((told FirstFence name h).fence refl)
+    last_fence names name ((allowed_inside FirstFence name h).fence refl)
 follows-past FirstMathFence name names h f =
-    last_fence names name ((told FirstMathFence name h).fence refl)
+    last_fence names name ((allowed_inside FirstMathFence name h).fence refl)
 follows-past Chunks name names h f = first_fence names (name ∷ []) f
 follows-past InfoAndMeta name names h f = cond_both (is_info name) MetaAlone Nothing
     (λ content. Follows content (names ++ (name ∷ []))) (λ _. tt) (λ _. tt)
-follows-past MetaAlone name names h f = tt
-follows-past Done name names h f = tt
-follows-past Nothing name names h f = tt
-follows-past Sources name names h f = tt
+follows-past _ name names h f = tt
 
 -- one of two tests holds, and it isn't the first
 pub second : (a b : Bool) → a ≡ false → (a || b) ≡ true → b ≡ true
@@ -117,7 +111,7 @@ follows-after-node bytes content name names children stands built f =
 -- nothing stands before a node's first child
 pub follows-inside : (content : Content) (name : Name) → may_stand content name ≡ true →
     Follows (content_of name content) []
-follows-inside content name s = by (content_of name content) (told content name s).chunks
+follows-inside content name s = by (content_of name content) (allowed_inside content name s).chunks
   where
     by : (content : Content) → is_chunks content ≡ false → Follows content []
     by FirstFence h = refl

@@ -11,8 +11,8 @@ use Rattle.md_text.specs.Laws.{is_line_ends}
 use Rattle.md_text.proofs.HtmlJoin.{text, join}
 use Rattle.md_meaning.specs.Meaning.Layout.{Piece, Text, Needed}
 use Rattle.md_meaning.specs.Meaning.Footnotes.{unended_length, body}
-use Rattle.md_safe.proofs.Claim.{Claim, plain_of}
-use Rattle.md_safe.proofs.Laid.{adds-text, adds-needed}
+use Rattle.md_safe.proofs.Claim.{plain_of}
+use Rattle.md_safe.proofs.Laid.{Adds, adds-text, adds-needed, escaped_beside}
 use Rattle.md_safe.proofs.Tags.{adds-flat, adds-before, adds-after, adds-escaped}
 use Rattle.md_safe.proofs.Spot.{Setting, Prints}
 use Rattle.md_safe.proofs.FlowNodes.{Reads}
@@ -32,11 +32,18 @@ rest-ends (byte ∷ bytes) =
     (rest-ends bytes)))
     (λ _. rest-ends bytes)
 
+-- the last paragraph of a text takes a space and something else before its end
+abbrev pub TakesBack : (List ℕ → Type 0) → (List ℕ → Type 0) → Type 0
+TakesBack Q B =
+    (before endings back : List ℕ) → is_line_ends endings ≡ true →
+    Q (before ++ codes "</p>" ++ endings) → B back →
+    Q (before ++ (32 ∷ back) ++ codes "</p>" ++ endings)
+
 -- where a paragraph ends a text, the ways back stand before its end
-in_paragraph : (p : Claim) (x back : List ℕ) → p.holds x → HasReadingWith p.test back →
+in_paragraph : (Q B : List ℕ → Type 0) → TakesBack Q B → (x back : List ℕ) → Q x → B back →
     bytes_eq (drop (unended_length x - 4) (take (unended_length x) x)) (codes "</p>") ≡ true →
-    p.holds (take (unended_length x - 4) x ++ ((32 ∷ back) ++ drop (unended_length x - 4) x))
-in_paragraph p x back r rb h =
+    Q (take (unended_length x - 4) x ++ ((32 ∷ back) ++ drop (unended_length x - 4) x))
+in_paragraph Q B takes x back r rb h =
     let m : ℕ = unended_length x in
     let n : ℕ = m - 4 in
     let endings : List ℕ = drop m x in
@@ -48,31 +55,35 @@ in_paragraph p x back r rb h =
     let cut : x ≡ take n x ++ codes "</p>" ++ endings =
     sym (take-append-drop n x) ∙ ap (λ y. take n x ++ y) last
     ∙ sym (append_assoc (take n x) (codes "</p>") endings) in
-    let put : p.holds (take n x ++ (32 ∷ back) ++ codes "</p>" ++ endings) =
-    p.takes (take n x) endings (32 ∷ back) (rest-ends x) (subst p.holds cut r)
-    (join p.test (32 ∷ []) back (text p.test (32 ∷ []) refl) rb) in
-    subst p.holds
+    subst Q
     (append_assoc (take n x ++ (32 ∷ back)) (codes "</p>") endings
     ∙ append_assoc (take n x) (32 ∷ back) (codes "</p>" ++ endings)
     ∙ ap (λ y. take n x ++ ((32 ∷ back) ++ y)) (sym last))
-    put
+    (takes (take n x) endings back (rest-ends x) (subst Q cut r) rb)
 
-pub body-prints : (s : Setting) (x back : List ℕ) → Reads s x → HasReadingWith s.p.test back →
-    Prints s (Reads s) (body x back)
-body-prints s x back r rb =
+-- the ways back, there or on a line of their own
+pub adds-body : (Q B : List ℕ → Type 0) (ending : List ℕ) → TakesBack Q B → (x back : List ℕ) →
+    Q x → B back → Adds ending Q (Text x ∷ Needed ∷ Text back ∷ []) → Adds ending Q (body x back)
+adds-body Q B ending takes x back r rb after =
     let n : ℕ = unended_length x - 4 in
     let split : List Piece =
     Text (take n x) ∷ Text (codes " ") ∷ Text back ∷ Text (drop n x) ∷ [] in
     cond_both (bytes_eq (drop n (take (unended_length x) x)) (codes "</p>")) split
-    (Text x ∷ Needed ∷ Text back ∷ [])
-    (Prints s (Reads s))
-    (λ is.
-    adds-flat s.given.ending (Reads s) split refl
-    (subst (Reads s) (ap (λ y. take n x ++ (32 ∷ (back ++ y))) (sym (append-nil (drop n x))))
-    (in_paragraph s.p x back r rb is)))
-    (λ _.
-    adds-after s.p s.given.ending (Text x ∷ []) (Needed ∷ Text back
-    ∷ []) (adds-text s.given.ending (Reads s) x r)
-    (adds-before (plain_of s.p) s.given.ending (Needed ∷ []) (Text back
-    ∷ []) (adds-escaped s.p s.given.ending (Needed ∷ []) (adds-needed s.given.ending s.ending))
-    (adds-text s.given.ending (HasReadingWith s.p.test) back rb)))
+    (Text x ∷ Needed ∷ Text back ∷ []) (Adds ending Q)
+    (λ is. adds-flat ending Q split refl
+    (subst Q (ap (λ y. take n x ++ (32 ∷ (back ++ y))) (sym (append-nil (drop n x))))
+    (in_paragraph Q B takes x back r rb is)))
+    (λ _. after)
+
+pub body-prints : (s : Setting) (x back : List ℕ) → Reads s x → HasReadingWith s.p.test back →
+    Prints s (Reads s) (body x back)
+body-prints s x back r rb =
+    adds-body (Reads s) (HasReadingWith s.p.test) s.context.ending
+    (λ before endings back h q rb. s.p.takes before endings (32 ∷ back) h q
+    (join s.p.test (32 ∷ []) back (text s.p.test (32 ∷ []) refl) rb)) x back r rb
+    (adds-after s.p s.context.ending (Text x ∷ []) (Needed ∷ Text back ∷ [])
+    (adds-text s.context.ending (Reads s) x r)
+    (adds-before (plain_of s.p) s.context.ending (Needed ∷ []) (Text back ∷ [])
+    (adds-escaped s.p s.context.ending (Needed ∷ [])
+    (adds-needed escaped_beside s.context.ending s.ending))
+    (adds-text s.context.ending (HasReadingWith s.p.test) back rb)))

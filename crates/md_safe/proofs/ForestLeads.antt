@@ -1,7 +1,9 @@
 -- A forest, node by node: to the data state, before whatever follows.
 use Rattle.std.proofs.Common.{◌≡◌, ℕ, true, false, not, ◌&&◌, List, [], ◌∷◌, ◌++◌, map, refl, sym}
 use Rattle.std.proofs.Common.{ap, ◌∙◌, subst, append-nil, append_assoc}
+use Rattle.std.specs.List.{list_all}
 use Rattle.std.proofs.lemmas.Bool.{and_parts}
+use Rattle.md_base.proofs.Lies.{lie}
 use Rattle.md_base.specs.Identifier.{is_nonempty}
 use Rattle.md_text.specs.Html.{Attribute, Forest, Empty, Text, Void, Element, is_forest, is_tag}
 use Rattle.md_text.specs.Html.{begins_with_text, elements, void_tags, written, IsReading}
@@ -11,14 +13,29 @@ use Rattle.md_safe.specs.Input.{with_line_feeds, begins_with_line_feed}
 use Rattle.md_safe.specs.Token.{Token, Character, StartTag, EndTag}
 use Rattle.md_safe.specs.TokenizerStates.{Data}
 use Rattle.md_safe.specs.Tokens.{tokens, seen, seen_attributes}
-use Rattle.md_safe.proofs.LineFeeds.{line_feeds-append, line_feeds-escaped}
-use Rattle.md_safe.proofs.GoodNames.{is_good_name, are_good, element-good}
-use Rattle.md_safe.proofs.GoodNames.{void-good}
-use Rattle.md_safe.proofs.TagRuns.{lined, line_feeds-attributes}
+use Rattle.md_safe.proofs.TagNames.{good-no_return}
+use Rattle.md_safe.proofs.LineFeeds.{line_feeds-append, line_feeds-name, line_feeds-escaped}
+use Rattle.md_safe.proofs.GoodNames.{is_good_byte, is_good_name, begins_tag, are_good}
+use Rattle.md_safe.proofs.GoodNames.{element-good, void-good}
 use Rattle.md_safe.specs.Embedded.{EndsInDataState}
 use Rattle.md_safe.proofs.TextLeads.{To, arrived, along, text-leads}
-use Rattle.md_safe.proofs.TagLeads.{element-leads, void-leads, end-leads}
-use Rattle.md_safe.proofs.ForestRuns.{good-line_feeds, after_text}
+use Rattle.md_safe.proofs.TagLeads.{lined, line_feeds-attributes, element-leads, void-leads}
+use Rattle.md_safe.proofs.TagLeads.{end-leads}
+
+-- after a text no line feed comes, unless it comes after all
+pub after_text : (f : Forest) (r : List ℕ) → not (begins_with_text f) ≡ true →
+    begins_with_line_feed r ≡ false →
+    begins_with_line_feed (forest_before f r) ≡ false
+after_text Empty r h n = n
+after_text (Text bytes rest) r h n = lie h
+after_text (Void name attributes rest) r h n = refl
+after_text (Element name attributes children rest) r h n = refl
+
+pub good-line_feeds : (name r : List ℕ) → is_good_name name ≡ true →
+    with_line_feeds (name ++ r) ≡ name ++ with_line_feeds r
+good-line_feeds name r g =
+    let p = and_parts (begins_tag name) _ g in
+    line_feeds-name name r (good-no_return name (and_parts (list_all is_good_byte name) _ p.1).0)
 
 attributes-append : (x : List Attribute) (r left : List ℕ) →
     attributes_before x r ++ left ≡ attributes_before x (r ++ left)
@@ -94,7 +111,7 @@ forest-leads {left = left} (Element name attributes children rest) r t h n k =
     (element-leads name attributes (with_line_feeds inside ++ left) (tokens children ++ later)
     good.0 good.1 (forest-leads children close later q.1 refl ending))
 
-forest-ends : (f : Forest) → is_forest f ≡ true → EndsInDataState (written f) (tokens f)
+pub forest-ends : (f : Forest) → is_forest f ≡ true → EndsInDataState (written f) (tokens f)
 forest-ends f h left =
     along Data (with_line_feeds (forest_before f []) ++ left) (with_line_feeds (written f) ++ left)
     (tokens f ++ []) (tokens f)

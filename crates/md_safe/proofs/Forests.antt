@@ -14,14 +14,14 @@ use Rattle.md_base.specs.Children.{is_empty}
 use Rattle.md_pattern.specs.Looseness.{is_loose}
 use Rattle.md_text.specs.declared.options.CompileOptions.{CompileOptions}
 use Rattle.md_tree.specs.Rules.{place}
-use Rattle.md_meaning.specs.declared.context.Surroundings.{Surroundings}
-use Rattle.md_meaning.specs.Meaning.Around.{inside}
+use Rattle.md_meaning.specs.declared.surroundings.Surroundings.{Surroundings}
+use Rattle.md_meaning.specs.Meaning.Inherited.{inside}
 use Rattle.md_meaning.specs.Meaning.At.{Defined, Footnote, target_in, Before, At, identifier_of}
 use Rattle.md_meaning.specs.Meaning.Before.{before_children}
 use Rattle.md_meaning.specs.Meaning.Layout.{Piece, layout, when}
 use Rattle.md_meaning.specs.Meaning.Nodes.{Outcome, found_at, node, before_next, outcome}
-use Rattle.md_shape.specs.Built.{Content, Blocks, may_stand, content_of, content_inside}
-use Rattle.md_shape.specs.Built.{content_after_node, content_after, content_past, IsBuilt}
+use Rattle.md_content.specs.Built.{Content, Blocks, may_stand, content_of, content_inside}
+use Rattle.md_content.specs.Built.{content_after_node, content_after, content_past, IsBuilt}
 use Rattle.md_safe.proofs.Contents.{stays-after, Holds}
 use Rattle.md_safe.proofs.Insides.{is_blocks}
 use Rattle.md_safe.proofs.BlocksAsked.{inside-blocks, asked-after-node}
@@ -32,7 +32,7 @@ use Rattle.md_safe.proofs.Spot.{IsWhole, Setting, AreTitles, IsFitAt, Prints, In
 use Rattle.md_safe.proofs.FlowNodes.{Reads}
 use Rattle.md_safe.proofs.BlockNodes.{holds-none}
 use Rattle.md_safe.proofs.Nodes.{Knows, any-node, inside-alone, Before as PrintsBefore}
-use Rattle.md_safe.proofs.Findings.{AreFound, AreRead, heading-before, titles-append, read-append}
+use Rattle.md_safe.proofs.Findings.{AreFound, AreRead, heading-before, titles-append, texts-append}
 use Rattle.md_safe.proofs.Findings.{Inner, nothing-found, found-node, note-node, later-heading}
 use Rattle.md_safe.proofs.Findings.{later-title, later-resource}
 
@@ -114,10 +114,10 @@ pub record Ready (s : Setting) (around : Surroundings) (before : Before)
 pub ready-inside : (s : Setting) (around : Surroundings) (before : Before) (content : Content)
     (name : Name) (children : Forest) → (is_transparent name || may_stand content name) ≡ true →
     Ready s around before content →
-    Ready s (inside s.given.options (is_loose children) name around)
+    Ready s (inside s.context.options (is_loose children) name around)
     (before_children name children before) (content_inside content name)
 ready-inside s around before content name children stands r = record {
-  suits = children-suit s.given.options s.test.html (is_loose children) around content
+  suits = children-suit s.context.options s.test.html (is_loose children) around content
       name stands r.suits;
   follows = children-follow content name before children stands r.follows;
   whole = λ h. r.whole (inside-blocks content name h);
@@ -128,12 +128,13 @@ ready-inside s around before content name children stands r = record {
 -- and where the next node stands
 pub ready-after : (s : Setting) (t : At) (content : Content) (name : Name) (here : Outcome) →
     (is_transparent name || may_stand content name) ≡ true →
-    IsBuilt s.given.bytes (content_inside content name) t.children → AreFound s content here.found →
+    IsBuilt s.context.bytes (content_inside content name) t.children → AreFound s content
+    here.found →
     Ready s t.around t.before content → Ready s t.around (before_next t name here)
     (content_after_node content name t.children)
 ready-after s t content name here stands built own r = record {
   suits = suits-after-node t.around.is_escaping t.around.in_image content name t.children r.suits;
-  follows = follows-after-node s.given.bytes content name t.before.spine t.children
+  follows = follows-after-node s.context.bytes content name t.before.spine t.children
       stands built r.follows;
   whole = asked-after-node (IsWhole s.p) content name t.children r.whole;
   heading = asked-after-node (Reads s (before_next t name here).heading) content name t.children
@@ -142,8 +143,8 @@ ready-after s t content name here stands built own r = record {
 
 pub means : (s : Setting) (forest : Forest) (around : Surroundings) (before : Before)
     (content : Content) →
-    IsBuilt s.given.bytes content forest → Ready s around before content →
-    Means s around content forest (outcome s.given around before forest)
+    IsBuilt s.context.bytes content forest → Ready s around before content →
+    Means s around content forest (outcome s.context around before forest)
 means s Empty around before content built r = record {
   prints = λ later h. h;
   found = nothing-found s content;
@@ -151,9 +152,9 @@ means s Empty around before content built r = record {
   texts = tt;
 }
 means s (Node name start end children rest) around before content built r =
-    let around' : Surroundings = inside s.given.options (is_loose children) name around in
+    let around' : Surroundings = inside s.context.options (is_loose children) name around in
     let before' : Before = before_children name children before in
-    let inner : Outcome = outcome s.given around' before' children in
+    let inner : Outcome = outcome s.context around' before' children in
     let t : At = record {
       around = around;
       before = before;
@@ -163,9 +164,9 @@ means s (Node name start end children rest) around before content built r =
       place = place start end;
       is_last = around.is_outermost && is_empty rest;
     } in
-    let here : Outcome = node s.given t name inner in
+    let here : Outcome = node s.context t name inner in
     let next : Before = before_next t name here in
-    let others : Outcome = outcome s.given around next rest in
+    let others : Outcome = outcome s.context around next rest in
     let within : Means s around' (content_inside content name) children inner =
     means s children around' before' (content_inside content name) built.2
     (ready-inside s around before content name children built.0 r) in
@@ -190,12 +191,12 @@ means s (Node name start end children rest) around before content built r =
       resource = within.found.resource;
     } in
     let defined : Defined = record {
-      identifier = identifier_of s.given.bytes children;
+      identifier = identifier_of s.context.bytes children;
       target = target_in inner.found;
     } in
     let noted : Footnote = record {
-      identifier = identifier_of s.given.bytes children;
-      text = layout s.given.ending inner.pieces;
+      identifier = identifier_of s.context.bytes children;
+      text = layout s.context.ending inner.pieces;
     } in
     record {
       prints = λ later h.
@@ -214,8 +215,9 @@ means s (Node name start end children rest) around before content built r =
           (titles-append inner.definitions (when (named Definition name) (defined ∷ []))
           within.titles (cond_both (named Definition name) (defined ∷ []) [] AreTitles
           (λ _. (within.found.title, tt)) (λ _. tt))) after.titles;
-      texts = read-append s here.footnotes others.footnotes
-          (read-append s inner.footnotes (when (named GfmFootnoteDefinition name) (noted ∷ []))
+      texts = texts-append (Reads s) here.footnotes others.footnotes
+          (texts-append (Reads s) inner.footnotes (when (named GfmFootnoteDefinition name)
+          (noted ∷ []))
           within.texts (cond_both (named GfmFootnoteDefinition name) (noted ∷ []) [] (AreRead s)
           (λ is. (note-node s t content name inner.pieces i is, tt)) (λ _. tt)))
           after.texts;
@@ -225,8 +227,8 @@ means s (Node name start end children rest) around before content built r =
 pub inside-means : (s : Setting) (t : At) (content : Content) (name : Name) (inner : Outcome) →
     is_transparent name ≡ false → (is_transparent name || may_stand content name) ≡ true →
     IsFitAt s t name →
-    IsBuilt s.given.bytes (content_inside content name) t.children →
-    Means s (inside s.given.options (is_loose t.children) name t.around)
+    IsBuilt s.context.bytes (content_inside content name) t.children →
+    Means s (inside s.context.options (is_loose t.children) name t.around)
     (content_inside content name) t.children inner
     → Inside s t content name inner.pieces
 inside-means s t content name inner solid stands fit built means =
@@ -234,17 +236,17 @@ inside-means s t content name inner solid stands fit built means =
     ap (λ b. cond b content (content_of name content)) solid in
     inside-alone s t content name
     (second (is_transparent name) (may_stand content name) solid stands) fit
-    (subst (λ c. IsBuilt s.given.bytes c t.children) same built) inner.pieces
+    (subst (λ c. IsBuilt s.context.bytes c t.children) same built) inner.pieces
     (subst (λ c. PrintsBefore s t c name inner.pieces) same means.prints)
 
 -- what is found at a node whose children print and find what they may
 pub found-at : (s : Setting) (t : At) (content : Content) (name : Name) (inner : List Piece) →
     (is_transparent name || may_stand content name) ≡ true → IsFitAt s t name →
     Suits t.around.is_escaping t.around.in_image content →
-    IsBuilt s.given.bytes (content_inside content name) t.children
+    IsBuilt s.context.bytes (content_inside content name) t.children
     → PrintsBefore s t (content_inside content name) name inner →
     AreFound s (content_inside content name) t.found →
-    AreFound s content (found_at t name (layout s.given.ending inner))
+    AreFound s content (found_at t name (layout s.context.ending inner))
 found-at s t content name inner stands fit suits built before found =
     found-node s t content name inner (record {
       stands = stands;

@@ -1,15 +1,16 @@
 -- The names of the tables: the tokenizer takes each as it is, and none gives it another state.
 use Rattle.std.specs.Str.{bytes_eq}
-use Rattle.std.proofs.Common.{◌≡◌, ℕ, ◌==◌, Bool, true, false, not, ◌&&◌, List, [], ◌∷◌, refl, sym}
-use Rattle.std.proofs.Common.{subst, inl, inr, codes}
+use Rattle.std.proofs.Common.{◌≡◌, ℕ, ◌==◌, Bool, true, false, not, ◌&&◌, List, [], ◌∷◌, refl}
+use Rattle.std.proofs.Common.{subst, codes}
 use Rattle.std.specs.List.{list_all, list_any}
 use Rattle.std.specs.Cmp.Lexicographic.{bytes_decides}
-use Rattle.std.proofs.lemmas.Bool.{and_parts, or_cases, or_parts, not-true, and_from}
+use Rattle.std.proofs.lemmas.Bool.{and_parts, or_parts, not-true, and_from}
 use Rattle.md_base.proofs.Lies.{lie}
 use Rattle.md_base.specs.Identifier.{is_nonempty}
 use Rattle.md_text.specs.Bytes.{is_between, is_letter, is_one_of}
 use Rattle.md_text.specs.References.{is_escaped}
 use Rattle.md_text.specs.Html.{Attribute, is_tag, are_attributes, elements, void_tags}
+use Rattle.md_safe.proofs.Cases.{either, one_of-passes}
 use Rattle.md_safe.specs.TokenizerStates.{is_space, switching}
 
 -- a byte of a name that ends no name and stays as it is
@@ -35,22 +36,18 @@ are_good [] = true
 are_good (a ∷ rest) = is_good_attribute_name a.name && (is_escaped a.value
     && (not (list_any (λ later. bytes_eq a.name later.name) rest) && are_good rest))
 
-abbrev rules_are_good : List (List ℕ × List (List ℕ)) → Bool
-rules_are_good [] = true
-rules_are_good (rule ∷ rules) =
-    is_good_name rule.0 && (list_all is_good_attribute_name rule.1 && rules_are_good rules)
+-- the first attribute and the others
+pub good_attribute : (a : Attribute) (x : List Attribute) → are_good (a ∷ x) ≡ true →
+    (is_good_attribute_name a.name ≡ true) × (is_escaped a.value ≡ true)
+    × (list_any (λ later. bytes_eq a.name later.name) x ≡ false) × (are_good x ≡ true)
+good_attribute a x g =
+    let p = and_parts (is_good_attribute_name a.name) _ g in
+    let q = and_parts (is_escaped a.value) _ p.1 in
+    let s = and_parts (not (list_any (λ later. bytes_eq a.name later.name) x)) (are_good x) q.1 in
+    (p.0, q.0, not-true _ s.0, s.1)
 
-listed-good : (listed : List (List ℕ)) (name : List ℕ) →
-    list_all is_good_attribute_name listed ≡ true →
-    is_one_of listed name ≡ true → is_good_attribute_name name ≡ true
-listed-good [] name g e = cc
-listed-good (t ∷ ts) name g e =
-    let parts = and_parts (is_good_attribute_name t) (list_all is_good_attribute_name ts) g in
-    elim (or_cases (bytes_eq name t) (is_one_of ts name) e) [
-      | inl same ↦
-          subst (λ x. is_good_attribute_name x ≡ true) (sym ((bytes_decides name t).0 same)) parts.0
-      | inr later ↦ listed-good ts name parts.1 later
-    ]
+abbrev rule_is_good : List ℕ × List (List ℕ) → Bool
+rule_is_good rule = is_good_name rule.0 && list_all is_good_attribute_name rule.1
 
 attributes-good : (listed : List (List ℕ)) (attributes : List Attribute) →
     list_all is_good_attribute_name listed ≡ true → are_attributes listed attributes ≡ true →
@@ -62,27 +59,33 @@ attributes-good listed (a ∷ rest) g e =
     (are_attributes listed rest) e in
     let q = and_parts (is_one_of listed a.name && is_escaped a.value) alone p.0 in
     let r = and_parts (is_one_of listed a.name) (is_escaped a.value) q.0 in
-    and_from (is_good_attribute_name a.name) _ (listed-good listed a.name g r.0)
-    (and_from (is_escaped a.value) _ r.1
+    and_from (is_good_attribute_name a.name) _ (one_of-passes is_good_attribute_name listed a.name g
+    r.0) (and_from (is_escaped a.value) _ r.1
     (and_from alone (are_good rest) q.1 (attributes-good listed rest g p.1)))
 
+-- what holds of the name of each rule that allows some attributes holds of the name of a tag
+pub by_rule : (P : List ℕ → Type 0) (test : List ℕ × List (List ℕ) → Bool)
+    (rules : List (List ℕ × List (List ℕ))) (name : List ℕ) (attributes : List Attribute) →
+    list_all test rules ≡ true →
+    ((rule : List ℕ × List (List ℕ)) → test rule ≡ true →
+    are_attributes rule.1 attributes ≡ true → P rule.0) → is_tag rules name attributes ≡ true →
+    P name
+by_rule P test [] name attributes g f e = lie e
+by_rule P test (rule ∷ rules) name attributes g f e =
+    let p = and_parts (test rule) (list_all test rules) g in
+    either (bytes_eq rule.0 name && are_attributes rule.1 attributes) (is_tag rules name attributes)
+    e (λ this. let r = and_parts (bytes_eq rule.0 name) (are_attributes rule.1 attributes) this in
+    subst P ((bytes_decides rule.0 name).0 r.0) (f rule p.0 r.1))
+    (by_rule P test rules name attributes p.1 f)
+
 tag-good : (rules : List (List ℕ × List (List ℕ))) (name : List ℕ) (attributes : List Attribute) →
-    rules_are_good rules ≡ true → is_tag rules name attributes ≡ true →
+    list_all rule_is_good rules ≡ true → is_tag rules name attributes ≡ true →
     (is_good_name name ≡ true) × (are_good attributes ≡ true)
-tag-good [] name attributes g e = lie e
-tag-good (rule ∷ rules) name attributes g e =
-    let p = and_parts (is_good_name rule.0)
-    (list_all is_good_attribute_name rule.1 && rules_are_good rules) g in
-    let q = and_parts (list_all is_good_attribute_name rule.1) (rules_are_good rules) p.1 in
-    elim (or_cases (bytes_eq rule.0 name && are_attributes rule.1 attributes)
-    (is_tag rules name attributes) e) [
-      | inl this ↦
-          (let r = and_parts (bytes_eq rule.0 name) (are_attributes rule.1 attributes) this in (
-            subst (λ x. is_good_name x ≡ true) ((bytes_decides rule.0 name).0 r.0) p.0,
-            attributes-good rule.1 attributes q.0 r.1,
-          ))
-      | inr later ↦ tag-good rules name attributes q.1 later
-    ]
+tag-good rules name attributes g e =
+    by_rule (λ name. (is_good_name name ≡ true) × (are_good attributes ≡ true)) rule_is_good
+    rules name attributes g (λ rule good allowed.
+    let q = and_parts (is_good_name rule.0) (list_all is_good_attribute_name rule.1) good in
+    (q.0, attributes-good rule.1 attributes q.1 allowed)) e
 
 pub element-good : (name : List ℕ) (attributes : List Attribute) →
     is_tag elements name attributes ≡ true →

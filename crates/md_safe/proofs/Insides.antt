@@ -6,10 +6,11 @@ use Rattle.md_base.specs.declared.event.Name.{Name}
 use Rattle.md_base.specs.declared.event.Name.TheVariants.{Image}
 use Rattle.md_base.specs.Is.{is as named}
 use Rattle.md_base.specs.NameTests.{is_fence}
-use Rattle.md_shape.specs.Built.{Content, Blocks, Spans, Strings, FirstFence, FirstMathFence}
-use Rattle.md_shape.specs.Built.{Chunks, InfoAndMeta, MetaAlone, Done, Nothing, Sources, is_source}
-use Rattle.md_shape.specs.Built.{may_stand, content_of}
-use Rattle.md_shape.proofs.Standing.{implies, follows}
+use Rattle.md_content.specs.Built.{Content, Blocks, Spans, FirstFence}
+use Rattle.md_content.specs.Built.{Chunks, InfoAndMeta, Sources}
+use Rattle.md_content.specs.Built.{is_source}
+use Rattle.md_content.specs.Built.{may_stand, content_of}
+use Rattle.md_steps.proofs.Standing.{implies, follows}
 use Rattle.md_safe.proofs.Contents.{is_first}
 
 -- blocks
@@ -55,26 +56,8 @@ facts c n =
 all-facts : (c : Content) (n : Name) → facts c n ≡ true
 all-facts Blocks Image = refl
 all-facts Blocks _ = refl
-all-facts Spans Image = refl
-all-facts Spans _ = refl
-all-facts Strings Image = refl
-all-facts Strings _ = refl
-all-facts FirstFence Image = refl
-all-facts FirstFence _ = refl
-all-facts FirstMathFence Image = refl
-all-facts FirstMathFence _ = refl
-all-facts Chunks Image = refl
-all-facts Chunks _ = refl
-all-facts InfoAndMeta Image = refl
-all-facts InfoAndMeta _ = refl
-all-facts MetaAlone Image = refl
-all-facts MetaAlone _ = refl
-all-facts Done Image = refl
-all-facts Done _ = refl
-all-facts Nothing Image = refl
-all-facts Nothing _ = refl
-all-facts Sources Image = refl
-all-facts Sources _ = refl
+all-facts _ Image = refl
+all-facts _ _ = refl
 
 -- blocks stand only in blocks
 pub of-blocks : (c : Content) (n : Name) → is_blocks (content_of n c) ≡ true → is_blocks c ≡ true
@@ -83,7 +66,7 @@ of-blocks c n =
     (and_parts (implies (is_blocks (content_of n c)) (is_blocks c)) _ (all-facts c n)).0
 
 -- what is known of a name that may stand in the content
-pub record Told (c : Content) (n : Name) : Type 0 where
+pub record Allowed (c : Content) (n : Name) : Type 0 where
   pub escaping : asks_escaping (content_of n c) ≡ true →
       (asks_escaping c ≡ true) × (is_source n ≡ false)
   pub image : asks_image (content_of n c) ≡ true → (asks_image c || named Image n) ≡ true
@@ -91,8 +74,8 @@ pub record Told (c : Content) (n : Name) : Type 0 where
   pub fence : is_first c ≡ true → is_fence n ≡ true
   pub chunks : is_chunks (content_of n c) ≡ false
 
-pub told : (c : Content) (n : Name) → may_stand c n ≡ true → Told c n
-told c n stands =
+pub allowed_inside : (c : Content) (n : Name) → may_stand c n ≡ true → Allowed c n
+allowed_inside c n stands =
     let i : Content = content_of n c in
     let p0 = and_parts (implies (asks_escaping i) (asks_escaping c && not (is_source n))) _
     (follows (may_stand c n) (tells c n i)

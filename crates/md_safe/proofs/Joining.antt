@@ -1,41 +1,32 @@
 -- Some steps, and then others.
-use Rattle.std.proofs.Common.{◌≡◌, ℕ, List, [], ◌++◌, refl, sym, ap, ◌∙◌, subst, append_assoc}
+use Rattle.std.proofs.Common.{◌≡◌, ℕ, List, ◌++◌, refl, sym, ap, ap₂, ◌∙◌, subst, append_assoc}
 use Rattle.std.proofs.Common.{Some, option_map, zero, suc}
 use Rattle.md_safe.specs.Token.{Token}
 use Rattle.md_safe.specs.TokenizerStates.{State, Data, Step, Goes, Stops, Stuck}
 use Rattle.md_safe.specs.Tokenizer.{step, run, after_step}
 use Rattle.md_safe.specs.Tokenizer.{IsRun}
-use Rattle.md_safe.specs.Leads.{Leads, emitted_before, and_then, steps}
+use Rattle.md_safe.specs.Tokenizes.{Tokenizes, emitted_before, and_then, steps}
 use Rattle.md_safe.proofs.OneRun.{map_some}
 
-from_state : (a b : State) (x y : List ℕ) (s t : List Token) → Goes s a x ≡ Goes t b y → a ≡ b
-from_state a b x y s t e = cc
+same_step : {a b : State} {x y : List ℕ} {s t : List Token} → Goes s a x ≡ Goes t b y →
+    (a ≡ b) × (x ≡ y) × (s ≡ t)
+same_step e = (cc, cc, cc)
 
-from_rest : (a b : State) (x y : List ℕ) (s t : List Token) → Goes s a x ≡ Goes t b y → x ≡ y
-from_rest a b x y s t e = cc
+no_stop : {out t : List Token} {b : State} {y : List ℕ} → Stops out ≡ Goes t b y → ⊥
+no_stop e = cc
 
-from_tokens : (a b : State) (x y : List ℕ) (s t : List Token) → Goes s a x ≡ Goes t b y → s ≡ t
-from_tokens a b x y s t e = cc
-
-no_stop : (out t : List Token) (b : State) (y : List ℕ) → Stops out ≡ Goes t b y → ⊥
-no_stop out t b y e = cc
-
-no_stuck : (t : List Token) (b : State) (y : List ℕ) → Stuck ≡ Goes t b y → ⊥
-no_stuck t b y e = cc
+no_stuck : {t : List Token} {b : State} {y : List ℕ} → Stuck ≡ Goes t b y → ⊥
+no_stuck e = cc
 
 -- the rest and the emitted tokens after a first step
 went : (out : List Token) (s : Step) (t : List Token) (mid : List ℕ) →
     emitted_before out s ≡ Goes t Data mid →
     (later : List Token) × (s ≡ Goes later Data mid) × (out ++ later ≡ t)
-went out (Goes later state rest) t mid e = (
-  later,
-  subst (λ a. Goes later a rest ≡ Goes later Data mid)
-      (sym (from_state state Data rest mid (out ++ later) t e))
-      (ap (λ x. Goes later Data x) (from_rest state Data rest mid (out ++ later) t e)),
-  from_tokens state Data rest mid (out ++ later) t e,
-)
-went out (Stops later) t mid e = absurd (no_stop (out ++ later) t Data mid e)
-went out Stuck t mid e = absurd (no_stuck t Data mid e)
+went out (Goes later state rest) t mid e =
+    let is = same_step e in
+    (later, ap₂ (λ a x. Goes later a x) is.0 is.1, is.2)
+went out (Stops later) t mid e = absurd (no_stop e)
+went out Stuck t mid e = absurd (no_stuck e)
 
 -- a claim of a way that goes back over each step
 abbrev GoesBack : (State → List ℕ → List Token → Type 0) → Type 0
@@ -58,20 +49,20 @@ back-step P g mid u n go state input t (Goes out next rest) is e =
     subst (λ x. P state input (x ++ u)) w.2
     (subst (λ x. P state input x) (sym (append_assoc out w.0 u))
     (g state next input rest out (w.0 ++ u) is (go next rest w.0 w.1)))
-back-step P g mid u n go state input t (Stops out) is e = absurd (no_stop out t Data mid e)
-back-step P g mid u n go state input t Stuck is e = absurd (no_stuck t Data mid e)
+back-step P g mid u n go state input t (Stops out) is e = absurd (no_stop e)
+back-step P g mid u n go state input t Stuck is e = absurd (no_stuck e)
 
 back : (P : State → List ℕ → List Token → Type 0) → GoesBack P →
     (mid : List ℕ) (u : List Token) → P Data mid u →
     (n : ℕ) → Backs P mid u n
 back P g mid u h zero state input t e =
-    subst (λ x. P state input (x ++ u)) (from_tokens state Data input mid [] t e)
-    (subst (λ a. P a input u) (sym (from_state state Data input mid [] t e))
-    (subst (λ x. P Data x u) (sym (from_rest state Data input mid [] t e)) h))
+    let is = same_step e in
+    subst (λ x. P state input (x ++ u)) is.2
+    (subst (λ a. P a input u) (sym is.0) (subst (λ x. P Data x u) (sym is.1) h))
 back P g mid u h (suc n) state input t e =
     back-step P g mid u n (back P g mid u h n) state input t (step state input) refl e
 
-leads-back : (left : List ℕ) → GoesBack (λ state input t. Leads state input t left)
+leads-back : (left : List ℕ) → GoesBack (λ state input t. Tokenizes state input t left)
 leads-back left state next input rest out t e h = record {
   count = suc h.count;
   goes = ap (and_then (steps h.count)) e ∙ ap (emitted_before out) h.goes;
@@ -85,14 +76,15 @@ run-back state next input rest out t e h = record {
 
 -- some steps, and then others
 pub leads-on : (state : State) (input mid left : List ℕ) (t u : List Token) →
-    Leads state input t mid →
-    Leads Data mid u left → Leads state input (t ++ u) left
+    Tokenizes state input t mid →
+    Tokenizes Data mid u left → Tokenizes state input (t ++ u) left
 leads-on state input mid left t u h k =
-    back (λ state input t. Leads state input t left) (leads-back left) mid u k h.count
+    back (λ state input t. Tokenizes state input t left) (leads-back left) mid u k h.count
     state input t h.goes
 
 -- some steps, and then a run
-pub runs-on : (state : State) (input mid : List ℕ) (t u : List Token) → Leads state input t mid →
+pub runs-on : (state : State) (input mid : List ℕ) (t u : List Token) → Tokenizes state input t
+    mid →
     IsRun Data mid u → IsRun state input (t ++ u)
 runs-on state input mid t u h k = back IsRun run-back mid u k h.count state input t h.goes
 
@@ -121,23 +113,20 @@ rest-step mid n go k t all (Goes out next rest) e f =
       r.1,
       m.2 ∙ ap (λ x. out ++ x) r.2 ∙ sym (append_assoc out w.0 r.0) ∙ ap (λ x. x ++ r.0) w.2,
     )
-rest-step mid n go k t all (Stops out) e f = absurd (no_stop out t Data mid e)
-rest-step mid n go k t all Stuck e f = absurd (no_stuck t Data mid e)
+rest-step mid n go k t all (Stops out) e f = absurd (no_stop e)
+rest-step mid n go k t all Stuck e f = absurd (no_stuck e)
 
 run-rest : (mid : List ℕ) (n : ℕ) → Rests mid n
-run-rest mid zero k state input t all e f = (
-  all,
-  record {
-    steps = k;
-    emits = subst (λ a. run k a mid ≡ Some all) (from_state state Data input mid [] t e)
-        (subst (λ x. run k state x ≡ Some all) (from_rest state Data input mid [] t e) f);
-  },
-  ap (λ x. x ++ all) (from_tokens state Data input mid [] t e),
-)
+run-rest mid zero k state input t all e f =
+    let is = same_step e in
+    let emits : run k Data mid ≡ Some all =
+    subst (λ a. run k a mid ≡ Some all) is.0 (subst (λ x. run k state x ≡ Some all) is.1 f) in
+    (all, record { steps = k; emits = emits }, ap (λ x. x ++ all) is.2)
 run-rest mid (suc n) zero state input t all e f = absurd (runs_nothing state input all f)
 run-rest mid (suc n) (suc k) state input t all e f =
     rest-step mid n (run-rest mid n) k t all (step state input) e f
 
-pub run-on : (state : State) (input mid : List ℕ) (t all : List Token) → Leads state input t mid →
+pub run-on : (state : State) (input mid : List ℕ) (t all : List Token) → Tokenizes state input t
+    mid →
     IsRun state input all → Rest mid t all
 run-on state input mid t all h k = run-rest mid h.count k.steps state input t all h.goes k.emits

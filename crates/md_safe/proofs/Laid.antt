@@ -2,7 +2,9 @@
 use Rattle.std.proofs.Common.{◌≡◌, ℕ, Bool, true, false, cond, List, [], ◌∷◌, ◌++◌, refl, sym, ap}
 use Rattle.std.proofs.Common.{◌∙◌, subst, append_assoc, append-nil}
 use Rattle.md_meaning.specs.Meaning.Layout.{Piece, Text, Needed, Forced, begins_line, laid_after}
-use Rattle.md_meaning.specs.Meaning.Layout.{layout}
+use Rattle.md_meaning.specs.Meaning.Layout.{layout, when}
+use Rattle.std.specs.List.{flat_map}
+use Rattle.md_text.proofs.EscapedLemmas.{escaped-append}
 use Rattle.md_safe.proofs.Texts.{Escaped}
 
 pub laid-append : (ending text : List ℕ) (xs ys : List Piece) →
@@ -51,15 +53,39 @@ pub adds-text : (ending : List ℕ) (f : List ℕ → Type 0) (x : List ℕ) →
     Adds ending f (Text x ∷ [])
 adds-text ending f x h text = record { added = x; grown = refl; it_holds = h }
 
-pub adds-forced : (ending : List ℕ) → Escaped ending → Adds ending Escaped (Forced ∷ [])
+-- texts that may stand beside others: none, and two in a row
+pub record IsBeside (W : List ℕ → Type 0) : Type 0 where
+  pub none : W []
+  pub both : (x y : List ℕ) → W x → W y → W (x ++ y)
+
+pub escaped_beside : IsBeside Escaped
+escaped_beside = record { none = refl; both = escaped-append }
+
+pub adds-forced : {W : List ℕ → Type 0} (ending : List ℕ) → W ending → Adds ending W (Forced ∷ [])
 adds-forced ending h text = record { added = ending; grown = refl; it_holds = h }
 
-pub adds-needed : (ending : List ℕ) → Escaped ending → Adds ending Escaped (Needed ∷ [])
-adds-needed ending h text = by (begins_line text)
+pub adds-needed : {W : List ℕ → Type 0} → IsBeside W → (ending : List ℕ) → W ending →
+    Adds ending W (Needed ∷ [])
+adds-needed {W = W} beside ending h text = by (begins_line text)
   where
-    by : (starts : Bool) → Grows Escaped text (cond starts text (text ++ ending))
-    by true = record { added = []; grown = sym (append-nil text); it_holds = refl }
+    by : (starts : Bool) → Grows W text (cond starts text (text ++ ending))
+    by true = record { added = []; grown = sym (append-nil text); it_holds = beside.none }
     by false = record { added = ending; grown = refl; it_holds = h }
+
+-- pieces, where a test holds
+pub adds-when : {W : List ℕ → Type 0} → IsBeside W → (ending : List ℕ) (holds : Bool)
+    (pieces : List Piece) → Adds ending W pieces → Adds ending W (when holds pieces)
+adds-when beside ending true pieces a = a
+adds-when {W = W} beside ending false pieces a = adds-nothing ending W beside.none
+
+-- one list after another for each of some things
+pub adds-all : {A : Type 0} (ending : List ℕ) (R : List ℕ → Type 0) → IsBeside R →
+    (f : A → List Piece) → ((a : A) → Adds ending R (f a)) → (xs : List A) →
+    Adds ending R (flat_map f xs)
+adds-all ending R beside f each [] = adds-nothing ending R beside.none
+adds-all ending R beside f each (x ∷ xs) =
+    adds-append ending R R R (f x) (flat_map f xs) beside.both (each x)
+    (adds-all ending R beside f each xs)
 
 -- any pieces add a text
 pub adds-any : (ending : List ℕ) (pieces : List Piece) → Adds ending (λ x. Unit {0}) pieces

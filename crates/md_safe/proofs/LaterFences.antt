@@ -8,12 +8,12 @@ use Rattle.md_base.specs.declared.event.Point.{Point}
 use Rattle.md_base.specs.Tree.{Forest}
 use Rattle.md_base.specs.NameTests.{is_fence as fence_name}
 use Rattle.md_base.specs.Children.{spine_names}
-use Rattle.md_shape.specs.Built.{Content, Blocks, Spans, Strings, FirstFence, FirstMathFence}
-use Rattle.md_shape.specs.Built.{Chunks, InfoAndMeta, MetaAlone, Done, Nothing, Sources, is_fence}
-use Rattle.md_shape.specs.Built.{is_info, may_stand, content_of, content_past, content_after}
-use Rattle.md_shape.specs.Built.{IsBuilt, IsFit}
+use Rattle.md_content.specs.Built.{Content, FirstFence, FirstMathFence}
+use Rattle.md_content.specs.Built.{InfoAndMeta, MetaAlone, Nothing, is_fence}
+use Rattle.md_content.specs.Built.{is_info, may_stand, content_of, content_past, content_after}
+use Rattle.md_content.specs.Built.{IsBuilt, IsFit}
 use Rattle.md_safe.proofs.Contents.{is_first, stays-after, Follows}
-use Rattle.md_safe.proofs.Insides.{is_raw, told}
+use Rattle.md_safe.proofs.Insides.{is_raw, allowed_inside}
 use Rattle.md_safe.proofs.Following.{same_fences, follows-after, follows-inside}
 use Rattle.md_safe.proofs.FlowNodes.{has-fence}
 
@@ -22,18 +22,9 @@ IsLater content = is_first content ≡ false
 
 later-past : (content : Content) (name : Name) → IsLater content →
     IsLater (content_past content name)
-later-past Blocks name h = refl
-later-past Spans name h = refl
-later-past Strings name h = refl
-later-past FirstFence name h = refl
-later-past FirstMathFence name h = refl
-later-past Chunks name h = refl
 later-past InfoAndMeta name h =
     cond_both (is_info name) MetaAlone Nothing IsLater (λ _. refl) (λ _. refl)
-later-past MetaAlone name h = refl
-later-past Done name h = refl
-later-past Nothing name h = refl
-later-past Sources name h = refl
+later-past _ name h = refl
 
 -- in a node without a fence of its own no first one is to come
 later-of : (content : Content) (name : Name) → is_raw name ≡ false →
@@ -42,7 +33,7 @@ later-of content name plain s = by (is_first (content_of name content)) refl
   where
     by : (first : Bool) → is_first (content_of name content) ≡ first →
         IsLater (content_of name content)
-    by true e = lie (sym plain ∙ (told content name s).first e)
+    by true e = lie (sym plain ∙ (allowed_inside content name s).first e)
     by false e = e
 
 later-after : (content : Content) (forest : Forest) → IsLater content →
@@ -55,15 +46,7 @@ later-fenced : (content : Content) (names : List Name) → Follows content names
     IsLater content
 later-fenced FirstFence names f h = lie (sym f ∙ h)
 later-fenced FirstMathFence names f h = lie (sym f ∙ h)
-later-fenced Blocks names f h = refl
-later-fenced Spans names f h = refl
-later-fenced Strings names f h = refl
-later-fenced Chunks names f h = refl
-later-fenced InfoAndMeta names f h = refl
-later-fenced MetaAlone names f h = refl
-later-fenced Done names f h = refl
-later-fenced Nothing names f h = refl
-later-fenced Sources names f h = refl
+later-fenced _ names f h = refl
 
 fenced-after : (bytes : List ℕ) (content : Content) (children : Forest) →
     IsBuilt bytes content children →

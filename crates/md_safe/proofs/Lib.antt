@@ -1,4 +1,5 @@
 -- The lemmas: of one reading, links, images and ids,
+pub mod Cases
 pub mod Texts
 pub mod Claim
 pub mod Laid
@@ -69,8 +70,6 @@ pub mod LineFeeds
 pub mod GoodNames
 pub mod Steps
 pub mod TagNames
-pub mod TagRuns
-pub mod ForestRuns
 pub mod OneRun
 pub mod TokenTests
 pub mod NoProtocol
@@ -96,7 +95,6 @@ pub mod PhrasingRules
 pub mod Phrasing
 pub mod TableTexts
 pub mod TableContents
-pub mod TableCells
 pub mod Tables
 pub mod FlowBlocks
 pub mod FlowRules

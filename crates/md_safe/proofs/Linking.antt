@@ -10,10 +10,10 @@ use Rattle.md_base.specs.declared.event.Point.{Point}
 use Rattle.md_base.specs.Is.{is as named}
 use Rattle.md_base.specs.Tree.{Forest, Node}
 use Rattle.md_base.specs.NameTests.{is_transparent}
-use Rattle.md_meaning.specs.declared.context.Surroundings.{Surroundings}
-use Rattle.md_meaning.specs.Meaning.Around.{inside}
+use Rattle.md_meaning.specs.declared.surroundings.Surroundings.{Surroundings}
+use Rattle.md_meaning.specs.Meaning.Inherited.{inside}
 use Rattle.md_text.specs.declared.options.CompileOptions.{CompileOptions}
-use Rattle.md_shape.specs.Built.{Blocks, content_inside}
+use Rattle.md_content.specs.Built.{Blocks, content_inside}
 use Rattle.md_safe.proofs.Insides.{is_blocks}
 use Rattle.md_safe.specs.Contents.{Content, Phrasing, Linked}
 use Rattle.md_safe.specs.Links.{prints_link, has_nested_link}

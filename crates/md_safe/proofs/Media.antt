@@ -10,9 +10,8 @@ use Rattle.md_text.specs.declared.options.CompileOptions.{CompileOptions}
 use Rattle.md_meaning.specs.Meaning.At.{Target}
 use Rattle.md_meaning.specs.Meaning.Media.{href, src, anchor, picture}
 use Rattle.md_safe.proofs.Texts.{Escaped}
-use Rattle.md_safe.proofs.Claim.{Claim}
 use Rattle.md_safe.proofs.Laid.{Adds}
-use Rattle.md_safe.proofs.Tags.{IsTest, attribute, element-read, void-read, adds-flat}
+use Rattle.md_safe.proofs.Tags.{IsTest, attribute, Tagged, Single, adds-flat}
 
 pub href-escaped : (options : CompileOptions) (x : List ℕ) → Escaped (href options x)
 href-escaped options x =
@@ -68,71 +67,64 @@ IsEscapedTitle None = Unit {0}
 IsEscapedTitle (Some title) = Escaped title
 
 -- a link
-pub adds-link :
-    (p : Claim) (ending : List ℕ) (options : CompileOptions) (test : IsTest p.test options)
-    (target : Target) (label : List ℕ) → IsEscapedTitle target.title → p.holds label →
-    Adds ending p.holds (anchor options target label)
-adds-link p ending options test target label h r = by target.title h
+pub adds-link : (test : Attribute → Bool) (Q R : List ℕ → Type 0) (ending : List ℕ)
+    (options : CompileOptions) → IsTest test options → Tagged test Q R (codes "a") →
+    (target : Target) (label : List ℕ) → IsEscapedTitle target.title → Q label →
+    Adds ending R (anchor options target label)
+adds-link test Q R ending options known tagged target label h r = by target.title h
   where
-    by : (title : Option (List ℕ)) → IsEscapedTitle title →
-        Adds ending p.holds
+    v : List ℕ
+    v = href options target.destination
+
+    by : (title : Option (List ℕ)) → IsEscapedTitle title → Adds ending R
         (anchor options (record { destination = target.destination; title = title }) label)
     by None h =
-        adds-flat ending p.holds (anchor options (record {
+        adds-flat ending R (anchor options (record {
           destination = target.destination;
           title = None;
         }) label) refl
-        (element-read p (codes "a")
-        (attribute (codes "href") (href options target.destination) ∷ []) label
-        (a_href (href options target.destination) (href-escaped options target.destination))
-        (pass_one p.test (attribute (codes "href") (href options target.destination))
-        (test.link target.destination)) r)
+        (tagged (attribute (codes "href") v ∷ []) label
+        (a_href v (href-escaped options target.destination))
+        (pass_one test (attribute (codes "href") v) (known.link target.destination)) r)
     by (Some title) h =
-        adds-flat ending p.holds (anchor options (record {
+        adds-flat ending R (anchor options (record {
           destination = target.destination;
           title = Some title;
         }) label) refl
-        (element-read p (codes "a") (attribute (codes "href") (href options target.destination)
-        ∷ attribute (codes "title") title ∷ []) label
-        (a_href_title (href options target.destination) title
-        (href-escaped options target.destination) h)
-        (pass_two p.test (attribute (codes "href") (href options target.destination))
-        (attribute (codes "title") title) (test.link target.destination)
-        (test.other (codes "title") title refl)) r)
+        (tagged (attribute (codes "href") v ∷ attribute (codes "title") title ∷ []) label
+        (a_href_title v title (href-escaped options target.destination) h)
+        (pass_two test (attribute (codes "href") v) (attribute (codes "title") title)
+        (known.link target.destination) (known.other (codes "title") title refl)) r)
 
 -- an image
-pub adds-image :
-    (p : Claim) (ending : List ℕ) (options : CompileOptions) (test : IsTest p.test options)
+pub adds-image : (test : Attribute → Bool) (R : List ℕ → Type 0) (ending : List ℕ)
+    (options : CompileOptions) → IsTest test options → Single test R (codes "img") →
     (target : Target) (label : List ℕ) → IsEscapedTitle target.title → Escaped label →
-    Adds ending p.holds (picture options target label)
-adds-image p ending options test target label h e = by target.title h
+    Adds ending R (picture options target label)
+adds-image test R ending options known single target label h e = by target.title h
   where
-    by : (title : Option (List ℕ)) → IsEscapedTitle title →
-        Adds ending p.holds (picture options (record {
-          destination = target.destination;
-          title = title;
-        }) label)
+    v : List ℕ
+    v = src options target.destination
+
+    by : (title : Option (List ℕ)) → IsEscapedTitle title → Adds ending R
+        (picture options (record { destination = target.destination; title = title }) label)
     by None h =
-        adds-flat ending p.holds (picture options (record {
+        adds-flat ending R (picture options (record {
           destination = target.destination;
           title = None;
         }) label) refl
-        (void-read p (codes "img") (attribute (codes "src") (src options target.destination)
-        ∷ attribute (codes "alt") label ∷ [])
-        (img (src options target.destination) label (src-escaped options target.destination) e)
-        (pass_two p.test (attribute (codes "src") (src options target.destination))
-        (attribute (codes "alt") label)
-        (test.image target.destination) (test.other (codes "alt") label refl)))
+        (single (attribute (codes "src") v ∷ attribute (codes "alt") label ∷ [])
+        (img v label (src-escaped options target.destination) e)
+        (pass_two test (attribute (codes "src") v) (attribute (codes "alt") label)
+        (known.image target.destination) (known.other (codes "alt") label refl)))
     by (Some title) h =
-        adds-flat ending p.holds (picture options (record {
+        adds-flat ending R (picture options (record {
           destination = target.destination;
           title = Some title;
         }) label) refl
-        (void-read p (codes "img") (attribute (codes "src") (src options target.destination)
-        ∷ attribute (codes "alt") label ∷ attribute (codes "title") title ∷ [])
-        (img_title (src options target.destination) label title
-        (src-escaped options target.destination) e h)
-        (pass_three p.test (attribute (codes "src") (src options target.destination))
-        (attribute (codes "alt") label) (attribute (codes "title") title)
-        (test.image target.destination) (test.other (codes "alt") label refl)
-        (test.other (codes "title") title refl)))
+        (single (attribute (codes "src") v ∷ attribute (codes "alt") label
+        ∷ attribute (codes "title") title ∷ [])
+        (img_title v label title (src-escaped options target.destination) e h)
+        (pass_three test (attribute (codes "src") v) (attribute (codes "alt") label)
+        (attribute (codes "title") title) (known.image target.destination)
+        (known.other (codes "alt") label refl) (known.other (codes "title") title refl)))

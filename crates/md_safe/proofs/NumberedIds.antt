@@ -18,7 +18,8 @@ use Rattle.md_text.proofs.HtmlSplit.{split}
 use Rattle.md_text.specs.declared.options.CompileOptions.{CompileOptions}
 use Rattle.md_text.specs.Url.{sanitized}
 use Rattle.md_meaning.specs.Meaning.Footnotes.{id_of, call_id}
-use Rattle.md_shape.specs.Built.{is_digit}
+use Rattle.md_content.specs.Built.{is_digit}
+use Rattle.md_safe.proofs.Cases.{all-weaker}
 use Rattle.md_safe.specs.Apart.{prefix_of}
 use Rattle.md_safe.proofs.Calls.{prefix_given, id_prefix}
 use Rattle.md_safe.proofs.Texts.{digit-plain}
@@ -87,10 +88,7 @@ digit-no_and b h =
     (digit-plain b h)).1
 
 digits-no_and : (x : List ℕ) → list_all is_digit x ≡ true → list_all no_and x ≡ true
-digits-no_and [] h = refl
-digits-no_and (b ∷ x) h =
-    let parts = and_parts (is_digit b) (list_all is_digit x) h in
-    and_from (no_and b) (list_all no_and x) (digit-no_and b parts.0) (digits-no_and x parts.1)
+digits-no_and x h = all-weaker is_digit no_and digit-no_and x h
 
 -- a text without `&` is read back as it is
 plain-back : (x : List ℕ) → list_all no_and x ≡ true → read_back x ≡ x

@@ -5,37 +5,40 @@ use Rattle.md_text.specs.Laws.{is_line_ends}
 use Rattle.md_meaning.specs.Meaning.At.{At, text_in}
 use Rattle.md_meaning.specs.Meaning.Layout.{Piece, Needed, said, on_own_line, when}
 use Rattle.md_meaning.specs.Meaning.Spans.{is_dropped, line_ending}
-use Rattle.md_safe.proofs.Laid.{Adds, adds-text}
+use Rattle.md_safe.proofs.Laid.{Adds, adds-text, adds-nothing, adds-needed, adds-when}
+use Rattle.md_safe.proofs.Tags.{Turns, framed-needed}
 use Rattle.md_safe.proofs.Costs.{Document}
 use Rattle.md_safe.specs.Contents.{Content}
-use Rattle.md_safe.proofs.Stands.{Turns, IsWhite, is_spaced, line_ends-white}
-use Rattle.md_safe.proofs.ContainedLaid.{lays-turned, spaced-needed, white-nil, white-needed}
-use Rattle.md_safe.proofs.ContainedLaid.{white-when}
+use Rattle.md_safe.proofs.Stands.{Stands, IsWhite, is_spaced, line_ends-white, white_beside}
+use Rattle.md_safe.proofs.ContainedLaid.{lays-turned}
 use Rattle.md_safe.proofs.SpanContents.{Prints}
 
 -- ---- white space
-pub ending-white : (d : Document) (t : At) → is_line_ends (text_in d.given.bytes t.place) ≡ true →
-    Adds d.given.ending IsWhite (line_ending d.given t)
+pub ending-white : (d : Document) (t : At) → is_line_ends (text_in d.context.bytes t.place) ≡ true →
+    Adds d.context.ending IsWhite (line_ending d.context t)
 ending-white d t h =
-    let x : List ℕ = text_in d.given.bytes t.place in
+    let x : List ℕ = text_in d.context.bytes t.place in
     cond_both t.around.in_code (said (32 ∷ [])) (cond (is_dropped t) [] (said x))
-    (Adds d.given.ending IsWhite)
-    (λ _. adds-text d.given.ending IsWhite (32 ∷ []) (refl, refl))
+    (Adds d.context.ending IsWhite)
+    (λ _. adds-text d.context.ending IsWhite (32 ∷ []) (refl, refl))
     (λ _.
-    cond_both (is_dropped t) [] (said x) (Adds d.given.ending IsWhite)
-    (λ _. white-nil d.given.ending) (λ _. adds-text d.given.ending IsWhite x (line_ends-white x h)))
+    cond_both (is_dropped t) [] (said x) (Adds d.context.ending IsWhite)
+    (λ _. adds-nothing d.context.ending IsWhite white_beside.none)
+    (λ _. adds-text d.context.ending IsWhite x (line_ends-white x h)))
 
-pub blank-white : (d : Document) (holds : Bool) → IsWhite d.given.ending →
-    Adds d.given.ending IsWhite (when holds (Needed ∷ []))
+pub blank-white : (d : Document) (holds : Bool) → IsWhite d.context.ending →
+    Adds d.context.ending IsWhite (when holds (Needed ∷ []))
 blank-white d holds w =
-    white-when d.given.ending holds (Needed ∷ []) (white-needed d.given.ending w)
+    adds-when white_beside d.context.ending holds (Needed ∷ [])
+    (adds-needed white_beside d.context.ending w)
 
 -- ---- tags on lines of their own
 pub block-pair : (nested : Bool) (d : Document) (held content : Content) (o c : List ℕ) →
-    IsWhite d.given.ending →
-    is_spaced held ≡ true → is_spaced content ≡ true → Turns nested held content o c →
-    (inner : List Piece) →
+    IsWhite d.context.ending →
+    is_spaced held ≡ true → is_spaced content ≡ true → Turns (Stands nested held)
+    (Stands nested content) o c → (inner : List Piece) →
     Prints nested d held inner → Prints nested d content (on_own_line o ++ (inner ++ on_own_line c))
 block-pair nested d held content o c w hs cs turn inner a =
-    lays-turned nested d.given.ending held content o c (on_own_line o) inner (on_own_line c) hs cs
-    turn (spaced-needed d.given.ending o w) a (spaced-needed d.given.ending c w)
+    lays-turned nested d.context.ending held content o c (on_own_line o) inner (on_own_line c) hs cs
+    turn (framed-needed white_beside d.context.ending o w) a
+    (framed-needed white_beside d.context.ending c w)

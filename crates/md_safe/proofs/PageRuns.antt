@@ -15,8 +15,8 @@ use Rattle.md_safe.specs.PageTokens.{IsTokenizedPage, after_body}
 use Rattle.md_safe.specs.SafeTokens.{has_safe_links, has_safe_images}
 use Rattle.md_safe.proofs.LineFeeds.{line_feeds-append, line_feeds-escaped}
 use Rattle.md_safe.proofs.Steps.{quiet, loud, along, rcdata-runs}
-use Rattle.md_safe.proofs.TagRuns.{element-runs, void-runs, end-runs}
-use Rattle.md_safe.proofs.ForestRuns.{in_place}
+use Rattle.md_safe.proofs.TagLeads.{element-runs, void-runs, end-runs}
+use Rattle.md_safe.proofs.Between.{in_place}
 use Rattle.md_safe.proofs.OneRun.{one_run}
 use Rattle.md_safe.proofs.TokenTests.{all-append, all-characters, all-tokens}
 use Rattle.md_safe.proofs.SafeTokens.{links-pass, images-pass}

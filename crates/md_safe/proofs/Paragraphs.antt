@@ -7,7 +7,9 @@ use Rattle.md_text.specs.Bytes.{is_one_of}
 use Rattle.md_text.specs.Laws.{is_line_ends}
 use Rattle.md_text.specs.Html.{Attribute, Forest, Empty, Text, Void, Element, is_forest, is_tag}
 use Rattle.md_text.specs.Html.{elements, void_tags, written, written_attributes, opening_tag}
-use Rattle.md_text.specs.Html.{closing_tag}
+use Rattle.md_text.specs.Html.{closing_tag, any_attribute}
+use Rattle.md_text.proofs.HtmlReading.{all-any}
+use Rattle.std.specs.List.{list_all}
 use Rattle.md_text.proofs.HtmlPut.{IsMade, made-before}
 use Rattle.md_safe.specs.Contents.{Content, Flow, Phrasing, held_in, voids_in, is_contained}
 use Rattle.md_safe.proofs.Stands.{Stands, stands-join, stands-nothing, stands-text, turns-tag}
@@ -125,11 +127,11 @@ cuts nested x = record {
       });
 }
 
-first_of : (b c : ℕ) (x y : List ℕ) → b ∷ x ≡ c ∷ y → b ≡ c
-first_of b c x y e = cc
+first_of : {b c : ℕ} {x y : List ℕ} → b ∷ x ≡ c ∷ y → b ≡ c
+first_of e = cc
 
-rest_of : (b c : ℕ) (x y : List ℕ) → b ∷ x ≡ c ∷ y → x ≡ y
-rest_of b c x y e = cc
+rest_of : {b c : ℕ} {x y : List ℕ} → b ∷ x ≡ c ∷ y → x ≡ y
+rest_of e = cc
 
 -- no byte is `<` and a space
 not_both : {A : Type 0} (n : ℕ) → 60 ≡ n → 32 ≡ n → A
@@ -139,16 +141,10 @@ not_both n e f = lie (ap (λ n. n == 60) (f ∙ sym e))
 -- cut at one place
 same-end : (a b c d x : List ℕ) → a ++ (60 ∷ c) ≡ b ++ (60 ∷ d) →
     a ++ (32 ∷ (x ++ (60 ∷ c))) ≡ b ++ (32 ∷ (x ++ (60 ∷ d))) → c ≡ d
-same-end [] [] c d x e f = rest_of 60 60 c d e
-same-end [] (n ∷ b) c d x e f =
-    not_both n (first_of 60 n c (b ++ (60 ∷ d)) e)
-    (first_of 32 n (x ++ (60 ∷ c)) (b ++ (32 ∷ (x ++ (60 ∷ d)))) f)
-same-end (m ∷ a) [] c d x e f =
-    not_both m (sym (first_of m 60 (a ++ (60 ∷ c)) d e))
-    (sym (first_of m 32 (a ++ (32 ∷ (x ++ (60 ∷ c)))) (x ++ (60 ∷ d)) f))
-same-end (m ∷ a) (n ∷ b) c d x e f =
-    same-end a b c d x (rest_of m n (a ++ (60 ∷ c)) (b ++ (60 ∷ d)) e)
-    (rest_of m n (a ++ (32 ∷ (x ++ (60 ∷ c)))) (b ++ (32 ∷ (x ++ (60 ∷ d)))) f)
+same-end [] [] c d x e f = rest_of e
+same-end [] (n ∷ b) c d x e f = not_both n (first_of e) (first_of f)
+same-end (m ∷ a) [] c d x e f = not_both m (sym (first_of e)) (sym (first_of f))
+same-end (m ∷ a) (n ∷ b) c d x e f = same-end a b c d x (rest_of e) (rest_of f)
 
 not_held : (nested : Bool) (name : List ℕ) (children : Forest) →
     is_held nested Flow (112 ∷ 62 ∷ name) children ≡ false
@@ -158,17 +154,13 @@ not_held nested name children = refl
 paragraph-name : (nested : Bool) (name : List ℕ) (children : Forest) (endings rest : List ℕ) →
     112 ∷ 62 ∷ endings ≡ name ++ (62 ∷ rest) → is_held nested Flow name children ≡ true →
     name ≡ codes "p"
-paragraph-name nested [] children endings rest e h =
-    lie (ap (λ n. n == 62) (first_of 112 62 (62 ∷ endings) rest e))
-paragraph-name nested (b ∷ []) children endings rest e h =
-    ap (λ b. b ∷ []) (sym (first_of 112 b (62 ∷ endings) (62 ∷ rest) e))
+paragraph-name nested [] children endings rest e h = lie (ap (λ n. n == 62) (first_of e))
+paragraph-name nested (b ∷ []) children endings rest e h = ap (λ b. b ∷ []) (sym (first_of e))
 paragraph-name nested (b ∷ c ∷ name) children endings rest e h =
-    let first : 112 ≡ b = first_of 112 b (62 ∷ endings) (c ∷ (name ++ (62 ∷ rest))) e in
-    let second : 62 ≡ c = first_of 62 c endings (name ++ (62 ∷ rest))
-    (rest_of 112 b (62 ∷ endings) (c ∷ (name ++ (62 ∷ rest))) e) in
     lie (sym (not_held nested name children)
-    ∙ subst (λ c. is_held nested Flow (112 ∷ c ∷ name) children ≡ true) (sym second)
-    (subst (λ b. is_held nested Flow (b ∷ c ∷ name) children ≡ true) (sym first) h))
+    ∙ subst (λ c. is_held nested Flow (112 ∷ c ∷ name) children ≡ true)
+    (sym (first_of (rest_of e)))
+    (subst (λ b. is_held nested Flow (b ∷ c ∷ name) children ≡ true) (sym (first_of e)) h))
 
 regrouped : (before inserted endings : List ℕ) → before ++ inserted ++ codes "</p>" ++ endings
     ≡ before ++ (inserted ++ (codes "</p>" ++ endings))
@@ -205,7 +197,7 @@ paragraph-takes nested before endings x h s r =
     same-end before (cut.front ++ (open_tag ++ written cut.children)) (47 ∷ 112 ∷ 62 ∷ endings)
     (close ++ written cut.rest) x left right in
     let later : 112 ∷ 62 ∷ endings ≡ (cut.name ++ (62 ∷ [])) ++ written cut.rest =
-    rest_of 47 47 (112 ∷ 62 ∷ endings) ((cut.name ++ (62 ∷ [])) ++ written cut.rest) ends in
+    rest_of ends in
     let is : cut.name ≡ codes "p" =
     paragraph-name nested cut.name cut.children endings (written cut.rest)
     (later ∙ append_assoc cut.name (62 ∷ []) (written cut.rest)) cut.held in
@@ -217,7 +209,8 @@ paragraph-takes nested before endings x h s r =
     (open_tag ++ (written cut.children ++ (32 ∷ x)) ++ closing_tag cut.name) (written cut.rest)
     (subst (Stands nested Flow)
     (sym (append_assoc open_tag (written cut.children ++ (32 ∷ x)) (closing_tag cut.name)))
-    (turns-tag nested Phrasing Flow cut.name cut.attributes cut.tag
-    (ap (λ name. held_in nested Flow name) is) (written cut.children ++ (32 ∷ x))
+    (turns-tag nested Phrasing Flow cut.name (ap (λ name. held_in nested Flow name) is)
+    cut.attributes cut.tag (and_parts (list_all any_attribute cut.attributes) true
+    (all-any (Void [] cut.attributes Empty))).0 (written cut.children ++ (32 ∷ x))
     (stands-join nested Phrasing (written cut.children) (32 ∷ x) inside r)))
     (stands-forest nested Flow cut.rest cut.rest_forest cut.rest_contained)))

@@ -1,63 +1,67 @@
--- Where phrasing content may be inserted, and which elements it has.
-use Rattle.std.proofs.Common.{◌≡◌, inl, inr, ℕ, ◌≤◌, suc, Bool, true, false, cond, List, [], ◌∷◌}
-use Rattle.std.proofs.Common.{◌++◌, refl, sym, ap, ◌∙◌, subst, codes}
+-- Where phrasing content may be inserted, what builds an element there, and which elements there
+-- are.
+use Rattle.std.proofs.Common.{◌≡◌, ℕ, ◌≤◌, suc, Bool, true, false, cond, List, [], ◌∷◌, ◌++◌, refl}
+use Rattle.std.proofs.Common.{sym, ap, ◌∙◌, subst, codes, arith}
 use Rattle.std.specs.Prelude.{Some, None, find, option_map, is_some, bytes_eq}
 use Rattle.std.specs.Option.{option_map_or}
-use Rattle.std.proofs.lemmas.Bool.{or_cases}
 use Rattle.std.proofs.lemmas.Slice.Eq.{bytes_eq-Decides}
 use Rattle.md_base.proofs.Lies.{lie}
 use Rattle.md_text.specs.Bytes.{is_one_of}
 use Rattle.md_text.specs.Html.{Attribute, Forest}
+use Rattle.md_safe.proofs.Cases.{either}
 use Rattle.md_safe.specs.Token.{Token, StartTag, EndTag, TokenAttribute}
 use Rattle.md_safe.specs.Tokens.{seen_attributes, tokens}
 use Rattle.md_safe.specs.Contents.{Content, Flow, Phrasing, is_contained}
-use Rattle.md_safe.specs.Node.{Open, Entry, Mode, Parser, with_element, Empty as NoNode}
+use Rattle.md_safe.specs.Node.{Open, Entry, Parser, with_element, Empty as NoNode}
 use Rattle.md_safe.specs.Elements.{special, parts, cells, sections}
-use Rattle.md_safe.specs.Stack.{insert}
+use Rattle.md_safe.specs.Stack.{insert, popped}
 use Rattle.md_safe.specs.Formatting.{last_active, end_other, end_formatting}
 use Rattle.md_safe.specs.InBody.{reconstructed, insert_formatting, insert_void, start_in_body}
 use Rattle.md_safe.specs.InBody.{end_in_body}
 use Rattle.md_safe.specs.Construction.{run, step}
 use Rattle.md_safe.specs.Built.{put, at, is_body, AreCreated, AreOpen}
 use Rattle.md_safe.proofs.Lists.{Keeps}
-use Rattle.md_safe.proofs.TreeSteps.{start-in-body, nothing-lost}
+use Rattle.md_safe.proofs.TreeSteps.{Position, parser_of, with_children, element_of, within}
+use Rattle.md_safe.proofs.TreeSteps.{after, after-one, start-in-body, end-in-body, reconstructs}
 
 -- where phrasing content may be inserted
-pub record Here (mode : Mode) (node : Open) (others : List Open) (active : List Entry) (created : ℕ)
-    (free : Bool) : Type 0 where
-  pub body : is_body mode ≡ true
-  pub opened : AreOpen (node ∷ others) active
-  pub made : AreCreated created active
-  pub no_link : free ≡ true → last_active (codes "a") active ≡ None
+pub record Here (x : Position) (free : Bool) : Type 0 where
+  pub body : is_body x.mode ≡ true
+  pub opened : AreOpen (x.node ∷ x.others) x.active
+  pub made : AreCreated x.created x.active
+  pub no_link : free ≡ true → last_active (codes "a") x.active ≡ None
 
 -- its tokens insert it there; elements are created, and some formatting elements are
 -- no longer active
-pub record Done (mode : Mode) (node : Open) (others : List Open) (active : List Entry) (created : ℕ)
-    (forest : Forest) : Type 0 where
+pub record Done (x : Position) (forest : Forest) : Type 0 where
   pub left : List Entry
   pub more : ℕ
-  pub runs : run (at mode (node ∷ others) active created) (tokens forest)
-      ≡ Some (at mode (record node { children = put node.children forest } ∷ others) left more)
-  pub keeps : Keeps active left
-  pub later : created ≤ more
+  pub runs : run (parser_of x) (tokens forest)
+      ≡ Some (parser_of (with_children x (put x.node.children forest) left more))
+  pub keeps : Keeps x.active left
+  pub later : x.created ≤ more
 
 -- an element's start tag, what it holds and its end tag insert it
-pub record Passed (mode : Mode) (node : Open) (others : List Open) (active : List Entry)
-    (created : ℕ) (name : List ℕ) (attributes : List Attribute) (inner : Forest) : Type 0 where
+pub record Passed (x : Position) (name : List ℕ) (attributes : List Attribute)
+    (inner : Forest) : Type 0 where
   pub left : List Entry
   pub more : ℕ
-  pub runs : (ys : List Token) → run (at mode (node ∷ others) active created)
+  pub runs : (ys : List Token) → run (parser_of x)
       (StartTag name (seen_attributes attributes) false ∷ (tokens inner ++ (EndTag name ∷ ys)))
-      ≡ run (at mode (record node {
-        children = with_element node.children name (seen_attributes attributes) (put NoNode inner);
-      } ∷ others) left more) ys
-  pub keeps : Keeps active left
-  pub later : created ≤ more
+      ≡ run (parser_of (with_children x
+      (with_element x.node.children name (seen_attributes attributes) (put NoNode inner))
+      left more)) ys
+  pub keeps : Keeps x.active left
+  pub later : x.created ≤ more
 
 -- ---- where elements are held
 abbrev pub Each : (List ℕ → Content → Type 0) → List (List ℕ × Content) → Type 0
 Each P [] = Unit {0}
 Each P (element ∷ others) = P element.0 element.1 × Each P others
+
+-- what is known of an element, and of the others
+pub also : {A B : Type 0} → A → B → A × B
+also a b = (a, b)
 
 -- an element that may stand somewhere is one of those
 pub found : (P : List ℕ → Content → Type 0) (those : List (List ℕ × Content))
@@ -119,86 +123,80 @@ pub record IsOrdinary (name : List ℕ) : Type 0 where
       start_in_body name attributes p ≡ reconstructed p (insert name attributes)
   pub ends : (p : Parser) → end_in_body name p ≡ end_other name p
 
-outside : (name : List ℕ) → is_one_of parts name ≡ false → is_one_of cells name ≡ false →
+pub outside : {name : List ℕ} → is_one_of parts name ≡ false → is_one_of cells name ≡ false →
     is_one_of (codes "table" ∷ codes "tr" ∷ sections) name ≡ false →
     bytes_eq name name ≡ true → IsOuter name
-outside name a b c e = record { outer = a; no_cell = b; no_table = c; self = e }
-
-pub em-formats : IsFormatting (codes "em")
-em-formats = record {
-  names = outside (codes "em") refl refl refl refl;
-  plain = refl;
-  starts = λ attributes p free. refl;
-  ends = λ p. refl;
-}
-
-pub strong-formats : IsFormatting (codes "strong")
-strong-formats = record {
-  names = outside (codes "strong") refl refl refl refl;
-  plain = refl;
-  starts = λ attributes p free. refl;
-  ends = λ p. refl;
-}
-
-pub code-formats : IsFormatting (codes "code")
-code-formats = record {
-  names = outside (codes "code") refl refl refl refl;
-  plain = refl;
-  starts = λ attributes p free. refl;
-  ends = λ p. refl;
-}
+outside a b c e = record { outer = a; no_cell = b; no_table = c; self = e }
 
 pub a-formats : IsFormatting (codes "a")
 a-formats = record {
-  names = outside (codes "a") refl refl refl refl;
+  names = outside refl refl refl refl;
   plain = refl;
   starts = λ attributes p free. ap (λ found. cond (is_some found) None (reconstructed p
       (insert_formatting (codes "a") attributes))) (free refl);
   ends = λ p. refl;
 }
 
-pub del-ordinary : IsOrdinary (codes "del")
-del-ordinary = record {
-  names = outside (codes "del") refl refl refl refl;
-  starts = λ attributes p. refl;
-  ends = λ p. refl;
-}
+pub void-named : (name : List ℕ) →
+    is_one_of (codes "br" ∷ codes "img" ∷ codes "input" ∷ []) name ≡ true → IsVoid name
+void-named name h =
+    either (bytes_eq name (codes "br")) _ h
+    (λ e. void (codes "br") e refl (λ attributes p. refl)) (λ c.
+    either (bytes_eq name (codes "img")) _ c
+    (λ e. void (codes "img") e refl (λ attributes p. refl)) (λ c.
+    either (bytes_eq name (codes "input")) false c
+    (λ e. void (codes "input") e refl (λ attributes p. refl)) (λ none. lie none)))
+  where
+    void : (one : List ℕ) → bytes_eq name one ≡ true → is_one_of parts one ≡ false →
+        ((attributes : List TokenAttribute) (p : Parser) →
+        start_in_body one attributes p ≡ reconstructed p (insert_void one attributes)) →
+        IsVoid name
+    void one e outer starts =
+        subst IsVoid (sym ((bytes_eq-Decides name one).0 e))
+        (record { outer = outer; starts = starts })
 
-pub sup-ordinary : IsOrdinary (codes "sup")
-sup-ordinary = record {
-  names = outside (codes "sup") refl refl refl refl;
-  starts = λ attributes p. refl;
-  ends = λ p. refl;
-}
+-- ---- what is built
 
-pub void-named : (content : Content) (name : List ℕ) →
-    is_one_of (codes "br" ∷ codes "img" ∷ codes "input"
-    ∷ []) name ≡ true
-    → IsVoid name
-void-named content name h =
-    elim (or_cases (bytes_eq name (codes "br")) _ h) [
-      | inl e ↦ subst IsVoid (sym ((bytes_eq-Decides name (codes "br")).0 e))
-          (record { outer = refl; starts = λ attributes p. refl })
-      | inr c ↦ elim (or_cases (bytes_eq name (codes "img")) _ c) [
-        | inl e ↦ subst IsVoid (sym ((bytes_eq-Decides name (codes "img")).0 e))
-            (record { outer = refl; starts = λ attributes p. refl })
-        | inr c ↦ elim (or_cases (bytes_eq name (codes "input")) false c) [
-          | inl e ↦ subst IsVoid (sym ((bytes_eq-Decides name (codes "input")).0 e))
-              (record { outer = refl; starts = λ attributes p. refl })
-          | inr none ↦ lie none
-        ]
-      ]
-    ]
+-- a void tag
+pub void-step : (x : Position) (name : List ℕ) (attributes : List TokenAttribute) →
+    is_body x.mode ≡ true → AreOpen (x.node ∷ x.others) x.active → IsVoid name →
+    step (parser_of x) (StartTag name attributes true) ≡ Some (parser_of (with_children x
+    (with_element x.node.children name attributes NoNode) x.active (suc x.created)))
+void-step x name attributes body opened v =
+    start-in-body x body name attributes true v.outer
+    ∙ (v.starts attributes (parser_of x) ∙ reconstructs x (insert_void name attributes) opened)
 
--- ---- a void tag
-pub void-step : (mode : Mode) (node : Open) (others : List Open) (active : List Entry) (created : ℕ)
-    (name : List ℕ) (attributes : List TokenAttribute) → is_body mode ≡ true →
-    AreOpen (node ∷ others) active → IsVoid name →
-    step (at mode (node ∷ others) active created) (StartTag name attributes true) ≡ Some (at mode
-    (record node { children = with_element node.children name attributes NoNode } ∷ others) active
-    (suc created))
-void-step mode node others active created name attributes body opened v =
-    start-in-body mode body (node ∷ others) active created name attributes true v.outer
-    ∙ (v.starts attributes (at mode (node ∷ others) active created) ∙ ap (λ b. cond b None
-    (Some (insert_void name attributes (at mode (node ∷ others) active created))))
-    (nothing-lost mode (node ∷ others) active created opened))
+-- an element with what it holds, on the stack
+abbrev pub full : Position → List ℕ → List Attribute → Forest → List Open
+full x name attributes inner =
+    element_of x.created name (seen_attributes attributes) (put NoNode inner) ∷ x.node ∷ x.others
+
+-- an element, by what its start tag, its children and its end tag do
+pub passes : (x : Position) (name : List ℕ) (attributes : List Attribute) (inner : Forest)
+    (pushed kept : List Entry) (begun : Parser) → is_body x.mode ≡ true → IsOuter name →
+    start_in_body name (seen_attributes attributes) (parser_of x) ≡ Some begun →
+    ((ys : List Token) → run begun (tokens inner ++ (EndTag name ∷ ys)) ≡ run
+    (parser_of (within x name (seen_attributes attributes) pushed))
+    (tokens inner ++ (EndTag name ∷ ys))) →
+    (d : Done (within x name (seen_attributes attributes) pushed) inner) →
+    end_in_body name (at x.mode (full x name attributes inner) d.left d.more)
+    ≡ Some (at x.mode (popped (full x name attributes inner)) kept d.more) →
+    Keeps x.active kept → Passed x name attributes inner
+passes x name attributes inner pushed kept begun body outer starts same d ends keeps =
+    let those : List TokenAttribute = seen_attributes attributes in
+    let new : Position = within x name those pushed in
+    let last : Position = with_children new (put NoNode inner) d.left d.more in
+    record {
+      left = kept;
+      more = d.more;
+      runs = λ ys.
+          after-one (parser_of x) begun (StartTag name those false)
+          (tokens inner ++ (EndTag name ∷ ys))
+          (start-in-body x body name those false outer.outer ∙ starts) ∙ (same ys
+          ∙ (after (parser_of new) (parser_of last) (tokens inner) (EndTag name ∷ ys) d.runs
+          ∙ after-one (parser_of last)
+          (at x.mode (popped (full x name attributes inner)) kept d.more) (EndTag name) ys
+          (end-in-body last body name outer.no_cell outer.no_table ∙ ends)));
+      keeps = keeps;
+      later = omega (d.later, arith);
+    }

@@ -21,7 +21,7 @@ use Rattle.md_pattern.specs.Standing.{standing_of}
 use Rattle.md_pattern.specs.Pattern.{pattern_of}
 use Rattle.md_pattern.specs.Spine.{spine, shown, IsTail, Matches}
 use Rattle.md_pattern.specs.Shape.{AreShaped, IsStanding, role_for, IsShaped}
-use Rattle.md_shape.proofs.Letters.{letters, fits-all, grouped-all, tail-all}
+use Rattle.md_content.proofs.Letters.{letters, fits-all, grouped-all, tail-all}
 use Rattle.md_safe.specs.Contents.{Content, Flow, Phrasing, Items, Parts, Rows, Cells, Characters}
 use Rattle.md_safe.specs.Placed.{Sort, Block, Item, Part, Row, Cell, Ending, Chunk, Delimiters}
 use Rattle.md_safe.specs.Placed.{Inline, sort_of, may_stand, place_of, place_inside, IsPlaced}

@@ -10,13 +10,13 @@ use name_variants.{HeadingSetextUnderlineSequence, GfmFootnoteDefinition}
 use Rattle.md_base.specs.Is.{is as named}
 use Rattle.md_base.specs.Tree.{Forest, Empty, Node}
 use Rattle.md_base.specs.NameTests.{is_transparent, is_call}
-use Rattle.md_meaning.specs.declared.context.Surroundings.{Surroundings}
+use Rattle.md_meaning.specs.declared.surroundings.Surroundings.{Surroundings}
 use Rattle.md_meaning.specs.Meaning.At.{Footnote, Before, At, identifier_of}
 use Rattle.md_meaning.specs.Meaning.Layout.{Piece, layout, when}
 use Rattle.md_meaning.specs.Meaning.Nodes.{Outcome, found_at, before_next, outcome}
-use Rattle.md_shape.specs.Underlined.{is_underline, waits_past}
-use Rattle.md_shape.specs.Built.{Content, Blocks, is_part, is_source, may_stand, content_of}
-use Rattle.md_shape.specs.Built.{content_inside, content_after_node, IsBuilt, IsFit}
+use Rattle.md_content.specs.Underlined.{is_underline, waits_past}
+use Rattle.md_content.specs.Built.{Content, Blocks, is_part, is_source, may_stand, content_of}
+use Rattle.md_content.specs.Built.{content_inside, content_after_node, IsBuilt, IsFit}
 use Rattle.md_safe.proofs.Contents.{Holds}
 use Rattle.md_safe.proofs.Insides.{is_blocks}
 use Rattle.md_safe.proofs.BlocksAsked.{inside-blocks, asked-after-node}
@@ -32,8 +32,8 @@ pub record Stands (d : Document) (p : Place) (name : Name) : Type 0 where
   pub solid : is_transparent name ≡ false
   pub whole : (is_part name || is_source name) ≡ false
   pub stands : (is_transparent name || may_stand Blocks name) ≡ true
-  pub fit : IsFit d.given.bytes name p.start p.end p.children
-  pub built : IsBuilt d.given.bytes (content_inside Blocks name) p.children
+  pub fit : IsFit d.context.bytes name p.start p.end p.children
+  pub built : IsBuilt d.context.bytes (content_inside Blocks name) p.children
   pub ready : Ready (read_in d) p.around p.before Blocks
   pub within : Ready (read_in d) (inner_around d p name) (inner_before p name)
       (content_inside Blocks name)
@@ -138,8 +138,8 @@ none_here content _ stands other = refl
 -- no footnote is defined but among blocks
 pub no_footnotes :
     (d : Document) (content : Content) (forest : Forest) (around : Surroundings) (before : Before) →
-    is_blocks content ≡ false → IsBuilt d.given.bytes content forest →
-    (outcome d.given around before forest).footnotes ≡ []
+    is_blocks content ≡ false → IsBuilt d.context.bytes content forest →
+    (outcome d.context around before forest).footnotes ≡ []
 no_footnotes d content Empty around before other built = refl
 no_footnotes d content (Node name start end children rest) around before other built =
     let p : Place = record {
@@ -153,15 +153,15 @@ no_footnotes d content (Node name start end children rest) around before other b
     let here : Outcome = here_of d p name in
     let next : Before = before_next (at_of d p name) name here in
     let own : Footnote = record {
-      identifier = identifier_of d.given.bytes children;
-      text = layout d.given.ending (inner_of d p name).pieces;
+      identifier = identifier_of d.context.bytes children;
+      text = layout d.context.ending (inner_of d p name).pieces;
     } in
     ap (λ fs. (fs ++ when (named GfmFootnoteDefinition name) (own ∷ []))
-    ++ (outcome d.given around next rest).footnotes)
+    ++ (outcome d.context around next rest).footnotes)
     (no_footnotes d (content_inside content name) children (inner_around d p name)
     (inner_before p name) (isn't (is_blocks (content_inside content name))
     (λ h. differ other (inside-blocks content name h))) built.2)
-    ∙ ap (λ b. when b (own ∷ []) ++ (outcome d.given around next rest).footnotes)
+    ∙ ap (λ b. when b (own ∷ []) ++ (outcome d.context around next rest).footnotes)
     (none_here content name built.0 other)
     ∙ no_footnotes d (content_after_node content name children) rest around next
     (isn't (is_blocks (content_after_node content name children))
@@ -195,7 +195,7 @@ around-others d w p name waits m k plain blocks h =
           (inside-means s t Blocks name inner k.solid k.stands k.fit k.built counted);
       heading =
           subst (λ found. Waiting w (waits_past waits name) m (unwrap_or found p.before.heading))
-          (sym (no_heading t name (layout d.given.ending inner.pieces) k.solid plain.setext))
+          (sym (no_heading t name (layout d.context.ending inner.pieces) k.solid plain.setext))
           (keeps_wait w m name plain.setext waits p.before.heading h);
       texts = no-footnote d w 0 p name plain.footnote (subst (TextsCount w 0)
           (sym (no_footnotes d (content_inside Blocks name) p.children (inner_around d p name)

@@ -8,7 +8,7 @@ use Rattle.std.specs.Fmt.{decimal}
 use Rattle.std.proofs.lemmas.Bool.{eqb-true, and_parts, or_right}
 use Rattle.md_base.proofs.Lies.{lie}
 use Rattle.md_text.proofs.HtmlIds.{occurs}
-use Rattle.md_shape.specs.Built.{is_digit}
+use Rattle.md_content.specs.Built.{is_digit}
 use Rattle.md_safe.proofs.NumberedIds.{decimal-digits}
 
 -- begins with `n`

@@ -8,7 +8,6 @@ use Rattle.md_base.specs.declared.event.Point.{Point}
 use Rattle.md_base.specs.declared.event.Position.{Position}
 use Rattle.md_text.specs.declared.line_ending.LineEnding.{LineEnding as Ending}
 use Rattle.md_text.specs.declared.line_ending.LineEnding.TheVariants.{CarriageReturnLineFeed}
-use Rattle.md_text.specs.declared.line_ending.LineEnding.TheVariants.{CarriageReturn, LineFeed}
 use Rattle.md_text.specs.Laws.{is_line_ends}
 use Rattle.md_text.specs.LineEnding.{ending_text}
 use Rattle.md_text.specs.Html.{Attribute, any_attribute}
@@ -20,21 +19,23 @@ use Rattle.md_base.specs.NameTests.{is_line_ending}
 use Rattle.md_text.specs.declared.options.CompileOptions.{CompileOptions}
 use Rattle.md_tree.specs.Rules.{place as position}
 use Rattle.md_meaning.specs.Meaning.{ending_at}
-use Rattle.md_meaning.specs.Meaning.Around.{outermost}
-use Rattle.md_meaning.specs.Meaning.At.{Given, text_in}
+use Rattle.md_meaning.specs.Meaning.Inherited.{outermost}
+use Rattle.md_meaning.specs.Meaning.At.{Context, text_in}
 use Rattle.md_meaning.specs.Meaning.Before.{nothing_before}
 use Rattle.md_meaning.specs.Meaning.Finds.{first_ending}
 use Rattle.md_meaning.specs.Meaning.Nodes.{outcome}
-use Rattle.md_shape.specs.Built.{Content, Blocks, content_inside, content_after_node, content_past}
-use Rattle.md_shape.specs.Built.{content_after, IsBuilt, IsFit}
+use Rattle.md_content.specs.Built.{Content, Blocks, content_inside, content_after_node}
+use Rattle.md_content.specs.Built.{content_past}
+use Rattle.md_content.specs.Built.{content_after, IsBuilt, IsFit}
+use Rattle.md_safe.proofs.Stands.{IsWhite, line_ends-white}
+use Rattle.md_safe.proofs.Costs.{Document, read_in}
 use Rattle.md_safe.specs.Options.{KeepsGrammar}
-use Rattle.md_safe.proofs.Texts.{Escaped, line_ends-escaped}
+use Rattle.md_safe.proofs.Texts.{Escaped}
 use Rattle.md_safe.proofs.Claim.{reading}
-use Rattle.md_safe.proofs.Tags.{IsTest}
 use Rattle.md_safe.proofs.Contents.{stays-after}
-use Rattle.md_safe.proofs.Spot.{PassesIds, IsWhole, Setting, AreTitles}
+use Rattle.md_safe.proofs.Spot.{PassesIds, IsWhole, Setting}
 use Rattle.md_safe.proofs.BlockNodes.{holds-none}
-use Rattle.md_safe.proofs.Forests.{Ready, Means, means}
+use Rattle.md_safe.proofs.Forests.{Ready, means}
 
 -- a place, where there is one, has the text of line endings
 abbrev pub IsEnding : List ℕ → Option Position → Type 0
@@ -65,16 +66,15 @@ first-is_ending bytes content (Node name start end children rest) built =
     (first_of_two bytes own (first_ending rest) (own-ending bytes name start end children built.1)
     (first-is_ending bytes (content_after_node content name children) rest built.3))
 
-default-escaped : (ending : Ending) → Escaped (ending_text ending)
-default-escaped CarriageReturnLineFeed = refl
-default-escaped CarriageReturn = refl
-default-escaped LineFeed = refl
+default-white : (ending : Ending) → IsWhite (ending_text ending)
+default-white CarriageReturnLineFeed = (refl, refl)
+default-white _ = (refl, refl)
 
-ending-escaped : (options : CompileOptions) (bytes : List ℕ) (place : Option Position) →
-    IsEnding bytes place →
-    Escaped (ending_at options bytes place)
-ending-escaped options bytes None h = default-escaped _
-ending-escaped options bytes (Some place) h = line_ends-escaped (text_in bytes place) h
+-- the line ending that is used is white space, and escaped
+pub ending-white : (options : CompileOptions) (bytes : List ℕ) (place : Option Position) →
+    IsEnding bytes place → IsWhite (ending_at options bytes place)
+ending-white options bytes None h = default-white _
+ending-white options bytes (Some place) h = line_ends-white (text_in bytes place) h
 
 -- blocks stand after blocks
 pub blocks-stay : (forest : Forest) → content_after Blocks forest ≡ Blocks
@@ -90,63 +90,51 @@ outermost-ready s whole = record {
   heading = λ _. holds-none s;
 }
 
--- any attribute passes
-pub any-test : (options : CompileOptions) → KeepsGrammar options → IsTest any_attribute options
-any-test options keeps = record {
-  other = λ name value h. refl;
-  link = λ destination. refl;
-  anchor = λ rest. refl;
-  image = λ destination. refl;
-  html = keeps.escapes_html;
-}
-
 -- a reading is claimed as a whole
 pub reads-whole : (p : Attribute → Bool) → PassesIds p → IsWhole (reading p)
 reads-whole p ids = record { both = join p; ids = ids }
 
--- the line ending that is used is escaped, and so are the titles of definitions
-pub prepared : (bytes : List ℕ) (names : List (List ℕ × List ℕ)) (options : CompileOptions)
-    (document : Forest) →
-    IsBuilt bytes Blocks document → KeepsGrammar options →
-    Escaped (ending_at options bytes (first_ending document))
-    × AreTitles (outcome (record {
-      bytes = bytes;
-      names = names;
-      options = options;
-      ending = ending_at options bytes (first_ending document);
-      calls = (outcome (record {
-        bytes = bytes;
-        names = names;
-        options = options;
-        ending = ending_at options bytes (first_ending document);
-        calls = [];
-        definitions = [];
-      }) outermost nothing_before document).calls;
-      definitions = [];
-    }) outermost nothing_before document).definitions
-prepared bytes names options document built keeps =
-    let ending : List ℕ = ending_at options bytes (first_ending document) in
-    let escaped : Escaped ending = ending-escaped options bytes (first_ending document)
-    (first-is_ending bytes Blocks document built) in
-    let alone : Given = record {
-      bytes = bytes;
-      names = names;
-      options = options;
-      ending = ending;
-      calls = [];
-      definitions = [];
-    } in
-    let called : Given =
-    record alone { calls = (outcome alone outermost nothing_before document).calls } in
-    let before : Setting = record {
-      p = reading any_attribute;
-      given = called;
-      test = any-test options keeps;
+-- the context of a document: its line ending, then its calls, and then its definitions
+abbrev pub alone_of : List ℕ → List (List ℕ × List ℕ) → CompileOptions → Forest → Context
+alone_of bytes names options document = record {
+  bytes = bytes;
+  names = names;
+  options = options;
+  ending = ending_at options bytes (first_ending document);
+  calls = [];
+  definitions = [];
+}
+
+abbrev called_of : List ℕ → List (List ℕ × List ℕ) → CompileOptions → Forest → Context
+called_of bytes names options document = record (alone_of bytes names options document) {
+  calls = (outcome (alone_of bytes names options document) outermost nothing_before document).calls;
+}
+
+abbrev pub context_of : List ℕ → List (List ℕ × List ℕ) → CompileOptions → Forest → Context
+context_of bytes names options document = record (called_of bytes names options document) {
+  definitions =
+      (outcome (called_of bytes names options document) outermost nothing_before
+      document).definitions;
+}
+
+-- that document: its line ending is escaped, and so are the titles of definitions
+abbrev pub document_of : (bytes : List ℕ) (names : List (List ℕ × List ℕ))
+    (options : CompileOptions) (document : Forest) → IsBuilt bytes Blocks document →
+    KeepsGrammar options → Document
+document_of bytes names options document built keeps =
+    let escaped : Escaped (ending_at options bytes (first_ending document)) =
+    (ending-white options bytes (first_ending document)
+    (first-is_ending bytes Blocks document built)).0 in
+    let before : Setting = read_in (record {
+      context = called_of bytes names options document;
+      html = keeps.escapes_html;
       ending = escaped;
       titles = tt;
-    } in
-    let known :
-    Means before outermost Blocks document (outcome called outermost nothing_before document) =
-    means before document outermost nothing_before Blocks built
-    (outermost-ready before (reads-whole any_attribute (λ value. refl))) in
-    (escaped, known.titles)
+    }) in
+    record {
+      context = context_of bytes names options document;
+      html = keeps.escapes_html;
+      ending = escaped;
+      titles = (means before document outermost nothing_before Blocks built
+          (outermost-ready before (reads-whole any_attribute (λ value. refl)))).titles;
+    }

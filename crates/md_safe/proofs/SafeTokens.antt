@@ -1,7 +1,7 @@
 -- A safe attribute is one of a safe token.
 use Rattle.std.specs.Str.{bytes_eq}
-use Rattle.std.proofs.Common.{◌≡◌, ℕ, Bool, true, false, not, cond, List, [], ◌∷◌, refl, codes}
-use Rattle.std.specs.List.{list_all, list_any}
+use Rattle.std.proofs.Common.{◌≡◌, ℕ, Bool, true, false, cond, List, [], ◌∷◌, refl, codes}
+use Rattle.std.specs.List.{list_all}
 use Rattle.std.proofs.lemmas.Bool.{and_parts, and_from}
 use Rattle.md_text.specs.References.{is_escaped}
 use Rattle.md_text.specs.Html.{Attribute, HasOneReadingWith}
@@ -12,7 +12,7 @@ use Rattle.md_safe.specs.Tokenizer.{IsTokenized}
 use Rattle.md_safe.specs.Tokens.{seen, seen_attributes}
 use Rattle.md_safe.specs.Scheme.{has_permitted_scheme}
 use Rattle.md_safe.specs.SafeTokens.{is_permitted, attributes_pass, has_safe_links, has_safe_images}
-use Rattle.md_safe.proofs.GoodNames.{is_good_attribute_name, are_good, element-good, void-good}
+use Rattle.md_safe.proofs.GoodNames.{are_good, good_attribute, element-good, void-good}
 use Rattle.md_safe.proofs.Schemes.{permitted-link, permitted-image}
 use Rattle.md_safe.proofs.TokenTests.{PassesTags, all-tokenized}
 
@@ -36,14 +36,12 @@ attributes-permitted : (name : List ℕ) (schemes : List (List ℕ)) → Permits
     list_all (is_permitted name schemes) (seen_attributes x) ≡ true
 attributes-permitted name schemes f [] g h = refl
 attributes-permitted name schemes f (a ∷ x) g h =
-    let p = and_parts (is_good_attribute_name a.name) _ g in
-    let q = and_parts (is_escaped a.value) _ p.1 in
-    let s = and_parts (not (list_any (λ later. bytes_eq a.name later.name) x)) (are_good x) q.1 in
+    let p = good_attribute a x g in
     let k = and_parts (is_safe name schemes a) (list_all (is_safe name schemes) x) h in
     and_from (cond (bytes_eq a.name name) (has_permitted_scheme schemes (seen a.value)) true) _
     (attribute-permitted (bytes_eq a.name name) (is_safe_value schemes a.value)
-    (has_permitted_scheme schemes (seen a.value)) (f a.value q.0) k.0)
-    (attributes-permitted name schemes f x s.1 k.1)
+    (has_permitted_scheme schemes (seen a.value)) (f a.value p.1) k.0)
+    (attributes-permitted name schemes f x p.3 k.1)
 
 -- such a test accepts all tags of the tables
 passes : (name : List ℕ) (schemes : List (List ℕ)) → Permits schemes →

@@ -1,12 +1,10 @@
 -- A value without a protocol has no scheme, and one with a permitted protocol has that scheme: no
 -- byte that is removed or changed on the way belongs to a scheme.
-use Rattle.std.specs.Str.{bytes_eq}
 use Rattle.std.proofs.Common.{◌≡◌, ℕ, ◌==◌, Bool, true, false, not, ◌&&◌, ◌||◌, cond, List, [], ◌∷◌}
 use Rattle.std.proofs.Common.{◌++◌, refl, sym, ap, ap₂, ◌∙◌, subst, inl, inr, Option, Some, None}
 use Rattle.std.proofs.Common.{append-nil, append_assoc, eqb-true, leb, ltb, arith}
 use Rattle.std.specs.List.{list_all}
 use Rattle.std.specs.Option.{option_map_or}
-use Rattle.std.specs.Cmp.Lexicographic.{bytes_decides}
 use Rattle.std.proofs.lemmas.Bool.{and_parts, and_from, and_left, or_cases, or_from, or_left}
 use Rattle.std.proofs.lemmas.Bool.{cases_Bool, eqb-false, leb-true, ltb-true, lt-leb}
 use Rattle.md_base.proofs.Lies.{lie}
@@ -18,6 +16,7 @@ use Rattle.md_text.specs.Safe.{is_safe_value}
 use Rattle.md_text.proofs.EncodeLaws.{read_back-other}
 use Rattle.md_text.proofs.ProtocolLemmas.{ends_protocol, none_some, map_some}
 use Rattle.md_text.proofs.HtmlRead.{passes_not}
+use Rattle.md_safe.proofs.Cases.{one_of-passes, all-weaker}
 use Rattle.md_safe.specs.Input.{with_line_feeds, begins_with_line_feed}
 use Rattle.md_safe.specs.Tokens.{seen}
 use Rattle.md_safe.specs.Scheme.{is_control_or_space, without_leading, without_trailing}
@@ -87,16 +86,6 @@ protocol-split (b ∷ rest) q e = elim (cases_Bool (b == 58)) [
 abbrev pub is_word : List ℕ → Bool
 is_word name = is_nonempty name && list_all is_letter name
 
-listed-word : (listed : List (List ℕ)) (name : List ℕ) → list_all is_word listed ≡ true →
-    is_one_of listed name ≡ true → is_word name ≡ true
-listed-word [] name g e = cc
-listed-word (t ∷ ts) name g e =
-    let parts = and_parts (is_word t) (list_all is_word ts) g in
-    elim (or_cases (bytes_eq name t) (is_one_of ts name) e) [
-      | inl same ↦ subst (λ x. is_word x ≡ true) (sym ((bytes_decides name t).0 same)) parts.0
-      | inr later ↦ listed-word ts name parts.1 later
-    ]
-
 lower-letter : (b : ℕ) → is_letter (lower b) ≡ true → is_letter b ≡ true
 lower-letter b h = elim (cases_Bool (is_between 65 90 b)) [
   | inl upper ↦ or_left (is_between 65 90 b) (is_between 97 122 b) upper
@@ -110,11 +99,8 @@ lowered-letters (b ∷ q) h =
     and_from (is_letter b) (list_all is_letter q) (lower-letter b p.0) (lowered-letters q p.1)
 
 letters-no_return : (q : List ℕ) → list_all is_letter q ≡ true → list_all no_return q ≡ true
-letters-no_return [] h = refl
-letters-no_return (b ∷ q) h =
-    let p = and_parts (is_letter b) (list_all is_letter q) h in
-    and_from (no_return b) (list_all no_return q) (ap not (passes_not is_letter b 13 refl p.0))
-    (letters-no_return q p.1)
+letters-no_return q h =
+    all-weaker is_letter no_return (λ b h. ap not (passes_not is_letter b 13 refl h)) q h
 
 letter-control : (b : ℕ) → is_letter b ≡ true → is_control_or_space b ≡ false
 letter-control b h = elim (or_cases (is_between 65 90 b) (is_between 97 122 b) h) [
@@ -204,7 +190,7 @@ permitted_by schemes x (Some q) g e h =
     let parts = protocol-split x q e in
     ap (λ x. option_map_or (is_one_of schemes) (scheme_of (with_line_feeds x)) true) parts.1
     ∙ ap (λ o. option_map_or (is_one_of schemes) o true)
-    (scheme_of-word q parts.0 (lowered-word q (listed-word schemes (lowered q) g h))) ∙ h
+    (scheme_of-word q parts.0 (lowered-word q (one_of-passes is_word schemes (lowered q) g h))) ∙ h
 
 permitted : (schemes : List (List ℕ)) → list_all is_word schemes ≡ true → (value : List ℕ) →
     is_escaped value ≡ true →

@@ -1,15 +1,14 @@
 -- The section of footnotes has a reading: its heading, its items and their ways back.
 use Rattle.std.proofs.Common.{◌≡◌, ℕ, ◌==◌, Bool, true, false, not, cond, List, [], ◌∷◌, ◌++◌}
-use Rattle.std.proofs.Common.{length, refl, sym, ap, ◌∙◌, subst, append_assoc, codes}
+use Rattle.std.proofs.Common.{length, refl, sym, ap, subst, append_assoc, codes}
 use Rattle.std.specs.Prelude.{Some, None, option_map, find, bytes_eq, string_bytes}
 use Rattle.std.specs.Option.{option_map_or}
 use Rattle.std.specs.List.{flat_map}
 use Rattle.std.proofs.lemmas.Bool.{cond_both}
-use Rattle.md_text.specs.Html.{HasReadingWith, is_tag, elements}
-use Rattle.md_text.proofs.EscapedLemmas.{escaped-append}
-use Rattle.md_text.proofs.HtmlJoin.{text}
+use Rattle.md_text.specs.Html.{Attribute, HasReadingWith, is_tag, elements}
+use Rattle.md_text.proofs.HtmlJoin.{text, nothing}
 use Rattle.md_text.specs.declared.options.CompileOptions.{CompileOptions}
-use Rattle.md_meaning.specs.Meaning.At.{Footnote}
+use Rattle.md_meaning.specs.Meaning.At.{Footnote, Context}
 use Rattle.md_meaning.specs.Meaning.Layout.{Piece, Text, Needed, Forced}
 use Rattle.md_meaning.specs.Meaning.Footnotes.{option_or, id_of, backreferences, body, item}
 use Rattle.md_meaning.specs.Meaning.Footnotes.{section_start, section, distinct, place_among}
@@ -17,31 +16,33 @@ use Rattle.md_meaning.specs.Meaning.Footnotes.{count_of}
 use Rattle.md_meaning.specs.FootnoteHeading.{tag_of, attributes_of}
 use Rattle.md_safe.proofs.Texts.{Escaped}
 use Rattle.md_safe.proofs.Claim.{Claim, plain_of}
-use Rattle.md_safe.proofs.Laid.{adds-append, adds-nothing, adds-needed, adds-forced}
-use Rattle.md_safe.proofs.Tags.{attribute, Turns, Bracket, adds-turned, IsFramed, bracket-tag}
-use Rattle.md_safe.proofs.Tags.{element-read, adds-pair, adds-framed, framed-needed, framed-forced}
-use Rattle.md_safe.proofs.Tags.{flat}
-use Rattle.md_safe.proofs.Calls.{label-escaped, id-escaped, backreferences-read}
-use Rattle.md_safe.proofs.Elements.{bracket-plain, adds-framed_flat}
+use Rattle.md_safe.proofs.Laid.{Adds, adds-all, adds-nothing, adds-needed, adds-forced, IsBeside}
+use Rattle.md_safe.proofs.Laid.{escaped_beside}
+use Rattle.md_safe.proofs.Tags.{attribute, Turns, TurnsTag, Takes, Bracket, adds-turned}
+use Rattle.md_safe.proofs.Tags.{bracket-tag}
+use Rattle.md_safe.proofs.Tags.{element-read, adds-framed, adds-framed_flat, framed-around, flat}
+use Rattle.md_safe.proofs.Tags.{framed-needed, framed-forced, takes-escaped, adds-flat}
+use Rattle.md_safe.proofs.Calls.{label-escaped, id-escaped, backreferences-read, reads-text}
+use Rattle.md_safe.proofs.Elements.{bracket-plain}
 use Rattle.md_safe.proofs.Spot.{PassesIds, IsWhole, Setting, Prints}
 use Rattle.md_safe.proofs.FlowNodes.{Reads}
 use Rattle.md_safe.proofs.BlockNodes.{holds-none}
-use Rattle.md_safe.proofs.Findings.{AreRead}
+use Rattle.md_safe.proofs.Findings.{AreTexts, AreRead}
 use Rattle.md_safe.proofs.FootnoteBodies.{body-prints}
 
 -- an element before the content of brackets
-pub turn-after : (p q : Claim) (o c h : List ℕ) → Bracket q o c →
-    ((x : List ℕ) → p.holds x → q.holds (h ++ x)) →
-    Turns p q (o ++ h) c
-turn-after p q o c h bracket grows x rx =
-    subst q.holds (by o h x c) (bracket (h ++ x) (grows x rx))
+pub turn-after : (Q R S : List ℕ → Type 0) (o c h : List ℕ) → Turns R S o c →
+    ((x : List ℕ) → Q x → R (h ++ x)) → Turns Q S (o ++ h) c
+turn-after Q R S o c h bracket grows x rx =
+    subst S (by o h x c) (bracket (h ++ x) (grows x rx))
   where
     by : (o h x c : List ℕ) → o ++ ((h ++ x) ++ c) ≡ (o ++ h) ++ (x ++ c)
     by o h x c = simp append_assoc
 
 bracket-after : (p : Claim) (o c h : List ℕ) → Bracket p o c → HasReadingWith p.test h →
     Bracket p (o ++ h) c
-bracket-after p o c h bracket r = turn-after p p o c h bracket (λ x rx. p.before h x r rx)
+bracket-after p o c h bracket r = turn-after p.holds p.holds p.holds o c h bracket
+    (λ x rx. p.before h x r rx)
 
 abbrev pub heading_label_of : CompileOptions → List ℕ
 heading_label_of options =
@@ -76,56 +77,37 @@ heading-bracket s label ids h =
     (text s.p.test label h))
 
 -- the same as the options write it
-section-turn : (s : Setting) (q : Claim) →
-    Turns s.p q
-    (heading_text (codes "h2") (codes "class=\"sr-only\"") (heading_label_of s.given.options))
-    (codes "</section>") → s.given.options.gfm_footnote_label_tag_name ≡ None →
-    s.given.options.gfm_footnote_label_attributes ≡ None
-    → Turns s.p q (heading_text (tag_of s.given.options) (attributes_of s.given.options)
-    (heading_label_of s.given.options)) (codes "</section>")
-section-turn s q turn no_tag no_attributes =
-    let tag : tag_of s.given.options ≡ codes "h2" =
-    ap (λ o. option_or (option_map string_bytes o) (codes "h2"))
-    no_tag in
-    let attributes : attributes_of s.given.options ≡ codes "class=\"sr-only\"" =
+section-turn : (Q R : List ℕ → Type 0) (options : CompileOptions) →
+    Turns Q R (heading_text (codes "h2") (codes "class=\"sr-only\"") (heading_label_of options))
+    (codes "</section>") → options.gfm_footnote_label_tag_name ≡ None →
+    options.gfm_footnote_label_attributes ≡ None →
+    Turns Q R (heading_text (tag_of options) (attributes_of options) (heading_label_of options))
+    (codes "</section>")
+section-turn Q R options turn no_tag no_attributes =
+    let tag : tag_of options ≡ codes "h2" =
+    ap (λ o. option_or (option_map string_bytes o) (codes "h2")) no_tag in
+    let attributes : attributes_of options ≡ codes "class=\"sr-only\"" =
     ap (λ o. option_map_or string_bytes o (codes "class=\"sr-only\"")) no_attributes in
-    subst (λ tag. Turns s.p q (heading_text tag (attributes_of s.given.options)
-    (heading_label_of s.given.options)) (codes "</section>")) (sym tag)
-    (subst (λ attributes. Turns s.p q (heading_text (codes "h2") attributes
-    (heading_label_of s.given.options)) (codes "</section>")) (sym attributes) turn)
+    subst (λ tag. Turns Q R (heading_text tag (attributes_of options) (heading_label_of options))
+    (codes "</section>")) (sym tag)
+    (subst (λ attributes. Turns Q R (heading_text (codes "h2") attributes
+    (heading_label_of options)) (codes "</section>")) (sym attributes) turn)
 
 -- an item
 pub li_id : (v : List ℕ) → Escaped v →
     is_tag elements (codes "li") (attribute (codes "id") v ∷ []) ≡ true
 li_id v h = rw h refl
 
-item-bracket : (s : Setting) (v : List ℕ) → s.p.test (attribute (codes "id") v) ≡ true → Escaped v →
-    Bracket s.p (codes "<li id=\"" ++ (v ++ (codes "\">" ++ []))) (codes "</li>")
-item-bracket s v passes h =
-    subst (λ o. Bracket s.p o (codes "</li>"))
-    (ap (λ x. codes "<li id=\"" ++ x) (append_assoc v (34 ∷ []) (62 ∷ [])))
-    (bracket-tag s.p (codes "li") (attribute (codes "id") v ∷ []) (li_id v h) (cc passes))
+abbrev pub item_tag : List ℕ → List ℕ
+item_tag v = codes "<li id=\"" ++ (v ++ (codes "\">" ++ []))
 
-item-opening : (s : Setting) (v : List ℕ) →
-    Prints s (IsFramed (codes "<li id=\"" ++ (v ++ (codes "\">" ++ []))))
-    (Forced ∷ Text (codes "<li id=\"") ∷ Text v ∷ Text (codes "\">") ∷ Forced ∷ [])
-item-opening s v =
-    let o : List ℕ = codes "<li id=\"" ++ (v ++ (codes "\">" ++ [])) in
-    adds-append s.given.ending (IsFramed o) Escaped (IsFramed o)
-    (Forced ∷ Text (codes "<li id=\"") ∷ Text v ∷ Text (codes "\">") ∷ []) (Forced ∷ [])
-    (λ x y f g.
-    record {
-      before = f.before;
-      after = f.after ++ y;
-      whole = ap (λ x. x ++ y) f.whole ∙ append_assoc f.before (o ++ f.after) y
-          ∙ ap (λ x. f.before ++ x) (append_assoc o f.after y);
-      escaped_before = f.escaped_before;
-      escaped_after = escaped-append f.after y f.escaped_after g;
-    })
-    (adds-framed_flat s.given.ending (Forced ∷ [])
-    (Text (codes "<li id=\"") ∷ Text v ∷ Text (codes "\">")
-    ∷ []) refl (adds-forced s.given.ending s.ending))
-    (adds-forced s.given.ending s.ending)
+pub item-turns : (test : Attribute → Bool) (Q R : List ℕ → Type 0) → TurnsTag test Q R
+    (codes "li") → (v : List ℕ) → test (attribute (codes "id") v) ≡ true → Escaped v →
+    Turns Q R (item_tag v) (codes "</li>")
+item-turns test Q R turns v passes h =
+    subst (λ o. Turns Q R o (codes "</li>"))
+    (ap (λ x. codes "<li id=\"" ++ x) (append_assoc v (34 ∷ []) (62 ∷ [])))
+    (turns (attribute (codes "id") v ∷ []) (li_id v h) (cc passes))
 
 -- the text of a footnote
 abbrev pub text_among : List Footnote → List ℕ → List ℕ
@@ -133,56 +115,61 @@ text_among footnotes identifier =
     option_map_or (λ footnote. footnote.text)
     (find (λ footnote. bytes_eq footnote.identifier identifier) footnotes) []
 
-pub item-prints : (s : Setting) (q : Claim) (footnotes : List Footnote) (identifier : List ℕ) →
-    Turns s.p q (codes "<li id=\"" ++ (id_of s.given.options (codes "fn-") identifier
-    (place_among (distinct s.given.calls) identifier) ++ (codes "\">" ++ [])))
-    (codes "</li>") → Reads s (text_among footnotes identifier) →
-    Prints s q.holds (item s.given footnotes identifier)
-item-prints s q footnotes identifier turn r =
-    let number : ℕ = place_among (distinct s.given.calls) identifier in
-    let count : ℕ = count_of s.given.calls identifier in
-    let v : List ℕ = id_of s.given.options (codes "fn-") identifier number in
-    let x : List ℕ = text_among footnotes identifier in
-    let back : List ℕ = backreferences s.given.options identifier number count in
-    adds-turned s.p q s.given.ending (codes "<li id=\"" ++ (v ++ (codes "\">" ++ [])))
-    (codes "</li>")
-    (Forced ∷ Text (codes "<li id=\"") ∷ Text v ∷ Text (codes "\">") ∷ Forced ∷ []) (body x back)
-    (Needed ∷ Text (codes "</li>") ∷ [])
-    turn (item-opening s v)
-    (body-prints s x back r
-    (backreferences-read s.p.test s.given.options s.test identifier number count))
-    (framed-needed s.given.ending (codes "</li>") s.ending)
-
-footnote-read : (s : Setting) (footnotes : List Footnote) (identifier : List ℕ) →
-    AreRead s footnotes →
-    Reads s (text_among footnotes identifier)
-footnote-read s [] identifier h = holds-none s
-footnote-read s (footnote ∷ others) identifier h = by (bytes_eq footnote.identifier identifier)
-    (footnote-read s others identifier h.1)
+pub texts-among : (Q : List ℕ → Type 0) → Q [] → (footnotes : List Footnote)
+    (identifier : List ℕ) → AreTexts Q footnotes → Q (text_among footnotes identifier)
+texts-among Q none [] identifier h = none
+texts-among Q none (footnote ∷ others) identifier h =
+    by (bytes_eq footnote.identifier identifier) (texts-among Q none others identifier h.1)
   where
-    by : (is : Bool) → Reads s (text_among others identifier) →
-        Reads s (option_map_or (λ footnote. footnote.text) (cond is (Some footnote)
+    by : (is : Bool) → Q (text_among others identifier) →
+        Q (option_map_or (λ footnote. footnote.text) (cond is (Some footnote)
         (find (λ footnote. bytes_eq footnote.identifier identifier) others)) [])
     by true later = h.0
     by false later = later
 
-items-print : (s : Setting) → IsWhole s.p →
-    (footnotes : List Footnote) (identifiers : List (List ℕ)) →
-    AreRead s footnotes → Prints s (Reads s) (flat_map (item s.given footnotes) identifiers)
-items-print s whole footnotes [] h = adds-nothing s.given.ending (Reads s) (holds-none s)
-items-print s whole footnotes (identifier ∷ identifiers) h =
-    let v : List ℕ = id_of s.given.options (codes "fn-") identifier
-    (place_among (distinct s.given.calls) identifier) in
-    adds-append s.given.ending (Reads s) (Reads s) (Reads s) (item s.given footnotes identifier)
-    (flat_map (item s.given footnotes) identifiers) whole.both
-    (item-prints s s.p footnotes identifier
-    (item-bracket s v (whole.ids v) (id-escaped s.given.options (codes "fn-") identifier
-    (place_among (distinct s.given.calls) identifier) refl))
-    (footnote-read s footnotes identifier h))
-    (items-print s whole footnotes identifiers h)
+-- the id of a footnote, and the ways back from it
+abbrev pub note_id : Context → List ℕ → List ℕ
+note_id context identifier =
+    id_of context.options (codes "fn-") identifier (place_among (distinct context.calls) identifier)
+
+abbrev pub backs_of : Context → List ℕ → List ℕ
+backs_of context identifier =
+    backreferences context.options identifier (place_among (distinct context.calls) identifier)
+    (count_of context.calls identifier)
+
+pub adds-item : (W Q R : List ℕ → Type 0) → IsBeside W → Takes W Q → Takes W R →
+    (context : Context) → W context.ending → (footnotes : List Footnote) (identifier : List ℕ) →
+    Turns Q R (item_tag (note_id context identifier)) (codes "</li>") →
+    Adds context.ending Q (body (text_among footnotes identifier) (backs_of context identifier)) →
+    Adds context.ending R (item context footnotes identifier)
+adds-item W Q R beside takes stays context h footnotes identifier turn a =
+    let v : List ℕ = note_id context identifier in
+    let opening : List Piece = Text (codes "<li id=\"") ∷ Text v ∷ Text (codes "\">") ∷ [] in
+    adds-turned W Q R context.ending (item_tag v) (codes "</li>")
+    ((Forced ∷ []) ++ (opening ++ (Forced ∷ [])))
+    (body (text_among footnotes identifier) (backs_of context identifier))
+    (Needed ∷ Text (codes "</li>") ∷ []) takes stays turn
+    (framed-around context.ending (item_tag v) (Forced ∷ []) opening (Forced ∷ [])
+    (adds-forced context.ending h) (adds-flat context.ending (λ x. x ≡ item_tag v) opening refl
+    refl) (adds-forced context.ending h))
+    a (framed-needed beside context.ending (codes "</li>") h)
+
+pub item-prints : (s : Setting) (q : Claim) (footnotes : List Footnote) (identifier : List ℕ) →
+    Turns s.p.holds q.holds (item_tag (note_id s.context identifier)) (codes "</li>") →
+    Reads s (text_among footnotes identifier) →
+    Prints s q.holds (item s.context footnotes identifier)
+item-prints s q footnotes identifier turn r =
+    adds-item Escaped s.p.holds q.holds escaped_beside (takes-escaped s.p) (takes-escaped q)
+    s.context s.ending footnotes identifier turn
+    (body-prints s (text_among footnotes identifier) (backs_of s.context identifier) r
+    (backreferences-read s.p.test (HasReadingWith s.p.test) (HasReadingWith s.p.test)
+    s.context.options s.test (reads-text s.p.test) (reads-text s.p.test)
+    (element-read (plain_of s.p) (codes "a")) (element-read (plain_of s.p) (codes "sup"))
+    identifier (place_among (distinct s.context.calls) identifier)
+    (count_of s.context.calls identifier)))
 
 -- the beginning of the section
-abbrev pub head_texts : CompileOptions → List Piece
+abbrev head_texts : CompileOptions → List Piece
 head_texts options =
     Text (codes "<section data-footnotes=\"\" class=\"footnotes\"><") ∷ Text (tag_of options)
     ∷ Text (codes " id=\"footnote-label\" ") ∷ Text (attributes_of options) ∷ Text (codes ">")
@@ -190,46 +177,68 @@ head_texts options =
     ∷ Text (codes "</") ∷ Text (tag_of options) ∷ Text (codes ">") ∷ []
 
 -- and its end
-abbrev pub section_end : List Piece
+abbrev section_end : List Piece
 section_end = Forced ∷ Text (codes "</ol>") ∷ Forced ∷ Text (codes "</section>") ∷ Forced ∷ []
 
 -- items between the tags of the list and of the section
-pub section-around : (s : Setting) (q : Claim) →
-    Turns s.p q
-    (heading_text (codes "h2") (codes "class=\"sr-only\"") (heading_label_of s.given.options))
-    (codes "</section>") → s.given.options.gfm_footnote_label_tag_name ≡ None →
-    s.given.options.gfm_footnote_label_attributes ≡ None → (items : List Piece) →
-    Prints s (Reads s) items
-    → Prints s q.holds (section_start s.given.options ++ (items ++ section_end))
-section-around s q turn no_tag no_attributes items a =
+pub adds-section : (W I Q R : List ℕ → Type 0) → IsBeside W → Takes W I → Takes W Q → Takes W R →
+    (context : Context) → W context.ending → Turns I Q (codes "<ol>") (codes "</ol>") →
+    Turns Q R (heading_text (codes "h2") (codes "class=\"sr-only\"")
+    (heading_label_of context.options)) (codes "</section>") →
+    context.options.gfm_footnote_label_tag_name ≡ None →
+    context.options.gfm_footnote_label_attributes ≡ None → R [] → (footnotes : List Footnote) →
+    Adds context.ending I (flat_map (item context footnotes) (distinct context.calls)) →
+    Adds context.ending R (section context footnotes)
+adds-section W I Q R beside takes stays ends context h list turn no_tag no_attributes none footnotes
+    a =
+    let items : List Piece = flat_map (item context footnotes) (distinct context.calls) in
     let ol : List Piece = Forced ∷ Text (codes "<ol>") ∷ [] in
     let end : List Piece = Forced ∷ Text (codes "</ol>") ∷ [] in
     let last : List Piece = Forced ∷ Text (codes "</section>") ∷ Forced ∷ [] in
-    subst (λ x. Prints s q.holds ((Needed ∷ head_texts s.given.options) ++ (ol ++ x)))
+    let heads : List Piece = head_texts context.options in
+    cond_both (not (length context.calls == 0))
+    (section_start context.options ++ (items ++ section_end)) [] (Adds context.ending R)
+    (λ _. subst (λ x. Adds context.ending R ((Needed ∷ heads) ++ (ol ++ x)))
     (append_assoc items end last)
-    (adds-turned s.p q s.given.ending (flat (head_texts s.given.options)) (codes "</section>")
-    (Needed ∷ head_texts s.given.options) (ol ++ (items ++ end)) last
-    (section-turn s q turn no_tag no_attributes)
-    (adds-framed_flat s.given.ending (Needed ∷ []) (head_texts s.given.options) refl
-    (adds-needed s.given.ending s.ending))
-    (adds-pair s.p s.given.ending (codes "<ol>") (codes "</ol>") ol items end
-    (bracket-plain s.p (codes "ol") refl) (framed-forced s.given.ending (codes "<ol>") s.ending) a
-    (framed-forced s.given.ending (codes "</ol>") s.ending))
-    (adds-framed s.given.ending (codes "</section>") (Forced ∷ []) (Forced
-    ∷ []) (adds-forced s.given.ending s.ending) (adds-forced s.given.ending s.ending)))
+    (adds-turned W Q R context.ending (flat heads) (codes "</section>")
+    (Needed ∷ heads) (ol ++ (items ++ end)) last stays ends
+    (section-turn Q R context.options turn no_tag no_attributes)
+    (adds-framed_flat beside context.ending (Needed ∷ []) heads refl
+    (adds-needed beside context.ending h))
+    (adds-turned W I Q context.ending (codes "<ol>") (codes "</ol>") ol items end takes stays list
+    (framed-forced beside context.ending (codes "<ol>") h) a
+    (framed-forced beside context.ending (codes "</ol>") h))
+    (adds-framed context.ending (codes "</section>") (Forced ∷ []) (Forced ∷ [])
+    (adds-forced context.ending h) (adds-forced context.ending h))))
+    (λ _. adds-nothing context.ending R none)
+
+-- the same of a claim
+pub section-around : (s : Setting) (q : Claim) →
+    Turns s.p.holds q.holds
+    (heading_text (codes "h2") (codes "class=\"sr-only\"") (heading_label_of s.context.options))
+    (codes "</section>") → s.context.options.gfm_footnote_label_tag_name ≡ None →
+    s.context.options.gfm_footnote_label_attributes ≡ None → (footnotes : List Footnote) →
+    Prints s (Reads s) (flat_map (item s.context footnotes) (distinct s.context.calls)) →
+    Prints s q.holds (section s.context footnotes)
+section-around s q turn no_tag no_attributes footnotes a =
+    adds-section Escaped s.p.holds s.p.holds q.holds escaped_beside (takes-escaped s.p)
+    (takes-escaped s.p) (takes-escaped q) s.context s.ending (bracket-plain s.p (codes "ol") refl)
+    turn no_tag no_attributes (q.plain [] (nothing q.test)) footnotes a
 
 pub section-prints : (s : Setting) → IsWhole s.p →
-    s.given.options.gfm_footnote_label_tag_name ≡ None →
-    s.given.options.gfm_footnote_label_attributes ≡ None →
+    s.context.options.gfm_footnote_label_tag_name ≡ None →
+    s.context.options.gfm_footnote_label_attributes ≡ None →
     (footnotes : List Footnote) → AreRead s footnotes
-    → Prints s (Reads s) (section s.given footnotes)
+    → Prints s (Reads s) (section s.context footnotes)
 section-prints s whole no_tag no_attributes footnotes h =
-    let items : List Piece = flat_map (item s.given footnotes) (distinct s.given.calls) in
-    cond_both (not (length s.given.calls == 0))
-    (section_start s.given.options ++ (items ++ section_end)) []
-    (Prints s (Reads s))
-    (λ _.
     section-around s s.p
-    (heading-bracket s (heading_label_of s.given.options) whole.ids (label-escaped s.given.options))
-    no_tag no_attributes items (items-print s whole footnotes (distinct s.given.calls) h))
-    (λ _. adds-nothing s.given.ending (Reads s) (holds-none s))
+    (heading-bracket s (heading_label_of s.context.options) whole.ids
+    (label-escaped s.context.options))
+    no_tag no_attributes footnotes
+    (adds-all s.context.ending (Reads s) (record { none = holds-none s; both = whole.both })
+    (item s.context footnotes) (λ identifier. item-prints s s.p footnotes identifier
+    (item-turns s.p.test s.p.holds s.p.holds (bracket-tag s.p (codes "li"))
+    (note_id s.context identifier) (whole.ids (note_id s.context identifier))
+    (id-escaped s.context.options (codes "fn-") identifier
+    (place_among (distinct s.context.calls) identifier) refl))
+    (texts-among (Reads s) (holds-none s) footnotes identifier h)) (distinct s.context.calls))

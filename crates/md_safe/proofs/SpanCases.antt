@@ -1,7 +1,7 @@
 -- What spans and links print where phrasing content stands.
 use Rattle.std.proofs.Common.{◌≡◌, ℕ, suc, Bool, true, false, not, ◌&&◌, ◌||◌, cond, List, [], ◌∷◌}
-use Rattle.std.proofs.Common.{◌++◌, refl, sym, subst, inl, inr, codes}
-use Rattle.std.proofs.lemmas.Bool.{or_parts, or_cases, and_parts, not-true}
+use Rattle.std.proofs.Common.{◌++◌, refl, sym, subst, codes}
+use Rattle.std.proofs.lemmas.Bool.{or_parts, and_parts, not-true}
 use Rattle.md_base.proofs.Lies.{lie}
 use Rattle.md_base.specs.Is.{is as named}
 use Rattle.md_base.specs.declared.event.Name.{Name}
@@ -11,44 +11,45 @@ use name_variants.{GfmTaskListItemCheck, GfmFootnoteCall, AutolinkEmail, Autolin
 use name_variants.{GfmAutolinkLiteralEmail, GfmAutolinkLiteralMailto, GfmAutolinkLiteralProtocol}
 use name_variants.{GfmAutolinkLiteralWww, GfmAutolinkLiteralXmpp}
 use Rattle.md_meaning.specs.Meaning.At.{At, identifier_of}
-use Rattle.md_meaning.specs.Meaning.Layout.{Piece, Text, layout, said}
+use Rattle.md_meaning.specs.Meaning.Layout.{Piece, layout, said}
 use Rattle.md_meaning.specs.Meaning.Means.{prints}
 use Rattle.md_meaning.specs.Meaning.Media.{anchor, picture, leads_to, literal}
 use Rattle.md_meaning.specs.Meaning.Footnotes.{call, place_among, distinct, count_of}
-use Rattle.md_shape.specs.Built.{Blocks, content_of, is_autolink}
+use Rattle.md_content.specs.Built.{Blocks, content_of, is_autolink}
+use Rattle.md_safe.proofs.SpanContents.{SpanPrints}
+use Rattle.md_safe.proofs.Cases.{either}
 use Rattle.md_safe.proofs.Texts.{Escaped}
 use Rattle.md_safe.proofs.Insides.{is_blocks}
 use Rattle.md_safe.proofs.Laid.{adds-alone, adds-weaker}
-use Rattle.md_safe.proofs.Tags.{attribute}
+use Rattle.md_text.specs.Html.{any_attribute}
+use Rattle.md_safe.proofs.Tags.{Turns}
+use Rattle.md_safe.proofs.Media.{adds-image}
 use Rattle.md_safe.proofs.Spot.{target-title}
 use Rattle.md_safe.proofs.StringNodes.{is_text, text-node}
 use Rattle.md_safe.proofs.SpanSorts.{is_pair, pair_tag, by_pair, pair-prints, is_code, is_math}
 use Rattle.md_safe.proofs.SpanSorts.{code_opening, code-prints, code-text}
-use Rattle.md_safe.proofs.SpanNodes.{is_single, is_shown}
+use Rattle.md_safe.proofs.SpanNodes.{is_single, is_shown, any-code}
 use Rattle.md_safe.proofs.Costs.{Document, read_in}
-use Rattle.md_safe.specs.Contents.{Content, Phrasing}
+use Rattle.md_safe.specs.Contents.{Content, Phrasing, Characters}
 use Rattle.md_safe.proofs.Linking.{in_link}
-use Rattle.md_safe.proofs.Stands.{Stands, Turns, turns-plain}
-use Rattle.md_safe.proofs.SpanContents.{Prints, AreSpans, Known, Here, pair, flat}
-use Rattle.md_safe.proofs.LinksAndImages.{autolinked, link, image}
-use Rattle.md_safe.proofs.TasksAndCalls.{coded, code-node, break, task-node, call-node}
+use Rattle.md_safe.proofs.Stands.{Stands, stands-text, stands-tag, stands-void, turns-plain}
+use Rattle.md_safe.proofs.SpanContents.{Prints, AreSpans, Here, pair}
+use Rattle.md_safe.proofs.LinksAndImages.{autolinked, link}
+use Rattle.md_safe.proofs.TasksAndCalls.{code-node, break, task-node, call-node}
 
 -- a literal autolink, which is plain in links too
 literal-node : (nested : Bool) (d : Document) (content : Content) (f : AreSpans nested content)
     (t : At) (prefix : List ℕ) →
     (t.around.in_link ≡ false → content ≡ Phrasing) →
-    Prints nested d content (literal d.given t prefix)
+    Prints nested d content (literal d.context t prefix)
 literal-node nested d content f t prefix plain =
     autolinked nested d content f t (t.around.in_image || t.around.in_link) prefix
     (λ no. plain (or_parts t.around.in_image t.around.in_link no).1)
 
 pub string-node : (nested : Bool) (d : Document) (content : Content) (t : At) (name : Name) →
-    is_text name ≡ true →
-    (inner : List Piece) →
-    Known nested d t name inner → Here nested d t content name inner → Prints nested d content
-    (prints d.given t name inner)
+    is_text name ≡ true → SpanPrints nested d t content name
 string-node nested d content t name is inner k a =
-    adds-weaker d.given.ending Escaped (Stands nested content) (prints d.given t name inner)
+    adds-weaker d.context.ending Escaped (Stands nested content) (prints d.context t name inner)
     a.spans.text (text-node (read_in d) t Escaped name (λ x h. h k.escaping) is k.fit inner)
 
 -- in spans with tags around them blocks stand, and they are no links
@@ -59,54 +60,42 @@ pair-blocks _ = refl
 
 pair-node : (nested : Bool) (d : Document) (content : Content) (t : At) (name : Name) →
     is_pair name ≡ true → t.around.in_image ≡ false → (inner : List Piece) →
-    Here nested d t content name inner → Prints nested d content (prints d.given t name inner)
+    Here nested d t content name inner → Prints nested d content (prints d.context t name inner)
 pair-node nested d content t name is out inner a =
     let tag : List ℕ = pair_tag name in
     let own = and_parts (is_blocks (content_of name Blocks)) (not (named Link name))
     (subst (λ b. not b || (is_blocks (content_of name Blocks) && not (named Link name)) ≡ true) is
     (pair-blocks name)) in
-    subst (Prints nested d content) (sym (pair-prints d.given t name is inner))
+    subst (Prints nested d content) (sym (pair-prints d.context t name is inner))
     (pair nested d t content a.spans.spaced out (60 ∷ (tag ++ (62 ∷ [])))
     (60 ∷ 47 ∷ (tag ++ (62 ∷ [])))
-    (by_pair (λ tag. Turns nested content content (60 ∷ (tag ++ (62 ∷ [])))
+    (by_pair (λ tag. Turns (Stands nested content) (Stands nested content) (60 ∷ (tag ++ (62 ∷ [])))
     (60 ∷ 47 ∷ (tag ++ (62 ∷ []))))
     (turns-plain nested content content (codes "em") refl a.spans.em)
     (turns-plain nested content content (codes "strong") refl a.spans.strong)
     (turns-plain nested content content (codes "del") refl a.spans.del) name is)
     inner (a.own own.0 (not-true (named Link name) own.1)))
 
-any-code : (nested : Bool) (d : Document) (content : Content) (f : AreSpans nested content)
-    (math : Bool) (x : List ℕ) → Escaped x → Prints nested d content
-    (Text (code_opening math) ∷ Text x ∷ Text (codes "</code>") ∷ [])
-any-code nested d content f true x h = flat nested d content
-    (Text (code_opening true) ∷ Text x ∷ Text (codes "</code>") ∷ []) refl
-    (coded nested d content f (attribute (codes "class") (codes "language-math math-inline")
-    ∷ []) x refl h)
-any-code nested d content f false x h = flat nested d content
-    (Text (code_opening false) ∷ Text x ∷ Text (codes "</code>") ∷ []) refl
-    (coded nested d content f [] x refl h)
-
-single-node : (nested : Bool) (d : Document) (content : Content) (t : At) (name : Name) →
-    is_single name ≡ true →
-    (inner : List Piece) →
-    Known nested d t name inner → Here nested d t content name inner → Prints nested d content
-    (prints d.given t name inner)
+single-node : (nested : Bool) (d : Document) (content : Content) (t : At) (name : Name) → is_single
+    name ≡ true → SpanPrints nested d t content name
 single-node nested d content t Link is inner k a =
-    let label : List ℕ = layout d.given.ending inner in
+    let label : List ℕ = layout d.context.ending inner in
     subst (λ b. Prints nested d content
-    (cond b (said label) (anchor d.given.options (leads_to d.given t) label)))
+    (cond b (said label) (anchor d.context.options (leads_to d.context t) label)))
     (sym k.outside)
-    (subst (λ c. Prints nested d c (anchor d.given.options (leads_to d.given t) label))
+    (subst (λ c. Prints nested d c (anchor d.context.options (leads_to d.context t) label))
     (sym (a.free refl))
-    (link nested d (leads_to d.given t) label (target-title (read_in d) t k.resource)
-    (adds-alone d.given.ending (Stands nested (in_link nested)) inner (a.label refl))))
+    (link nested d (leads_to d.context t) label (target-title (read_in d) t k.resource)
+    (adds-alone d.context.ending (Stands nested (in_link nested)) inner (a.label refl))))
 single-node nested d content t Image is inner k a =
-    let label : List ℕ = layout d.given.ending inner in
+    let label : List ℕ = layout d.context.ending inner in
     subst (λ b. Prints nested d content
-    (cond b (said label) (picture d.given.options (leads_to d.given t) label)))
+    (cond b (said label) (picture d.context.options (leads_to d.context t) label)))
     (sym k.outside)
-    (image nested d content a.spans (leads_to d.given t) label
-    (target-title (read_in d) t k.resource) (adds-alone d.given.ending Escaped inner k.within))
+    (adds-image any_attribute (Stands nested content) d.context.ending d.context.options
+    (read_in d).test (stands-void nested content (codes "img") a.spans.img) (leads_to d.context t)
+    label (target-title (read_in d) t k.resource) (adds-alone d.context.ending Escaped inner
+    k.within))
 single-node nested d content t HardBreakEscape is inner k a =
     break nested d content a.spans t k.outside
 single-node nested d content t HardBreakTrailing is inner k a =
@@ -114,33 +103,28 @@ single-node nested d content t HardBreakTrailing is inner k a =
 single-node nested d content t GfmTaskListItemCheck is inner k a =
     task-node nested d content a.spans t k.outside inner k.within
 single-node nested d content t GfmFootnoteCall is inner k a =
-    let identifier : List ℕ = identifier_of d.given.bytes t.children in
-    subst (λ c. Prints nested d c (call d.given t)) (sym (a.free refl))
-    (call-node nested d t k.outside identifier (place_among (distinct d.given.calls) identifier)
+    let identifier : List ℕ = identifier_of d.context.bytes t.children in
+    subst (λ c. Prints nested d c (call d.context t)) (sym (a.free refl))
+    (call-node nested d t k.outside identifier (place_among (distinct d.context.calls) identifier)
     (suc (count_of t.calls identifier)))
 single-node nested d content t _ is inner k a = lie is
 
-pub span-node : (nested : Bool) (d : Document) (content : Content) (t : At) (name : Name) →
-    is_shown name ≡ true →
-    (inner : List Piece) →
-    Known nested d t name inner → Here nested d t content name inner → Prints nested d content
-    (prints d.given t name inner)
-span-node nested d content t name is inner k a = elim (or_cases (is_pair name) _ is) [
-  | inl is ↦ pair-node nested d content t name is k.outside inner a
-  | inr c ↦ elim (or_cases (is_code name) (is_single name) c) [
-    | inl is ↦ subst (Prints nested d content) (sym (code-prints d.given t name is inner))
-        (code-node nested d content a.spans t k.outside (code_opening (is_math name))
-        (any-code nested d content a.spans (is_math name)) (layout d.given.ending inner)
-        (code-text (read_in d) t Blocks name k.escaping is inner k.within))
-    | inr is ↦ single-node nested d content t name is inner k a
-  ]
-]
+pub span-node : (nested : Bool) (d : Document) (content : Content) (t : At) (name : Name) → is_shown
+    name ≡ true → SpanPrints nested d t content name
+span-node nested d content t name is inner k a =
+    either (is_pair name) _ is (λ is. pair-node nested d content t name is k.outside inner a) (λ c.
+    either (is_code name) (is_single name) c
+    (λ is. subst (Prints nested d content) (sym (code-prints d.context t name is inner))
+    (code-node nested d content a.spans t k.outside (code_opening (is_math name))
+    (λ x h. any-code any_attribute (Stands nested Characters) (Stands nested content)
+    d.context.ending d.context.options (read_in d).test
+    (stands-tag nested content Characters (codes "code") a.spans.code) (is_math name) x
+    (stands-text nested Characters x h refl)) (layout d.context.ending inner)
+    (code-text (read_in d) t Blocks name k.escaping is inner k.within)))
+    (λ is. single-node nested d content t name is inner k a))
 
 pub autolink-node : (nested : Bool) (d : Document) (content : Content) (t : At) (name : Name) →
-    is_autolink name ≡ true →
-    (inner : List Piece) →
-    Known nested d t name inner → Here nested d t content name inner → Prints nested d content
-    (prints d.given t name inner)
+    is_autolink name ≡ true → SpanPrints nested d t content name
 autolink-node nested d content t AutolinkEmail is inner k a =
     autolinked nested d content a.spans t t.around.in_image (codes "mailto:") (λ _. a.free refl)
 autolink-node nested d content t AutolinkProtocol is inner k a =

@@ -8,29 +8,30 @@ use name_variants.{Link}
 use Rattle.md_text.specs.Bytes.{is_one_of}
 use Rattle.md_meaning.specs.Meaning.At.{At}
 use Rattle.md_meaning.specs.Meaning.Layout.{Piece, said}
+use Rattle.md_meaning.specs.Meaning.Means.{prints}
 use Rattle.md_meaning.specs.Meaning.Spans.{span}
-use Rattle.md_shape.specs.Built.{Blocks, content_of}
+use Rattle.md_content.specs.Built.{Blocks, content_of}
 use Rattle.md_safe.proofs.Texts.{Escaped}
 use Rattle.md_safe.proofs.Laid.{adds-text}
-use Rattle.md_safe.proofs.Tags.{adds-flat, are_texts, flat as flattened}
+use Rattle.md_safe.proofs.Tags.{Turns, framed-text, adds-flat, are_texts, flat as flattened}
 use Rattle.md_safe.proofs.Insides.{is_blocks}
 use Rattle.md_safe.proofs.Spot.{Inside, IsFitAt, IsGoodTarget}
 use Rattle.md_safe.proofs.Costs.{Document, read_in}
 use Rattle.md_safe.specs.Contents.{Content, Phrasing, Linked, Characters, voids_in}
 use Rattle.md_safe.specs.Links.{prints_link}
 use Rattle.md_safe.proofs.Linking.{is_spans, in_link, place_in}
-use Rattle.md_safe.proofs.Stands.{Opens, is_spaced, Stands, stands-text, Turns, IsWhite}
-use Rattle.md_safe.proofs.ContainedLaid.{Lays, lays-turned, spaced-text}
+use Rattle.md_safe.proofs.Stands.{Opens, is_spaced, Stands, stands-text, IsWhite, white_beside}
+use Rattle.md_safe.proofs.ContainedLaid.{Lays, lays-turned}
 
 -- what pieces add in a document
 abbrev pub Prints : (nested : Bool) → Document → Content → List Piece → Type 0
-Prints nested d content pieces = Lays nested d.given.ending content pieces
+Prints nested d content pieces = Lays nested d.context.ending content pieces
 
 -- the facts about a node that isn't transparent: what its children print, as content and as the
 -- grammar says
 pub record Known (nested : Bool) (d : Document) (t : At) (name : Name)
     (inner : List Piece) : Type 0 where
-  pub white : IsWhite d.given.ending
+  pub white : IsWhite d.context.ending
   pub escaping : t.around.is_escaping ≡ true
   pub outside : t.around.in_image ≡ false
   pub fit : IsFitAt (read_in d) t name
@@ -100,23 +101,32 @@ pub record Here (nested : Bool) (d : Document) (t : At) (content : Content) (nam
   pub free : prints_link name ≡ true → content ≡ Phrasing
   pub plain : t.around.in_link ≡ false → content ≡ Phrasing
 
+-- what a node prints there, and what one prints that stands as some content
+abbrev pub SpanPrints : (nested : Bool) → Document → At → Content → Name → Type 0
+SpanPrints nested d t content name = (inner : List Piece) → Known nested d t name inner →
+    Here nested d t content name inner → Prints nested d content (prints d.context t name inner)
+
+abbrev pub NodePrints : (nested : Bool) → Document → At → Content → Name → Type 0
+NodePrints nested d t content name = (inner : List Piece) → Known nested d t name inner →
+    Own nested d content name inner → Prints nested d content (prints d.context t name inner)
+
 -- tags around what children print
 pub pair : (nested : Bool) (d : Document) (t : At) (content : Content) → is_spaced content ≡ true →
     t.around.in_image ≡ false →
-    (o c : List ℕ) → Turns nested content content o c → (inner : List Piece) →
-    Prints nested d content inner →
+    (o c : List ℕ) → Turns (Stands nested content) (Stands nested content) o c →
+    (inner : List Piece) → Prints nested d content inner →
     Prints nested d content (span t (said o) inner (said c))
 pair nested d t content is out o c turn inner a =
     subst (λ b. Prints nested d content (cond b inner (said o ++ (inner ++ said c)))) (sym out)
-    (lays-turned nested d.given.ending content content o c (said o) inner (said c) is is turn
-    (spaced-text d.given.ending o) a (spaced-text d.given.ending c))
+    (lays-turned nested d.context.ending content content o c (said o) inner (said c) is is turn
+    (framed-text white_beside d.context.ending o) a (framed-text white_beside d.context.ending c))
 
 -- some texts in a row
 pub flat : (nested : Bool) (d : Document) (content : Content) (pieces : List Piece) →
     are_texts pieces ≡ true →
     Stands nested content (flattened pieces) → Prints nested d content pieces
 flat nested d content pieces texts h =
-    adds-flat d.given.ending (Stands nested content) pieces texts h
+    adds-flat d.context.ending (Stands nested content) pieces texts h
 
 pub phrase : (nested : Bool) (x : List ℕ) → Escaped x → Stands nested Phrasing x
 phrase nested x h = stands-text nested Phrasing x h refl
@@ -125,4 +135,4 @@ pub prints-escaped :
     (nested : Bool) (d : Document) (content : Content) (f : AreSpans nested content) (x : List ℕ) →
     Escaped x → Prints nested d content (said x)
 prints-escaped nested d content f x h =
-    adds-text d.given.ending (Stands nested content) x (f.text x h)
+    adds-text d.context.ending (Stands nested content) x (f.text x h)

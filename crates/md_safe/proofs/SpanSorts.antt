@@ -1,16 +1,16 @@
 -- Spans with tags around their children, and code: what is printed of each.
-use Rattle.std.proofs.Common.{◌≡◌, ℕ, Bool, true, false, cond, List, [], ◌∷◌, ◌++◌, refl, sym}
-use Rattle.std.proofs.Common.{◌∙◌, codes}
-use Rattle.std.proofs.lemmas.Bool.{cond-true}
+use Rattle.std.proofs.Common.{◌≡◌, ℕ, Bool, true, false, cond, List, [], ◌∷◌, ◌++◌, refl}
+use Rattle.std.proofs.Common.{codes}
 use Rattle.md_base.proofs.Lies.{lie}
 use Rattle.md_base.specs.declared.event.Name.{Name}
 use Rattle.md_base.specs.declared.event.Name.TheVariants as name_variants
 use name_variants.{Emphasis, Strong, GfmStrikethrough, CodeText, MathText}
-use Rattle.md_meaning.specs.Meaning.At.{Given, At}
+use Rattle.md_meaning.specs.Meaning.At.{Context, At}
 use Rattle.md_meaning.specs.Meaning.Layout.{Piece, layout, said}
 use Rattle.md_meaning.specs.Meaning.Means.{prints}
 use Rattle.md_meaning.specs.Meaning.Spans.{span, code}
-use Rattle.md_shape.specs.Built.{Content}
+use Rattle.md_content.specs.Built.{Content}
+use Rattle.md_steps.proofs.Standing.{picked}
 use Rattle.md_safe.proofs.Texts.{Escaped}
 use Rattle.md_safe.proofs.Laid.{adds-alone}
 use Rattle.md_safe.proofs.Spot.{Setting, Here, Prints, Inside}
@@ -45,22 +45,20 @@ abbrev pub code_opening : Bool → List ℕ
 code_opening math =
     cond math (codes "<code class=\"language-math math-inline\">") (codes "<code>")
 
-pair-pieces : (given : Given) (t : At) (name : Name) (inner : List Piece) →
-    cond (is_pair name) (prints given t name inner)
-    (span t (said (60 ∷ (pair_tag name ++ (62 ∷ [])))) inner
-    (said (60 ∷ 47 ∷ (pair_tag name ++ (62 ∷ [])))))
-    ≡ span t (said (60 ∷ (pair_tag name ++ (62 ∷ [])))) inner
-    (said (60 ∷ 47 ∷ (pair_tag name ++ (62 ∷ []))))
-pair-pieces given t Emphasis inner = refl
-pair-pieces given t _ inner = refl
-
-pub pair-prints : (given : Given) (t : At) (name : Name) → is_pair name ≡ true →
+pub pair-prints : (context : Context) (t : At) (name : Name) → is_pair name ≡ true →
     (inner : List Piece) →
-    prints given t name inner ≡ span t (said (60 ∷ (pair_tag name ++ (62 ∷ [])))) inner
+    prints context t name inner ≡ span t (said (60 ∷ (pair_tag name ++ (62 ∷ [])))) inner
     (said (60 ∷ 47 ∷ (pair_tag name ++ (62 ∷ []))))
-pair-prints given t name is inner =
-    sym (cond-true (is_pair name) (prints given t name inner) _ is)
-    ∙ pair-pieces given t name inner
+pair-prints context t name is inner =
+    picked (is_pair name) (prints context t name inner) _ (by name) is
+  where
+    by : (name : Name) → cond (is_pair name) (prints context t name inner)
+        (span t (said (60 ∷ (pair_tag name ++ (62 ∷ [])))) inner
+        (said (60 ∷ 47 ∷ (pair_tag name ++ (62 ∷ [])))))
+        ≡ span t (said (60 ∷ (pair_tag name ++ (62 ∷ [])))) inner
+        (said (60 ∷ 47 ∷ (pair_tag name ++ (62 ∷ []))))
+    by Emphasis = refl
+    by _ = refl
 
 -- a content that is allowed in a pair of tags is allowed around it too
 pub pair-inside : (s : Setting) (t : At) (content : Content) (name : Name) → is_pair name ≡ true →
@@ -70,27 +68,25 @@ pair-inside s t content Strong is inner a = a
 pair-inside s t content GfmStrikethrough is inner a = a
 pair-inside s t content _ is inner a = lie is
 
-code-pieces : (given : Given) (t : At) (name : Name) (inner : List Piece) →
-    cond (is_code name) (prints given t name inner)
-    (code t (code_opening (is_math name)) (layout given.ending inner))
-    ≡ code t (code_opening (is_math name)) (layout given.ending inner)
-code-pieces given t Emphasis inner = refl
-code-pieces given t _ inner = refl
-
-pub code-prints : (given : Given) (t : At) (name : Name) → is_code name ≡ true →
+pub code-prints : (context : Context) (t : At) (name : Name) → is_code name ≡ true →
     (inner : List Piece) →
-    prints given t name inner
-    ≡ code t (code_opening (is_math name)) (layout given.ending inner)
-code-prints given t name is inner =
-    sym (cond-true (is_code name) (prints given t name inner) _ is)
-    ∙ code-pieces given t name inner
+    prints context t name inner
+    ≡ code t (code_opening (is_math name)) (layout context.ending inner)
+code-prints context t name is inner =
+    picked (is_code name) (prints context t name inner) _ (by name) is
+  where
+    by : (name : Name) → cond (is_code name) (prints context t name inner)
+        (code t (code_opening (is_math name)) (layout context.ending inner))
+        ≡ code t (code_opening (is_math name)) (layout context.ending inner)
+    by Emphasis = refl
+    by _ = refl
 
 -- the text in code
 pub code-text : (s : Setting) (t : At) (content : Content) (name : Name) →
     t.around.is_escaping ≡ true → is_code name ≡ true → (inner : List Piece) →
-    Inside s t content name inner → Escaped (layout s.given.ending inner)
+    Inside s t content name inner → Escaped (layout s.context.ending inner)
 code-text s t content CodeText e is inner a =
-    adds-alone s.given.ending (λ x. t.around.is_escaping ≡ true → Escaped x) inner a e
+    adds-alone s.context.ending (λ x. t.around.is_escaping ≡ true → Escaped x) inner a e
 code-text s t content MathText e is inner a =
-    adds-alone s.given.ending (λ x. t.around.is_escaping ≡ true → Escaped x) inner a e
+    adds-alone s.context.ending (λ x. t.around.is_escaping ≡ true → Escaped x) inner a e
 code-text s t content _ e is inner a = lie is

@@ -1,8 +1,8 @@
 -- What stands in a line of text: each node that prints strings, spans or nothing prints
 -- phrasing content.
 use Rattle.std.proofs.Common.{◌≡◌, Bool, true, false, not, ◌&&◌, ◌||◌, cond, List, refl}
-use Rattle.std.proofs.Common.{sym, ap, ◌∙◌, subst, inl, inr}
-use Rattle.std.proofs.lemmas.Bool.{or_cases, and_from, cond-true}
+use Rattle.std.proofs.Common.{sym, ap, ◌∙◌, subst}
+use Rattle.std.proofs.lemmas.Bool.{and_from}
 use Rattle.md_base.proofs.Lies.{lie}
 use Rattle.md_base.specs.Is.{is as named}
 use Rattle.md_base.specs.declared.event.Name.{Name}
@@ -10,7 +10,10 @@ use Rattle.md_base.specs.declared.event.Name.TheVariants.{Link}
 use Rattle.md_meaning.specs.Meaning.At.{At}
 use Rattle.md_meaning.specs.Meaning.Layout.{Piece}
 use Rattle.md_meaning.specs.Meaning.Means.{prints}
-use Rattle.md_shape.specs.Built.{Blocks, content_of, is_autolink}
+use Rattle.md_content.specs.Built.{Blocks, content_of, is_autolink}
+use Rattle.md_steps.proofs.Standing.{picked}
+use Rattle.md_safe.proofs.SpanContents.{SpanPrints}
+use Rattle.md_safe.proofs.Cases.{either}
 use Rattle.md_safe.proofs.Texts.{Escaped}
 use Rattle.md_safe.proofs.Laid.{adds-weaker}
 use Rattle.md_safe.proofs.Insides.{is_blocks}
@@ -31,29 +34,26 @@ use Rattle.md_safe.proofs.SpanContents.{Prints, Known, Here, Own, are-spans}
 use Rattle.md_safe.proofs.SpanCases.{string-node, span-node, autolink-node}
 
 -- a line of code or its end, or HTML
-leaf-node : (nested : Bool) (d : Document) (content : Content) (t : At) (name : Name) →
-    is_leaf name ≡ true →
-    (inner : List Piece) →
-    Known nested d t name inner → Here nested d t content name inner → Prints nested d content
-    (prints d.given t name inner)
+leaf-node : (nested : Bool) (d : Document) (content : Content) (t : At) (name : Name) → is_leaf name
+    ≡ true → SpanPrints nested d t content name
 leaf-node nested d content t name is inner k a =
-    adds-weaker d.given.ending Escaped (Stands nested content) (prints d.given t name inner)
+    adds-weaker d.context.ending Escaped (Stands nested content) (prints d.context t name inner)
     a.spans.text (leaf-escaped (read_in d) t name k.escaping is k.fit inner)
 
 hidden-node : (nested : Bool) (d : Document) (content : Content) (t : At) (name : Name) →
     is_hidden name ≡ true →
     (inner : List Piece) →
-    Prints nested d content (prints d.given t name inner)
+    Prints nested d content (prints d.context t name inner)
 hidden-node nested d content t name is inner =
-    subst (Prints nested d content) (sym (hidden-prints d.given t name is inner))
-    (lays-nothing nested d.given.ending content)
+    subst (Prints nested d content) (sym (hidden-prints d.context t name is inner))
+    (lays-nothing nested d.context.ending content)
 
 silent-node : (nested : Bool) (d : Document) (content : Content) (t : At) (name : Name) →
     is_silent name ≡ true →
     (inner : List Piece) →
-    Here nested d t content name inner → Prints nested d content (prints d.given t name inner)
+    Here nested d t content name inner → Prints nested d content (prints d.context t name inner)
 silent-node nested d content t name is inner a =
-    subst (Prints nested d content) (sym (silent-prints d.given t name is inner))
+    subst (Prints nested d content) (sym (silent-prints d.context t name is inner))
     (a.own (silent-block name is).0 (silent-block name is).1)
 
 -- what prints phrasing content
@@ -62,16 +62,16 @@ is_inline name =
     is_text name || (is_shown name || (is_autolink name || (is_leaf name || (is_hidden name
     || is_silent name))))
 
-phrasing-place : (name : Name) →
-    cond (not (is_hidden name) && is_inline name) (place_of name) Phrasing ≡ Phrasing
-phrasing-place Link = refl
-phrasing-place _ = refl
-
 spans-place : (name : Name) → is_hidden name ≡ false → is_inline name ≡ true →
     place_of name ≡ Phrasing
 spans-place name h is =
-    sym (cond-true (not (is_hidden name) && is_inline name) (place_of name) Phrasing
-    (and_from (not (is_hidden name)) (is_inline name) (ap not h) is)) ∙ phrasing-place name
+    picked (not (is_hidden name) && is_inline name) (place_of name) Phrasing (by name)
+    (and_from (not (is_hidden name)) (is_inline name) (ap not h) is)
+  where
+    by : (name : Name) →
+        cond (not (is_hidden name) && is_inline name) (place_of name) Phrasing ≡ Phrasing
+    by Link = refl
+    by _ = refl
 
 -- spans stand in spans, of the same content but in a link
 spans-in : (nested : Bool) (content : Content) (name : Name) → is_spans content ≡ true →
@@ -108,7 +108,7 @@ pub inline-node : (nested : Bool) (d : Document) (content : Content) (t : At) (n
     is_inline name ≡ true →
     (inner : List Piece) → Known nested d t name inner → Own nested d content name inner →
     Spanning t content name →
-    Prints nested d content (prints d.given t name inner)
+    Prints nested d content (prints d.context t name inner)
 inline-node nested d content t name is inner k own g = by (is_hidden name) refl
   where
     here : is_hidden name ≡ false → Here nested d t content name inner
@@ -129,23 +129,13 @@ inline-node nested d content t name is inner k own g = by (is_hidden name) refl
         link-blocks _ is = lie is
 
     by : (hidden : Bool) → is_hidden name ≡ hidden →
-        Prints nested d content (prints d.given t name inner)
+        Prints nested d content (prints d.context t name inner)
     by true h = hidden-node nested d content t name h inner
     by false h =
         let a = here h in
-        elim (or_cases (is_text name) _ is) [
-          | inl is ↦ string-node nested d content t name is inner k a
-          | inr c ↦ elim (or_cases (is_shown name) _ c) [
-            | inl is ↦ span-node nested d content t name is inner k a
-            | inr c ↦ elim (or_cases (is_autolink name) _ c) [
-              | inl is ↦ autolink-node nested d content t name is inner k a
-              | inr c ↦ elim (or_cases (is_leaf name) _ c) [
-                | inl is ↦ leaf-node nested d content t name is inner k a
-                | inr c ↦ elim (or_cases (is_hidden name) (is_silent name) c) [
-                  | inl is ↦ lie (sym h ∙ is)
-                  | inr is ↦ silent-node nested d content t name is inner a
-                ]
-              ]
-            ]
-          ]
-        ]
+        either (is_text name) _ is (λ is. string-node nested d content t name is inner k a) (λ c.
+        either (is_shown name) _ c (λ is. span-node nested d content t name is inner k a) (λ c.
+        either (is_autolink name) _ c (λ is. autolink-node nested d content t name is inner k a)
+        (λ c. either (is_leaf name) _ c (λ is. leaf-node nested d content t name is inner k a)
+        (λ c. either (is_hidden name) (is_silent name) c (λ is. lie (sym h ∙ is))
+        (λ is. silent-node nested d content t name is inner a)))))

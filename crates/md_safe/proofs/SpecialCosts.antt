@@ -17,8 +17,8 @@ use Rattle.md_meaning.specs.Meaning.Footnotes.{distinct, place_among, count_of, 
 use Rattle.md_meaning.specs.Meaning.Layout.{Piece, layout, said}
 use Rattle.md_meaning.specs.Meaning.Blocks.{underline_rank}
 use Rattle.md_meaning.specs.Meaning.Spans.{is_at}
-use Rattle.md_shape.specs.Underlined.{is_underline, waits_past}
-use Rattle.md_shape.specs.Built.{Blocks, content_inside}
+use Rattle.md_content.specs.Underlined.{is_underline, waits_past}
+use Rattle.md_content.specs.Built.{Blocks, content_inside}
 use Rattle.md_safe.proofs.Texts.{decimal-escaped}
 use Rattle.md_safe.proofs.Laid.{Adds, adds-nothing, adds-text, adds-alone}
 use Rattle.md_safe.proofs.Tags.{adds-flat}
@@ -40,9 +40,10 @@ setext_text d w p m b = record {
   body = 0;
   left = b.body;
   notes = b.notes;
-  prints = adds-nothing d.given.ending (Counts w 0) (counts-none w);
+  prints = adds-nothing d.context.ending (Counts w 0) (counts-none w);
   heading =
-      adds-alone d.given.ending (Counts w b.body) (inner_of d p HeadingSetextText).pieces b.prints;
+      adds-alone d.context.ending (Counts w b.body) (inner_of d p HeadingSetextText).pieces
+      b.prints;
   texts = no-footnote d w b.notes p HeadingSetextText refl b.texts;
   few = omega (b.few, cost-least d w p HeadingSetextText, arith);
 }
@@ -55,16 +56,16 @@ footnote d w p m b = record {
   body = 0;
   left = 0;
   notes = b.notes + b.body;
-  prints = adds-nothing d.given.ending (Counts w 0) (counts-none w);
+  prints = adds-nothing d.context.ending (Counts w 0) (counts-none w);
   heading = tt;
   texts = texts-append w b.notes b.body (inner_of d p GfmFootnoteDefinition).footnotes (record {
-    identifier = identifier_of d.given.bytes p.children;
-    text = layout d.given.ending (inner_of d p GfmFootnoteDefinition).pieces;
+    identifier = identifier_of d.context.bytes p.children;
+    text = layout d.context.ending (inner_of d p GfmFootnoteDefinition).pieces;
   } ∷ []) b.texts (
     b.body,
     0,
     omega arith,
-    adds-alone d.given.ending (Counts w b.body)
+    adds-alone d.context.ending (Counts w b.body)
         (inner_of d p GfmFootnoteDefinition).pieces b.prints,
     tt,
   );
@@ -81,10 +82,10 @@ underline d w p m h b =
       body = m;
       left = 0;
       notes = b.notes;
-      prints = adds-heading s.p d.given.ending d.ending
-          (underline_rank d.given (at_of d p HeadingSetextUnderlineSequence))
-          (setext-fits (is_at 45 d.given.bytes p.start.index)) (said p.before.heading)
-          (adds-text d.given.ending (Counts w m) p.before.heading h);
+      prints = adds-heading s.p d.context.ending d.ending
+          (underline_rank d.context (at_of d p HeadingSetextUnderlineSequence))
+          (setext-fits (is_at 45 d.context.bytes p.start.index)) (said p.before.heading)
+          (adds-text d.context.ending (Counts w m) p.before.heading h);
       heading = tt;
       texts = no-footnote d w b.notes p HeadingSetextUnderlineSequence refl b.texts;
       few = omega (b.few, cost-least d w p HeadingSetextUnderlineSequence, arith);
@@ -94,23 +95,25 @@ underline d w p m h b =
 pub call : (d : Document) (w : List ℕ) (p : Place) (m : ℕ) → Below d w p GfmFootnoteCall false 0 →
     Costs d w p.before m false (here_of d p GfmFootnoteCall)
 call d w p m b =
-    let identifier : List ℕ = identifier_of d.given.bytes p.children in
-    let number : ℕ = place_among (distinct d.given.calls) identifier in
+    let identifier : List ℕ = identifier_of d.context.bytes p.children in
+    let number : ℕ = place_among (distinct d.context.calls) identifier in
     let occurrence : ℕ =
     suc (count_of (p.before.calls ++ (inner_of d p GfmFootnoteCall).calls) identifier) in
-    let id : List ℕ = call_id d.given.options identifier number occurrence in
+    let id : List ℕ = call_id d.context.options identifier number occurrence in
     let hit : ℕ = occurs w (read_back id ∷ []) in
-    let tags : List Piece = call_tags d.given.options identifier number occurrence in
+    let tags : List Piece = call_tags d.context.options identifier number occurrence in
     record {
       body = hit;
       left = 0;
       notes = b.notes;
-      prints = cond_both (not p.around.in_image) tags [] (Adds d.given.ending (Counts w hit))
-          (λ _. adds-flat d.given.ending (Counts w hit) tags refl
-          (counts-call w (id_of d.given.options (codes "fn-") identifier number) id (decimal number)
-          (id-escaped d.given.options (codes "fn-") identifier number refl)
-          (call_id-escaped d.given.options identifier number occurrence) (decimal-escaped number)))
-          (λ _. adds-nothing d.given.ending (Counts w hit)
+      prints = cond_both (not p.around.in_image) tags [] (Adds d.context.ending (Counts w hit))
+          (λ _. adds-flat d.context.ending (Counts w hit) tags refl
+          (counts-call w (id_of d.context.options (codes "fn-") identifier number) id
+          (decimal number)
+          (id-escaped d.context.options (codes "fn-") identifier number refl)
+          (call_id-escaped d.context.options identifier number occurrence)
+          (decimal-escaped number)))
+          (λ _. adds-nothing d.context.ending (Counts w hit)
           (counts-more w 0 hit [] (omega arith) (counts-none w)));
       heading = tt;
       texts = no-footnote d w b.notes p GfmFootnoteCall refl b.texts;

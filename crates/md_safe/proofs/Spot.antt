@@ -10,12 +10,13 @@ use Rattle.md_text.specs.Encode.{encoded}
 use Rattle.md_text.proofs.EncodeLaws.{is_escaped-encoded}
 use Rattle.md_text.proofs.HtmlJoin.{text}
 use Rattle.md_pattern.specs.Looseness.{is_loose}
-use Rattle.md_meaning.specs.Meaning.Around.{inside}
-use Rattle.md_meaning.specs.Meaning.At.{Target, Defined, Given, At, nothing_found, target_in}
+use Rattle.md_meaning.specs.Meaning.Inherited.{inside}
+use Rattle.md_meaning.specs.Meaning.At.{Target, Defined, Context, At, nothing_found, target_in}
 use Rattle.md_meaning.specs.Meaning.At.{identifier_of}
 use Rattle.md_meaning.specs.Meaning.Layout.{Piece}
 use Rattle.md_meaning.specs.Meaning.Media.{target_defined, leads_to}
-use Rattle.md_shape.specs.Built.{Content, IsFit, content_of}
+use Rattle.md_meaning.specs.Meaning.Means.{prints}
+use Rattle.md_content.specs.Built.{Content, IsFit, content_of}
 use Rattle.md_safe.proofs.Texts.{Escaped}
 use Rattle.md_safe.proofs.Claim.{Claim}
 use Rattle.md_safe.proofs.Laid.{Adds}
@@ -36,10 +37,10 @@ AreTitles (defined ∷ others) = IsEscapedTitle defined.target.title × AreTitle
 -- a document, and a claim
 pub record Setting : Type 1 where
   pub p : Claim
-  pub given : Given
-  pub test : IsTest p.test given.options
-  pub ending : Escaped given.ending
-  pub titles : AreTitles given.definitions
+  pub context : Context
+  pub test : IsTest p.test context.options
+  pub ending : Escaped context.ending
+  pub titles : AreTitles context.definitions
 
 -- each `id` passes
 abbrev pub PassesIds : (Attribute → Bool) → Type 0
@@ -53,7 +54,7 @@ pub record IsWhole (p : Claim) : Type 0 where
 
 -- the conditions on a node
 abbrev pub IsFitAt : Setting → At → Name → Type 0
-IsFitAt s t name = IsFit s.given.bytes name t.place.start t.place.end t.children
+IsFitAt s t name = IsFit s.context.bytes name t.place.start t.place.end t.children
 
 -- what holds of the text of a content where the node stands
 abbrev pub Here : Setting → At → Content → List ℕ → Type 0
@@ -61,14 +62,20 @@ Here s t content x = Holds s.p t.around.is_escaping t.around.in_image content x
 
 -- pieces add a text that fulfils a claim
 abbrev pub Prints : Setting → (List ℕ → Type 0) → List Piece → Type 0
-Prints s holds pieces = Adds s.given.ending holds pieces
+Prints s holds pieces = Adds s.context.ending holds pieces
 
 -- the children print what may stand in the node
 abbrev pub Inside : Setting → At → Content → Name → List Piece → Type 0
 Inside s t content name inner =
-    Prints s (Holds s.p (inside s.given.options (is_loose t.children) name t.around).is_escaping
-    (inside s.given.options (is_loose t.children) name t.around).in_image (content_of name content))
+    Prints s (Holds s.p (inside s.context.options (is_loose t.children) name t.around).is_escaping
+    (inside s.context.options (is_loose t.children) name t.around).in_image
+    (content_of name content))
     inner
+
+-- by what its children print, a node prints what may stand there
+abbrev pub NodeAdds : Setting → At → Content → Name → Type 0
+NodeAdds s t content name = (inner : List Piece) → Inside s t content name inner →
+    Prints s (Here s t content) (prints s.context t name inner)
 
 -- holds for a text that is escaped if that is required
 abbrev pub IsNarrow : Bool → (List ℕ → Type 0) → Type 0
@@ -123,11 +130,12 @@ defined-title (defined ∷ others) identifier h = by (bytes_eq defined.identifie
     by false later = later
 
 pub target-title : (s : Setting) (t : At) → IsGoodTarget t.found.resource →
-    IsEscapedTitle (leads_to s.given t).title
+    IsEscapedTitle (leads_to s.context t).title
 target-title s t good = by t.found.resource good
   where
     by : (resource : Option Target) → IsGoodTarget resource →
         IsEscapedTitle (unwrap_or resource
-        (target_defined s.given (identifier_of s.given.bytes t.children))).title
-    by None h = defined-title s.given.definitions (identifier_of s.given.bytes t.children) s.titles
+        (target_defined s.context (identifier_of s.context.bytes t.children))).title
+    by None h = defined-title s.context.definitions (identifier_of s.context.bytes t.children)
+        s.titles
     by (Some target) h = h

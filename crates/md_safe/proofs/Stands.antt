@@ -3,7 +3,7 @@
 use Rattle.std.specs.List.{list_all}
 use Rattle.std.specs.Option.{option_map_or}
 use Rattle.std.proofs.Common.{◌≡◌, ℕ, ◌==◌, Bool, true, false, ◌||◌, List, [], ◌∷◌, ◌++◌, refl, sym}
-use Rattle.std.proofs.Common.{ap, ap₂, ◌∙◌, subst, inl, inr, append-nil, append_assoc, eqb-true}
+use Rattle.std.proofs.Common.{ap, ap₂, ◌∙◌, subst, inl, inr, append-nil, eqb-true}
 use Rattle.std.specs.Prelude.{Some}
 use Rattle.std.proofs.lemmas.Bool.{and_parts, and_from, or_cases}
 use Rattle.std.proofs.lemmas.List.Folds.{list_all-append}
@@ -15,8 +15,11 @@ use Rattle.md_text.specs.Html.{elements, void_tags, written_attributes, opening_
 use Rattle.md_text.specs.Html.{IsReading, any_attribute}
 use Rattle.md_text.proofs.HtmlJoin.{text_before, joined, after_forest, opening-before}
 use Rattle.md_text.proofs.HtmlReading.{only_reading, all-any}
-use Rattle.md_text.proofs.HtmlWriting.{attributes_before, written_attributes-before}
+use Rattle.md_text.proofs.HtmlWriting.{written_attributes-before}
+use Rattle.md_text.proofs.EscapedLemmas.{escaped-append}
 use Rattle.md_safe.proofs.Texts.{Escaped, line_ends-escaped}
+use Rattle.md_safe.proofs.Laid.{IsBeside}
+use Rattle.md_safe.proofs.Tags.{Turns, TurnsTag, Tagged, Single, Takes}
 use Rattle.md_safe.specs.Contents.{Content, Flow, Phrasing, Linked, Items, Parts, Rows, Cells}
 use Rattle.md_safe.specs.Contents.{Preformatted, Characters, held_in, voids_in, is_space, may_say}
 use Rattle.md_safe.specs.Contents.{is_contained, IsContainedAs}
@@ -65,11 +68,8 @@ contained-text_before nested content bytes (Text more rest) s h =
     and_from (may_say content (bytes ++ more)) (is_contained nested content rest)
     (say-append content bytes more s parts.0)
     parts.1
-contained-text_before nested content bytes (Void name attributes rest) s h =
-    and_from (may_say content bytes) (is_contained nested content (Void name attributes rest)) s h
-contained-text_before nested content bytes (Element name attributes children rest) s h =
-    and_from (may_say content bytes)
-    (is_contained nested content (Element name attributes children rest)) s h
+contained-text_before nested content bytes g s h =
+    and_from (may_say content bytes) (is_contained nested content g) s h
 
 -- what an element holds stands where it may
 abbrev pub is_held : (nested : Bool) → Content → List ℕ → Forest → Bool
@@ -132,11 +132,9 @@ stands-text nested content (b ∷ bytes) h s = record {
   contained = and_from (may_say content (b ∷ bytes)) true s refl;
 }
 
-pub stands-void :
-    (nested : Bool) (content : Content) (name : List ℕ) (attributes : List Attribute) →
-    is_tag void_tags name attributes ≡ true → is_one_of (voids_in content) name ≡ true
-    → Stands nested content (60 ∷ (name ++ attributes_before attributes (32 ∷ 47 ∷ 62 ∷ [])))
-stands-void nested content name attributes h v =
+pub stands-void : (nested : Bool) (content : Content) (name : List ℕ) →
+    is_one_of (voids_in content) name ≡ true → Single any_attribute (Stands nested content) name
+stands-void nested content name v attributes h a =
     subst (λ x. Stands nested content (60 ∷ (name ++ x)))
     (written_attributes-before attributes (32 ∷ 47 ∷ 62 ∷ [])) (record {
       forest = Void name attributes Empty;
@@ -174,14 +172,10 @@ stands-element nested content held name attributes inside h opens within = recor
 }
 
 -- attribute by attribute
-pub stands-tag :
-    (nested : Bool) (content held : Content) (name : List ℕ) (attributes : List Attribute)
-    (inside : List ℕ) →
-    is_tag elements name attributes ≡ true → Opens nested content held name →
-    Stands nested held inside
-    → Stands nested content
-    (60 ∷ (name ++ attributes_before attributes (62 ∷ (inside ++ (60 ∷ 47 ∷ (name ++ (62 ∷ [])))))))
-stands-tag nested content held name attributes inside h opens within =
+pub stands-tag : (nested : Bool) (content held : Content) (name : List ℕ) →
+    Opens nested content held name →
+    Tagged any_attribute (Stands nested held) (Stands nested content) name
+stands-tag nested content held name opens attributes inside h a within =
     subst (λ x. Stands nested content (60 ∷ (name ++ x)))
     (written_attributes-before attributes (62 ∷ (inside ++ (60 ∷ 47 ∷ (name ++ (62 ∷ []))))))
     (stands-element nested content held name attributes inside h opens within)
@@ -224,31 +218,32 @@ line_ends-space (b ∷ x) h =
 pub line_ends-white : (x : List ℕ) → is_line_ends x ≡ true → IsWhite x
 line_ends-white x h = (line_ends-escaped x h, line_ends-space x h)
 
--- ---- the texts before and after a text, and the content that they change to another
-abbrev pub Turns : (nested : Bool) → Content → Content → List ℕ → List ℕ → Type 0
-Turns nested held content o c =
-    (x : List ℕ) → Stands nested held x → Stands nested content (o ++ (x ++ c))
+pub white_beside : IsBeside IsWhite
+white_beside = record {
+  none = (refl, refl);
+  both = λ x y a b. (
+    escaped-append x y a.0 b.0,
+    list_all-append is_space x y ∙ and_from (list_all is_space x) (list_all is_space y) a.1 b.1,
+  );
+}
 
-pub turns-tag :
-    (nested : Bool) (held content : Content) (name : List ℕ) (attributes : List Attribute) →
-    is_tag elements name attributes ≡ true → Opens nested content held name →
-    Turns nested held content (opening_tag name attributes) (closing_tag name)
-turns-tag nested held content name attributes h opens x r =
+-- white space may be beside it
+pub takes-white : (nested : Bool) (content : Content) → is_spaced content ≡ true →
+    Takes IsWhite (Stands nested content)
+takes-white nested content is w x v h r g =
+    stands-join nested content w (x ++ v) (stands-white nested content w is h)
+    (stands-join nested content x v r (stands-white nested content v is g))
+
+-- ---- the tag of an element, which changes the content to another
+
+pub turns-tag : (nested : Bool) (held content : Content) (name : List ℕ) →
+    Opens nested content held name →
+    TurnsTag any_attribute (Stands nested held) (Stands nested content) name
+turns-tag nested held content name opens attributes h a x r =
     subst (Stands nested content) (sym (opening-before name attributes (x ++ closing_tag name)))
     (stands-element nested content held name attributes x h opens r)
 
 pub turns-plain : (nested : Bool) (held content : Content) (name : List ℕ) →
-    is_tag elements name [] ≡ true →
-    Opens nested content held name →
-    Turns nested held content (opening_tag name []) (closing_tag name)
-turns-plain nested held content name h opens = turns-tag nested held content name [] h opens
-
-pub turns-two : (nested : Bool) (inner held content : Content) (o c o' c' : List ℕ) →
-    Turns nested held content o c →
-    Turns nested inner held o' c'
-    → Turns nested inner content (o ++ o') (c' ++ c)
-turns-two nested inner held content o c o' c' a b x r =
-    subst (Stands nested content) (by o c o' c' x) (a (o' ++ (x ++ c')) (b x r))
-  where
-    by : (o c o' c' x : List ℕ) → o ++ ((o' ++ (x ++ c')) ++ c) ≡ (o ++ o') ++ (x ++ (c' ++ c))
-    by o c o' c' x = simp append_assoc
+    is_tag elements name [] ≡ true → Opens nested content held name →
+    Turns (Stands nested held) (Stands nested content) (opening_tag name []) (closing_tag name)
+turns-plain nested held content name h opens = turns-tag nested held content name opens [] h refl

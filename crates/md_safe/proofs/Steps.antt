@@ -1,6 +1,6 @@
 -- Step by step: a run from a state, by a run from the state after its first step.
 use Rattle.std.proofs.Common.{◌≡◌, ℕ, ◌==◌, Bool, true, false, cond, List, [], ◌∷◌, ◌++◌, map, refl}
-use Rattle.std.proofs.Common.{sym, ap, ◌∙◌, subst, Some, option_map, suc, append-nil, append_assoc}
+use Rattle.std.proofs.Common.{sym, ap, ◌∙◌, Some, option_map, suc}
 use Rattle.std.proofs.lemmas.Bool.{eqb-false}
 use Rattle.md_text.specs.References.{is_escaped, read_back}
 use Rattle.md_text.proofs.EncodeLaws.{read_back-other}
@@ -47,32 +47,9 @@ along state x y s t e f h = record {
 pub plain-ne : (b : ℕ) → IsPlain b → b ≡ 38 → ⊥
 plain-ne b p = eqb-false b 38 p.no_and
 
--- ---- a text
-
-abbrev TextRuns : List ℕ → Type 0
-TextRuns x = (r : List ℕ) (t : List Token) → IsRun Data r t →
-    IsRun Data (x ++ r) (map Character (read_back x) ++ t)
-
 pub plain_step : (b : ℕ) (rest : List ℕ) → (b == 38) ≡ false → (b == 60) ≡ false →
     step Data (b ∷ rest) ≡ Goes (Character b ∷ []) Data rest
 plain_step b rest e38 e60 = simp (e38, e60)
-
-plain-runs : (b : ℕ) (rest : List ℕ) → IsPlain b → TextRuns rest → TextRuns (b ∷ rest)
-plain-runs b rest p later r t h =
-    along Data (b ∷ (rest ++ r)) (b ∷ (rest ++ r))
-    (Character b ∷ (map Character (read_back rest) ++ t))
-    (map Character (read_back (b ∷ rest)) ++ t) refl
-    (ap (λ x. map Character x ++ t) (sym (read_back-other b rest (plain-ne b p))))
-    (loud (Character b) (plain_step b (rest ++ r) p.no_and p.no_less) (later r t h))
-
-pub text-runs : (x : List ℕ) → is_escaped x ≡ true → TextRuns x
-text-runs x e =
-    by_escaped TextRuns (λ r t h. h) plain-runs
-    (λ rest later r t h. quiet refl (quiet refl (loud (Character 38) refl (later r t h))))
-    (λ rest later r t h. quiet refl (quiet refl (loud (Character 34) refl (later r t h))))
-    (λ rest later r t h. quiet refl (quiet refl (loud (Character 60) refl (later r t h))))
-    (λ rest later r t h. quiet refl (quiet refl (loud (Character 62) refl (later r t h))))
-    x e
 
 -- ---- a text in the RCDATA state
 
@@ -120,11 +97,6 @@ abbrev pub AtValue : List ℕ → List TokenAttribute → List ℕ → List ℕ 
 AtValue tag earlier name value =
     AttributeValueDoubleQuoted (tag_with false tag (attribute name value ∷ earlier))
 
-abbrev ValueRuns : List ℕ → Type 0
-ValueRuns x = (tag : List ℕ) (earlier : List TokenAttribute) (name value : List ℕ) (r : List ℕ)
-    (t : List Token) → IsRun (AtValue tag earlier name (value ++ read_back x)) r t →
-    IsRun (AtValue tag earlier name value) (x ++ r) t
-
 pub value_step : (tag : Tag) (b : ℕ) (rest : List ℕ) → (b == 34) ≡ false →
     (b == 38) ≡ false → (b == 0) ≡ false →
     step (AttributeValueDoubleQuoted tag) (b ∷ rest)
@@ -133,37 +105,3 @@ value_step tag b rest e34 e38 e0 =
     past _ e34 (past _ e38 (ap (λ c.
     Goes [] (AttributeValueDoubleQuoted (with_value tag (cond c (239 ∷ 191 ∷ 189 ∷ []) (b ∷ []))))
     rest) e0))
-
--- the value with one more byte
-more_value : (tag : List ℕ) (earlier : List TokenAttribute) (name value : List ℕ) (b : ℕ)
-    (x r : List ℕ) (t : List Token) → IsRun (AtValue tag earlier name (value ++ (b ∷ x))) r t →
-    IsRun (AtValue tag earlier name ((value ++ (b ∷ [])) ++ x)) r t
-more_value tag earlier name value b x r t h =
-    subst (λ v. IsRun (AtValue tag earlier name v) r t) (sym (append_assoc value (b ∷ []) x)) h
-
-value-plain : (b : ℕ) (rest : List ℕ) → IsPlain b → ValueRuns rest → ValueRuns (b ∷ rest)
-value-plain b rest p later tag earlier name value r t h =
-    quiet (value_step (tag_with false tag (attribute name value ∷ earlier)) b (rest ++ r) p.no_quote
-    p.no_and p.no_nul) (later tag earlier name (value ++ (b ∷ [])) r t
-    (more_value tag earlier name value b (read_back rest) r t
-    (subst (λ v. IsRun (AtValue tag earlier name (value ++ v)) r t)
-    (read_back-other b rest (plain-ne b p)) h)))
-
-pub value-runs : (x : List ℕ) → is_escaped x ≡ true → ValueRuns x
-value-runs x e =
-    by_escaped ValueRuns
-    (λ tag earlier name value r t h. subst (λ v. IsRun (AtValue tag earlier name v) r t)
-    (append-nil value) h) value-plain
-    (λ rest later tag earlier name value r t h.
-    quiet refl (quiet refl (quiet refl (later tag earlier name (value ++ (38 ∷ [])) r t
-    (more_value tag earlier name value 38 (read_back rest) r t h)))))
-    (λ rest later tag earlier name value r t h.
-    quiet refl (quiet refl (quiet refl (later tag earlier name (value ++ (34 ∷ [])) r t
-    (more_value tag earlier name value 34 (read_back rest) r t h)))))
-    (λ rest later tag earlier name value r t h.
-    quiet refl (quiet refl (quiet refl (later tag earlier name (value ++ (60 ∷ [])) r t
-    (more_value tag earlier name value 60 (read_back rest) r t h)))))
-    (λ rest later tag earlier name value r t h.
-    quiet refl (quiet refl (quiet refl (later tag earlier name (value ++ (62 ∷ [])) r t
-    (more_value tag earlier name value 62 (read_back rest) r t h)))))
-    x e

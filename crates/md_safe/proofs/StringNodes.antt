@@ -1,7 +1,7 @@
 -- The nodes of strings print escaped texts.
 use Rattle.std.proofs.Common.{◌≡◌, ℕ, Bool, true, false, not, ◌&&◌, cond, List, [], ◌∷◌, refl, sym}
-use Rattle.std.proofs.Common.{ap, ◌∙◌, subst}
-use Rattle.std.proofs.lemmas.Bool.{cond_both, and_from, cond-true}
+use Rattle.std.proofs.Common.{ap, subst}
+use Rattle.std.proofs.lemmas.Bool.{cond_both, and_from}
 use Rattle.md_base.proofs.Lies.{lie}
 use Rattle.md_base.specs.declared.event.Name.{Name}
 use Rattle.md_base.specs.declared.event.Name.TheVariants as name_variants
@@ -9,14 +9,16 @@ use name_variants.{LineEnding, CharacterReferenceMarker, CharacterReferenceMarke
 use name_variants.{CharacterReferenceMarkerHexadecimal, CharacterReferenceValue}
 use Rattle.md_text.specs.Encode.{encoded}
 use Rattle.md_text.specs.Laws.{is_line_ends}
-use Rattle.md_meaning.specs.Meaning.At.{Given, At, text_in}
+use Rattle.md_meaning.specs.Meaning.At.{Context, At, text_in}
 use Rattle.md_meaning.specs.Meaning.Layout.{Piece, said}
 use Rattle.md_meaning.specs.Meaning.Means.{prints}
 use Rattle.md_meaning.specs.Meaning.Spans.{escaped, is_dropped, line_ending, reference}
-use Rattle.md_shape.specs.Built.{Content, is_string}
+use Rattle.md_content.specs.Built.{Content, is_string}
+use Rattle.md_steps.proofs.Standing.{picked}
+use Rattle.md_safe.proofs.Spot.{NodeAdds}
 use Rattle.md_safe.proofs.Texts.{Escaped, line_ends-escaped}
 use Rattle.md_safe.proofs.Laid.{adds-text, adds-nothing, adds-weaker}
-use Rattle.md_safe.proofs.Spot.{Setting, IsFitAt, Here, Prints, Inside, IsNarrow, encoded-escaped}
+use Rattle.md_safe.proofs.Spot.{Setting, IsFitAt, Here, Prints, IsNarrow, encoded-escaped}
 
 -- marks print their content
 abbrev is_mark : Name → Bool
@@ -40,67 +42,68 @@ is_data name =
 data-node : (s : Setting) (t : At) (holds : List ℕ → Type 0) →
     IsNarrow t.around.is_escaping holds → (x : List ℕ) → Prints s holds (escaped t x)
 data-node s t holds n x =
-    adds-text s.given.ending holds (encoded t.around.is_escaping x)
+    adds-text s.context.ending holds (encoded t.around.is_escaping x)
     (n (encoded t.around.is_escaping x) (encoded-escaped t.around.is_escaping x))
 
 -- a line ending
 pub line_ending-escaped : (s : Setting) (t : At) →
-    is_line_ends (text_in s.given.bytes t.place) ≡ true →
-    Prints s Escaped (line_ending s.given t)
+    is_line_ends (text_in s.context.bytes t.place) ≡ true →
+    Prints s Escaped (line_ending s.context t)
 line_ending-escaped s t h =
-    let x : List ℕ = text_in s.given.bytes t.place in
+    let x : List ℕ = text_in s.context.bytes t.place in
     cond_both t.around.in_code (said (32 ∷ [])) (cond (is_dropped t) [] (said x)) (Prints s Escaped)
-    (λ _. adds-text s.given.ending Escaped (32 ∷ []) refl)
+    (λ _. adds-text s.context.ending Escaped (32 ∷ []) refl)
     (λ _.
     cond_both (is_dropped t) [] (said x) (Prints s Escaped)
-    (λ _. adds-nothing s.given.ending Escaped refl)
-    (λ _. adds-text s.given.ending Escaped x (line_ends-escaped x h)))
+    (λ _. adds-nothing s.context.ending Escaped refl)
+    (λ _. adds-text s.context.ending Escaped x (line_ends-escaped x h)))
 
-data-pieces : (given : Given) (t : At) (name : Name) (inner : List Piece) →
-    cond (is_data name) (prints given t name inner) (escaped t (text_in given.bytes t.place))
-    ≡ escaped t (text_in given.bytes t.place)
-data-pieces given t LineEnding inner = refl
-data-pieces given t _ inner = refl
+data-prints : (context : Context) (t : At) (name : Name) → is_data name ≡ true →
+    (inner : List Piece) →
+    prints context t name inner ≡ escaped t (text_in context.bytes t.place)
+data-prints context t name is inner =
+    picked (is_data name) (prints context t name inner) _ (by name) is
+  where
+    by : (name : Name) → cond (is_data name) (prints context t name inner)
+        (escaped t (text_in context.bytes t.place)) ≡ escaped t (text_in context.bytes t.place)
+    by LineEnding = refl
+    by _ = refl
 
 other-node : (s : Setting) (t : At) (holds : List ℕ → Type 0) (name : Name) →
     IsNarrow t.around.is_escaping holds → is_text name && not (is_data name) ≡ true →
-    IsFitAt s t name → (inner : List Piece) → Prints s holds (prints s.given t name inner)
+    IsFitAt s t name → (inner : List Piece) → Prints s holds (prints s.context t name inner)
 other-node s t holds LineEnding n is fit inner =
-    adds-weaker s.given.ending Escaped holds (line_ending s.given t) (λ x h. n x (λ _. h))
+    adds-weaker s.context.ending Escaped holds (line_ending s.context t) (λ x h. n x (λ _. h))
     (line_ending-escaped s t fit)
 other-node s t holds CharacterReferenceValue n is fit inner =
-    data-node s t holds n (reference s.given t)
+    data-node s t holds n (reference s.context t)
 other-node s t holds _ n is fit inner = lie is
 
 pub text-node : (s : Setting) (t : At) (holds : List ℕ → Type 0) (name : Name) →
     IsNarrow t.around.is_escaping holds → is_text name ≡ true → IsFitAt s t name →
-    (inner : List Piece) → Prints s holds (prints s.given t name inner)
+    (inner : List Piece) → Prints s holds (prints s.context t name inner)
 text-node s t holds name n is fit inner = by (is_data name) refl
   where
-    by : (plain : Bool) → is_data name ≡ plain → Prints s holds (prints s.given t name inner)
-    by true e = subst (Prints s holds) (sym (sym (cond-true (is_data name)
-        (prints s.given t name inner) (escaped t (text_in s.given.bytes t.place)) e)
-        ∙ data-pieces s.given t name inner))
-        (data-node s t holds n (text_in s.given.bytes t.place))
+    by : (plain : Bool) → is_data name ≡ plain → Prints s holds (prints s.context t name inner)
+    by true e = subst (Prints s holds) (sym (data-prints s.context t name e inner))
+        (data-node s t holds n (text_in s.context.bytes t.place))
     by false e = other-node s t holds name n
         (and_from (is_text name) (not (is_data name)) is (ap not e)) fit inner
 
 mark-node : (s : Setting) (t : At) (content : Content) (name : Name) → is_mark name ≡ true →
-    (inner : List Piece) → Inside s t content name inner →
-    Prints s (Here s t content) (prints s.given t name inner)
+    NodeAdds s t content name
 mark-node s t content CharacterReferenceMarker is inner a = a
 mark-node s t content CharacterReferenceMarkerNumeric is inner a = a
 mark-node s t content CharacterReferenceMarkerHexadecimal is inner a = a
 mark-node s t content _ is inner a = lie is
 
-pub string-node : (s : Setting) (t : At) (content : Content) (name : Name) →
-    IsNarrow t.around.is_escaping (Here s t content) → is_string name ≡ true → IsFitAt s t name →
-    (inner : List Piece) → Inside s t content name inner →
-    Prints s (Here s t content) (prints s.given t name inner)
+pub string-node : (s : Setting) (t : At) (content : Content) (name : Name) → IsNarrow
+    t.around.is_escaping (Here s t content) → is_string name ≡ true → IsFitAt s t name → NodeAdds s
+    t content name
 string-node s t content name n is fit inner a = by (is_mark name) refl
   where
     by : (mark : Bool) → is_mark name ≡ mark →
-        Prints s (Here s t content) (prints s.given t name inner)
+        Prints s (Here s t content) (prints s.context t name inner)
     by true e = mark-node s t content name e inner a
     by false e = text-node s t (Here s t content) name n
         (and_from (is_string name) (not (is_mark name)) is (ap not e)) fit inner

@@ -8,30 +8,24 @@ use Rattle.md_base.specs.Is.{is as named}
 use Rattle.md_base.specs.Tree.{Forest}
 use Rattle.md_base.specs.NameTests.{is_transparent}
 use Rattle.md_text.specs.declared.options.CompileOptions.{CompileOptions}
-use Rattle.md_meaning.specs.declared.context.Surroundings.{Surroundings}
-use Rattle.md_meaning.specs.Meaning.Around.{inside}
-use Rattle.md_shape.specs.Built.{Content, Blocks, Spans, Strings, FirstFence, FirstMathFence}
-use Rattle.md_shape.specs.Built.{Chunks, InfoAndMeta, MetaAlone, Done, Nothing, Sources, is_info}
-use Rattle.md_shape.specs.Built.{is_source, may_stand, content_of, content_past, content_after}
-use Rattle.md_shape.specs.Built.{content_after_node}
+use Rattle.md_meaning.specs.declared.surroundings.Surroundings.{Surroundings}
+use Rattle.md_meaning.specs.Meaning.Inherited.{inside}
+use Rattle.md_content.specs.Built.{Content, Blocks, Spans, FirstFence}
+use Rattle.md_content.specs.Built.{InfoAndMeta, MetaAlone, Nothing, Sources, is_info}
+use Rattle.md_content.specs.Built.{is_source, may_stand, content_of, content_past, content_after}
+use Rattle.md_content.specs.Built.{content_after_node}
 use Rattle.md_safe.proofs.Contents.{Suits, stays-after}
-use Rattle.md_safe.proofs.Insides.{asks_escaping, asks_image, told}
+use Rattle.md_safe.proofs.Insides.{asks_escaping, asks_image, allowed_inside}
 
 suits-past : (escaping in_image : Bool) (content : Content) (name : Name) →
     Suits escaping in_image content →
     Suits escaping in_image (content_past content name)
 suits-past escaping in_image Blocks name h = h
 suits-past escaping in_image Spans name h = h
-suits-past escaping in_image Strings name h = tt
-suits-past escaping in_image FirstFence name h = tt
-suits-past escaping in_image FirstMathFence name h = tt
-suits-past escaping in_image Chunks name h = tt
+suits-past escaping in_image Sources name h = h
 suits-past escaping in_image InfoAndMeta name h =
     cond_both (is_info name) MetaAlone Nothing (Suits escaping in_image) (λ _. tt) (λ _. tt)
-suits-past escaping in_image MetaAlone name h = tt
-suits-past escaping in_image Done name h = tt
-suits-past escaping in_image Nothing name h = tt
-suits-past escaping in_image Sources name h = h
+suits-past escaping in_image _ name h = tt
 
 pub suits-after-node : (escaping in_image : Bool) (content : Content) (name : Name)
     (children : Forest) →
@@ -98,9 +92,9 @@ suits-inside options html loose around content name s h =
     suits (inside options loose name around).is_escaping
     (inside options loose name around).in_image (content_of name content)
     (λ asks.
-    let needs = (told content name s).escaping asks in
+    let needs = (allowed_inside content name s).escaping asks in
     escaping (is-escaping around.is_escaping around.in_image content needs.0 h) needs.1)
-    (λ asks. elim (or_cases (asks_image content) _ ((told content name s).image asks)) [
+    (λ asks. elim (or_cases (asks_image content) _ ((allowed_inside content name s).image asks)) [
       | inl within ↦ image (is-in_image around.is_escaping around.in_image content within h)
       | inr is ↦ in-image options loose around name is
     ])

@@ -20,28 +20,28 @@ use Rattle.md_safe.specs.InTable.{end_table_text}
 use Rattle.md_safe.specs.Construction.{start, step}
 
 -- a parser that is reached is in "text", or is not
-record Leads (text : Bool) (reached : Option Parser) : Type 0 where
+record Tokenizes (text : Bool) (reached : Option Parser) : Type 0 where
   holds : (next : Parser) → reached ≡ Some next → is_text next.mode ≡ text
 
-nowhere : (text : Bool) → Leads text None
+nowhere : (text : Bool) → Tokenizes text None
 nowhere text = record { holds = λ next e. cc }
 
-to : (text : Bool) (parser : Parser) → is_text parser.mode ≡ text → Leads text (Some parser)
+to : (text : Bool) (parser : Parser) → is_text parser.mode ≡ text → Tokenizes text (Some parser)
 to text parser is = record { holds = λ next e. subst (λ o. Leaves o) e is }
   where
     Leaves : Option Parser → Type 0
     Leaves None = Unit {0}
     Leaves (Some parser) = is_text parser.mode ≡ text
 
-either : (text : Bool) (b : Bool) (x y : Option Parser) → Leads text x → Leads text y →
-    Leads text (cond b x y)
+either : (text : Bool) (b : Bool) (x y : Option Parser) → Tokenizes text x → Tokenizes text y →
+    Tokenizes text (cond b x y)
 either text true x y p q = p
 either text false x y p q = q
 
 -- ---- no other tag
 
 rebuilt : (parser : Parser) (change : Parser → Parser) → is_text (change parser).mode ≡ false →
-    Leads false (reconstructed parser change)
+    Tokenizes false (reconstructed parser change)
 rebuilt parser change e =
     either false (needs_reconstruction parser) None (Some (change parser)) (nowhere false)
     (to false (change parser) e)
@@ -49,7 +49,7 @@ rebuilt parser change e =
 -- a tag in a body
 in-body : (name : List ℕ) (attributes : List TokenAttribute) (parser : Parser) →
     is_text parser.mode ≡ false →
-    Leads false (start_in_body name attributes parser)
+    Tokenizes false (start_in_body name attributes parser)
 in-body name attributes parser e =
     either false (is_one_of blocks name || bytes_eq name (codes "p")) _ _ (to false _ e)
     (either false (is_one_of headings name) _ _ (to false _ e)
@@ -69,35 +69,37 @@ in-body name attributes parser e =
     (nowhere false)))))))))))
 
 after-head : (name : List ℕ) (attributes : List TokenAttribute) (parser : Parser) →
-    Leads false (start_after_head name attributes parser)
+    Tokenizes false (start_after_head name attributes parser)
 after-head name attributes parser =
     either false (bytes_eq name (codes "body")) _ _ (to false _ refl)
     (in-body name attributes (with_body parser) refl)
 
 in-head : (name : List ℕ) (attributes : List TokenAttribute) (parser : Parser) →
     bytes_eq name (codes "title") ≡ false →
-    is_text parser.mode ≡ false → Leads false (start_in_head name attributes parser)
+    is_text parser.mode ≡ false → Tokenizes false (start_in_head name attributes parser)
 in-head name attributes parser none e =
     either false (bytes_eq name (codes "meta")) _ _ (to false _ e)
-    (subst (λ b. Leads false (cond b (Some (enter (InText InHead) name attributes parser))
+    (subst (λ b. Tokenizes false (cond b (Some (enter (InText InHead) name attributes parser))
     (start_after_head name attributes (without_head parser)))) (sym none)
     (after-head name attributes (without_head parser)))
 
 before-head : (name : List ℕ) (attributes : List TokenAttribute) (parser : Parser) →
-    bytes_eq name (codes "title") ≡ false → Leads false (start_before_head name attributes parser)
+    bytes_eq name (codes "title") ≡ false → Tokenizes false
+    (start_before_head name attributes parser)
 before-head name attributes parser none =
     either false (bytes_eq name (codes "head")) _ _ (to false _ refl)
     (in-head name attributes (with_head parser) none refl)
 
 before-html : (name : List ℕ) (attributes : List TokenAttribute) (parser : Parser) →
-    bytes_eq name (codes "title") ≡ false → Leads false (start_before_html name attributes parser)
+    bytes_eq name (codes "title") ≡ false → Tokenizes false
+    (start_before_html name attributes parser)
 before-html name attributes parser none =
     either false (bytes_eq name (codes "html")) _ _ (to false _ refl)
     (before-head name attributes (with_root parser) none)
 
 starts : (mode : Mode) (name : List ℕ) (attributes : List TokenAttribute) (parser : Parser) →
     parser.mode ≡ mode →
-    bytes_eq name (codes "title") ≡ false → Leads false (start mode name attributes parser)
+    bytes_eq name (codes "title") ≡ false → Tokenizes false (start mode name attributes parser)
 starts Initial name attributes parser e none = before-html name attributes parser none
 starts BeforeHtml name attributes parser e none = before-html name attributes parser none
 starts BeforeHead name attributes parser e none = before-head name attributes parser none
@@ -123,7 +125,7 @@ starts AfterAfterBody name attributes parser e none =
 -- ---- `title`
 
 titles : (mode : Mode) (attributes : List TokenAttribute) (parser : Parser) →
-    Leads true (start mode (codes "title") attributes parser)
+    Tokenizes true (start mode (codes "title") attributes parser)
 titles Initial attributes parser = to true _ refl
 titles BeforeHtml attributes parser = to true _ refl
 titles BeforeHead attributes parser = to true _ refl
@@ -133,21 +135,21 @@ titles _ attributes parser = nowhere true
 -- ---- after the characters of a table that were pending
 
 after-text : (text : Bool) (tag : Parser → Option Parser) →
-    ((parser : Parser) → Leads text (tag parser)) →
-    (reached : Option Parser) → Leads text (option_and_then tag reached)
+    ((parser : Parser) → Tokenizes text (tag parser)) →
+    (reached : Option Parser) → Tokenizes text (option_and_then tag reached)
 after-text text tag all None = nowhere text
 after-text text tag all (Some parser) = all parser
 
 steps : (text : Bool) (name : List ℕ) (attributes : List TokenAttribute) (flag : Bool) →
-    ((parser : Parser) → Leads text (start parser.mode name attributes parser)) →
+    ((parser : Parser) → Tokenizes text (start parser.mode name attributes parser)) →
     (parser : Parser) →
-    Leads text (step parser (StartTag name attributes flag))
+    Tokenizes text (step parser (StartTag name attributes flag))
 steps text name attributes flag all parser = by parser.mode
   where
     tag : Parser → Option Parser
     tag parser = start parser.mode name attributes parser
 
-    by : (mode : Mode) → Leads text (elim mode [
+    by : (mode : Mode) → Tokenizes text (elim mode [
       | InTableText original ↦
           option_and_then tag (end_table_text original (record parser { skips_line_feed = false }))
       | _ ↦ tag (record parser { skips_line_feed = false })
@@ -164,9 +166,9 @@ pub switched :
 switched parser next name attributes flag e = (by (bytes_eq name (codes "title")) refl).holds next e
   where
     by : (is : Bool) → bytes_eq name (codes "title") ≡ is →
-        Leads is (step parser (StartTag name attributes flag))
+        Tokenizes is (step parser (StartTag name attributes flag))
     by true same =
-        subst (λ name. Leads true (step parser (StartTag name attributes flag)))
+        subst (λ name. Tokenizes true (step parser (StartTag name attributes flag)))
         (sym ((bytes_eq-Decides name (codes "title")).0 same)) (steps true (codes "title")
         attributes flag (λ parser. titles parser.mode attributes parser) parser)
     by false none =

@@ -1,9 +1,9 @@
 -- Texts in a table wait as pending characters, and white space is inserted as it is.
-use Rattle.std.proofs.Common.{◌≡◌, ℕ, ◌==◌, Bool, true, false, not, cond, List, [], ◌∷◌, ◌++◌, refl}
+use Rattle.std.proofs.Common.{◌≡◌, ℕ, ◌==◌, Bool, true, false, cond, List, [], ◌∷◌, ◌++◌, refl}
 use Rattle.std.proofs.Common.{sym, ap, ◌∙◌, subst, map, append_assoc, append-nil}
-use Rattle.std.specs.Prelude.{Some, None, option_and_then}
+use Rattle.std.specs.Prelude.{Option, Some, None, option_and_then}
 use Rattle.std.specs.List.{list_all}
-use Rattle.std.proofs.lemmas.Bool.{and_parts, and_from, cond_both}
+use Rattle.std.proofs.lemmas.Bool.{and_parts, and_from, cond_both, not-true}
 use Rattle.md_base.proofs.Lies.{lie}
 use Rattle.md_base.specs.Identifier.{is_nonempty}
 use Rattle.md_text.specs.References.{read_back}
@@ -14,9 +14,10 @@ use Rattle.md_safe.specs.Tokens.{seen}
 use Rattle.md_safe.specs.Contents.{is_space}
 use Rattle.md_safe.specs.Node.{Open, Entry, Mode, InTable, InTableBody, InRow, InTableText, Parser}
 use Rattle.md_safe.specs.Node.{with_character}
-use Rattle.md_safe.specs.InTable.{is_tabular, say_all, end_table_text}
-use Rattle.md_safe.specs.Construction.{character, start, end, step, run}
+use Rattle.md_safe.specs.InTable.{is_tabular, say_all, end_table_text, character_in_table}
+use Rattle.md_safe.specs.Construction.{character, start, end, step, run, after_table_text}
 use Rattle.md_safe.specs.Built.{with_characters, at}
+use Rattle.md_safe.proofs.Steps.{past, here}
 use Rattle.md_safe.proofs.TreeSteps.{after-one, is_character}
 
 -- ---- white space
@@ -79,43 +80,42 @@ say-all (b ∷ bytes) node others =
 abbrev pub is_tables : Mode → Bool
 is_tables mode = elim mode [ InTable ↦ true | InTableBody ↦ true | InRow ↦ true | _ ↦ false ]
 
+-- what the modes of tables do with a tag and with a character
+tagged : (mode : Mode) → is_tables mode ≡ true → (p : Parser) (tag : Parser → Option Parser) →
+    after_table_text (record p { mode = mode }) tag ≡ tag (record p { mode = mode })
+tagged InTable is p tag = refl
+tagged InTableBody is p tag = refl
+tagged InRow is p tag = refl
+tagged _ is p tag = lie is
+
+said : (mode : Mode) → is_tables mode ≡ true → (byte : ℕ) (p : Parser) →
+    character mode byte p ≡ character_in_table byte p
+said InTable is byte p = refl
+said InTableBody is byte p = refl
+said InRow is byte p = refl
+said _ is byte p = lie is
+
 pub settled : (mode : Mode) → is_tables mode ≡ true →
     (node : Open) (others : List Open) (active : List Entry)
     (created : ℕ) (bytes : List ℕ) → list_all is_space bytes ≡ true →
     Settles (waiting mode (node ∷ others) active created bytes) (at mode
     (record node { children = with_characters node.children bytes } ∷ others) active created)
-settled mode is node others active created bytes h = by mode is
+settled mode is node others active created bytes h = record {
+  starts = λ name attributes flag. by (λ p. start p.mode name attributes p);
+  ends = λ name. by (λ p. end p.mode name p);
+}
   where
-    next : Mode → Parser
-    next mode = at mode (record node { children = with_characters node.children bytes } ∷ others)
+    next : Parser
+    next = at mode (record node { children = with_characters node.children bytes } ∷ others)
         active created
 
-    flush : (mode : Mode) →
-        end_table_text mode (waiting mode (node ∷ others) active created bytes) ≡ Some (at mode
-        (record node { children = with_characters node.children bytes } ∷ others) active created)
-    flush mode =
-        ap (λ b. cond b (Some (at mode (say_all bytes (node ∷ others)) active created)) None) h
-        ∙ ap (λ stack. Some (at mode stack active created)) (say-all bytes node others)
-
-    by : (mode : Mode) → is_tables mode ≡ true →
-        Settles (waiting mode (node ∷ others) active created bytes) (at mode
-        (record node { children = with_characters node.children bytes } ∷ others) active created)
-    by InTable is = record {
-      starts = λ name attributes flag.
-          ap (option_and_then (λ p. start p.mode name attributes p)) (flush InTable);
-      ends = λ name. ap (option_and_then (λ p. end p.mode name p)) (flush InTable);
-    }
-    by InTableBody is = record {
-      starts = λ name attributes flag.
-          ap (option_and_then (λ p. start p.mode name attributes p)) (flush InTableBody);
-      ends = λ name. ap (option_and_then (λ p. end p.mode name p)) (flush InTableBody);
-    }
-    by InRow is = record {
-      starts = λ name attributes flag.
-          ap (option_and_then (λ p. start p.mode name attributes p)) (flush InRow);
-      ends = λ name. ap (option_and_then (λ p. end p.mode name p)) (flush InRow);
-    }
-    by _ is = lie is
+    by : (tag : Parser → Option Parser) →
+        option_and_then tag (end_table_text mode
+        (waiting mode (node ∷ others) active created bytes)) ≡ after_table_text next tag
+    by tag =
+        ap (option_and_then tag) (here None h
+        (ap (λ stack. Some (at mode stack active created)) (say-all bytes node others)))
+        ∙ sym (tagged mode is next tag)
 
 more-waits :
     (mode : Mode) (stack : List Open) (active : List Entry) (created : ℕ) (before bytes : List ℕ) →
@@ -128,15 +128,9 @@ more-waits mode stack active created before (b ∷ bytes) h =
     let parts = and_parts (is_character b) (list_all is_character bytes) h in
     after-one (waiting mode stack active created before)
     (waiting mode stack active created (before ++ (b ∷ [])))
-    (Character b) (map Character bytes) (known (b == 0) parts.0)
+    (Character b) (map Character bytes) (past _ (not-true (b == 0) parts.0) refl)
     ∙ (more-waits mode stack active created (before ++ (b ∷ [])) bytes parts.1
     ∙ ap (λ x. Some (waiting mode stack active created x)) (append_assoc before (b ∷ []) bytes))
-  where
-    known : (nul : Bool) → not nul ≡ true →
-        cond nul None (Some (waiting mode stack active created (before ++ (b ∷ []))))
-        ≡ Some (waiting mode stack active created (before ++ (b ∷ [])))
-    known true h = lie h
-    known false h = refl
 
 -- a text in a table waits
 pub text-waits : (mode : Mode) → is_tables mode ≡ true →
@@ -150,23 +144,6 @@ text-waits mode is node others active created (b ∷ bytes) t f h =
     let parts = and_parts (is_character b) (list_all is_character bytes) h in
     after-one (at mode (node ∷ others) active created)
     (waiting mode (node ∷ others) active created (b ∷ []))
-    (Character b) (map Character bytes) (known (b == 0) parts.0 ∙ first mode is)
+    (Character b) (map Character bytes) (past _ (not-true (b == 0) parts.0)
+    (said mode is b (at mode (node ∷ others) active created) ∙ here None t refl))
     ∙ more-waits mode (node ∷ others) active created (b ∷ []) bytes parts.1
-  where
-    known : (nul : Bool) → not nul ≡ true →
-        cond nul None (character mode b (at mode (node ∷ others) active created))
-        ≡ character mode b (at mode (node ∷ others) active created)
-    known true h = lie h
-    known false h = refl
-
-    first : (mode : Mode) → is_tables mode ≡ true →
-        character mode b (at mode (node ∷ others) active created)
-        ≡ Some (waiting mode (node ∷ others) active created (b ∷ []))
-    first InTable is =
-        ap (λ b'. cond b' (Some (waiting InTable (node ∷ others) active created (b ∷ []))) None) t
-    first InTableBody is =
-        ap (λ b'. cond b' (Some (waiting InTableBody (node ∷ others) active created (b ∷ []))) None)
-        t
-    first InRow is =
-        ap (λ b'. cond b' (Some (waiting InRow (node ∷ others) active created (b ∷ []))) None) t
-    first _ is = lie is

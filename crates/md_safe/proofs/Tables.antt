@@ -1,189 +1,139 @@
 -- Tables are built as they are read: their parts, rows and cells, with white space between.
-use Rattle.std.proofs.Common.{◌≡◌, ◌⊎◌, inl, inr, ℕ, suc, true, false, List, ◌∷◌, ◌++◌, refl, sym}
-use Rattle.std.proofs.Common.{ap, ◌∙◌, subst, codes, arith}
-use Rattle.std.specs.Prelude.{option_and_then}
+use Rattle.std.proofs.Common.{◌≡◌, ℕ, suc, true, false, List, [], ◌∷◌, ◌++◌, refl, ap}
+use Rattle.std.proofs.Common.{◌∙◌, codes, arith}
+use Rattle.std.specs.Prelude.{Some, option_and_then}
+use Rattle.md_text.specs.Bytes.{is_one_of}
 use Rattle.md_text.specs.Html.{Attribute, Forest}
 use Rattle.md_safe.specs.Token.{StartTag, EndTag, TokenAttribute}
 use Rattle.md_safe.specs.Tokens.{seen_attributes, tokens}
-use Rattle.md_safe.specs.Contents.{Parts, Rows, Cells, elements_in, is_contained}
-use Rattle.md_safe.specs.Node.{Nodes, Open, Entry, Mode, InTable, InTableBody, InRow, Parser}
+use Rattle.md_safe.specs.Contents.{Content, Phrasing, Parts, Rows, Cells, elements_in, is_contained}
+use Rattle.md_safe.specs.Node.{Nodes, Entry, Marker, Mode, InTable, InTableBody, InRow, InCell}
 use Rattle.md_safe.specs.Node.{with_element, Empty as NoNode}
 use Rattle.md_safe.specs.Elements.{button_scope}
 use Rattle.md_safe.specs.Stack.{is_named, has_in_scope}
 use Rattle.md_safe.specs.InTable.{mode_for}
-use Rattle.md_safe.specs.Construction.{run}
-use Rattle.md_safe.specs.Built.{has_whole_texts, put, at, is_body, AreCreated}
+use Rattle.md_safe.specs.Construction.{step, run}
+use Rattle.md_safe.specs.Built.{has_whole_texts, put, is_body, AreCreated}
 use Rattle.md_safe.proofs.Lists.{keeps-all, later-created}
-use Rattle.md_safe.proofs.TreeSteps.{past, after, after-one, start-in-body}
-use Rattle.md_safe.proofs.PhrasingNames.{Passed}
-use Rattle.md_safe.proofs.FormattingElements.{element_of}
-use Rattle.md_safe.proofs.TableContents.{Set, Put, set-all, Putting}
-use Rattle.md_safe.proofs.TableCells.{cells-put, which}
+use Rattle.md_safe.proofs.Steps.{past}
+use Rattle.md_safe.proofs.TreeSteps.{Position, parser_of, with_children, within, after, after-one}
+use Rattle.md_safe.proofs.TreeSteps.{start-in-body}
+use Rattle.md_safe.proofs.PhrasingNames.{Passed, Each, also}
+use Rattle.md_safe.proofs.Phrasing.{phrasing-done}
+use Rattle.md_safe.proofs.TableContents.{Set, Put, Puts, part, is_tabled, set-all}
+use Rattle.md_safe.proofs.TableTexts.{is_tables}
 
--- ---- rows, and what holds them
-row-put : (parent : List ℕ) → (parent ≡ codes "tbody") ⊎ (parent ≡ codes "thead") →
-    (inner : Forest) →
-    has_whole_texts inner ≡ true → is_contained false Cells inner ≡ true →
-    (identity : ℕ) (those : List TokenAttribute) (children : Nodes) (others : List Open)
-    (active : List Entry) (created : ℕ) (attributes : List Attribute) →
-    AreCreated created active →
-    Put InTableBody (element_of identity parent those children) others active created
-    (codes "tr") attributes inner
-row-put parent is inner h c identity those children others active created attributes made =
-    elim is [
-      | inl e ↦ subst (λ parent. Put InTableBody (element_of identity parent those children)
-          others active created
-          (codes "tr") attributes inner) (sym e) (tbody (inside (codes "tbody")))
-      | inr e ↦ subst (λ parent. Put InTableBody (element_of identity parent those children)
-          others active created
-          (codes "tr") attributes inner) (sym e) (thead (inside (codes "thead")))
-    ]
-  where
-    row : Nodes → Open
-    row inside = element_of created (codes "tr") (seen_attributes attributes) inside
+-- the children of an element of a table: its mode, and the active formatting elements
+abbrev inside : Mode → Position → List ℕ → List TokenAttribute → List Entry → Position
+inside mode x name those active = record (within x name those active) { mode = mode }
 
-    inside : (parent : List ℕ) →
-        Set InRow (element_of created (codes "tr") (seen_attributes attributes) NoNode)
-        (element_of identity parent those children ∷ others) active (suc created) inner
-    inside parent = set-all inner Cells refl InRow refl (codes "tr") refl cells-put h c created
-        (seen_attributes attributes) NoNode (element_of identity parent those children ∷ others)
-        active (suc created) (later-created created (suc created) active (omega arith) made)
+-- what an element's tags do there
+abbrev Starts : Mode → List Entry → Position → List ℕ → Type 0
+Starts mode active x name = (those : List TokenAttribute) →
+    step (parser_of x) (StartTag name those false) ≡ Some
+    (parser_of (inside mode x name those active))
 
-    tbody : Set InRow (element_of created (codes "tr") (seen_attributes attributes) NoNode)
-        (element_of identity (codes "tbody") those children ∷ others) active (suc created) inner →
-        Put InTableBody (element_of identity (codes "tbody") those children) others active created
-        (codes "tr") attributes inner
-    tbody d = record {
+abbrev Ends : Mode → List Entry → Position → List ℕ → Type 0
+Ends mode active x name = (those : List TokenAttribute) (inner : Nodes) (more : ℕ) →
+    step (parser_of (with_children (inside mode x name those active) inner active more))
+    (EndTag name)
+    ≡ Some (parser_of (with_children x (with_element x.node.children name those inner) x.active
+    more))
+
+-- an element, by its tags and what is in it
+puts : (mode : Mode) (active : List Entry) (x : Position) (name : List ℕ)
+    (attributes : List Attribute) (inner : Forest) → Starts mode active x name →
+    Ends mode active x name →
+    Set (inside mode x name (seen_attributes attributes) active) inner →
+    Put x name attributes inner
+puts mode active x name attributes inner starts ends d =
+    let those : List TokenAttribute = seen_attributes attributes in
+    let new : Position = inside mode x name those active in
+    record {
       more = d.more;
       runs = λ ys.
-          after (at InRow (row NoNode ∷ element_of identity (codes "tbody") those children ∷ others)
-          active (suc created)) d.last (tokens inner) (EndTag (codes "tr") ∷ ys) d.runs
-          ∙ ap (λ r. option_and_then (λ q. run q ys) r) (d.settles.ends (codes "tr"));
+          after-one (parser_of x) (parser_of new) (StartTag name those false)
+          (tokens inner ++ (EndTag name ∷ ys)) (starts those)
+          ∙ (after (parser_of new) d.last (tokens inner) (EndTag name ∷ ys) d.runs
+          ∙ ap (option_and_then (λ q. run q ys))
+          (d.settles.ends name ∙ ends those (put NoNode inner) d.more));
       later = omega (d.later, arith);
     }
 
-    thead : Set InRow (element_of created (codes "tr") (seen_attributes attributes) NoNode)
-        (element_of identity (codes "thead") those children ∷ others) active (suc created) inner →
-        Put InTableBody (element_of identity (codes "thead") those children) others active created
-        (codes "tr") attributes inner
-    thead d = record {
+-- a cell
+cell-put : (name : List ℕ) →
+    ((x : Position) → Starts InCell (Marker ∷ x.active) (part InRow (codes "tr") x) name) →
+    ((x : Position) → Ends InCell (Marker ∷ x.active) (part InRow (codes "tr") x) name) →
+    Puts InRow (codes "tr") name Phrasing
+cell-put name starts ends x attributes inner h c made =
+    let row : Position = part InRow (codes "tr") x in
+    let new : Position =
+    inside InCell row name (seen_attributes attributes) (Marker ∷ x.active) in
+    let d = phrasing-done inner Phrasing refl h c new (record {
+      body = refl;
+      opened = tt;
+      made = later-created x.created (suc x.created) x.active (omega arith) made;
+      no_link = λ free. refl;
+    }) in
+    puts InCell (Marker ∷ x.active) row name attributes inner (starts x) (ends x) (record {
       more = d.more;
-      runs = λ ys.
-          after (at InRow (row NoNode ∷ element_of identity (codes "thead") those children ∷ others)
-          active (suc created)) d.last (tokens inner) (EndTag (codes "tr") ∷ ys) d.runs
-          ∙ ap (λ r. option_and_then (λ q. run q ys) r) (d.settles.ends (codes "tr"));
-      later = omega (d.later, arith);
-    }
+      last = parser_of (with_children new (put NoNode inner) (Marker ∷ x.active) d.more);
+      runs = d.runs
+          ∙ ap (λ left. Some (parser_of (with_children new (put NoNode inner) left d.more)))
+          d.keeps;
+      settles = record { starts = λ name attributes flag. refl; ends = λ name. refl };
+      later = d.later;
+    })
 
-rows-put : (parent : List ℕ) → (parent ≡ codes "tbody") ⊎ (parent ≡ codes "thead") →
-    Putting Rows InTableBody parent
-rows-put parent is name held inner h e c identity those children others active
-    created attributes made =
-    elim (which (elements_in false Rows) name held e) [
-      | inl same ↦ subst (λ name. Put InTableBody (element_of identity parent those children)
-          others active created name attributes inner) (sym same.0) (row-put parent is inner h
-          (subst (λ held. is_contained false held inner ≡ true) same.1 c) identity those children
-          others active created attributes made)
-      | inr none ↦ absurd none
-    ]
+-- a row, or a part of a table
+element-put : (mode : Mode) (parent : List ℕ) (inner-mode : Mode) (name : List ℕ) (held : Content) →
+    is_tabled held ≡ true → is_tables inner-mode ≡ true →
+    is_one_of (codes "table" ∷ codes "tbody" ∷ codes "template" ∷ codes "tfoot" ∷ codes "thead"
+    ∷ codes "tr" ∷ []) name ≡ true → Each (Puts inner-mode name) (elements_in false held) →
+    ((x : Position) → Starts inner-mode x.active (part mode parent x) name) →
+    ((x : Position) → Ends inner-mode x.active (part mode parent x) name) →
+    Puts mode parent name held
+element-put mode parent inner-mode name held is tables tabular each starts ends x attributes inner
+    h c made =
+    puts inner-mode x.active (part mode parent x) name attributes inner (starts x) (ends x)
+    (set-all inner held is inner-mode tables name tabular each h c
+    (inside inner-mode (part mode parent x) name (seen_attributes attributes) x.active)
+    (later-created x.created (suc x.created) x.active (omega arith) made))
 
-part-put : (name : List ℕ) → (name ≡ codes "tbody") ⊎ (name ≡ codes "thead") → (inner : Forest) →
-    has_whole_texts inner ≡ true → is_contained false Rows inner ≡ true →
-    (identity : ℕ) (those : List TokenAttribute) (children : Nodes) (others : List Open)
-    (active : List Entry) (created : ℕ) (attributes : List Attribute) →
-    AreCreated created active →
-    Put InTable (element_of identity (codes "table") those children) others active created
-    name attributes inner
-part-put name is inner h c identity those children others active created attributes made =
-    elim is [
-      | inl e ↦ subst (λ name. Put InTable table others active created name attributes inner)
-          (sym e) (tbody (set-all inner Rows refl InTableBody refl (codes "tbody") refl
-          (rows-put (codes "tbody")
-          (inl refl)) h c
-          created (seen_attributes attributes) NoNode (table ∷ others) active (suc created) later))
-      | inr e ↦ subst (λ name. Put InTable table others active created name attributes inner)
-          (sym e) (thead (set-all inner Rows refl InTableBody refl (codes "thead") refl
-          (rows-put (codes "thead")
-          (inr refl)) h c
-          created (seen_attributes attributes) NoNode (table ∷ others) active (suc created) later))
-    ]
-  where
-    table : Open
-    table = element_of identity (codes "table") those children
+cells-put : Each (Puts InRow (codes "tr")) (elements_in false Cells)
+cells-put = also (cell-put (codes "th") (λ x t. refl) (λ x t i m. refl))
+    (also (cell-put (codes "td") (λ x t. refl) (λ x t i m. refl)) tt)
 
-    later : AreCreated (suc created) active
-    later = later-created created (suc created) active (omega arith) made
-
-    tbody : Set InTableBody (element_of created (codes "tbody") (seen_attributes attributes) NoNode)
-        (table ∷ others) active (suc created) inner →
-        Put InTable table others active created (codes "tbody") attributes inner
-    tbody d = record {
-      more = d.more;
-      runs = λ ys.
-          after (at InTableBody
-          (element_of created (codes "tbody") (seen_attributes attributes) NoNode ∷ table ∷ others)
-          active (suc created)) d.last (tokens inner) (EndTag (codes "tbody") ∷ ys) d.runs
-          ∙ ap (λ r. option_and_then (λ q. run q ys) r) (d.settles.ends (codes "tbody"));
-      later = omega (d.later, arith);
-    }
-
-    thead : Set InTableBody (element_of created (codes "thead") (seen_attributes attributes) NoNode)
-        (table ∷ others) active (suc created) inner →
-        Put InTable table others active created (codes "thead") attributes inner
-    thead d = record {
-      more = d.more;
-      runs = λ ys.
-          after (at InTableBody
-          (element_of created (codes "thead") (seen_attributes attributes) NoNode ∷ table ∷ others)
-          active (suc created)) d.last (tokens inner) (EndTag (codes "thead") ∷ ys) d.runs
-          ∙ ap (λ r. option_and_then (λ q. run q ys) r) (d.settles.ends (codes "thead"));
-      later = omega (d.later, arith);
-    }
-
-parts-put : Putting Parts InTable (codes "table")
-parts-put name held inner h e c identity those children others active created attributes made =
-    elim (which (elements_in false Parts) name held e) [
-      | inl is ↦ part-put name (inr is.0) inner h
-          (subst (λ held. is_contained false held inner ≡ true) is.1 c) identity
-          those children others active created attributes made
-      | inr (inl is) ↦ part-put name (inl is.0) inner h
-          (subst (λ held. is_contained false held inner ≡ true) is.1 c)
-          identity those children others active created attributes made
-      | inr (inr none) ↦ absurd none
-    ]
+parts-put : Each (Puts InTable (codes "table")) (elements_in false Parts)
+parts-put =
+    also (element-put InTable (codes "table") InTableBody (codes "thead") Rows refl refl refl
+    (also (element-put InTableBody (codes "thead") InRow (codes "tr") Cells refl refl refl cells-put
+    (λ x t. refl) (λ x t i m. refl)) tt) (λ x t. refl) (λ x t i m. refl))
+    (also (element-put InTable (codes "table") InTableBody (codes "tbody") Rows refl refl refl
+    (also (element-put InTableBody (codes "tbody") InRow (codes "tr") Cells refl refl refl cells-put
+    (λ x t. refl) (λ x t i m. refl)) tt) (λ x t. refl) (λ x t i m. refl)) tt)
 
 -- ---- a table
-pub table-passes : (mode : Mode) (node : Open) (others : List Open) (active : List Entry)
-    (created : ℕ) (attributes : List Attribute) (inner : Forest) → is_body mode ≡ true →
-    AreCreated created active →
-    has_in_scope button_scope (is_named (codes "p")) (node ∷ others) ≡ false →
-    mode_for (node ∷ others) ≡ mode →
+pub table-passes : (x : Position) (attributes : List Attribute) (inner : Forest) →
+    is_body x.mode ≡ true → AreCreated x.created x.active →
+    has_in_scope button_scope (is_named (codes "p")) (x.node ∷ x.others) ≡ false →
+    mode_for (x.node ∷ x.others) ≡ x.mode →
     has_whole_texts inner ≡ true → is_contained false Parts inner ≡ true →
-    Passed mode node others active created (codes "table") attributes inner
-table-passes mode node others active created attributes inner body made none resets h c =
+    Passed x (codes "table") attributes inner
+table-passes x attributes inner body made none resets h c =
     let those : List TokenAttribute = seen_attributes attributes in
-    let begun : Parser =
-    at InTable (element_of created (codes "table") those NoNode ∷ node ∷ others) active
-    (suc created)
-    in
-    let d : Set InTable (element_of created (codes "table") those NoNode) (node ∷ others) active
-    (suc created) inner =
-    set-all inner Parts refl InTable refl (codes "table") refl parts-put h c created those NoNode
-    (node ∷ others) active
-    (suc created) (later-created created (suc created) active (omega arith) made) in
+    let new : Position = inside InTable x (codes "table") those x.active in
+    let d = set-all inner Parts refl InTable refl (codes "table") refl parts-put h c new
+    (later-created x.created (suc x.created) x.active (omega arith) made) in
+    let p = puts InTable x.active x (codes "table") attributes inner
+    (λ those. start-in-body x body (codes "table") those false refl ∙ past _ none refl)
+    (λ those inner more. ap (λ mode. Some (parser_of (record (with_children x
+    (with_element x.node.children (codes "table") those inner) x.active more) { mode = mode })))
+    resets) d in
     record {
-      left = active;
-      more = d.more;
-      runs = λ ys.
-          after-one (at mode (node ∷ others) active created) begun
-          (StartTag (codes "table") those false) (tokens inner ++ (EndTag (codes "table") ∷ ys))
-          (start-in-body mode body (node ∷ others) active created (codes "table") those false refl
-          ∙ past (has_in_scope button_scope (is_named (codes "p")) (node ∷ others)) _ _ none)
-          ∙ (after begun d.last (tokens inner) (EndTag (codes "table") ∷ ys) d.runs
-          ∙ (ap (λ r. option_and_then (λ q. run q ys) r) (d.settles.ends (codes "table"))
-          ∙ ap (λ mode. run (at mode (record node {
-            children = with_element node.children (codes "table") those (put NoNode inner);
-          } ∷ others) active d.more) ys) resets));
-      keeps = keeps-all active;
-      later = omega (d.later, arith);
+      left = x.active;
+      more = p.more;
+      runs = p.runs;
+      keeps = keeps-all x.active;
+      later = p.later;
     }

@@ -1,83 +1,52 @@
--- From `<` or `</` to the end of a tag, and on to the data state.
+-- From `<` or `</` to the end of a tag, and on to the data state; and a run from there.
 use Rattle.std.specs.Str.{bytes_eq}
-use Rattle.std.proofs.Common.{◌≡◌, ℕ, ◌==◌, Bool, true, false, not, List, [], ◌∷◌, ◌++◌}
-use Rattle.std.proofs.Common.{refl, sym, subst, append-nil, append_assoc}
+use Rattle.std.proofs.Common.{◌≡◌, ℕ, ◌==◌, Bool, true, false, not, ◌&&◌, List, [], ◌∷◌, ◌++◌, refl}
+use Rattle.std.proofs.Common.{sym, ap, ◌∙◌, append-nil, append_assoc}
 use Rattle.std.specs.List.{list_all, list_any}
-use Rattle.std.proofs.lemmas.Bool.{and_parts, or_from}
+use Rattle.std.proofs.lemmas.Bool.{and_parts, and_from, not-true, or_from, or_parts}
 use Rattle.md_base.proofs.Lies.{lie}
-use Rattle.md_text.specs.References.{is_escaped, read_back}
+use Rattle.md_base.specs.Identifier.{is_nonempty}
+use Rattle.md_text.specs.Bytes.{is_letter}
 use Rattle.md_text.specs.Html.{Attribute}
 use Rattle.md_text.proofs.HtmlWriting.{attributes_before}
 use Rattle.md_safe.specs.Input.{with_line_feeds}
 use Rattle.md_safe.specs.Token.{Token, StartTag, EndTag, TokenAttribute}
 use Rattle.md_safe.specs.Tag.{kept}
-use Rattle.md_safe.specs.TokenizerStates.{Data, TagName}
-use Rattle.md_safe.specs.TokenizerStates.{BeforeAttributeName}
-use Rattle.md_safe.specs.TokenizerStates.{AfterAttributeValueQuoted}
+use Rattle.md_safe.specs.TokenizerStates.{Data, TagOpen, EndTagOpen, TagName, BeforeAttributeName}
+use Rattle.md_safe.specs.TokenizerStates.{AfterAttributeValueQuoted, Goes, Stuck, emitted}
+use Rattle.md_safe.specs.Tokenizer.{step, IsRun}
 use Rattle.md_safe.specs.Tokens.{seen, seen_attributes}
-use Rattle.md_safe.proofs.LineFeeds.{line_feeds-escaped}
-use Rattle.md_safe.proofs.GoodNames.{is_good_byte, is_good_name, is_good_attribute_name, are_good}
-use Rattle.md_safe.proofs.GoodNames.{begins_tag}
-use Rattle.md_safe.proofs.Steps.{past, tag_with, attribute}
-use Rattle.md_safe.proofs.TagNames.{good_parts, tag_name_step, attribute_name_step, AtName}
-use Rattle.md_safe.proofs.TagRuns.{lined, onto, opens, closes, all-kept, good-emitted}
-use Rattle.md_safe.proofs.TextLeads.{To, quiet, loud, along, value-leads}
-
--- ---- names
-
--- a tag's name, after a first part of it
-tag_name-leads : {left : List ℕ} (is_end : Bool) (before name r : List ℕ) (t : List Token) →
-    list_all is_good_byte name ≡ true →
-    To left (TagName (tag_with is_end (before ++ name) [])) r t →
-    To left (TagName (tag_with is_end before [])) (name ++ r) t
-tag_name-leads {left = left} is_end before [] r t g h =
-    subst (λ n. To left (TagName (tag_with is_end n [])) r t) (append-nil before) h
-tag_name-leads {left = left} is_end before (b ∷ name) r t g h =
-    let p = and_parts (is_good_byte b) (list_all is_good_byte name) g in
-    quiet (tag_name_step (tag_with is_end before []) b (name ++ r) (good_parts b p.0))
-    (tag_name-leads is_end (before ++ (b ∷ [])) name r t p.1
-    (subst (λ n. To left (TagName (tag_with is_end n [])) r t)
-    (sym (append_assoc before (b ∷ []) name)) h))
-
-attribute_name-leads : {left : List ℕ} (tag : List ℕ) (earlier : List TokenAttribute)
-    (before name r : List ℕ) (t : List Token) → list_all is_good_byte name ≡ true →
-    To left (AtName tag earlier (before ++ name)) r t →
-    To left (AtName tag earlier before) (name ++ r) t
-attribute_name-leads {left = left} tag earlier before [] r t g h =
-    subst (λ n. To left (AtName tag earlier n) r t) (append-nil before) h
-attribute_name-leads {left = left} tag earlier before (b ∷ name) r t g h =
-    let p = and_parts (is_good_byte b) (list_all is_good_byte name) g in
-    quiet (attribute_name_step (tag_with false tag (attribute before [] ∷ earlier)) b
-    (name ++ r) (good_parts b p.0))
-    (attribute_name-leads tag earlier (before ++ (b ∷ [])) name r t p.1
-    (subst (λ n. To left (AtName tag earlier n) r t) (sym (append_assoc before (b ∷ []) name)) h))
-
--- a name begins another attribute
-attribute-begins : {left : List ℕ} (tag : List ℕ) (earlier : List TokenAttribute)
-    (name r : List ℕ) (t : List Token) →
-    is_good_attribute_name name ≡ true → To left (AtName tag earlier name) r t →
-    To left (BeforeAttributeName (tag_with false tag earlier)) (name ++ r) t
-attribute-begins tag earlier [] r t g h = lie g
-attribute-begins tag earlier (b ∷ name) r t g h =
-    let p = and_parts (is_good_byte b) (list_all is_good_byte name) g in
-    let q = good_parts b p.0 in
-    quiet (past _ q.no_space
-    (past _ (or_from (b == 47) (b == 62) q.no_slash q.no_angle) (past _ q.no_equals refl)))
-    (attribute_name-leads tag earlier [] (b ∷ name) r t g h)
-
--- a name, `="`, a value and `"`
-attribute-leads :
-    {left : List ℕ} (tag : List ℕ) (earlier : List TokenAttribute) (name value r : List ℕ)
-    (t : List Token) → is_good_attribute_name name ≡ true → is_escaped value ≡ true →
-    To left (AfterAttributeValueQuoted (tag_with false tag
-    (attribute name (read_back value) ∷ earlier))) r t →
-    To left (BeforeAttributeName (tag_with false tag earlier))
-    (name ++ (61 ∷ 34 ∷ (value ++ (34 ∷ r)))) t
-attribute-leads tag earlier name value r t g e h =
-    attribute-begins tag earlier name (61 ∷ 34 ∷ (value ++ (34 ∷ r))) t g
-    (quiet refl (quiet refl (value-leads _ value e tag earlier name [] (34 ∷ r) t (quiet refl h))))
+use Rattle.md_safe.proofs.LineFeeds.{line_feeds-append, line_feeds-name, line_feeds-escaped}
+use Rattle.md_safe.proofs.GoodNames.{is_good_byte, is_good_name, are_good, good_attribute}
+use Rattle.md_safe.proofs.GoodNames.{begins_tag, good-leaves, good-not_title}
+use Rattle.md_safe.proofs.Steps.{past, here, tag_with, attribute}
+use Rattle.md_safe.proofs.Joining.{runs-on}
+use Rattle.md_safe.proofs.TextLeads.{To, arrived, quiet, loud, along}
+use Rattle.md_safe.proofs.TagNames.{good-no_return, attribute-leads, name-leads, tag_name_step}
 
 -- ---- attributes
+
+-- with line feeds for the line ends in values
+abbrev pub lined : List Attribute → List Attribute
+lined [] = []
+lined (a ∷ rest) = record { name = a.name; value = with_line_feeds a.value } ∷ lined rest
+
+pub line_feeds-attributes : (x : List Attribute) (r : List ℕ) → are_good x ≡ true →
+    with_line_feeds (attributes_before x r) ≡ attributes_before (lined x) (with_line_feeds r)
+line_feeds-attributes [] r g = refl
+line_feeds-attributes (a ∷ x) r g =
+    let p = good_attribute a x g in
+    let n = and_parts (is_nonempty a.name) (list_all is_good_byte a.name) p.0 in
+    ap (λ y. 32 ∷ y)
+    (line_feeds-name a.name (61 ∷ 34 ∷ (a.value ++ (34 ∷ attributes_before x r)))
+    (good-no_return a.name n.1) ∙ ap (λ y. a.name ++ (61 ∷ 34 ∷ y))
+    (line_feeds-append a.value (34 ∷ attributes_before x r) refl
+    ∙ ap (λ y. with_line_feeds a.value ++ (34 ∷ y)) (line_feeds-attributes x r p.3)))
+
+-- more attributes, the last one first
+abbrev pub onto : List TokenAttribute → List Attribute → List TokenAttribute
+onto earlier [] = earlier
+onto earlier (a ∷ rest) = onto (attribute a.name (seen a.value) ∷ earlier) rest
 
 attributes-lead :
     {left : List ℕ} (tag : List ℕ) (earlier : List TokenAttribute) (x : List Attribute) (r : List ℕ)
@@ -87,12 +56,10 @@ attributes-lead :
     (attributes_before (lined x) r) t
 attributes-lead tag earlier [] r t g h = h
 attributes-lead tag earlier (a ∷ x) r t g h =
-    let p = and_parts (is_good_attribute_name a.name) _ g in
-    let q = and_parts (is_escaped a.value) _ p.1 in
-    let s = and_parts (not (list_any (λ later. bytes_eq a.name later.name) x)) (are_good x) q.1 in
+    let p = good_attribute a x g in
     quiet refl (attribute-leads tag earlier a.name (with_line_feeds a.value)
-    (attributes_before (lined x) r) t p.0 (line_feeds-escaped a.value q.0)
-    (attributes-lead tag (attribute a.name (seen a.value) ∷ earlier) x r t s.1 h))
+    (attributes_before (lined x) r) t p.0 (line_feeds-escaped a.value p.1)
+    (attributes-lead tag (attribute a.name (seen a.value) ∷ earlier) x r t p.3 h))
 
 -- after the name: both states take what ends a tag alike
 after_name-leads :
@@ -102,15 +69,49 @@ after_name-leads :
     To left (TagName (tag_with false tag [])) (attributes_before (lined x) r) t
 after_name-leads tag [] r t g h k = h
 after_name-leads tag (a ∷ x) r t g h k =
-    let p = and_parts (is_good_attribute_name a.name) _ g in
-    let q = and_parts (is_escaped a.value) _ p.1 in
-    let s = and_parts (not (list_any (λ later. bytes_eq a.name later.name) x)) (are_good x) q.1 in
+    let p = good_attribute a x g in
     quiet refl
     (attribute-leads tag [] a.name (with_line_feeds a.value) (attributes_before (lined x) r) t p.0
-    (line_feeds-escaped a.value q.0)
-    (attributes-lead tag (attribute a.name (seen a.value) ∷ []) x r t s.1 k))
+    (line_feeds-escaped a.value p.1)
+    (attributes-lead tag (attribute a.name (seen a.value) ∷ []) x r t p.3 k))
 
 -- ---- no attribute is dropped
+
+-- none of the attributes has the name of an earlier one
+abbrev fresh : List TokenAttribute → List Attribute → Bool
+fresh earlier [] = true
+fresh earlier (a ∷ rest) =
+    not (list_any (λ b. bytes_eq b.name a.name) earlier) && fresh earlier rest
+
+fresh-none : (x : List Attribute) → fresh [] x ≡ true
+fresh-none [] = refl
+fresh-none (a ∷ x) = fresh-none x
+
+fresh-more : (a : TokenAttribute) (earlier : List TokenAttribute) (x : List Attribute) →
+    list_any (λ later. bytes_eq a.name later.name) x ≡ false → fresh earlier x ≡ true →
+    fresh (a ∷ earlier) x ≡ true
+fresh-more a earlier [] n f = refl
+fresh-more a earlier (b ∷ x) n f =
+    let p =
+    or_parts (bytes_eq a.name b.name) (list_any (λ later. bytes_eq a.name later.name) x) n in
+    let q = and_parts (not (list_any (λ c. bytes_eq c.name b.name) earlier)) (fresh earlier x) f in
+    and_from (not (list_any (λ c. bytes_eq c.name b.name) (a ∷ earlier))) (fresh (a ∷ earlier) x)
+    (ap not (or_from (bytes_eq a.name b.name) (list_any (λ c. bytes_eq c.name b.name) earlier) p.0
+    (not-true (list_any (λ c. bytes_eq c.name b.name) earlier) q.0)))
+    (fresh-more a earlier x p.1 q.1)
+
+kept-onto : (earlier : List TokenAttribute) (x : List Attribute) → are_good x ≡ true →
+    fresh earlier x ≡ true →
+    kept (onto earlier x) ≡ kept earlier ++ seen_attributes x
+kept-onto earlier [] g f = sym (append-nil (kept earlier))
+kept-onto earlier (a ∷ x) g f =
+    let p = good_attribute a x g in
+    let u = and_parts (not (list_any (λ b. bytes_eq b.name a.name) earlier)) (fresh earlier x) f in
+    let now = attribute a.name (seen a.value) in
+    kept-onto (now ∷ earlier) x p.3 (fresh-more now earlier x p.2 u.1)
+    ∙ ap (λ k. k ++ seen_attributes x)
+    (past _ (not-true (list_any (λ b. bytes_eq b.name a.name) earlier) u.0) refl)
+    ∙ append_assoc (kept earlier) (now ∷ []) (seen_attributes x)
 
 -- ---- whole tags
 
@@ -120,7 +121,25 @@ tag-begins : {left : List ℕ} (is_end : Bool) (name r : List ℕ) (t : List Tok
     To left (TagName (tag_with is_end [] [])) (name ++ r) t
 tag-begins is_end name r t g h =
     let p = and_parts (begins_tag name) _ g in
-    tag_name-leads is_end [] name r t (and_parts (list_all is_good_byte name) _ p.1).0 h
+    name-leads (λ n. TagName (tag_with is_end n []))
+    (λ before b rest good. tag_name_step (tag_with is_end before []) b rest good) [] name r t
+    (and_parts (list_all is_good_byte name) _ p.1).0 h
+
+pub opens : (name r : List ℕ) → begins_tag name ≡ true →
+    step TagOpen (name ++ r) ≡ Goes [] (TagName (tag_with false [] [])) (name ++ r)
+opens [] r g = lie g
+opens (b ∷ name) r g =
+    let p = and_parts (not (b == 33)) (not (b == 47) && is_letter b) g in
+    let q = and_parts (not (b == 47)) (is_letter b) p.1 in
+    past _ (not-true (b == 33) p.0) (past _ (not-true (b == 47) q.0) (here _ q.1 refl))
+
+pub closes : (name r : List ℕ) → begins_tag name ≡ true →
+    step EndTagOpen (name ++ r) ≡ Goes [] (TagName (tag_with true [] [])) (name ++ r)
+closes [] r g = lie g
+closes (b ∷ name) r g =
+    let p = and_parts (not (b == 33)) (not (b == 47) && is_letter b) g in
+    let q = and_parts (not (b == 47)) (is_letter b) p.1 in
+    here _ q.1 refl
 
 start-leads : {left : List ℕ} (name : List ℕ) (x : List Attribute) (r : List ℕ) (t : List Token) →
     is_good_name name ≡ true → are_good x ≡ true →
@@ -131,6 +150,19 @@ start-leads name x r t n g h k =
     let begins = (and_parts (begins_tag name) _ n).0 in
     quiet refl (quiet (opens name (attributes_before (lined x) r) begins)
     (tag-begins false name (attributes_before (lined x) r) t n (after_name-leads name x r t g h k)))
+
+-- what is kept is all
+pub all-kept : (name : List ℕ) (x : List Attribute) (flag : Bool) (t : List Token) →
+    are_good x ≡ true →
+    StartTag name (kept (onto [] x)) flag ∷ t ≡ StartTag name (seen_attributes x) flag ∷ t
+all-kept name x flag t g = ap (λ y. StartTag name y flag ∷ t) (kept-onto [] x g (fresh-none x))
+
+-- a tag with such a name is emitted, and the data state stays
+pub good-emitted : (name : List ℕ) (x : List Attribute) (flag : Bool) (r : List ℕ) →
+    is_good_name name ≡ true →
+    emitted (tag_with false name (onto [] x)) flag r
+    ≡ Goes (StartTag name (kept (onto [] x)) flag ∷ []) Data r
+good-emitted name x flag r n = past _ (good-not_title name n) (here Stuck (good-leaves name n) refl)
 
 pub element-leads :
     {left : List ℕ} (name : List ℕ) (x : List Attribute) (r : List ℕ) (t : List Token) →
@@ -164,3 +196,22 @@ pub end-leads : {left : List ℕ} (name r : List ℕ) (t : List Token) →
 end-leads name r t n h =
     quiet refl (quiet refl (quiet (closes name (62 ∷ r) (and_parts (begins_tag name) _ n).0)
     (tag-begins true name (62 ∷ r) (EndTag name ∷ t) n (loud (EndTag name) refl h))))
+
+-- ---- a run of what follows a tag
+
+pub element-runs : (name : List ℕ) (x : List Attribute) (r : List ℕ) (t : List Token) →
+    is_good_name name ≡ true → are_good x ≡ true → IsRun Data r t →
+    IsRun Data (60 ∷ (name ++ attributes_before (lined x) (62 ∷ r)))
+    (StartTag name (seen_attributes x) false ∷ t)
+element-runs name x r t n g h =
+    runs-on Data _ r _ t (element-leads name x r [] n g (arrived r)) h
+
+pub void-runs : (name : List ℕ) (x : List Attribute) (r : List ℕ) (t : List Token) →
+    is_good_name name ≡ true → are_good x ≡ true → IsRun Data r t →
+    IsRun Data (60 ∷ (name ++ attributes_before (lined x) (32 ∷ 47 ∷ 62 ∷ r)))
+    (StartTag name (seen_attributes x) true ∷ t)
+void-runs name x r t n g h = runs-on Data _ r _ t (void-leads name x r [] n g (arrived r)) h
+
+pub end-runs : (name r : List ℕ) (t : List Token) → is_good_name name ≡ true → IsRun Data r t →
+    IsRun Data (60 ∷ 47 ∷ (name ++ (62 ∷ r))) (EndTag name ∷ t)
+end-runs name r t n h = runs-on Data _ r _ t (end-leads name r [] n (arrived r)) h

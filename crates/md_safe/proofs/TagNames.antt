@@ -1,20 +1,22 @@
 -- The name of a tag, and the names of its attributes, byte after byte.
-use Rattle.std.proofs.Common.{◌≡◌, ℕ, ◌==◌, Bool, true, false, not, ◌||◌, List, [], ◌∷◌, ◌++◌, refl}
+use Rattle.std.proofs.Common.{◌≡◌, ℕ, ◌==◌, true, false, not, ◌||◌, List, [], ◌∷◌, ◌++◌, refl}
 use Rattle.std.proofs.Common.{sym, ap, ◌∙◌, subst, append-nil, append_assoc}
 use Rattle.std.specs.List.{list_all}
-use Rattle.std.proofs.lemmas.Bool.{and_parts, and_from, not-true, or_from}
+use Rattle.std.proofs.lemmas.Bool.{and_parts, not-true, or_from}
 use Rattle.md_base.proofs.Lies.{lie}
 use Rattle.md_text.specs.Bytes.{is_between, lower}
 use Rattle.md_text.specs.References.{is_escaped, read_back}
+use Rattle.md_safe.proofs.Cases.{all-weaker}
 use Rattle.md_safe.specs.Token.{Token, TokenAttribute}
 use Rattle.md_safe.specs.Tag.{Tag, with_tag_name, with_name}
 use Rattle.md_safe.specs.TokenizerStates.{State, TagName, BeforeAttributeName, AttributeName}
 use Rattle.md_safe.specs.TokenizerStates.{AfterAttributeValueQuoted, Goes, is_space, in_name}
-use Rattle.md_safe.specs.Tokenizer.{step, IsRun}
+use Rattle.md_safe.specs.Tokenizer.{step}
 use Rattle.md_safe.specs.TokenizerStates.{in_value}
 use Rattle.md_safe.proofs.LineFeeds.{no_return}
 use Rattle.md_safe.proofs.GoodNames.{is_good_byte, is_good_attribute_name}
-use Rattle.md_safe.proofs.Steps.{past, quiet, tag_with, attribute, value-runs}
+use Rattle.md_safe.proofs.Steps.{past, tag_with, attribute}
+use Rattle.md_safe.proofs.TextLeads.{To, quiet, value-leads}
 
 pub record IsGoodByte (b : ℕ) : Type 0 where
   pub no_space : is_space b ≡ false
@@ -45,11 +47,8 @@ good_parts b h =
 
 pub good-no_return : (name : List ℕ) → list_all is_good_byte name ≡ true →
     list_all no_return name ≡ true
-good-no_return [] h = refl
-good-no_return (b ∷ name) h =
-    let p = and_parts (is_good_byte b) (list_all is_good_byte name) h in
-    and_from (no_return b) (list_all no_return name) (ap not (good_parts b p.0).no_return)
-    (good-no_return name p.1)
+good-no_return name h =
+    all-weaker is_good_byte no_return (λ b good. ap not (good_parts b good).no_return) name h
 
 lower-good : (b : ℕ) → is_between 65 90 b ≡ false → lower b ≡ b
 lower-good b e = past _ e refl
@@ -64,19 +63,19 @@ tag_name_step tag b rest g =
     past _ g.no_space (past _ g.no_slash (past _ g.no_angle
     (ap (λ bytes. Goes [] (TagName (with_tag_name tag bytes)) rest) (in_name-good b g))))
 
--- a tag's name, after a first part of it
-pub tag_name-runs : (is_end : Bool) (before name r : List ℕ) (t : List Token) →
-    list_all is_good_byte name ≡ true →
-    IsRun (TagName (tag_with is_end (before ++ name) [])) r t →
-    IsRun (TagName (tag_with is_end before [])) (name ++ r) t
-tag_name-runs is_end before [] r t g h =
-    subst (λ n. IsRun (TagName (tag_with is_end n [])) r t) (append-nil before) h
-tag_name-runs is_end before (b ∷ name) r t g h =
+-- a name, after a first part of it, where each good byte is appended to it
+pub name-leads : {left : List ℕ} (S : List ℕ → State) →
+    ((before : List ℕ) (b : ℕ) (rest : List ℕ) → IsGoodByte b →
+    step (S before) (b ∷ rest) ≡ Goes [] (S (before ++ (b ∷ []))) rest) →
+    (before name r : List ℕ) (t : List Token) → list_all is_good_byte name ≡ true →
+    To left (S (before ++ name)) r t → To left (S before) (name ++ r) t
+name-leads {left = left} S steps before [] r t g h =
+    subst (λ n. To left (S n) r t) (append-nil before) h
+name-leads {left = left} S steps before (b ∷ name) r t g h =
     let p = and_parts (is_good_byte b) (list_all is_good_byte name) g in
-    quiet (tag_name_step (tag_with is_end before []) b (name ++ r) (good_parts b p.0))
-    (tag_name-runs is_end (before ++ (b ∷ [])) name r t p.1
-    (subst (λ n. IsRun (TagName (tag_with is_end n [])) r t)
-    (sym (append_assoc before (b ∷ []) name)) h))
+    quiet (steps before b (name ++ r) (good_parts b p.0))
+    (name-leads S steps (before ++ (b ∷ [])) name r t p.1
+    (subst (λ n. To left (S n) r t) (sym (append_assoc before (b ∷ []) name)) h))
 
 pub attribute_name_step : (tag : Tag) (b : ℕ) (rest : List ℕ) → IsGoodByte b →
     step (AttributeName tag) (b ∷ rest) ≡ Goes [] (AttributeName (with_name tag (b ∷ []))) rest
@@ -89,40 +88,28 @@ attribute_name_step tag b rest g =
 abbrev pub AtName : List ℕ → List TokenAttribute → List ℕ → State
 AtName tag earlier name = AttributeName (tag_with false tag (attribute name [] ∷ earlier))
 
-attribute_name-runs :
-    (tag : List ℕ) (earlier : List TokenAttribute) (before name r : List ℕ) (t : List Token) →
-    list_all is_good_byte name ≡ true → IsRun (AtName tag earlier (before ++ name)) r t →
-    IsRun (AtName tag earlier before) (name ++ r) t
-attribute_name-runs tag earlier before [] r t g h =
-    subst (λ n. IsRun (AtName tag earlier n) r t) (append-nil before) h
-attribute_name-runs tag earlier before (b ∷ name) r t g h =
-    let p = and_parts (is_good_byte b) (list_all is_good_byte name) g in
-    quiet (attribute_name_step (tag_with false tag (attribute before [] ∷ earlier)) b
-    (name ++ r) (good_parts b p.0))
-    (attribute_name-runs tag earlier (before ++ (b ∷ [])) name r t p.1
-    (subst (λ n. IsRun (AtName tag earlier n) r t) (sym (append_assoc before (b ∷ []) name)) h))
-
 -- a name begins another attribute
-attribute-begins :
-    (tag : List ℕ) (earlier : List TokenAttribute) (name r : List ℕ) (t : List Token) →
-    is_good_attribute_name name ≡ true → IsRun (AtName tag earlier name) r t →
-    IsRun (BeforeAttributeName (tag_with false tag earlier)) (name ++ r) t
+attribute-begins : {left : List ℕ} (tag : List ℕ) (earlier : List TokenAttribute)
+    (name r : List ℕ) (t : List Token) →
+    is_good_attribute_name name ≡ true → To left (AtName tag earlier name) r t →
+    To left (BeforeAttributeName (tag_with false tag earlier)) (name ++ r) t
 attribute-begins tag earlier [] r t g h = lie g
 attribute-begins tag earlier (b ∷ name) r t g h =
     let p = and_parts (is_good_byte b) (list_all is_good_byte name) g in
     let q = good_parts b p.0 in
     quiet (past _ q.no_space
     (past _ (or_from (b == 47) (b == 62) q.no_slash q.no_angle) (past _ q.no_equals refl)))
-    (attribute_name-runs tag earlier [] (b ∷ name) r t g h)
+    (name-leads (AtName tag earlier) (λ before b rest good. attribute_name_step
+    (tag_with false tag (attribute before [] ∷ earlier)) b rest good) [] (b ∷ name) r t g h)
 
 -- a name, `="`, a value and `"`
-pub attribute-runs :
-    (tag : List ℕ) (earlier : List TokenAttribute) (name value r : List ℕ) (t : List Token) →
-    is_good_attribute_name name ≡ true → is_escaped value ≡ true →
-    IsRun (AfterAttributeValueQuoted (tag_with false tag
+pub attribute-leads :
+    {left : List ℕ} (tag : List ℕ) (earlier : List TokenAttribute) (name value r : List ℕ)
+    (t : List Token) → is_good_attribute_name name ≡ true → is_escaped value ≡ true →
+    To left (AfterAttributeValueQuoted (tag_with false tag
     (attribute name (read_back value) ∷ earlier))) r t →
-    IsRun (BeforeAttributeName (tag_with false tag earlier))
+    To left (BeforeAttributeName (tag_with false tag earlier))
     (name ++ (61 ∷ 34 ∷ (value ++ (34 ∷ r)))) t
-attribute-runs tag earlier name value r t g e h =
+attribute-leads tag earlier name value r t g e h =
     attribute-begins tag earlier name (61 ∷ 34 ∷ (value ++ (34 ∷ r))) t g
-    (quiet refl (quiet refl (value-runs value e tag earlier name [] (34 ∷ r) t (quiet refl h))))
+    (quiet refl (quiet refl (value-leads _ value e tag earlier name [] (34 ∷ r) t (quiet refl h))))

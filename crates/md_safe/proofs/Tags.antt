@@ -3,7 +3,7 @@
 use Rattle.std.specs.Str.{bytes_eq}
 use Rattle.std.specs.List.{list_all}
 use Rattle.std.proofs.Common.{◌≡◌, ℕ, Bool, true, false, not, ◌&&◌, List, [], ◌∷◌, ◌++◌, refl, sym}
-use Rattle.std.proofs.Common.{ap, ◌∙◌, subst, append_assoc, codes}
+use Rattle.std.proofs.Common.{ap, ◌∙◌, subst, append_assoc, append-nil, codes}
 use Rattle.md_text.specs.Html.{Attribute, HasReadingWith, opening_tag, closing_tag, is_tag}
 use Rattle.md_text.specs.Html.{elements, void_tags}
 use Rattle.md_text.proofs.HtmlJoin.{text, void, opening-before}
@@ -14,7 +14,7 @@ use Rattle.md_meaning.specs.Meaning.Media.{href, src}
 use Rattle.md_safe.proofs.Texts.{Escaped}
 use Rattle.md_safe.proofs.Claim.{Claim}
 use Rattle.md_safe.proofs.Laid.{Adds, adds-append, adds-text, adds-weaker, adds-needed, adds-forced}
-use Rattle.md_safe.proofs.Laid.{adds-nothing}
+use Rattle.md_safe.proofs.Laid.{adds-nothing, IsBeside}
 
 -- an attribute
 abbrev pub attribute : List ℕ → List ℕ → Attribute
@@ -33,13 +33,13 @@ pub record IsTest (p : Attribute → Bool) (options : CompileOptions) : Type 0 w
   pub image : (destination : List ℕ) → p (attribute (codes "src") (src options destination)) ≡ true
   pub html : options.allow_dangerous_html ≡ false
 
--- two texts around a text with a claim, so that a claim holds for the whole
-abbrev pub Turns : Claim → Claim → List ℕ → List ℕ → Type 0
-Turns p q o c = (x : List ℕ) → p.holds x → q.holds (o ++ (x ++ c))
+-- two texts around a text, so that a claim on it becomes one on the whole
+abbrev pub Turns : (List ℕ → Type 0) → (List ℕ → Type 0) → List ℕ → List ℕ → Type 0
+Turns Q R o c = (x : List ℕ) → Q x → R (o ++ (x ++ c))
 
 -- two texts that preserve a claim about the text between them
 abbrev pub Bracket : Claim → List ℕ → List ℕ → Type 0
-Bracket p o c = Turns p p o c
+Bracket p o c = Turns p.holds p.holds o c
 
 pub bracket-tag : (p : Claim) (name : List ℕ) (attributes : List Attribute) →
     is_tag elements name attributes ≡ true → list_all p.test attributes ≡ true →
@@ -48,114 +48,137 @@ bracket-tag p name attributes h a x r =
     subst p.holds (sym (opening-before name attributes (x ++ closing_tag name)))
     (p.within name attributes x h a r)
 
-pub bracket-two : (p : Claim) (o c o' c' : List ℕ) → Bracket p o c → Bracket p o' c' →
-    Bracket p (o ++ o') (c' ++ c)
-bracket-two p o c o' c' a b x r =
-    subst p.holds (by o c o' c' x) (a (o' ++ (x ++ c')) (b x r))
+pub turns-two : (Q R S : List ℕ → Type 0) (o c o' c' : List ℕ) → Turns R S o c →
+    Turns Q R o' c' → Turns Q S (o ++ o') (c' ++ c)
+turns-two Q R S o c o' c' a b x r = subst S (by o c o' c' x) (a (o' ++ (x ++ c')) (b x r))
   where
     by : (o c o' c' x : List ℕ) → o ++ ((o' ++ (x ++ c')) ++ c) ≡ (o ++ o') ++ (x ++ (c' ++ c))
     by o c o' c' x = simp append_assoc
 
--- an element, attribute by attribute
-pub element-read : (p : Claim) (name : List ℕ) (attributes : List Attribute) (inside : List ℕ) →
-    is_tag elements name attributes ≡ true → list_all p.test attributes ≡ true → p.holds inside
-    → p.holds (60
+-- the tag of an element, with any attributes that pass, changes one claim into another
+abbrev pub TurnsTag : (Attribute → Bool) → (List ℕ → Type 0) → (List ℕ → Type 0) → List ℕ → Type 0
+TurnsTag test Q R name = (attributes : List Attribute) → is_tag elements name attributes ≡ true →
+    list_all test attributes ≡ true → Turns Q R (opening_tag name attributes) (closing_tag name)
+
+-- the same of the whole element, attribute by attribute, and of a void tag
+abbrev pub Tagged : (Attribute → Bool) → (List ℕ → Type 0) → (List ℕ → Type 0) → List ℕ → Type 0
+Tagged test Q R name =
+    (attributes : List Attribute) (inside : List ℕ) → is_tag elements name attributes ≡ true →
+    list_all test attributes ≡ true → Q inside → R (60
     ∷ (name ++ attributes_before attributes (62 ∷ (inside ++ (60 ∷ 47 ∷ (name ++ (62 ∷ [])))))))
+
+abbrev pub Single : (Attribute → Bool) → (List ℕ → Type 0) → List ℕ → Type 0
+Single test R name = (attributes : List Attribute) → is_tag void_tags name attributes ≡ true →
+    list_all test attributes ≡ true →
+    R (60 ∷ (name ++ attributes_before attributes (32 ∷ 47 ∷ 62 ∷ [])))
+
+pub element-read : (p : Claim) (name : List ℕ) → Tagged p.test p.holds p.holds name
 element-read p name attributes inside h a r =
     subst (λ x. p.holds (60 ∷ (name ++ x))) (written_attributes-before attributes (62
     ∷ (inside ++ (60 ∷ 47 ∷ (name ++ (62 ∷ [])))))) (p.within name attributes inside h a r)
 
--- a void tag, attribute by attribute
-pub void-read : (p : Claim) (name : List ℕ) (attributes : List Attribute) →
-    is_tag void_tags name attributes ≡ true → list_all p.test attributes ≡ true
-    → p.holds (60 ∷ (name ++ attributes_before attributes (32 ∷ 47 ∷ 62 ∷ [])))
+pub void-read : (p : Claim) (name : List ℕ) → Single p.test p.holds name
 void-read p name attributes h a =
     p.plain (60 ∷ (name ++ attributes_before attributes (32 ∷ 47 ∷ 62 ∷ [])))
     (subst (λ x. HasReadingWith p.test (60 ∷ (name ++ x)))
     (written_attributes-before attributes (32 ∷ 47 ∷ 62 ∷ [])) (void p.test name attributes h a))
 
--- a text between two escaped ones
-pub record IsFramed (c x : List ℕ) : Type 0 where
+-- what stays when such texts are beside it
+abbrev pub Takes : (List ℕ → Type 0) → (List ℕ → Type 0) → Type 0
+Takes W Q = (w x v : List ℕ) → W w → Q x → W v → Q (w ++ (x ++ v))
+
+pub takes-escaped : (p : Claim) → Takes Escaped p.holds
+takes-escaped p w x v h r g =
+    p.before w (x ++ v) (text p.test w h) (p.after x v r (text p.test v g))
+
+-- a text between two such ones
+pub record IsFramed (W : List ℕ → Type 0) (c x : List ℕ) : Type 0 where
   pub before : List ℕ
   pub after : List ℕ
   pub whole : x ≡ before ++ (c ++ after)
-  pub escaped_before : Escaped before
-  pub escaped_after : Escaped after
+  pub is_before : W before
+  pub is_after : W after
 
-pub regrouped : (e o f y g c h : List ℕ) →
-    e ++ ((o ++ (((f ++ y) ++ g) ++ c)) ++ h) ≡ (e ++ (o ++ f))
-    ++ (y ++ (g ++ (c ++ h)))
+regrouped : (e o f y g c h : List ℕ) →
+    e ++ ((o ++ ((f ++ (y ++ g)) ++ c)) ++ h) ≡ (e ++ (o ++ f)) ++ (y ++ (g ++ (c ++ h)))
 regrouped e o f y g c h = simp append_assoc
 
-enclosed : (p q : Claim) (o c x y z : List ℕ) → Turns p q o c → IsFramed o x → p.holds y →
-    IsFramed c z → q.holds (x ++ (y ++ z))
-enclosed p q o c x y z bracket a r b =
-    let inside : p.holds ((a.after ++ y) ++ b.before) =
-    p.after (a.after ++ y) b.before (p.before a.after y (text p.test a.after a.escaped_after) r)
-    (text p.test b.before b.escaped_before) in
-    let all : q.holds (a.before ++ ((o ++ (((a.after ++ y) ++ b.before) ++ c)) ++ b.after)) =
-    q.before a.before ((o ++ (((a.after ++ y) ++ b.before) ++ c)) ++ b.after)
-    (text q.test a.before a.escaped_before) (q.after (o ++ (((a.after ++ y) ++ b.before) ++ c))
-    b.after (bracket ((a.after ++ y) ++ b.before) inside) (text q.test b.after b.escaped_after)) in
-    let parts : q.holds ((a.before ++ (o ++ a.after)) ++ (y ++ (b.before ++ (c ++ b.after)))) =
-    subst q.holds (regrouped a.before o a.after y b.before c b.after) all in
-    subst (λ x. q.holds (x ++ (y ++ z))) (sym a.whole)
-    (subst (λ z. q.holds ((a.before ++ (o ++ a.after)) ++ (y ++ z))) (sym b.whole) parts)
+enclosed : (W Q R : List ℕ → Type 0) (o c x y z : List ℕ) → Takes W Q → Takes W R →
+    Turns Q R o c → IsFramed W o x → Q y → IsFramed W c z → R (x ++ (y ++ z))
+enclosed W Q R o c x y z takes stays turn a r b =
+    let inside : List ℕ = a.after ++ (y ++ b.before) in
+    let parts : R ((a.before ++ (o ++ a.after)) ++ (y ++ (b.before ++ (c ++ b.after)))) =
+    subst R (regrouped a.before o a.after y b.before c b.after)
+    (stays a.before (o ++ (inside ++ c)) b.after a.is_before
+    (turn inside (takes a.after y b.before a.is_after r b.is_before)) b.is_after) in
+    subst (λ x. R (x ++ (y ++ z))) (sym a.whole)
+    (subst (λ z. R ((a.before ++ (o ++ a.after)) ++ (y ++ z))) (sym b.whole) parts)
 
 -- pieces between those of two texts
-pub adds-turned : (p q : Claim) (ending o c : List ℕ) (xs ys zs : List Piece) → Turns p q o c →
-    Adds ending (IsFramed o) xs → Adds ending p.holds ys → Adds ending (IsFramed c) zs
-    → Adds ending q.holds (xs ++ (ys ++ zs))
-adds-turned p q ending o c xs ys zs bracket a r b =
-    adds-append ending (IsFramed o) (λ w. (y : List ℕ) × (z : List ℕ) × (w ≡ y ++ z) × p.holds y
-    × IsFramed c z) q.holds xs (ys ++ zs) (λ x w f g. subst (λ w. q.holds (x ++ w)) (sym g.2)
-    (enclosed p q o c x g.0 g.1 bracket f g.3 g.4))
+pub adds-turned : (W Q R : List ℕ → Type 0) (ending o c : List ℕ) (xs ys zs : List Piece) →
+    Takes W Q → Takes W R → Turns Q R o c → Adds ending (IsFramed W o) xs → Adds ending Q ys →
+    Adds ending (IsFramed W c) zs → Adds ending R (xs ++ (ys ++ zs))
+adds-turned W Q R ending o c xs ys zs takes stays turn a r b =
+    adds-append ending (IsFramed W o)
+    (λ w. (y : List ℕ) × (z : List ℕ) × (w ≡ y ++ z) × Q y × IsFramed W c z) R xs (ys ++ zs)
+    (λ x w f g. subst (λ w. R (x ++ w)) (sym g.2)
+    (enclosed W Q R o c x g.0 g.1 takes stays turn f g.3 g.4))
     a
-    (adds-append ending p.holds (IsFramed c) (λ w. (y : List ℕ) × (z : List ℕ) × (w ≡ y ++ z)
-    × p.holds y × IsFramed c z) ys zs
-    (λ y z f g. (y, z, refl, f, g))
-    r b)
+    (adds-append ending Q (IsFramed W c)
+    (λ w. (y : List ℕ) × (z : List ℕ) × (w ≡ y ++ z) × Q y × IsFramed W c z) ys zs
+    (λ y z f g. (y, z, refl, f, g)) r b)
 
 -- pieces between those of a bracket
 pub adds-pair : (p : Claim) (ending o c : List ℕ) (xs ys zs : List Piece) → Bracket p o c →
-    Adds ending (IsFramed o) xs → Adds ending p.holds ys → Adds ending (IsFramed c) zs
-    → Adds ending p.holds (xs ++ (ys ++ zs))
-adds-pair p ending o c xs ys zs bracket a r b = adds-turned p p ending o c xs ys zs bracket a r b
+    Adds ending (IsFramed Escaped o) xs → Adds ending p.holds ys →
+    Adds ending (IsFramed Escaped c) zs → Adds ending p.holds (xs ++ (ys ++ zs))
+adds-pair p ending o c xs ys zs bracket a r b =
+    adds-turned Escaped p.holds p.holds ending o c xs ys zs (takes-escaped p) (takes-escaped p)
+    bracket a r b
 
--- a tag between pieces that add escaped texts
-pub adds-framed : (ending c : List ℕ) (xs zs : List Piece) → Adds ending Escaped xs →
-    Adds ending Escaped zs → Adds ending (IsFramed c) (xs ++ (Text c ∷ zs))
-adds-framed ending c xs zs a b =
-    adds-append ending Escaped (λ w. (z : List ℕ) × (w ≡ c ++ z) × Escaped z)
-    (IsFramed c) xs (Text c ∷ zs)
+-- a text between pieces that add such texts, and a tag
+pub framed-around : {W : List ℕ → Type 0} (ending c : List ℕ) (xs ys zs : List Piece) →
+    Adds ending W xs → Adds ending (λ y. y ≡ c) ys → Adds ending W zs →
+    Adds ending (IsFramed W c) (xs ++ (ys ++ zs))
+framed-around {W = W} ending c xs ys zs a t b =
+    adds-append ending W (λ w. (z : List ℕ) × (w ≡ c ++ z) × W z)
+    (IsFramed W c) xs (ys ++ zs)
     (λ x w f g. record {
       before = x;
       after = g.0;
       whole = ap (λ w. x ++ w) g.1;
-      escaped_before = f;
-      escaped_after = g.2;
+      is_before = f;
+      is_after = g.2;
     })
     a
-    (adds-append ending (λ x. x ≡ c) Escaped (λ w. (z : List ℕ) × (w ≡ c ++ z) × Escaped z)
-    (Text c ∷ []) zs (λ x z f g. (z, ap (λ x. x ++ z) f, g))
-    (adds-text ending (λ x. x ≡ c) c refl) b)
+    (adds-append ending (λ x. x ≡ c) W (λ w. (z : List ℕ) × (w ≡ c ++ z) × W z) ys zs
+    (λ x z f g. (z, ap (λ x. x ++ z) f, g)) t b)
 
-pub adds-nil : (ending : List ℕ) → Adds ending Escaped []
-adds-nil ending = adds-nothing ending Escaped refl
+pub adds-framed : {W : List ℕ → Type 0} (ending c : List ℕ) (xs zs : List Piece) →
+    Adds ending W xs → Adds ending W zs → Adds ending (IsFramed W c) (xs ++ (Text c ∷ zs))
+adds-framed ending c xs zs a b =
+    framed-around ending c xs (Text c ∷ []) zs a (adds-text ending (λ x. x ≡ c) c refl) b
 
--- a tag alone, or on a line of its own
-pub framed-text : (ending c : List ℕ) → Adds ending (IsFramed c) (Text c ∷ [])
-framed-text ending c = adds-framed ending c [] [] (adds-nil ending) (adds-nil ending)
+-- a tag after such pieces, alone, or on a line of its own
+pub framed-after : {W : List ℕ → Type 0} → IsBeside W → (ending c : List ℕ) (xs : List Piece) →
+    Adds ending W xs → Adds ending (IsFramed W c) (xs ++ (Text c ∷ []))
+framed-after {W = W} beside ending c xs a =
+    adds-framed ending c xs [] a (adds-nothing ending W beside.none)
 
-pub framed-needed : (ending c : List ℕ) → Escaped ending →
-    Adds ending (IsFramed c) (Needed ∷ Text c ∷ [])
-framed-needed ending c h =
-    adds-framed ending c (Needed ∷ []) [] (adds-needed ending h) (adds-nil ending)
+pub framed-text : {W : List ℕ → Type 0} → IsBeside W → (ending c : List ℕ) →
+    Adds ending (IsFramed W c) (Text c ∷ [])
+framed-text {W = W} beside ending c =
+    framed-after beside ending c [] (adds-nothing ending W beside.none)
 
-pub framed-forced : (ending c : List ℕ) → Escaped ending →
-    Adds ending (IsFramed c) (Forced ∷ Text c ∷ [])
-framed-forced ending c h =
-    adds-framed ending c (Forced ∷ []) [] (adds-forced ending h) (adds-nil ending)
+pub framed-needed : {W : List ℕ → Type 0} → IsBeside W → (ending c : List ℕ) → W ending →
+    Adds ending (IsFramed W c) (Needed ∷ Text c ∷ [])
+framed-needed beside ending c h =
+    framed-after beside ending c (Needed ∷ []) (adds-needed beside ending h)
+
+pub framed-forced : {W : List ℕ → Type 0} → IsBeside W → (ending c : List ℕ) → W ending →
+    Adds ending (IsFramed W c) (Forced ∷ Text c ∷ [])
+framed-forced beside ending c h =
+    framed-after beside ending c (Forced ∷ []) (adds-forced ending h)
 
 -- what is claimed before or after what has a reading
 pub adds-before : (p : Claim) (ending : List ℕ) (xs ys : List Piece) →
@@ -195,3 +218,12 @@ adds-flat ending f (Text x ∷ pieces) texts h =
     (adds-flat ending (λ y. y ≡ flat pieces) pieces texts refl)
 adds-flat ending f (Needed ∷ pieces) texts h = absurd (cc texts)
 adds-flat ending f (Forced ∷ pieces) texts h = absurd (cc texts)
+
+-- some texts after pieces that add such a one
+pub adds-framed_flat : {W : List ℕ → Type 0} → IsBeside W → (ending : List ℕ)
+    (xs zs : List Piece) → are_texts zs ≡ true →
+    Adds ending W xs → Adds ending (IsFramed W (flat zs)) (xs ++ zs)
+adds-framed_flat {W = W} beside ending xs zs texts a =
+    subst (λ zs'. Adds ending (IsFramed W (flat zs)) (xs ++ zs')) (append-nil zs)
+    (framed-around ending (flat zs) xs zs [] a (adds-flat ending (λ x. x ≡ flat zs) zs texts refl)
+    (adds-nothing ending W beside.none))

@@ -6,15 +6,16 @@ use Rattle.md_text.specs.References.{is_escaped, read_back}
 use Rattle.md_text.proofs.EncodeLaws.{read_back-other}
 use Rattle.md_safe.specs.Token.{Token, Character, TokenAttribute}
 use Rattle.md_safe.specs.TokenizerStates.{State, Data, Goes}
-use Rattle.md_safe.specs.Tokenizer.{step}
+use Rattle.md_safe.specs.Tokenizer.{step, IsRun}
 use Rattle.md_safe.proofs.EscapedCases.{IsPlain, by_escaped}
+use Rattle.md_safe.proofs.Joining.{runs-on}
 use Rattle.md_safe.proofs.Steps.{tag_with, attribute, AtValue}
 use Rattle.md_safe.proofs.Steps.{plain-ne, plain_step, value_step}
-use Rattle.md_safe.specs.Leads.{Leads, emitted_before, and_then, steps}
+use Rattle.md_safe.specs.Tokenizes.{Tokenizes, emitted_before, and_then, steps}
 
 -- with the rest of the input first
 abbrev pub To : List ℕ → State → List ℕ → List Token → Type 0
-To left state input tokens = Leads state input tokens left
+To left state input tokens = Tokenizes state input tokens left
 
 pub arrived : (left : List ℕ) → To left Data left []
 arrived left = record { count = 0; goes = refl }
@@ -64,6 +65,13 @@ text-leads left x e =
     (λ rest later r t h. quiet refl (quiet refl (loud (Character 60) refl (later r t h))))
     (λ rest later r t h. quiet refl (quiet refl (loud (Character 62) refl (later r t h))))
     x e
+
+-- and so a run of what follows
+pub text-runs : (x : List ℕ) → is_escaped x ≡ true → (r : List ℕ) (t : List Token) →
+    IsRun Data r t → IsRun Data (x ++ r) (map Character (read_back x) ++ t)
+text-runs x e r t h =
+    subst (λ u. IsRun Data (x ++ r) (u ++ t)) (append-nil (map Character (read_back x)))
+    (runs-on Data (x ++ r) r _ t (text-leads r x e r [] (arrived r)) h)
 
 -- ---- a value
 

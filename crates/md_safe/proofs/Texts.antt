@@ -12,7 +12,7 @@ use Rattle.md_text.specs.Laws.{is_line_ends}
 use Rattle.md_text.proofs.EscapedLemmas.{completes_reference, escaped-tail, escaped-without}
 use Rattle.md_meaning.specs.Meaning.Spans.{is_at, without_escapes, trimmed}
 use Rattle.md_meaning.specs.Meaning.Blocks.{without_zeros}
-use Rattle.md_shape.specs.Built.{is_digit}
+use Rattle.md_content.specs.Built.{is_digit}
 
 -- a text is escaped
 abbrev pub Escaped : List ℕ → Type 0

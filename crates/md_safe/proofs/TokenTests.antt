@@ -10,6 +10,7 @@ use Rattle.md_text.specs.References.{is_escaped}
 use Rattle.md_text.specs.Html.{Attribute, Forest, Empty, Text, Void, Element, is_forest, is_tag}
 use Rattle.md_text.specs.Html.{are_attributes, begins_with_text, elements, void_tags}
 use Rattle.md_text.specs.Html.{all_attributes, any_attribute, HasOneReadingWith}
+use Rattle.md_text.proofs.HtmlReading.{all-any}
 use Rattle.md_safe.specs.Input.{with_line_feeds}
 use Rattle.md_safe.specs.Token.{Token, Character, StartTag, EndTag, EndOfFile, TokenAttribute}
 use Rattle.md_safe.specs.TokenizerStates.{Data, leaves_state}
@@ -17,7 +18,7 @@ use Rattle.md_safe.specs.Tokenizer.{IsTokenized}
 use Rattle.md_safe.specs.Tokens.{tokens, seen, seen_attributes, is_listed, is_tag_of}
 use Rattle.md_safe.proofs.GoodNames.{element-good, void-good, good-leaves}
 use Rattle.md_safe.proofs.OneRun.{one_run}
-use Rattle.md_safe.proofs.ForestRuns.{reading-runs}
+use Rattle.md_safe.proofs.Between.{reading-runs}
 
 pub all-append : (p : Token → Bool) (x y : List Token) → list_all p x ≡ true → list_all p y ≡ true →
     list_all p (x ++ y) ≡ true
@@ -85,10 +86,6 @@ all-tokenized p q o text x one h =
 
 -- ---- two of them
 
-any-list : (x : List Attribute) → list_all any_attribute x ≡ true
-any-list [] = refl
-any-list (a ∷ x) = any-list x
-
 pub left_alone : (q : Attribute → Bool) (text : List ℕ) (x : List Token) →
     HasOneReadingWith q text →
     IsTokenized text x → list_all leaves_state x ≡ true
@@ -101,7 +98,7 @@ left_alone q text x one h =
       voids = λ name attributes g k. good-leaves name (void-good name attributes g).0;
     } text x one h
 
-names-listed : (listed : List (List ℕ)) (x : List Attribute) → are_attributes listed x ≡ true →
+pub names-listed : (listed : List (List ℕ)) (x : List Attribute) → are_attributes listed x ≡ true →
     list_all (λ a. is_one_of listed a.name) (seen_attributes x) ≡ true
 names-listed listed [] h = refl
 names-listed listed (a ∷ x) h =
@@ -143,21 +140,9 @@ listed-passes q = record {
       (λ listed. names-listed listed attributes);
 }
 
-any-attributes : (f : Forest) → all_attributes any_attribute f ≡ true
-any-attributes Empty = refl
-any-attributes (Text bytes rest) = any-attributes rest
-any-attributes (Void name attributes rest) =
-    and_from (list_all any_attribute attributes) (all_attributes any_attribute rest)
-    (any-list attributes) (any-attributes rest)
-any-attributes (Element name attributes children rest) =
-    and_from (list_all any_attribute attributes && all_attributes any_attribute children)
-    (all_attributes any_attribute rest)
-    (and_from (list_all any_attribute attributes) (all_attributes any_attribute children)
-    (any-list attributes) (any-attributes children)) (any-attributes rest)
-
 pub forest-listed : (f : Forest) → is_forest f ≡ true → list_all is_listed (tokens f) ≡ true
 forest-listed f h =
-    all-tokens is_listed any_attribute (listed-passes any_attribute) f h (any-attributes f)
+    all-tokens is_listed any_attribute (listed-passes any_attribute) f h (all-any f)
 
 pub all_listed : (q : Attribute → Bool) (text : List ℕ) (x : List Token) →
     HasOneReadingWith q text →

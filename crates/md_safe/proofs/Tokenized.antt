@@ -11,7 +11,7 @@ use Rattle.md_safe.specs.Tokens.{tokens}
 use Rattle.md_safe.specs.SafeTokens.{has_safe_links, has_safe_images}
 use Rattle.md_safe.specs.Tokenized.{HasTokensWith, IsTokenizedAsRead, IsSafelyTokenized}
 use Rattle.md_safe.proofs.OneRun.{one_run}
-use Rattle.md_safe.proofs.ForestRuns.{reading-runs}
+use Rattle.md_safe.proofs.Between.{reading-runs}
 use Rattle.md_safe.proofs.TokenTests.{forest-listed}
 use Rattle.md_safe.proofs.SafeTokens.{safe-links, safe-images}
 

@@ -1,9 +1,9 @@
 -- What a parser in a body or a cell does at a token of the grammar.
-use Rattle.std.proofs.Common.{◌≡◌, ℕ, ◌==◌, Bool, true, false, not, cond, List, [], ◌∷◌, ◌++◌, refl}
+use Rattle.std.proofs.Common.{◌≡◌, ℕ, ◌==◌, Bool, true, false, not, List, [], ◌∷◌, ◌++◌, refl, suc}
 use Rattle.std.proofs.Common.{ap, ◌∙◌, map, codes}
 use Rattle.std.specs.Prelude.{Option, Some, None, option_and_then}
 use Rattle.std.specs.List.{list_all}
-use Rattle.std.proofs.lemmas.Bool.{and_parts}
+use Rattle.std.proofs.lemmas.Bool.{and_parts, not-true}
 use Rattle.md_base.proofs.Lies.{lie}
 use Rattle.md_text.specs.Bytes.{is_one_of}
 use Rattle.md_text.specs.References.{is_escaped, read_back}
@@ -12,11 +12,13 @@ use Rattle.md_safe.specs.Token.{Token, Character, StartTag, EndTag, TokenAttribu
 use Rattle.md_safe.specs.Tokens.{seen}
 use Rattle.md_safe.proofs.EscapedCases.{IsPlain, by_escaped}
 use Rattle.md_safe.proofs.LineFeeds.{line_feeds-escaped}
+use Rattle.md_safe.proofs.Steps.{past}
 use Rattle.md_safe.specs.Node.{Nodes, Open, Entry, Marker, Formatting, Mode, InBody, InCell, Parser}
-use Rattle.md_safe.specs.Node.{with_character}
+use Rattle.md_safe.specs.Node.{with_character, Empty as NoNode}
+use Rattle.md_safe.specs.Stack.{say}
 use Rattle.md_safe.specs.Elements.{parts, cells, sections}
 use Rattle.md_safe.specs.Formatting.{needs_reconstruction}
-use Rattle.md_safe.specs.InBody.{start_in_body, end_in_body}
+use Rattle.md_safe.specs.InBody.{start_in_body, end_in_body, reconstructed, character_in_body}
 use Rattle.md_safe.specs.Construction.{character, step, run}
 use Rattle.md_safe.specs.Built.{at, is_body, AreOpen, with_characters}
 
@@ -40,71 +42,82 @@ pub after-one : (p q : Parser) (x : Token) (ys : List Token) → step p x ≡ So
     run p (x ∷ ys) ≡ run q ys
 after-one p q x ys e = ap (λ r. option_and_then (λ q. run q ys) r) e
 
+-- ---- where a parser is
+
+-- the mode, the current node and those under it, the active formatting elements, and how many
+-- elements were created
+pub record Position : Type 0 where
+  pub mode : Mode
+  pub node : Open
+  pub others : List Open
+  pub active : List Entry
+  pub created : ℕ
+
+abbrev pub parser_of : Position → Parser
+parser_of x = at x.mode (x.node ∷ x.others) x.active x.created
+
+-- the same, with other children of the current node
+abbrev pub with_children : Position → Nodes → List Entry → ℕ → Position
+with_children x children active created =
+    record x { node = record x.node { children = children }; active = active; created = created }
+
+-- an element with this name
+abbrev pub element_of : ℕ → List ℕ → List TokenAttribute → Nodes → Open
+element_of identity name attributes children =
+    record { identity = identity; name = name; attributes = attributes; children = children }
+
+-- in a new element
+abbrev pub within : Position → List ℕ → List TokenAttribute → List Entry → Position
+within x name those active = record {
+  mode = x.mode;
+  node = element_of x.created name those NoNode;
+  others = x.node ∷ x.others;
+  active = active;
+  created = suc x.created;
+}
+
 -- ---- tags
 
-pub start-in-body : (mode : Mode) → is_body mode ≡ true →
-    (stack : List Open) (active : List Entry) (created : ℕ)
+pub start-in-body : (x : Position) → is_body x.mode ≡ true →
     (name : List ℕ) (attributes : List TokenAttribute) (flag : Bool) →
     is_one_of parts name ≡ false →
-    step (at mode stack active created) (StartTag name attributes flag)
-    ≡ start_in_body name attributes (at mode stack active created)
-start-in-body InBody is stack active created name attributes flag none = refl
-start-in-body InCell is stack active created name attributes flag none =
-    ap (λ b. cond b None (start_in_body name attributes (at InCell stack active created))) none
-start-in-body _ is stack active created name attributes flag none = lie is
+    step (parser_of x) (StartTag name attributes flag) ≡ start_in_body name attributes (parser_of x)
+start-in-body x is name attributes flag none = by x.mode is
+  where
+    by : (mode : Mode) → is_body mode ≡ true →
+        step (parser_of (record x { mode = mode })) (StartTag name attributes flag)
+        ≡ start_in_body name attributes (parser_of (record x { mode = mode }))
+    by InBody is = refl
+    by InCell is = past _ none refl
+    by _ is = lie is
 
--- a branch that isn't taken
-pub past : {A : Type 0} (b : Bool) (x y : A) → b ≡ false → cond b x y ≡ y
-past b x y e = ap (λ b. cond b x y) e
-
-pub end-in-body : (mode : Mode) →
-    is_body mode ≡ true → (stack : List Open) (active : List Entry) (created : ℕ) (name : List ℕ) →
+pub end-in-body : (x : Position) → is_body x.mode ≡ true → (name : List ℕ) →
     is_one_of cells name ≡ false → is_one_of (codes "table" ∷ codes "tr" ∷ sections) name ≡ false →
-    step (at mode stack active created) (EndTag name)
-    ≡ end_in_body name (at mode stack active created)
-end-in-body InBody is stack active created name uncelled none = refl
-end-in-body InCell is stack active created name uncelled none =
-    past (is_one_of cells name) _ _ uncelled
-    ∙ past (is_one_of (codes "table" ∷ codes "tr" ∷ sections) name) _ _ none
-end-in-body _ is stack active created name uncelled none = lie is
+    step (parser_of x) (EndTag name) ≡ end_in_body name (parser_of x)
+end-in-body x is name uncelled none = by x.mode is
+  where
+    by : (mode : Mode) → is_body mode ≡ true →
+        step (parser_of (record x { mode = mode })) (EndTag name)
+        ≡ end_in_body name (parser_of (record x { mode = mode }))
+    by InBody is = refl
+    by InCell is = past _ uncelled (past _ none refl)
+    by _ is = lie is
+
+-- nothing is to be reconstructed where all is open
+pub reconstructs : (x : Position) (change : Parser → Parser) → AreOpen (x.node ∷ x.others)
+    x.active → reconstructed (parser_of x) change ≡ Some (change (parser_of x))
+reconstructs x change opened = past _ (by x.active opened) refl
+  where
+    by : (active : List Entry) → AreOpen (x.node ∷ x.others) active →
+        needs_reconstruction (parser_of (record x { active = active })) ≡ false
+    by [] o = refl
+    by (Marker ∷ active) o = refl
+    by (Formatting identity name attributes ∷ active) o = ap not o.0
 
 -- ---- characters
 
--- nothing is to be reconstructed where all is open
-pub nothing-lost : (mode : Mode) (stack : List Open) (active : List Entry) (created : ℕ) →
-    AreOpen stack active →
-    needs_reconstruction (at mode stack active created) ≡ false
-nothing-lost mode stack [] created o = refl
-nothing-lost mode stack (Marker ∷ active) created o = refl
-nothing-lost mode stack (Formatting identity name attributes ∷ active) created o = ap not o.0
-
 abbrev pub is_character : ℕ → Bool
 is_character byte = not (byte == 0)
-
-character-runs : (mode : Mode) → is_body mode ≡ true →
-    (node : Open) (others : List Open) (active : List Entry)
-    (created byte : ℕ) → is_character byte ≡ true → AreOpen (node ∷ others) active →
-    step (at mode (node ∷ others) active created) (Character byte) ≡ Some (at mode
-    (record node { children = with_character node.children byte } ∷ others) active created)
-character-runs mode is node others active created byte h o = by (byte == 0) h ∙ in-body mode is o
-  where
-    by : (nul : Bool) → not nul ≡ true →
-        cond nul None (character mode byte (at mode (node ∷ others) active created))
-        ≡ character mode byte (at mode (node ∷ others) active created)
-    by true h = lie h
-    by false h = refl
-
-    in-body : (mode : Mode) → is_body mode ≡ true → AreOpen (node ∷ others) active →
-        character mode byte (at mode (node ∷ others) active created) ≡ Some (at mode (record node {
-          children = with_character node.children byte;
-        } ∷ others) active created)
-    in-body InBody is o = ap (λ b. cond b None (Some (at InBody (record node {
-      children = with_character node.children byte;
-    } ∷ others) active created))) (nothing-lost InBody (node ∷ others) active created o)
-    in-body InCell is o = ap (λ b. cond b None (Some (at InCell (record node {
-      children = with_character node.children byte;
-    } ∷ others) active created))) (nothing-lost InCell (node ∷ others) active created o)
-    in-body _ is o = lie is
 
 -- what is open stays open when nodes are inserted into it
 pub same-open : (node : Open) (children : Nodes) (others : List Open) (active : List Entry) →
@@ -114,20 +127,24 @@ same-open node children others (Marker ∷ active) o = tt
 same-open node children others (Formatting identity name attributes ∷ active) o =
     (o.0, same-open node children others active o.1)
 
-pub characters-run : (mode : Mode) → is_body mode ≡ true →
-    (bytes : List ℕ) (node : Open) (others : List Open) (active : List Entry) (created : ℕ) →
-    list_all is_character bytes ≡ true → AreOpen (node ∷ others) active →
-    run (at mode (node ∷ others) active created) (map Character bytes) ≡ Some (at mode
-    (record node { children = with_characters node.children bytes } ∷ others) active created)
-characters-run mode is [] node others active created h o = refl
-characters-run mode is (byte ∷ bytes) node others active created h o =
+pub characters-run : (bytes : List ℕ) (x : Position) → is_body x.mode ≡ true →
+    list_all is_character bytes ≡ true → AreOpen (x.node ∷ x.others) x.active →
+    run (parser_of x) (map Character bytes)
+    ≡ Some (parser_of (with_children x (with_characters x.node.children bytes) x.active x.created))
+characters-run [] x is h o = refl
+characters-run (byte ∷ bytes) x is h o =
     let parts = and_parts (is_character byte) (list_all is_character bytes) h in
-    let next : Open = record node { children = with_character node.children byte } in
-    after-one (at mode (node ∷ others) active created) (at mode (next ∷ others) active created)
-    (Character byte)
-    (map Character bytes) (character-runs mode is node others active created byte parts.0 o)
-    ∙ characters-run mode is bytes next others active created parts.1 (same-open node
-    (with_character node.children byte) others active o)
+    let next = with_children x (with_character x.node.children byte) x.active x.created in
+    after-one (parser_of x) (parser_of next) (Character byte) (map Character bytes)
+    (past _ (not-true (byte == 0) parts.0) (by x.mode is
+    ∙ reconstructs x (λ parser. record parser { stack = say byte parser.stack }) o))
+    ∙ characters-run bytes next is parts.1 (same-open x.node next.node.children x.others x.active o)
+  where
+    by : (mode : Mode) → is_body mode ≡ true →
+        character mode byte (parser_of x) ≡ character_in_body byte (parser_of x)
+    by InBody is = refl
+    by InCell is = refl
+    by _ is = lie is
 
 abbrev AreRead : List ℕ → Type 0
 AreRead x = list_all is_character (read_back x) ≡ true

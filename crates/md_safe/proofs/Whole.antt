@@ -1,7 +1,7 @@
 -- The meaning of a document has a reading in which each attribute passes a test: the theorems from
 -- the induction over forests.
 use Rattle.std.specs.Str.{bytes_eq}
-use Rattle.std.proofs.Common.{◌≡◌, ℕ, ◌&&◌, ◌||◌, Bool, true, false, not, cond, List, [], ◌++◌}
+use Rattle.std.proofs.Common.{◌≡◌, ℕ, ◌&&◌, ◌||◌, Bool, true, false, not, cond, List, ◌++◌}
 use Rattle.std.proofs.Common.{refl, sym, ap, subst, codes}
 use Rattle.std.proofs.lemmas.Bool.{and_parts, not-true}
 use Rattle.md_text.specs.Html.{Attribute, any_attribute, HasReadingWith, HasOneReadingWith}
@@ -12,15 +12,15 @@ use Rattle.md_text.proofs.ProtocolLemmas.{kept-link, kept-image}
 use Rattle.md_base.specs.Tree.{Forest}
 use Rattle.md_text.specs.Ids.{ids}
 use Rattle.md_text.specs.declared.options.CompileOptions.{CompileOptions}
-use Rattle.md_meaning.specs.Meaning.{meaning, ending_at}
-use Rattle.md_meaning.specs.Meaning.Around.{outermost}
-use Rattle.md_meaning.specs.Meaning.At.{Given}
+use Rattle.md_meaning.specs.Meaning.{meaning}
+use Rattle.md_meaning.specs.Meaning.Inherited.{outermost}
 use Rattle.md_meaning.specs.Meaning.Before.{nothing_before}
-use Rattle.md_meaning.specs.Meaning.Finds.{first_ending}
 use Rattle.md_meaning.specs.Meaning.Footnotes.{section}
 use Rattle.md_meaning.specs.Meaning.Layout.{layout}
 use Rattle.md_meaning.specs.Meaning.Nodes.{Outcome, outcome}
-use Rattle.md_shape.specs.Built.{Blocks, IsBuilt}
+use Rattle.md_content.specs.Built.{Blocks, IsBuilt}
+use Rattle.md_safe.proofs.Costs.{Document, read_in}
+use Rattle.md_safe.proofs.Prepared.{document_of}
 use Rattle.md_safe.specs.Options.{KeepsGrammar, KeepsLinks, KeepsImages}
 use Rattle.md_safe.proofs.Claim.{reading}
 use Rattle.md_safe.proofs.Laid.{adds-alone}
@@ -30,23 +30,24 @@ use Rattle.md_safe.proofs.Spot.{PassesIds, IsWhole, Setting, Prints}
 use Rattle.md_safe.proofs.FlowNodes.{Reads}
 use Rattle.md_safe.proofs.Forests.{Means, means}
 use Rattle.md_safe.proofs.Section.{section-prints}
-use Rattle.md_safe.proofs.Prepared.{blocks-stay, outermost-ready, reads-whole, prepared, any-test}
+use Rattle.md_safe.proofs.Prepared.{blocks-stay, outermost-ready, reads-whole}
 
 -- a document and its section
 document-prints : (s : Setting) → IsWhole s.p → (document : Forest) →
-    IsBuilt s.given.bytes Blocks document →
-    KeepsGrammar s.given.options
-    → s.p.holds (layout s.given.ending ((outcome s.given outermost nothing_before document).pieces
-    ++ section s.given (outcome s.given outermost nothing_before document).footnotes))
+    IsBuilt s.context.bytes Blocks document →
+    KeepsGrammar s.context.options
+    → s.p.holds (layout s.context.ending ((outcome s.context outermost nothing_before
+    document).pieces
+    ++ section s.context (outcome s.context outermost nothing_before document).footnotes))
 document-prints s whole document built keeps =
-    let all : Outcome = outcome s.given outermost nothing_before document in
+    let all : Outcome = outcome s.context outermost nothing_before document in
     let known : Means s outermost Blocks document all =
     means s document outermost nothing_before Blocks built (outermost-ready s whole) in
-    let last : Prints s (Reads s) (section s.given all.footnotes) =
+    let last : Prints s (Reads s) (section s.context all.footnotes) =
     section-prints s whole keeps.usual_tag keeps.usual_attributes all.footnotes known.texts in
-    adds-alone s.given.ending (Reads s) (all.pieces ++ section s.given all.footnotes)
-    (known.prints (section s.given all.footnotes)
-    (subst (λ content. Prints s (Holds s.p true false content) (section s.given all.footnotes))
+    adds-alone s.context.ending (Reads s) (all.pieces ++ section s.context all.footnotes)
+    (known.prints (section s.context all.footnotes)
+    (subst (λ content. Prints s (Holds s.p true false content) (section s.context all.footnotes))
     (sym (blocks-stay document)) last))
 
 -- the meaning has a reading in which each attribute passes the test
@@ -55,26 +56,13 @@ meaning-reads : (p : Attribute → Bool) (bytes : List ℕ) (names : List (List 
     IsBuilt bytes Blocks document → KeepsGrammar options
     → HasReadingWith p (meaning options names bytes document)
 meaning-reads p bytes names options document test ids built keeps =
-    let known = prepared bytes names options document built keeps in
-    let ending : List ℕ = ending_at options bytes (first_ending document) in
-    let alone : Given = record {
-      bytes = bytes;
-      names = names;
-      options = options;
-      ending = ending;
-      calls = [];
-      definitions = [];
-    } in
-    let called : Given =
-    record alone { calls = (outcome alone outermost nothing_before document).calls } in
+    let d : Document = document_of bytes names options document built keeps in
     let s : Setting = record {
       p = reading p;
-      given = record called {
-        definitions = (outcome called outermost nothing_before document).definitions;
-      };
+      context = d.context;
       test = test;
-      ending = known.0;
-      titles = known.1;
+      ending = d.ending;
+      titles = d.titles;
     } in
     document-prints s (reads-whole p ids) document built keeps
 
@@ -120,7 +108,8 @@ pub one-reading : (bytes : List ℕ) (names : List (List ℕ × List ℕ)) (opti
     HasOneReadingWith any_attribute (meaning options names bytes document)
 one-reading bytes names options document built keeps =
     only_reading any_attribute (meaning options names bytes document) (meaning-reads any_attribute
-    bytes names options document (any-test options keeps) (λ value. refl) built keeps)
+    bytes names options document (read_in (document_of bytes names options document built
+    keeps)).test (λ value. refl) built keeps)
 
 pub safe-links : (bytes : List ℕ) (names : List (List ℕ × List ℕ)) (options : CompileOptions)
     (document : Forest) →

@@ -18,26 +18,25 @@ use Rattle.md_base.specs.Children.{is_empty}
 use Rattle.md_pattern.specs.Looseness.{is_loose}
 use Rattle.md_text.specs.Ids.{ids, HasDistinctIds}
 use Rattle.md_text.proofs.HtmlIds.{occurs, counted-once}
-use Rattle.md_shape.specs.Underlined.{IsUnderlined}
+use Rattle.md_content.specs.Underlined.{IsUnderlined}
 use Rattle.md_text.specs.declared.options.CompileOptions.{CompileOptions}
 use Rattle.md_tree.specs.Rules.{place as position}
-use Rattle.md_meaning.specs.Meaning.{meaning, ending_at}
-use Rattle.md_meaning.specs.Meaning.Around.{outermost, inside}
-use Rattle.md_meaning.specs.Meaning.At.{Given, At, Before, identifier_of}
+use Rattle.md_meaning.specs.Meaning.{meaning}
+use Rattle.md_meaning.specs.Meaning.Inherited.{outermost, inside}
+use Rattle.md_meaning.specs.Meaning.At.{Context, At, Before, identifier_of}
 use Rattle.md_meaning.specs.Meaning.Before.{nothing_before, before_children}
-use Rattle.md_meaning.specs.Meaning.Finds.{first_ending}
 use Rattle.md_meaning.specs.Meaning.Layout.{when}
 use Rattle.md_meaning.specs.Meaning.Nodes.{Outcome, node, before_next, outcome}
-use Rattle.md_meaning.specs.declared.context.Surroundings.{Surroundings}
-use Rattle.md_shape.specs.Built.{Blocks, IsBuilt}
+use Rattle.md_meaning.specs.declared.surroundings.Surroundings.{Surroundings}
+use Rattle.md_content.specs.Built.{Blocks, IsBuilt}
+use Rattle.md_safe.proofs.Prepared.{document_of, alone_of}
 use Rattle.md_safe.specs.Options.{KeepsIds}
 use Rattle.md_safe.proofs.Claim.{reading}
 use Rattle.md_safe.proofs.Costs.{Document}
 use Rattle.md_safe.specs.Apart.{prefix_of, are_apart, ShareNoId}
 use Rattle.md_safe.proofs.CountedSection.{document-counts, document-counted}
 use Rattle.md_safe.proofs.Distinct.{IsNote, IsCall, document-known}
-use Rattle.md_safe.proofs.Prefixes.{same-prefix, note-once, call-once, any-occurs}
-use Rattle.md_safe.proofs.Prepared.{prepared}
+use Rattle.md_safe.proofs.Prefixes.{has_fn, same-prefix, note-once, call-once, any-occurs}
 
 -- the identifiers of the footnote calls in some nodes, in the order of their exits
 abbrev calls_in : List ℕ → Forest → List (List ℕ)
@@ -47,13 +46,13 @@ calls_in bytes (Node name start end children rest) =
     ++ when (named GfmFootnoteCall name) (identifier_of bytes children ∷ [])) ++ calls_in bytes rest
 
 -- the calls don't depend on the rest of the context
-calls-same : (given : Given) (forest : Forest) (around : Surroundings) (before : Before) →
-    (outcome given around before forest).calls ≡ calls_in given.bytes forest
-calls-same given Empty around before = refl
-calls-same given (Node name start end children rest) around before =
-    let around' : Surroundings = inside given.options (is_loose children) name around in
+calls-same : (context : Context) (forest : Forest) (around : Surroundings) (before : Before) →
+    (outcome context around before forest).calls ≡ calls_in context.bytes forest
+calls-same context Empty around before = refl
+calls-same context (Node name start end children rest) around before =
+    let around' : Surroundings = inside context.options (is_loose children) name around in
     let before' : Before = before_children name children before in
-    let inner : Outcome = outcome given around' before' children in
+    let inner : Outcome = outcome context around' before' children in
     let t : At = record {
       around = around;
       before = before;
@@ -63,13 +62,13 @@ calls-same given (Node name start end children rest) around before =
       place = position start end;
       is_last = around.is_outermost && is_empty rest;
     } in
-    let next : Before = before_next t name (node given t name inner) in
+    let next : Before = before_next t name (node context t name inner) in
     let own : List (List ℕ) =
-    when (named GfmFootnoteCall name) (identifier_of given.bytes children ∷ []) in
-    ap (λ calls. (calls ++ own) ++ (outcome given around next rest).calls)
-    (calls-same given children around' before')
-    ∙ ap (λ calls. (calls_in given.bytes children ++ own) ++ calls)
-    (calls-same given rest around next)
+    when (named GfmFootnoteCall name) (identifier_of context.bytes children ∷ []) in
+    ap (λ calls. (calls ++ own) ++ (outcome context around next rest).calls)
+    (calls-same context children around' before')
+    ∙ ap (λ calls. (calls_in context.bytes children ++ own) ++ calls)
+    (calls-same context rest around next)
 
 -- a document has at most half as many calls as events
 calls-fewer : (bytes : List ℕ) (forest : Forest) →
@@ -99,27 +98,8 @@ pub distinct-ids : (bytes : List ℕ) (names : List (List ℕ × List ℕ)) (opt
     IsBuilt bytes Blocks document → IsUnderlined false document → KeepsIds options →
     length (flatten document) < 2 ^ 64 → HasDistinctIds (meaning options names bytes document)
 distinct-ids bytes names options document built underlined keeps small =
-    let known = prepared bytes names options document built keeps.grammar in
-    let ending : List ℕ = ending_at options bytes (first_ending document) in
-    let alone : Given = record {
-      bytes = bytes;
-      names = names;
-      options = options;
-      ending = ending;
-      calls = [];
-      definitions = [];
-    } in
-    let called : Given =
-    record alone { calls = (outcome alone outermost nothing_before document).calls } in
-    let given : Given = record called {
-      definitions = (outcome called outermost nothing_before document).definitions;
-    } in
-    let d : Document = record {
-      given = given;
-      html = keeps.grammar.escapes_html;
-      ending = known.0;
-      titles = known.1;
-    } in
+    let alone : Context = alone_of bytes names options document in
+    let d : Document = document_of bytes names options document built keeps.grammar in
     counted-once (meaning options names bytes document)
     (λ w. document-counted d w document keeps.grammar keeps.by_number built underlined
     (omega (
@@ -128,7 +108,7 @@ distinct-ids bytes names options document built underlined keeps small =
       small,
       arith,
     ))
-    (calls-same given document outermost nothing_before
+    (calls-same d.context document outermost nothing_before
     ∙ sym (calls-same alone document outermost nothing_before)))
 
 -- each id of a document is that of the heading, of a footnote or of a call
@@ -138,54 +118,30 @@ known-id : (bytes : List ℕ) (names : List (List ℕ × List ℕ)) (options : C
     IsReading (meaning options names bytes document) f → (w : List ℕ) → 1 ≤ occurs w (ids f) →
     (codes "footnote-label" ≡ w) ⊎ (IsNote options w ⊎ IsCall options w)
 known-id bytes names options document built underlined keeps f reading w some =
-    let known = prepared bytes names options document built keeps.grammar in
-    let ending : List ℕ = ending_at options bytes (first_ending document) in
-    let alone : Given = record {
-      bytes = bytes;
-      names = names;
-      options = options;
-      ending = ending;
-      calls = [];
-      definitions = [];
-    } in
-    let called : Given =
-    record alone { calls = (outcome alone outermost nothing_before document).calls } in
-    let given : Given = record called {
-      definitions = (outcome called outermost nothing_before document).definitions;
-    } in
-    let d : Document = record {
-      given = given;
-      html = keeps.grammar.escapes_html;
-      ending = known.0;
-      titles = known.1;
-    } in
+    let alone : Context = alone_of bytes names options document in
+    let d : Document = document_of bytes names options document built keeps.grammar in
     let counts = document-counts d w document keeps.grammar built underlined
-    (calls-same given document outermost nothing_before
+    (calls-same d.context document outermost nothing_before
     ∙ sym (calls-same alone document outermost nothing_before)) in
     let same : f ≡ counts.forest =
     one_reading (meaning options names bytes document) f counts.forest reading counts.reading in
-    document-known options keeps.by_number w given.calls
+    document-known options keeps.by_number w d.context.calls
     (omega (arith, some, ap (λ g. occurs w (ids g)) same, counts.few))
+
+-- what follows the prefix in the id of a footnote or of a call
+tail_of : (options : CompileOptions) (w : List ℕ) → IsNote options w ⊎ IsCall options w →
+    (tail : List ℕ) × (has_fn tail ≡ false) × (w ≡ prefix_of options ++ (102 ∷ 110 ∷ tail))
+tail_of options w (inl n) = (45 ∷ decimal n.0, note-once n.0, n.1)
+tail_of options w (inr n) =
+    (codes "ref-" ++ (decimal n.0 ++ (45 ∷ decimal n.1)), call-once n.0 n.1, n.2)
 
 -- what follows two prefixes of one id proves that they are equal
 one-prefix : (options other : CompileOptions) (w : List ℕ) → IsNote options w ⊎ IsCall options w →
     IsNote other w ⊎ IsCall other w → prefix_of options ≡ prefix_of other
-one-prefix options other w (inl n) (inl m) =
-    same-prefix (prefix_of options) (prefix_of other) (45 ∷ decimal n.0) (45 ∷ decimal m.0)
-    (note-once n.0) (note-once m.0) (sym n.1 ∙ m.1)
-one-prefix options other w (inl n) (inr m) =
-    same-prefix (prefix_of options) (prefix_of other) (45 ∷ decimal n.0)
-    (codes "ref-" ++ (decimal m.0 ++ (45 ∷ decimal m.1))) (note-once n.0)
-    (call-once m.0 m.1) (sym n.1 ∙ m.2)
-one-prefix options other w (inr n) (inl m) =
-    same-prefix (prefix_of options) (prefix_of other)
-    (codes "ref-" ++ (decimal n.0 ++ (45 ∷ decimal n.1)))
-    (45 ∷ decimal m.0) (call-once n.0 n.1) (note-once m.0) (sym n.2 ∙ m.1)
-one-prefix options other w (inr n) (inr m) =
-    same-prefix (prefix_of options) (prefix_of other)
-    (codes "ref-" ++ (decimal n.0 ++ (45 ∷ decimal n.1)))
-    (codes "ref-" ++ (decimal m.0 ++ (45 ∷ decimal m.1))) (call-once n.0 n.1)
-    (call-once m.0 m.1) (sym n.2 ∙ m.2)
+one-prefix options other w n m =
+    let a = tail_of options w n in
+    let b = tail_of other w m in
+    same-prefix (prefix_of options) (prefix_of other) a.0 b.0 a.1 b.1 (sym a.2 ∙ b.2)
 
 -- where no id but the heading's is among both, they are apart
 apart-ids : (xs ys : List (List ℕ)) → ((w : List ℕ) → 1 ≤ occurs w xs → 1 ≤ occurs w ys →

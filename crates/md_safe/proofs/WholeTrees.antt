@@ -18,6 +18,7 @@ use Rattle.md_safe.specs.Node.{Open, Entry, Marker, Formatting, Mode}
 use Rattle.md_safe.specs.Formatting.{last_active}
 use Rattle.md_safe.specs.Built.{has_whole_texts, put, at, IsPlace, Builds, IsBuiltAsRead}
 use Rattle.md_safe.specs.Built.{AreOpen, has_none_active}
+use Rattle.md_safe.proofs.TreeSteps.{Position}
 use Rattle.md_safe.proofs.Flow.{flow-done, kept-none}
 
 none-open : (node : Open) (others : List Open) (active : List Entry) →
@@ -53,7 +54,14 @@ pub forest-built : (forest : Forest) → has_whole_texts forest ≡ true →
     (mode : Mode) (node : Open) (others : List Open) (active : List Entry) (created : ℕ) →
     IsPlace mode node others active created → Builds mode node others active created forest
 forest-built forest h c mode node others active created place =
-    let d = flow-done forest Flow refl h c mode node others active created (record {
+    let x : Position = record {
+      mode = mode;
+      node = node;
+      others = others;
+      active = active;
+      created = created;
+    } in
+    let d = flow-done forest Flow refl h c x (record {
       here = record {
         body = place.body;
         opened = none-open node others active place.none_active;

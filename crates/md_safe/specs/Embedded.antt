@@ -5,13 +5,13 @@ use Rattle.md_safe.specs.Input.{begins_with_line_feed, with_line_feeds}
 use Rattle.md_safe.specs.Token.{Token}
 use Rattle.md_safe.specs.TokenizerStates.{Data}
 use Rattle.md_safe.specs.Tokenizer.{IsTokenized}
-use Rattle.md_safe.specs.Leads.{Leads}
+use Rattle.md_safe.specs.Tokenizes.{Tokenizes}
 
 -- from the data state, whatever characters follow the text: the tokenizer emits these tokens, and
 -- is in the data state then, and exactly what follows remains of its input
 abbrev pub EndsInDataState : List ℕ → List Token → Type 0
 EndsInDataState text tokens =
-    (after : List ℕ) → Leads Data (with_line_feeds text ++ after) tokens after
+    (after : List ℕ) → Tokenizes Data (with_line_feeds text ++ after) tokens after
 
 -- a text ends with CR
 abbrev pub ends_with_return : List ℕ → Bool

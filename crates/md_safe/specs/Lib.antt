@@ -18,7 +18,7 @@ pub mod Tokenized
 pub mod PageTokens
 pub mod Running
 -- The results of some steps of the tokenizer on a text, whatever follows it.
-pub mod Leads
+pub mod Tokenizes
 pub mod Embedded
 -- The content model of the HTML that is written.
 pub mod Contents

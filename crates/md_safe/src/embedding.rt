@@ -10,7 +10,7 @@ ghost use Rattle.md_safe.specs.TokenizerStates.{Data};
 ghost use Rattle.md_safe.specs.Tokenizer.{IsTokenized};
 ghost use Rattle.md_safe.specs.Tokens.{tokens};
 ghost use Rattle.md_safe.specs.Tokenized.{IsSafelyTokenized};
-ghost use Rattle.md_safe.specs.Leads.{Leads};
+ghost use Rattle.md_safe.specs.Tokenizes.{Tokenizes};
 ghost use Rattle.md_safe.specs.Embedded.{EndsInDataState, HasTokensAfter, splits_newline};
 
 /// A text with a reading takes the tokenizer from the data state to the data state, with the tokens
@@ -34,10 +34,10 @@ pub fn its_tokens_are_its_own()
 pub fn what_follows_stands_alone()
     ensures alone { (text after : List ℕ) (emits : List Token) → EndsInDataState text emits
         → splits_newline text after ≡ false
-        → Leads Data (with_line_feeds (text ++ after)) emits (with_line_feeds after) }
+        → Tokenizes Data (with_line_feeds (text ++ after)) emits (with_line_feeds after) }
     ensures split { (text after : List ℕ) (emits : List Token) → EndsInDataState text emits
         → splits_newline text (10 ∷ after) ≡ true
-        → Leads Data (with_line_feeds (text ++ (10 ∷ after))) emits (with_line_feeds after) }
+        → Tokenizes Data (with_line_feeds (text ++ (10 ∷ after))) emits (with_line_feeds after) }
 {}
 
 /// So the two in sequence are tokenized as the text's tokens and then those of what follows alone,
@@ -65,7 +65,7 @@ pub fn reading_stands_between()
     ensures any { (before text after : List ℕ) (earlier : List Token) (forest : Forest)
         → EndsInDataState before earlier → IsReading text forest
         → splits_newline before text ≡ false → splits_newline (before ++ text) after ≡ false
-        → Leads Data (with_line_feeds (before ++ (text ++ after))) (earlier ++ tokens forest)
+        → Tokenizes Data (with_line_feeds (before ++ (text ++ after))) (earlier ++ tokens forest)
         (with_line_feeds after) }
     ensures tokenized { (before text after : List ℕ) (earlier later : List Token) (forest : Forest)
         → EndsInDataState before earlier → IsReading text forest

@@ -1,5 +1,5 @@
 //! Rows of the names shorter than sixteen bytes, and a guess which row a text has.
-// Written by bench/names.py from clients/numbers/numbers.txt. Don't edit it.
+// Written by bench/lists/names.py from clients/numbers/numbers.txt. Don't edit it.
 
 use md_base::Name;
 

@@ -21,7 +21,7 @@ use Rattle.md_tree.specs.Refusal.{EndsUnresolved, IsRefusal}
 use Rattle.md_pattern.specs.Steps.{is_complete}
 use Rattle.md_tree.specs.Machine.{Reads, Course, Runs, Steps, beginning}
 use Rattle.md_tree.specs.Walk.{Unbroken}
-use Rattle.md_tree.specs.Resolve.{LeadsNowhere, IsUnresolvedBy, IsUnresolved}
+use Rattle.md_tree.specs.Resolve.{RefersNowhere, IsUnresolvedBy, IsUnresolved}
 use Rattle.md_tree.proofs.OneTree.{flatten_one}
 use Rattle.md_tree.proofs.Listing.{listed, resolved-listed, all-resolved, got-listed}
 use Rattle.md_tree.proofs.Trees.{Runs-append}
@@ -82,7 +82,7 @@ got_inside mentions index mention e = by_cases (slice_get_cases mentions index).
 -- an unresolved mention, among the mentions of the document
 module _ (given : Handed) (mentioned : List Mentioned) (index : ℕ) (mention : Mention)
     (walked : IsWalked given mentioned)
-    (lost : LeadsNowhere given.bytes mentioned index mention) where
+    (lost : RefersNowhere given.bytes mentioned index mention) where
   abbrev all : List Mention
   all = mentions_of walked.forest
 

@@ -31,7 +31,7 @@ use Rattle.md_tree.specs.Rules.{reading_of}
 use Rattle.md_tree.specs.Numbers.{number_for, with_number, facts_with, AreNumbered, ExitsOf}
 use Rattle.md_tree.specs.Numbers.{is_of_definitions, definition_for}
 use Rattle.md_tree.specs.Numbers.{place_of}
-use Rattle.md_tree.proofs.Numbers.{told-at, got-with, ended-with, length-with, kept-number}
+use Rattle.md_tree.proofs.Numbers.{recorded-at, got-with, ended-with, length-with, kept-number}
 use Rattle.md_tree.proofs.Numbers.{number-definition}
 use Rattle.md_tree.proofs.Defining.{definitions-entered}
 use Rattle.md_pattern.proofs.Passing.{definitions-flatten}
@@ -55,7 +55,7 @@ module _ (inside : Inside) (given : Handed) (index : ℕ) (kept : IsKept inside)
       slice_get inside.facts index ≡ Some fact →
       slice_get (facts_at given.events) index ≡ Some fact
   entry-got name enters fact got =
-      let here = told-at kept.0.0 given.events index enters.0 flattened enters.1 in
+      let here = recorded-at kept.0.0 given.events index enters.0 flattened enters.1 in
       let kept_here =
       got-with (number_for given.bytes (mentions_of kept.0.0)) (mentions_of kept.0.0)
       (facts_at given.events) index here.0 here.1 here.2 here.3 in
@@ -134,7 +134,7 @@ module _ (inside : Inside) (given : Handed) (index : ℕ) (kept : IsKept inside)
   pub exit-inside : (is : Name → Bool) → ExitsOf is given.events index →
       index < length inside.facts
   exit-inside is exits =
-      let here = told-at kept.0.0 given.events index exits.1.0 flattened exits.1.1 in
+      let here = recorded-at kept.0.0 given.events index exits.1.0 flattened exits.1.1 in
       got_inside inside.facts index
       (with_number (number_for given.bytes (mentions_of kept.0.0) here.1) here.0)
       (ap (λ xs. slice_get xs index) facts_are
@@ -148,15 +148,18 @@ module _ (inside : Inside) (given : Handed) (index : ℕ) (kept : IsKept inside)
       (fact.read_at ≡ number_for given.bytes (mentions_of forest) mention)
       × ((target : Referral) × (mention ≡ mention_of (reading_of (standing_of event.name)) target))
   number-kept event there exits fact got forest mention flattens here =
-      let told = told-at forest given.events index event flattens there in
+      let recorded = recorded-at forest given.events index event flattens there in
       let number = number_for given.bytes (mentions_of forest) in
-      let one : told.1 ≡ mention = one_some told.1 mention (sym told.3 ∙ here) in
-      let two : with_number (number told.1) told.0 ≡ fact =
-      one_some (with_number (number told.1) told.0) fact (sym (got-with number (mentions_of forest)
-      (facts_at given.events) index told.0 told.1 told.2 told.3) ∙ ap (λ xs. slice_get xs index)
+      let one : recorded.1 ≡ mention = one_some recorded.1 mention (sym recorded.3 ∙ here) in
+      let two : with_number (number recorded.1) recorded.0 ≡ fact =
+      one_some (with_number (number recorded.1) recorded.0) fact
+      (sym (got-with number (mentions_of forest)
+      (facts_at given.events) index recorded.0 recorded.1 recorded.2 recorded.3) ∙ ap
+      (λ xs. slice_get xs index)
       (sym (subst (λ g. AreNumbered g inside.facts) same kept.1 forest flattens)) ∙ got) in
-      let at_exit = told.4.1 exits in (
-        ap (λ (f : Fact). f.read_at) (sym two) ∙ kept-number (number told.1) told.0 at_exit.0
+      let at_exit = recorded.4.1 exits in (
+        ap (λ (f : Fact). f.read_at) (sym two) ∙ kept-number (number recorded.1) recorded.0
+            at_exit.0
             ∙ ap number one,
         (at_exit.1.0, sym one ∙ at_exit.1.1),
       )

@@ -22,7 +22,7 @@ pub mod Greedy
 pub mod OneMoreIdentifier
 pub mod OneMoreEvent
 pub mod Numbering
-pub mod MentionsLed
+pub mod MentionsResolved
 pub mod NumbersPut
 pub mod Numbers
 pub mod OneTree

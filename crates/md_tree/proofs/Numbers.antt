@@ -77,77 +77,79 @@ length-with (number ∷ numbers) (fact ∷ facts) = ap suc (length-with numbers 
 
 -- an entry mentions nothing; an exit mentions what its name does, and nothing but the
 -- partner is found at it
-abbrev pub IsTold : Event → Fact → Mention → Type 0
-IsTold event fact mention =
+abbrev pub IsRecorded : Event → Fact → Mention → Type 0
+IsRecorded event fact mention =
     (event.kind ≡ Enter → mention ≡ Nothing)
     × (event.kind ≡ Exit → (fact.read_at ≡ 0)
     × ((target : Referral) × (mention ≡ mention_of (reading_of (standing_of event.name)) target)))
 
-abbrev Told : List Event → List Fact → List Mention → Type 0
-Told [] [] [] = Unit {0}
-Told (event ∷ events) (fact ∷ facts) (mention ∷ mentions) =
-    IsTold event fact mention × Told events facts mentions
-Told _ _ _ = ⊥
+abbrev AreRecorded : List Event → List Fact → List Mention → Type 0
+AreRecorded [] [] [] = Unit {0}
+AreRecorded (event ∷ events) (fact ∷ facts) (mention ∷ mentions) =
+    IsRecorded event fact mention × AreRecorded events facts mentions
+AreRecorded _ _ _ = ⊥
 
-told_append : (xs ys : List Event) (fs gs : List Fact) (ms ns : List Mention) →
-    Told xs fs ms → Told ys gs ns →
-    Told (xs ++ ys) (fs ++ gs) (ms ++ ns)
-told_append [] ys [] gs [] ns one two = two
-told_append (x ∷ xs) ys (f ∷ fs) gs (m ∷ ms) ns one two =
-    (one.0, told_append xs ys fs gs ms ns one.1 two)
-told_append [] ys [] gs (m ∷ ms) ns one two = absurd one
-told_append [] ys (f ∷ fs) gs ms ns one two = absurd one
-told_append (x ∷ xs) ys [] gs ms ns one two = absurd one
-told_append (x ∷ xs) ys (f ∷ fs) gs [] ns one two = absurd one
+recorded_append : (xs ys : List Event) (fs gs : List Fact) (ms ns : List Mention) →
+    AreRecorded xs fs ms → AreRecorded ys gs ns →
+    AreRecorded (xs ++ ys) (fs ++ gs) (ms ++ ns)
+recorded_append [] ys [] gs [] ns one two = two
+recorded_append (x ∷ xs) ys (f ∷ fs) gs (m ∷ ms) ns one two =
+    (one.0, recorded_append xs ys fs gs ms ns one.1 two)
+recorded_append [] ys [] gs (m ∷ ms) ns one two = absurd one
+recorded_append [] ys (f ∷ fs) gs ms ns one two = absurd one
+recorded_append (x ∷ xs) ys [] gs ms ns one two = absurd one
+recorded_append (x ∷ xs) ys (f ∷ fs) gs [] ns one two = absurd one
 
-told : (forest : Forest) (index tables : ℕ) →
-    Told (flatten forest) (facts_of index tables forest) (mentions_of forest)
-told Empty index tables = tt
-told (Node name start end children rest) index tables =
+recorded : (forest : Forest) (index tables : ℕ) →
+    AreRecorded (flatten forest) (facts_of index tables forest) (mentions_of forest)
+recorded Empty index tables = tt
+recorded (Node name start end children rest) index tables =
     let exit = index_after (suc index) children in
     let more = tables_with name (tables_after tables children) in
-    let entry_told : IsTold (entering name start) (fact_at index tables name children) Nothing =
+    let entry_recorded : IsRecorded (entering name start) (fact_at index tables name children)
+    Nothing =
     (λ e. refl, λ e. cc) in
-    let exit_told : IsTold (exiting name end) (partner_alone index)
+    let exit_recorded : IsRecorded (exiting name end) (partner_alone index)
     (mention_of (reading_of (standing_of name)) (target_of children Missing)) =
     (λ e. cc, λ e. (refl, (target_of children Missing, refl))) in (
-      entry_told,
-      told_append (flatten children) (exiting name end ∷ flatten rest)
+      entry_recorded,
+      recorded_append (flatten children) (exiting name end ∷ flatten rest)
           (facts_of (suc index) tables children)
           (partner_alone index ∷ facts_of (suc exit) more rest) (mentions_of children)
           (mention_of (reading_of (standing_of name)) (target_of children Missing)
           ∷ mentions_of rest)
-          (told children (suc index) tables) (exit_told, told rest (suc exit) more),
+          (recorded children (suc index) tables) (exit_recorded, recorded rest (suc exit) more),
     )
 
 -- the three at an index
-abbrev pub ToldAt : List Event → List Fact → List Mention → ℕ → Event → Type 0
-ToldAt events facts mentions index event =
+abbrev pub RecordedAt : List Event → List Fact → List Mention → ℕ → Event → Type 0
+RecordedAt events facts mentions index event =
     (fact : Fact) × (mention : Mention) × (slice_get facts index ≡ Some fact)
-    × (slice_get mentions index ≡ Some mention) × IsTold event fact mention
+    × (slice_get mentions index ≡ Some mention) × IsRecorded event fact mention
 
-told_at : (events : List Event) (facts : List Fact) (mentions : List Mention)
+recorded_at : (events : List Event) (facts : List Fact) (mentions : List Mention)
     (index : ℕ) (event : Event) →
-    Told events facts mentions → slice_get events index ≡ Some event →
-    ToldAt events facts mentions index event
-told_at [] facts mentions index event all e = cc
-told_at (x ∷ events) (f ∷ facts) (m ∷ mentions) zero event all e =
+    AreRecorded events facts mentions → slice_get events index ≡ Some event →
+    RecordedAt events facts mentions index event
+recorded_at [] facts mentions index event all e = cc
+recorded_at (x ∷ events) (f ∷ facts) (m ∷ mentions) zero event all e =
     let same : x ≡ event = cc in
-    subst (λ y. ToldAt (x ∷ events) (f ∷ facts) (m ∷ mentions) 0 y) same (f, m, refl, refl, all.0)
-told_at (x ∷ events) (f ∷ facts) (m ∷ mentions) (suc index) event all e =
-    told_at events facts mentions index event all.1 e
-told_at (x ∷ events) [] mentions index event all e = absurd all
-told_at (x ∷ events) (f ∷ facts) [] index event all e = absurd all
+    subst (λ y. RecordedAt (x ∷ events) (f ∷ facts) (m ∷ mentions) 0 y) same
+    (f, m, refl, refl, all.0)
+recorded_at (x ∷ events) (f ∷ facts) (m ∷ mentions) (suc index) event all e =
+    recorded_at events facts mentions index event all.1 e
+recorded_at (x ∷ events) [] mentions index event all e = absurd all
+recorded_at (x ∷ events) (f ∷ facts) [] index event all e = absurd all
 
-pub told-at : (forest : Forest) (events : List Event) (index : ℕ) (event : Event) →
+pub recorded-at : (forest : Forest) (events : List Event) (index : ℕ) (event : Event) →
     flatten forest ≡ events →
     slice_get events index ≡ Some event →
-    ToldAt events (facts_at events) (mentions_of forest) index event
-told-at forest events index event flattened here =
-    told_at events (facts_at events) (mentions_of forest) index event
-    (subst (λ es. Told es (facts_at events) (mentions_of forest)) flattened
-    (subst (λ fs. Told (flatten forest) fs (mentions_of forest))
-    (sym (facts-flatten forest events flattened)) (told forest 0 0))) here
+    RecordedAt events (facts_at events) (mentions_of forest) index event
+recorded-at forest events index event flattened here =
+    recorded_at events (facts_at events) (mentions_of forest) index event
+    (subst (λ es. AreRecorded es (facts_at events) (mentions_of forest)) flattened
+    (subst (λ fs. AreRecorded (flatten forest) fs (mentions_of forest))
+    (sym (facts-flatten forest events flattened)) (recorded forest 0 0))) here
 
 -- what is kept at an index
 pub got-with : (number : Mention → ℕ) (mentions : List Mention) (facts : List Fact) (index : ℕ)

@@ -126,10 +126,10 @@ IsNowhere bytes mentions (Call label) broken =
     (broken ≡ rule.Footnote) × (IsResolved bytes mentions (Call label) → ⊥)
 IsNowhere bytes mentions _ broken = ⊥
 
-abbrev pub IsLed : List ℕ → List Mention → Mention → Result ℕ Rule → Type 0
-IsLed bytes mentions mention (Ok number) =
+abbrev pub RefersTo : List ℕ → List Mention → Mention → Result ℕ Rule → Type 0
+RefersTo bytes mentions mention (Ok number) =
     IsResolved bytes mentions mention × (number ≡ number_for bytes mentions mention)
-IsLed bytes mentions mention (Err broken) = IsNowhere bytes mentions mention broken
+RefersTo bytes mentions mention (Err broken) = IsNowhere bytes mentions mention broken
 
 -- facts with these numbers
 abbrev pub facts_with : List ℕ → List Fact → List Fact

@@ -11,17 +11,17 @@ use Rattle.md_tree.specs.declared.rule.CompileError.TheVariants as error
 use Rattle.md_tree.specs.Mentions.{mentions_among, IsResolved}
 
 -- the event at the index has this mention, and no definition of that kind has its identifier
-abbrev pub LeadsNowhere : List ℕ → List Mentioned → ℕ → Mention → Type 0
-LeadsNowhere bytes mentioned index mention =
+abbrev pub RefersNowhere : List ℕ → List Mentioned → ℕ → Mention → Type 0
+RefersNowhere bytes mentioned index mention =
     (at : ℕ) × (slice_get mentioned at ≡ Some (record { index = index; mention = mention }))
     × (IsResolved bytes (mentions_among mentioned) mention → ⊥)
 
 -- the rule that an unresolved mention breaks
 abbrev pub IsUnresolvedBy : List ℕ → List Mentioned → ℕ → Rule → Type 0
 IsUnresolvedBy bytes mentioned index rule.Definition = (label : Position)
-    × LeadsNowhere bytes mentioned index (Reference label)
+    × RefersNowhere bytes mentioned index (Reference label)
 IsUnresolvedBy bytes mentioned index rule.Footnote = (label : Position)
-    × LeadsNowhere bytes mentioned index (Call label)
+    × RefersNowhere bytes mentioned index (Call label)
 IsUnresolvedBy bytes mentioned index _ = ⊥
 
 abbrev pub IsUnresolved : List ℕ → List Mentioned → CompileError → Type 0

@@ -23,7 +23,7 @@ use crate::mention::Mention;
 use crate::open_nodes::{Aim, Open, Outer};
 use crate::rule::Rule;
 use md_base::Position;
-use md_pattern::{Place, Reading, Symbol};
+use md_pattern::{Reading, SpineState, Symbol};
 use md_text::LineEnding;
 use std::alloc::AllocError;
 
@@ -51,7 +51,7 @@ pub fn mention_of(reading: Reading, label: Position) -> Mention
 #[derive(Clone, Copy)]
 pub struct Spot {
     /// The place on its parent's spine.
-    pub around: Place,
+    pub around: SpineState,
     /// The symbol before it.
     pub before: Option<Symbol>,
     /// What is read of it.

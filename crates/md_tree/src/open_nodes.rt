@@ -1,7 +1,7 @@
 //! The state of the open nodes while events are read.
 
 use md_base::Name;
-use md_pattern::{Place, Reading, Symbol};
+use md_pattern::{Reading, SpineState, Symbol};
 
 /// The identifier of a link, an image, a footnote call or a definition, as far as events have been
 /// read: a label is given by the indices of its two events. Contracts use `Referral`, which has
@@ -18,7 +18,7 @@ pub enum Aim {
 #[derive(Clone, Copy)]
 pub struct Outer {
     /// The place on its parent's spine, after the node.
-    pub place: Place,
+    pub place: SpineState,
     /// The last symbol of that spine.
     pub last: Option<Symbol>,
     /// The symbol before the node.

@@ -137,17 +137,17 @@ fn is_footnote(
 
 /// The number of the definition that a mention refers to, 0 if it refers to none, or the rule that
 /// it breaks.
-fn lead(
+fn referred_number(
     alloc: Global,
     bytes: &Texts,
     mention: Mention,
     definitions: &Numbers,
     footnotes: &Identifiers,
 ) -> Result<Result<usize, Rule>, AllocError>
-    ensures { IfOk result (λ led. (mentions : List Mention)
+    ensures { IfOk result (λ referred. (mentions : List Mention)
         → spec.Numbers definitions.now (defined bytes.now mentions)
         → spec.Identifiers footnotes.now (footnoted bytes.now mentions)
-        → spec.IsLed bytes.now mentions mention led) }
+        → spec.RefersTo bytes.now mentions mention referred) }
 {
     match mention {
         Mention::Reference(label) => {
@@ -188,7 +188,7 @@ pub fn resolve(
     let footnotes = footnotes(alloc, bytes, mentions)?;
     for mentioned in mentions {
         let index = mentioned.index;
-        match lead(alloc, bytes, mentioned.mention, &definitions, &footnotes)? {
+        match referred_number(alloc, bytes, mentioned.mention, &definitions, &footnotes)? {
             Ok(number) => keep_number(facts, index, number)?,
             Err(rule) => return Err(CompileError::Event { index, rule }),
         }

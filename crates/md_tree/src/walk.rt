@@ -15,14 +15,14 @@ use crate::mention::Mentioned;
 use crate::open_nodes::{Aim, Open, Outer};
 use crate::rule::{CompileError, Rule};
 use md_base::{Event, Kind, Name};
-use md_pattern::{Place, Reading, Role, Standing, Symbol, standing_of};
+use md_pattern::{Reading, Role, SpineState, Standing, Symbol, standing_of};
 use std::alloc::{AllocError, Global};
 
 /// The state of the walk.
 #[derive(Drop)]
 pub struct Walk {
     /// The place on the spine that the next event belongs to.
-    pub place: Place,
+    pub place: SpineState,
     /// Its last symbol.
     pub before: Option<Symbol>,
     /// Its target so far.
@@ -55,7 +55,7 @@ impl Walk {
         ensures { (events : List Event) → course_of events 0 result ≡ beginning }
     {
         Walk {
-            place: Place::start(Role::Flow),
+            place: SpineState::start(Role::Flow),
             before: None,
             target: Aim::Missing,
             open_nodes: Vec::new(alloc),
@@ -172,7 +172,7 @@ impl Walk {
             aimed,
         };
         push_open(&mut self.open_nodes, node)?;
-        self.place = Place::start(role);
+        self.place = SpineState::start(role);
         self.before = None;
         Ok(())
     }

@@ -1,7 +1,7 @@
 //! Questions about nested captured texts, with heads before them.
 
 use super::{Call, no_such_call};
-use md_output::Output;
+use md_buffer::Output;
 use std::alloc::{AllocError, Global};
 
 /// The result of a call: each character of the argument is a step, and the call's name is the

@@ -5,7 +5,7 @@ use Rattle.md_base.specs.declared.event.Name.{Name}
 use Rattle.md_base.specs.declared.event.Position.{Position}
 use Rattle.md_base.specs.Place.{text_between}
 use Rattle.md_base.specs.Tree.{Forest}
-use Rattle.md_meaning.specs.declared.context.Surroundings.{Surroundings}
+use Rattle.md_meaning.specs.declared.surroundings.Surroundings.{Surroundings}
 use Rattle.md_text.specs.declared.options.CompileOptions.{CompileOptions}
 use Rattle.md_tree.specs.declared.mention.Referral.TheVariants.{Missing, Label}
 use Rattle.md_tree.specs.Mentions.{identifier_at}
@@ -28,7 +28,7 @@ pub record Footnote : Type 0 where
 
 -- the document's bytes, the names of references, the options, the line ending to print, the
 -- identifiers of all footnote calls, in the order of their exits, and the definitions
-pub record Given : Type 0 where
+pub record Context : Type 0 where
   pub bytes : List ℕ
   pub names : List (List ℕ × List ℕ)
   pub options : CompileOptions

@@ -9,7 +9,7 @@ use Rattle.md_base.specs.NameTests.{is_fence, is_transparent}
 use Rattle.md_base.specs.Is.{is}
 use Rattle.md_base.specs.Tree.{Forest}
 use Rattle.md_pattern.specs.Alignments.{alignments}
-use Rattle.md_meaning.specs.Meaning.Around.{is_tight}
+use Rattle.md_meaning.specs.Meaning.Inherited.{is_tight}
 use Rattle.md_meaning.specs.Meaning.At.{Before, At}
 
 -- the first fence of a raw flow

@@ -12,12 +12,12 @@ use Rattle.md_base.specs.Children.{spine_names, last_name, last_contributing}
 use Rattle.md_base.specs.NameTests.{is_fence, is_chunk}
 use Rattle.md_base.specs.Place.{serialized_between}
 use Rattle.md_tree.specs.Rules.{columns}
-use Rattle.md_meaning.specs.declared.context.Container.TheVariants.{Nothing}
-use Rattle.md_meaning.specs.Meaning.Around.{is_tight}
+use Rattle.md_meaning.specs.declared.surroundings.Container.TheVariants.{Nothing}
+use Rattle.md_meaning.specs.Meaning.Inherited.{is_tight}
 use Rattle.md_meaning.specs.Meaning.Layout.{Piece, Text, Needed, Forced, said, on_own_line, when}
 use Rattle.md_meaning.specs.Meaning.Finds.{first_named, number_in_list}
 use Rattle.md_meaning.specs.Meaning.Spans.{is_at}
-use Rattle.md_meaning.specs.Meaning.At.{Given, At, text_in}
+use Rattle.md_meaning.specs.Meaning.At.{Context, At, text_in}
 
 -- digits without leading zeros
 abbrev pub without_zeros : List ℕ → List ℕ
@@ -26,10 +26,11 @@ without_zeros (digit ∷ digits) =
     if digit == 48 && nat_lt 0 (length digits) then without_zeros digits else digit ∷ digits
 
 -- ` start="` number `"` for the number of a list's first item, unless it is 1
-abbrev pub list_start : Given → At → List Piece
-list_start given at =
+abbrev pub list_start : Context → At → List Piece
+list_start context at =
     let number =
-    without_zeros (option_map_or (text_in given.bytes) (number_in_list at.children) (codes "1")) in
+    without_zeros (option_map_or (text_in context.bytes) (number_in_list at.children) (codes "1"))
+    in
     when (not (bytes_eq number (codes "1")))
     (Text (codes " start=\"") ∷ Text number ∷ Text (codes "\"") ∷ [])
 
@@ -53,13 +54,14 @@ atx_rank at = option_map_or (λ place. columns place.start place.end)
     (first_named HeadingAtxSequence at.children) 0
 
 -- 2 if the underline begins with `-`, else 1
-abbrev pub underline_rank : Given → At → ℕ
-underline_rank given at = if is_at 45 given.bytes at.place.start.index then 2 else 1
+abbrev pub underline_rank : Context → At → ℕ
+underline_rank context at = if is_at 45 context.bytes at.place.start.index then 2 else 1
 
 -- a line of code, with spaces for the tabs that are cut at its ends
-abbrev pub chunk : Given → At → List Piece
-chunk given at =
-    said (encoded true (unwrap_or (serialized_between given.bytes at.place.start at.place.end) []))
+abbrev pub chunk : Context → At → List Piece
+chunk context at =
+    said (encoded true (unwrap_or (serialized_between context.bytes at.place.start at.place.end)
+    []))
 
 -- a line ending if needed, if there is a line of code, then the end of code
 abbrev pub code_end : At → List Piece

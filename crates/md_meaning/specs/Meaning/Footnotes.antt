@@ -9,7 +9,7 @@ use Rattle.md_text.specs.Encode.{encoded}
 use Rattle.md_text.specs.Url.{sanitized}
 use Rattle.md_text.specs.declared.options.CompileOptions.{CompileOptions}
 use Rattle.md_meaning.specs.Meaning.Layout.{Piece, Text, Needed, Forced, on_own_line, when}
-use Rattle.md_meaning.specs.Meaning.At.{Footnote, Given, At, identifier_of}
+use Rattle.md_meaning.specs.Meaning.At.{Footnote, Context, At, identifier_of}
 
 -- the distinct identifiers, in the order of their first occurrences
 abbrev pub distinct : List (List ℕ) → List (List ℕ)
@@ -48,13 +48,13 @@ call_id options identifier number occurrence =
 
 -- a call: its number is the position of its identifier among the distinct ones of all calls; its
 -- occurrence counts the calls with its identifier that end before it, and itself
-abbrev pub call : Given → At → List Piece
-call given at =
-    let identifier = identifier_of given.bytes at.children in
-    let number = place_among (distinct given.calls) identifier in
+abbrev pub call : Context → At → List Piece
+call context at =
+    let identifier = identifier_of context.bytes at.children in
+    let number = place_among (distinct context.calls) identifier in
     when (not at.around.in_image) (Text (codes "<sup><a href=\"#")
-    ∷ Text (id_of given.options (codes "fn-") identifier number) ∷ Text (codes "\" id=\"")
-    ∷ Text (call_id given.options identifier number (suc (count_of at.calls identifier)))
+    ∷ Text (id_of context.options (codes "fn-") identifier number) ∷ Text (codes "\" id=\"")
+    ∷ Text (call_id context.options identifier number (suc (count_of at.calls identifier)))
     ∷ Text (codes "\" data-footnote-ref=\"\" aria-describedby=\"footnote-label\">")
     ∷ Text (decimal number) ∷ Text (codes "</a></sup>") ∷ [])
 
@@ -92,14 +92,14 @@ body text back =
 
 -- a footnote in the section: the first one that has the identifier of these calls, with their
 -- number
-abbrev pub item : Given → List Footnote → List ℕ → List Piece
-item given footnotes identifier =
-    let number = place_among (distinct given.calls) identifier in
+abbrev pub item : Context → List Footnote → List ℕ → List Piece
+item context footnotes identifier =
+    let number = place_among (distinct context.calls) identifier in
     let footnote = find (λ footnote. bytes_eq footnote.identifier identifier) footnotes in
-    Forced ∷ Text (codes "<li id=\"") ∷ Text (id_of given.options (codes "fn-") identifier number)
+    Forced ∷ Text (codes "<li id=\"") ∷ Text (id_of context.options (codes "fn-") identifier number)
     ∷ Text (codes "\">") ∷ Forced
     ∷ (body (option_map_or (λ footnote. footnote.text) footnote [])
-    (backreferences given.options identifier number (count_of given.calls identifier))
+    (backreferences context.options identifier number (count_of context.calls identifier))
     ++ on_own_line (codes "</li>"))
 
 -- the section's heading, and the list's tag
@@ -116,7 +116,7 @@ section_start options =
     ∷ Text (codes "</") ∷ Text tag ∷ Text (codes ">") ∷ Forced ∷ Text (codes "<ol>") ∷ []
 
 -- the section, if there is a call: one item for each identifier, by its number
-abbrev pub section : Given → List Footnote → List Piece
-section given footnotes = when (not (length given.calls == 0)) (section_start given.options
-    ++ (flat_map (item given footnotes) (distinct given.calls)
+abbrev pub section : Context → List Footnote → List Piece
+section context footnotes = when (not (length context.calls == 0)) (section_start context.options
+    ++ (flat_map (item context footnotes) (distinct context.calls)
     ++ (Forced ∷ Text (codes "</ol>") ∷ Forced ∷ Text (codes "</section>") ∷ Forced ∷ [])))

@@ -10,11 +10,11 @@ use Rattle.md_base.specs.Tree.{Forest, Empty, Node}
 use Rattle.md_base.specs.Children.{is_empty, or_else, spine_names}
 use Rattle.md_pattern.specs.Looseness.{is_loose}
 use Rattle.md_base.specs.NameTests.{is_transparent}
-use Rattle.md_meaning.specs.declared.context.Surroundings.{Surroundings}
+use Rattle.md_meaning.specs.declared.surroundings.Surroundings.{Surroundings}
 use Rattle.md_tree.specs.Rules.{place}
-use Rattle.md_meaning.specs.Meaning.Around.{inside}
+use Rattle.md_meaning.specs.Meaning.Inherited.{inside}
 use Rattle.md_meaning.specs.Meaning.Layout.{Piece, layout, when}
-use Rattle.md_meaning.specs.Meaning.At.{Defined, Footnote, Given, Found, nothing_found, target_in}
+use Rattle.md_meaning.specs.Meaning.At.{Defined, Footnote, Context, Found, nothing_found, target_in}
 use Rattle.md_meaning.specs.Meaning.At.{Before, At, identifier_of}
 use Rattle.md_meaning.specs.Meaning.Before.{before_children, lets_slurp}
 use Rattle.md_meaning.specs.Meaning.Means.{prints}
@@ -57,12 +57,12 @@ found_at at name text = if is_transparent name then at.found else nothing_found
 
 -- the meaning of a node, from the meaning of its children; a call, a definition and a footnote have
 -- the identifiers of their labels
-abbrev pub node : Given → At → Name → Outcome → Outcome
-node given at name inner =
-    let text = layout given.ending inner.pieces in
-    let identifier = identifier_of given.bytes at.children in
+abbrev pub node : Context → At → Name → Outcome → Outcome
+node context at name inner =
+    let text = layout context.ending inner.pieces in
+    let identifier = identifier_of context.bytes at.children in
     record {
-      pieces = prints given at name inner.pieces;
+      pieces = prints context at name inner.pieces;
       found = found_at at name text;
       calls = inner.calls ++ when (is GfmFootnoteCall name) (identifier ∷ []);
       definitions = inner.definitions ++ when (is Definition name)
@@ -87,8 +87,8 @@ abbrev pub continued : At → Name → Outcome → (Before → Outcome) → Outc
 continued at name here later = both here (later (before_next at name here))
 
 -- the meaning of nodes, from their ancestors' facts and the state before them
-abbrev pub outcome : Given → Surroundings → Before → Forest → Outcome
-outcome given around before Empty = record {
+abbrev pub outcome : Context → Surroundings → Before → Forest → Outcome
+outcome context around before Empty = record {
   pieces = [];
   found = nothing_found;
   calls = [];
@@ -96,8 +96,8 @@ outcome given around before Empty = record {
   footnotes = [];
   slurps = before.slurps;
 }
-outcome given around before (Node name start end children rest) =
-    let inner = outcome given (inside given.options (is_loose children) name around)
+outcome context around before (Node name start end children rest) =
+    let inner = outcome context (inside context.options (is_loose children) name around)
     (before_children name children before) children in
     let at : At = record {
       around = around;
@@ -109,4 +109,4 @@ outcome given around before (Node name start end children rest) =
       is_last = around.is_outermost && is_empty rest;
     }
     in
-    continued at name (node given at name inner) (λ next. outcome given around next rest)
+    continued at name (node context at name inner) (λ next. outcome context around next rest)

@@ -11,7 +11,7 @@ use Rattle.md_text.specs.Encode.{encoded}
 use Rattle.md_text.specs.Filter.{tag_filtered}
 use Rattle.md_base.specs.NameTests.{is_definition}
 use Rattle.md_meaning.specs.Meaning.Layout.{Piece, Text, said, when}
-use Rattle.md_meaning.specs.Meaning.At.{Given, At, text_in}
+use Rattle.md_meaning.specs.Meaning.At.{Context, At, text_in}
 
 -- a text, escaped if the surroundings say so
 abbrev pub escaped : At → List ℕ → List Piece
@@ -26,10 +26,11 @@ marker name = elim name [
 ]
 
 -- the character of a reference: the last mark before its value decides how to read it
-abbrev pub reference : Given → At → List ℕ
-reference given at =
+abbrev pub reference : Context → At → List ℕ
+reference context at =
     let last = slice_get at.before.spine (length at.before.spine - 1) in
-    unwrap_or (decoded given.names (option_map_or marker last 38) (text_in given.bytes at.place)) []
+    unwrap_or (decoded context.names (option_map_or marker last 38)
+    (text_in context.bytes at.place)) []
 
 -- a line ending isn't printed if it is slurped, which none in a definition is, or after a
 -- definition of either kind
@@ -38,23 +39,23 @@ is_dropped at = not at.around.in_definition && at.before.slurps
     || option_map_or is_definition at.before.previous false
 
 -- a line ending: a space in code, else its own text unless it is dropped
-abbrev pub line_ending : Given → At → List Piece
-line_ending given at = if at.around.in_code then said (codes " ")
-    else (if is_dropped at then [] else said (text_in given.bytes at.place))
+abbrev pub line_ending : Context → At → List Piece
+line_ending context at = if at.around.in_code then said (codes " ")
+    else (if is_dropped at then [] else said (text_in context.bytes at.place))
 
 -- HTML, whose tags the tag filter escapes if it is allowed
-abbrev pub html : Given → At → List ℕ
-html given at = if given.options.allow_dangerous_html && given.options.gfm_tagfilter
-    then tag_filtered (text_in given.bytes at.place) else text_in given.bytes at.place
+abbrev pub html : Context → At → List ℕ
+html context at = if context.options.allow_dangerous_html && context.options.gfm_tagfilter
+    then tag_filtered (text_in context.bytes at.place) else text_in context.bytes at.place
 
 -- a span between its tags, which aren't printed in an image
 abbrev pub span : At → List Piece → List Piece → List Piece → List Piece
 span at start inner end = if at.around.in_image then inner else start ++ (inner ++ end)
 
 -- a task's tag, up to the attribute for done
-abbrev pub task_start : Given → List Piece
-task_start given = Text (codes "<input type=\"checkbox\" ")
-    ∷ when (not given.options.gfm_task_list_item_checkable) (said (codes "disabled=\"\" "))
+abbrev pub task_start : Context → List Piece
+task_start context = Text (codes "<input type=\"checkbox\" ")
+    ∷ when (not context.options.gfm_task_list_item_checkable) (said (codes "disabled=\"\" "))
 
 -- the byte at this index is this one
 abbrev pub is_at : ℕ → List ℕ → ℕ → Bool

@@ -4,11 +4,11 @@ ghost use Rattle.std.specs.Prelude.{◌≡◌, true, false, OnOk};
 ghost use Rattle.md_base.specs.NameTests.{is_transparent, contributes};
 ghost use Rattle.md_pattern.specs.Facts as spec;
 ghost use Rattle.md_pattern.specs.Columns.{columns_exited};
-ghost use Rattle.md_pattern.specs.Told.{nothing_told};
+ghost use Rattle.md_pattern.specs.Summary.{empty_summary};
 
 use super::{Ended, OpenNode, define};
 use crate::seeking::{Sought, is_idle, see};
-use crate::told::{Last, NOTHING_TOLD, spaced, tell};
+use crate::summary::{EMPTY_SUMMARY, Last, add_child, spaced};
 use md_base::Name;
 use md_base::name_tests::{contributes, is_transparent};
 use std::alloc::{AllocError, Global};
@@ -75,24 +75,24 @@ pub(super) fn follow(
 ) -> Result<(), AllocError>
     ensures here { OnOk result (here.new ≡ spec.followed name own.now here.old) }
     ensures columns { OnOk result (ended.new.columns
-        ≡ columns_exited name own.now.told here.old.collects ended.old.columns) }
+        ≡ columns_exited name own.now.summary here.old.collects ended.old.columns) }
     ensures definitions { OnOk result (ended.new.definitions.items
         ≡ spec.definitions_with name own.now.entry ended.old.definitions.items) }
 {
     search_after(&mut here.sought, name, own.entry, &own.sought);
     if is_common(name) {
         here.contributing = own.entry;
-        here.told.last = Last::Plain;
+        here.summary.last = Last::Plain;
         return Ok(());
     }
-    ended.columns.exit(alloc, name, own.told, here.collects)?;
+    ended.columns.exit(alloc, name, own.summary, here.collects)?;
     note_child(
         &mut here.contributing,
         &mut ended.definitions,
         name,
         own.entry,
     )?;
-    tell(&mut here.told, name, own.told);
+    add_child(&mut here.summary, name, own.summary);
     Ok(())
 }
 
@@ -108,7 +108,7 @@ pub(super) fn follow_leaf(
     ensures here { OnOk result
         (here.new ≡ spec.followed name (spec.opened entry name here.old) here.old) }
     ensures columns { OnOk result (ended.new.columns
-        ≡ columns_exited name nothing_told here.old.collects ended.old.columns) }
+        ≡ columns_exited name empty_summary here.old.collects ended.old.columns) }
     ensures definitions { OnOk result (ended.new.definitions.items
         ≡ spec.definitions_with name entry ended.old.definitions.items) }
 {
@@ -118,10 +118,10 @@ pub(super) fn follow_leaf(
     }
     ended
         .columns
-        .exit(alloc, name, NOTHING_TOLD, here.collects)?;
+        .exit(alloc, name, EMPTY_SUMMARY, here.collects)?;
     note_child(&mut here.contributing, &mut ended.definitions, name, entry)?;
     search_leaf(&mut here.sought, name, entry);
-    tell(&mut here.told, name, NOTHING_TOLD);
+    add_child(&mut here.summary, name, EMPTY_SUMMARY);
     Ok(())
 }
 
@@ -132,11 +132,11 @@ fn follow_simple(here: &mut OpenNode, name: Name, entry: usize)
     ensures { here.new ≡ spec.followed name (spec.opened entry name here.old) here.old }
 {
     match name {
-        Name::SpaceOrTab => here.told.last = spaced(here.told.last),
-        Name::LineEnding => here.told.last = Last::Plain,
+        Name::SpaceOrTab => here.summary.last = spaced(here.summary.last),
+        Name::LineEnding => here.summary.last = Last::Plain,
         _ => {
             here.contributing = entry;
-            here.told.last = Last::Plain;
+            here.summary.last = Last::Plain;
         }
     }
 }

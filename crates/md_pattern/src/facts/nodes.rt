@@ -8,7 +8,7 @@ ghost use Rattle.md_pattern.specs.Facts as spec;
 use super::{Fact, OpenNode};
 use crate::columns::collects_in;
 use crate::seeking::{NOTHING_SOUGHT, Sought, search_of};
-use crate::told::{NOT_LOOSE, NOTHING_TOLD, told_looseness};
+use crate::summary::{EMPTY_SUMMARY, NOT_LOOSE, summary_looseness};
 use md_base::Name;
 use md_base::name_tests::is_transparent;
 use std::alloc::AllocError;
@@ -22,7 +22,7 @@ pub(super) fn document_node() -> OpenNode
         contributing: 0,
         collects: false,
         sought: NOTHING_SOUGHT,
-        told: NOTHING_TOLD,
+        summary: EMPTY_SUMMARY,
     }
 }
 
@@ -64,7 +64,7 @@ pub(super) fn opened(entry: usize, name: Name, around: &OpenNode) -> OpenNode
             contributing: 0,
             collects: collects_in(name, around.collects),
             sought: sought_inside(name, around.sought),
-            told: NOTHING_TOLD,
+            summary: EMPTY_SUMMARY,
         },
         // A search and a table of the parent continue inside it.
         Name::Other(_) => OpenNode {
@@ -72,7 +72,7 @@ pub(super) fn opened(entry: usize, name: Name, around: &OpenNode) -> OpenNode
             contributing: 0,
             collects: around.collects,
             sought: around.sought,
-            told: NOTHING_TOLD,
+            summary: EMPTY_SUMMARY,
         },
         // Inside any other node nothing is sought or collected.
         _ => OpenNode {
@@ -100,12 +100,12 @@ fn read_at_of(name: Name, table: usize, own: &OpenNode) -> usize
 #[inline(always)]
 pub(super) fn fact_of(name: Name, exit: usize, table: usize, own: &OpenNode) -> Fact
     ensures { result
-        ≡ spec.fact_of name exit table own.now.contributing own.now.sought own.now.told }
+        ≡ spec.fact_of name exit table own.now.contributing own.now.sought own.now.summary }
 {
     Fact {
         partner: exit,
         read_at: read_at_of(name, table, own),
-        looseness: told_looseness(own.told),
+        looseness: summary_looseness(own.summary),
     }
 }
 

@@ -5,7 +5,7 @@ ghost use Rattle.md_safe.specs.Input.{with_line_feeds};
 ghost use Rattle.md_safe.specs.Token.{Token, Doctype, Character, StartTag, EndOfFile};
 ghost use Rattle.md_safe.specs.TokenizerStates.{Data};
 ghost use Rattle.md_safe.specs.Tokenizer.{run};
-ghost use Rattle.md_safe.specs.Leads.{Leads};
+ghost use Rattle.md_safe.specs.Tokenizes.{Tokenizes};
 ghost use Rattle.md_safe.specs.Embedded.{EndsInDataState, splits_newline};
 
 /// CR is a line feed and so is LF, and CR LF is one line feed: so the laws need their condition.
@@ -15,7 +15,7 @@ pub fn split_newline()
     ensures split { splits_newline (13 ∷ []) (10 ∷ []) ≡ true }
     ensures joined { run 9 Data (with_line_feeds (13 ∷ 10 ∷ []))
         ≡ Some (Character 10 ∷ EndOfFile ∷ []) }
-    ensures not_alone { Leads Data (with_line_feeds (13 ∷ 10 ∷ [])) (Character 10 ∷ [])
+    ensures not_alone { Tokenizes Data (with_line_feeds (13 ∷ 10 ∷ [])) (Character 10 ∷ [])
         (with_line_feeds (10 ∷ [])) → ⊥ }
 {}
 

@@ -16,7 +16,7 @@ use crate::input::{Input, place_at, point_at};
 use crate::open_nodes::Aim;
 use crate::rule::Rule;
 use md_base::{Point, Slice, decode_character_reference};
-use md_pattern::{Place, Role, Symbol};
+use md_pattern::{Role, SpineState, Symbol};
 use md_text::LineEnding;
 use std::alloc::AllocError;
 

@@ -4,8 +4,8 @@ use Rattle.std.proofs.Common.{ℕ, ◌+◌, List, ap, sym, ◌∙◌, arith, dro
 use Rattle.std.specs.List.{flat_map}
 use Rattle.md_meaning.specs.Meaning.Layout.{Piece, laid_after}
 use Rattle.md_meaning.specs.Meaning.Footnotes as meaning
-use Rattle.md_shape.proofs.Laid.{laid-append}
-use Rattle.md_footnotes.specs.Seen.{given_by}
+use Rattle.md_steps.proofs.Laid.{laid-append}
+use Rattle.md_footnotes.specs.Seen.{context_by}
 use Rattle.md_footnotes.specs.Words.{item_of}
 use Rattle.md_footnotes.proofs.Lists.{drop-found, drop-missing}
 use Rattle.md_footnotes.proofs.section.push_items.Goals as goal
@@ -21,7 +21,7 @@ loop-called-preserved c =
     let called = c.in-Some.called in
     let q : List ℕ = called.identifier.now in
     let items : List (List ℕ) → List Piece =
-    λ qs. flat_map (meaning.item (given_by options calls) notes) qs in
+    λ qs. flat_map (meaning.item (context_by options calls) notes) qs in
     let own : ℕ → ℕ → List ℕ → List Piece =
     λ number count text. item_of options q number count text in
     let rest : List (List ℕ) = drop (index + 1) (meaning.distinct calls) in (
@@ -34,7 +34,7 @@ loop-called-preserved c =
           ∙ ap (λ text. laid_after ending out (own (meaning.place_among (meaning.distinct calls) q)
           (meaning.count_of calls q) text)) c.text_of.ensures)
           ∙ sym (laid-append ending out
-          (meaning.item (given_by options calls) notes q) (items rest))
+          (meaning.item (context_by options calls) notes q) (items rest))
           ∙ ap (λ qs. laid_after ending out (items qs))
           (sym (drop-found (meaning.distinct calls) index q (sym c.in-Some.ensures.identifier)))
           ∙ c.loop-called.invariant.0,
@@ -45,7 +45,8 @@ pub returns : goal.returns
 returns c =
     let calls : List (List ℕ) = c.args.calls.now in
     ap (λ qs. laid_after c.args.settings.now.ending.now (string_bytes c.loop-called.out)
-    (flat_map (meaning.item (given_by c.args.settings.now.options.now calls) c.args.notes.now) qs))
+    (flat_map (meaning.item (context_by c.args.settings.now.options.now calls) c.args.notes.now)
+    qs))
     (sym (drop-missing (meaning.distinct calls) c.loop-called.index
     (sym c.in_default.ensures.identifier)))
     ∙ c.loop-called.invariant.0

@@ -5,8 +5,8 @@ use Rattle.std.proofs.Common.{string_bytes}
 use Rattle.std.specs.List.{flat_map}
 use Rattle.md_meaning.specs.Meaning.Layout.{Piece, Text, Forced, laid_after, when}
 use Rattle.md_meaning.specs.Meaning.Footnotes as meaning
-use Rattle.md_shape.proofs.Laid.{laid-append}
-use Rattle.md_footnotes.specs.Seen.{given_by}
+use Rattle.md_steps.proofs.Laid.{laid-append}
+use Rattle.md_footnotes.specs.Seen.{context_by}
 use Rattle.md_footnotes.proofs.section.push_section.Goals as goal
 
 pub returns : goal.returns
@@ -17,7 +17,7 @@ returns c =
     let start : List ℕ = string_bytes c.args.out.now in
     let opening : List Piece = meaning.section_start options in
     let items : List Piece =
-    flat_map (meaning.item (given_by options calls) c.args.notes.now) (meaning.distinct calls) in
+    flat_map (meaning.item (context_by options calls) c.args.notes.now) (meaning.distinct calls) in
     let closing : List Piece =
     Forced ∷ Text (codes "</ol>") ∷ Forced ∷ Text (codes "</section>") ∷ Forced ∷ [] in
     subst (λ t. OnOk c.push_end.result (string_bytes c.push_end.new.out ≡ t))

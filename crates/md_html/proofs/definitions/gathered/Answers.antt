@@ -2,13 +2,13 @@
 use Rattle.std.proofs.Common.{◌++◌, ◌∷◌, [], ℕ, List, ap, ◌∙◌}
 use Rattle.std.proofs.lemmas.Option.{slice_get-get_or}
 use Rattle.md_meaning.specs.Meaning.At.{Target}
-use Rattle.md_emit.specs.Supplies.{Supplies}
+use Rattle.md_printer.specs.Supplies.{Supplies}
 use Rattle.md_html.proofs.Owns.{targets_of, take-next, target-there, targets-all}
 use Rattle.md_html.proofs.definitions.gathered.Goals as goal
 
 pub loop-entry-preserved : goal.loop-entry-preserved
 loop-entry-preserved c = λ at document supplies flat.
-    let handed = c.args.given.now.checked.now in
+    let handed = c.args.context.now.checked.now in
     let entries : List ℕ = c.definitions-entries.result.now in
     let place = c.loop-entry.entry-index in
     let target : Target = c.in_ok-target.target in
@@ -24,6 +24,6 @@ loop-entry-preserved c = λ at document supplies flat.
 pub returns : goal.returns
 returns c = λ at document supplies flat.
     c.loop-entry.invariant at document supplies flat
-    ∙ targets-all c.args.given.now.checked.now document at c.grammatical.ensures flat
+    ∙ targets-all c.args.context.now.checked.now document at c.grammatical.ensures flat
     c.definitions-entries.result.now c.loop-entry.entry-index
     (c.definitions-entries.ensures.definitions document flat) c.loop-entry-test.false

@@ -2,10 +2,10 @@
 use Rattle.std.proofs.Common.{◌≡◌, ◌≤◌, ◌<◌, ◌+◌, ℕ, true, length, sym, ap, ◌∙◌, subst, arith}
 use Rattle.md_base.specs.declared.event.Name.TheVariants.{Definition}
 use Rattle.md_tree.specs.Grammar.{IsReadAs}
-use Rattle.md_told.specs.Definitions.{within}
-use Rattle.md_shape.specs.Run.{noticed, run}
-use Rattle.md_shape.specs.State.{State}
-use Rattle.md_shape.specs.Steps.{entered}
+use Rattle.md_facts.specs.Definitions.{within}
+use Rattle.md_steps.specs.Run.{noticed, run}
+use Rattle.md_steps.specs.State.{State}
+use Rattle.md_steps.specs.Steps.{entered}
 use Rattle.md_html.specs.Windows.{window}
 use Rattle.md_html.proofs.Owns.{window-within}
 use Rattle.md_html.proofs.Stepping.{inside-within}
@@ -17,7 +17,7 @@ least index n m all e lt = omega (arith, e, lt)
 pub overflow_add-index : goal.overflow_add-index
 overflow_add-index c =
     let checked = c.events-events.ensures.grammatical in
-    let found = inside-within c.args.given.now.checked.now checked.0 c.args.index Definition
+    let found = inside-within c.args.context.now.checked.now checked.0 c.args.index Definition
     (IsReadAs.flattened checked.1) c.requires.enters in
     let inner : c.args.index + found.0.inside < length c.events-events.result.now =
     subst (λ es. c.args.index + found.0.inside < length es)
@@ -27,7 +27,7 @@ overflow_add-index c =
 pub overflow_add-index-2 : goal.overflow_add-index-2
 overflow_add-index-2 c =
     let checked = c.events-events.ensures.grammatical in
-    let found = inside-within c.args.given.now.checked.now checked.0 c.args.index Definition
+    let found = inside-within c.args.context.now.checked.now checked.0 c.args.index Definition
     (IsReadAs.flattened checked.1) c.requires.enters in
     let inner : c.args.index + found.0.inside < length c.events-events.result.now =
     subst (λ es. c.args.index + found.0.inside < length es)
@@ -41,40 +41,40 @@ none n m e = omega (arith, e)
 pub run_events-requires-clause-cells : goal.run_events-requires-clause-cells
 run_events-requires-clause-cells c =
     let checked = c.events-events.ensures.grammatical in
-    let found = inside-within c.args.given.now.checked.now checked.0 c.args.index Definition
+    let found = inside-within c.args.context.now.checked.now checked.0 c.args.index Definition
     (IsReadAs.flattened checked.1) c.requires.enters in
     let at = c.requires.supplied.0 in
     none c.enter.new.self.cells c.args.index
     (ap (λ (s : State). s.cells) (c.in_ok-enter.ensures at found.0 c.requires.supplied.1 found.2
-    ∙ ap (λ s. entered at found.0.told Definition s) c.requires.new))
+    ∙ ap (λ s. entered at found.0.facts Definition s) c.requires.new))
 
 pub run_events-requires-clause-fences : goal.run_events-requires-clause-fences
 run_events-requires-clause-fences c =
     let checked = c.events-events.ensures.grammatical in
-    let found = inside-within c.args.given.now.checked.now checked.0 c.args.index Definition
+    let found = inside-within c.args.context.now.checked.now checked.0 c.args.index Definition
     (IsReadAs.flattened checked.1) c.requires.enters in
     let at = c.requires.supplied.0 in
     none c.enter.new.self.fences c.args.index
     (ap (λ (s : State). s.fences) (c.in_ok-enter.ensures at found.0 c.requires.supplied.1 found.2
-    ∙ ap (λ s. entered at found.0.told Definition s) c.requires.new))
+    ∙ ap (λ s. entered at found.0.facts Definition s) c.requires.new))
 
 pub run_events-requires-clause-within : goal.run_events-requires-clause-within
 run_events-requires-clause-within c =
     let checked = c.events-events.ensures.grammatical in
-    let found = inside-within c.args.given.now.checked.now checked.0 c.args.index Definition
+    let found = inside-within c.args.context.now.checked.now checked.0 c.args.index Definition
     (IsReadAs.flattened checked.1) c.requires.enters in
     let inner = least c.args.index c.inside_at-inside.result found.0.inside
-    (length c.args.given.now.checked.now.events)
+    (length c.args.context.now.checked.now.events)
     (c.inside_at-inside.ensures found.0 found.2) found.3 in
     below (c.args.index + c.inside_at-inside.result)
-    (length c.args.given.now.checked.now.events) inner
+    (length c.args.context.now.checked.now.events) inner
   where
     below : (n m : ℕ) → n < m → n ≤ m
     below n m lt = omega (arith, lt)
 
 pub returns : goal.returns
 returns c =
-    let handed = c.args.given.now.checked.now in
+    let handed = c.args.context.now.checked.now in
     λ at document one supplies flat there.
     let same = c.inside_at-inside.ensures one there in
     c.in_ok-run_events.ensures.ran at document supplies flat
@@ -87,4 +87,4 @@ returns c =
     ∙ ap (λ s. run at 0 (within c.args.index one.inside handed.events)
     (within c.args.index one.inside (noticed handed.bytes true document)) s)
     (c.in_ok-enter.ensures at one supplies there
-    ∙ ap (λ s. entered at one.told Definition s) c.requires.new)
+    ∙ ap (λ s. entered at one.facts Definition s) c.requires.new)

@@ -3,18 +3,18 @@ use Rattle.std.proofs.Common.{◌≡◌, true, length, refl, sym, ap, ◌∙◌}
 use Rattle.md_meaning.specs.Meaning.Footnotes.{section}
 use Rattle.md_meaning.specs.Meaning.Layout.{laid_after}
 use Rattle.md_base.specs.Tree.{flatten}
-use Rattle.md_shape.specs.Run.{noticed, run}
-use Rattle.md_shape.specs.State.{State}
-use Rattle.md_shape.specs.Steps.{beginning}
-use Rattle.md_shape.proofs.Running.{noticed-length}
-use Rattle.md_emit.specs.Supplies.{Supplies}
+use Rattle.md_steps.specs.Run.{noticed, run}
+use Rattle.md_steps.specs.State.{State}
+use Rattle.md_steps.specs.Steps.{beginning}
+use Rattle.md_steps.proofs.Running.{noticed-length}
+use Rattle.md_printer.specs.Supplies.{Supplies}
 use Rattle.md_html.specs.Windows.{window}
 use Rattle.md_html.proofs.Owns.{window-all}
 use Rattle.md_html.proofs.rendering.print.Goals as goal
 
 pub returns : goal.returns
 returns c = λ at document supplies flat.
-    let handed = c.args.given.now.checked.now in
+    let handed = c.args.context.now.checked.now in
     let after : State = c.run_events-ran.new.printer in
     let count : length c.events.result.now ≡ length handed.events =
     ap (λ es. length es) c.events.ensures.events in

@@ -3,10 +3,10 @@
 use Rattle.std.proofs.Common.{◌≡◌, ℕ, List, refl, sym, ap, ◌∙◌}
 use Rattle.md_base.specs.Tree.{Forest, flatten}
 use Rattle.md_meaning.specs.Meaning.{meaning}
-use Rattle.md_meaning.specs.Meaning.At.{Given}
+use Rattle.md_meaning.specs.Meaning.At.{Context}
 use Rattle.md_tree.specs.Grammar.{IsReadAs}
-use Rattle.md_shape.specs.Run.{defined, given_alone}
-use Rattle.md_told.proofs.FoundLemmas.{grammatical-there}
+use Rattle.md_steps.specs.Run.{defined, context_alone}
+use Rattle.md_facts.proofs.FoundLemmas.{grammatical-there}
 use Rattle.md_html.specs.Printed.{text_of}
 use Rattle.std.proofs.lemmas.Result.{IfOk-weaker}
 use Rattle.md_html.proofs.Supplying.{alone-supplied, all-supplied}
@@ -18,7 +18,7 @@ targets-requires c =
     let ending = c.ending_of-ending.result.now in
     record {
       supplied = (
-        given_alone c.args.options.now checked.names checked.bytes ending,
+        context_alone c.args.options.now checked.names checked.bytes ending,
         alone-supplied _ c.args.options.now checked.names checked.bytes ending refl
             (sym c.names-names.ensures) refl
             refl refl,
@@ -33,7 +33,7 @@ print-requires c =
     let read = c.ending_of-ending.ensures.grammatical in
     let document : Forest = read.0 in
     let flat : flatten document ≡ checked.events = IsReadAs.flattened read.1 in
-    let alone : Given = given_alone options checked.names checked.bytes ending in
+    let alone : Context = context_alone options checked.names checked.bytes ending in
     let none = alone-supplied _ options checked.names checked.bytes ending refl
     (sym c.names-names.ensures) refl refl refl in
     record {
@@ -50,23 +50,23 @@ returns c =
     let checked = c.args.checked.now in
     let options = c.args.options.now in
     let ending = c.ending_of-ending.result.now in
-    let given : List ℕ → Forest → Given = λ ending document.
-    record (given_alone options checked.names checked.bytes ending) {
-      definitions = defined (given_alone options checked.names checked.bytes ending) document;
+    let context : List ℕ → Forest → Context = λ ending document.
+    record (context_alone options checked.names checked.bytes ending) {
+      definitions = defined (context_alone options checked.names checked.bytes ending) document;
     } in
-    let alone : Given = given_alone options checked.names checked.bytes ending in
+    let alone : Context = context_alone options checked.names checked.bytes ending in
     let none = alone-supplied _ options checked.names checked.bytes ending refl
     (sym c.names-names.ensures) refl refl refl in
     let means : (document : Forest) → flatten document ≡ checked.events →
-    text_of (given ending document) document
+    text_of (context ending document) document
     ≡ meaning options checked.names checked.bytes document =
-    λ document flat. ap (λ ending. text_of (given ending document) document)
+    λ document flat. ap (λ ending. text_of (context ending document) document)
     (c.ending_of-ending.ensures.ending document flat)
     ∙ c.steps_print_what_is_meant.ensures options checked.names checked.bytes document
     (grammatical-there checked document c.ending_of-ending.ensures.grammatical flat) in
     record {
       meaning = IfOk-weaker c.print.result _ _ (λ text is document flat.
-          is (given ending document) document (all-supplied _ options checked.names checked.bytes
+          is (context ending document) document (all-supplied _ options checked.names checked.bytes
           ending refl (sym c.names-names.ensures) refl refl document
           flat (c.as_slice.ensures.value ∙ c.in_ok-definitions.ensures alone document none flat))
           flat ∙ means document flat) c.print.ensures;

@@ -4,10 +4,10 @@ use Rattle.std.specs.Prelude.{string_bytes}
 use Rattle.md_meaning.specs.Meaning.Footnotes.{section}
 use Rattle.md_meaning.specs.Meaning.Layout.{laid_after}
 use Rattle.md_base.specs.Tree.{flatten}
-use Rattle.md_shape.specs.Run.{noticed, run}
-use Rattle.md_shape.specs.State.{State}
-use Rattle.md_shape.specs.Steps.{beginning}
-use Rattle.md_emit.specs.Supplies.{Supplies}
+use Rattle.md_steps.specs.Run.{noticed, run}
+use Rattle.md_steps.specs.State.{State}
+use Rattle.md_steps.specs.Steps.{beginning}
+use Rattle.md_printer.specs.Supplies.{Supplies}
 use Rattle.md_html.specs.Printed.{text_of}
 use Rattle.md_html.proofs.Long.{longer-text}
 use Rattle.md_html.proofs.rendering_within.print_within.Goals as goal

@@ -7,7 +7,7 @@ use Rattle.md_html.proofs.rendering_within.run_events_within.Goals as goal
 
 pub returns-then-is_longer-clause-too_long : goal.returns-then-is_longer-clause-too_long
 returns-then-is_longer-clause-too_long c = λ no at document supplies flat.
-    let code = c.args.given.now in
+    let code = c.args.context.now in
     let count = length c.events-count.result.now in
     let first = c.args.printer.now in
     let most : c.min-to.result ≤ count = search rules in
@@ -27,7 +27,7 @@ loop-index-preserved c =
     let most : c.min-to.result ≤ count = search rules in (
       c.in_ok-index.ensures.cells,
       c.in_ok-index.ensures.fences,
-      goes-on c.args.given.now 0 c.loop-index.index c.in_ok-index.index c.min-to.result
+      goes-on c.args.context.now 0 c.loop-index.index c.in_ok-index.index c.min-to.result
           count c.args.printer.now
           c.loop-index.printer c.run_events.new.printer most c.loop-index.invariant.2
           c.in_ok-index.ensures.goes,
@@ -37,7 +37,7 @@ pub returns-clause-whole : goal.returns-clause-whole
 returns-clause-whole c = λ yes at document supplies flat.
     let count = length c.events-count.result.now in
     let past : count ≤ c.loop-index.index = search rules in
-    whole-run c.args.given.now at document c.loop-index.index count c.args.printer.now
+    whole-run c.args.context.now at document c.loop-index.index count c.args.printer.now
     c.loop-index.printer supplies
     flat
     (ap (λ es. length es) c.events-count.ensures.events) c.requires.new

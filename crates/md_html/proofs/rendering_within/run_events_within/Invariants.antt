@@ -7,7 +7,7 @@ use Rattle.md_html.proofs.rendering_within.run_events_within.Given as goal
 abbrev pub invariant-loop-index : goal.invariant-loop-index
 invariant-loop-index l =
     (l.printer.cells ≤ l.index) × (l.printer.fences ≤ l.index)
-    × Goes l.given 0 l.index l.count l.fn.printer l.printer
+    × Goes l.context 0 l.index l.count l.fn.printer l.printer
 
 abbrev pub decreases-loop-index : goal.decreases-loop-index
 decreases-loop-index l = l.count - l.index

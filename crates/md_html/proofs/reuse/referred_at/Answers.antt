@@ -8,13 +8,15 @@ use Rattle.md_html.proofs.reuse.referred_at.Goals as goal
 pub returns-in_default : goal.returns-in_default
 returns-in_default c = λ document mention flat here.
     let given = c.args.checked.now in
-    let none = none-led given.bytes document given.events c.args.index c.args.event.now mention flat
+    let none = none-led given.bytes document given.events c.args.index c.args.event.now mention
+    flat
     c.requires.there here (λ is. sym c.is_media.ensures ∙ c.if-is_media.false) in
     ap (λ place. capped (length_at (definition_lengths document) place)) (sym none)
 
 pub returns-in_default-2 : goal.returns-in_default-2
 returns-in_default-2 c = λ document mention flat here.
     let given = c.args.checked.now in
-    let none = none-led given.bytes document given.events c.args.index c.args.event.now mention flat
+    let none = none-led given.bytes document given.events c.args.index c.args.event.now mention
+    flat
     c.requires.there here (λ is. cc) in
     ap (λ place. capped (length_at (definition_lengths document) place)) (sym none)

@@ -4,7 +4,7 @@ use Rattle.std.specs.Prelude.{drop}
 use Rattle.std.proofs.lemmas.List.{nil_from_length}
 use Rattle.md_tree.specs.Mentions.{mentions_of}
 use Rattle.md_tree.specs.Numbers.{definition_for}
-use Rattle.md_html.specs.Reuse.{definition_lengths, led_lengths, length_at, referred}
+use Rattle.md_html.specs.Reuse.{definition_lengths, resolved_lengths, length_at, referred}
 use Rattle.md_measure.specs.Counting.{capped}
 use Rattle.md_html.proofs.Counting.{all-added}
 use Rattle.md_html.proofs.Reusing.{first-there, others-there, mention-at, led-step, capped-more}
@@ -34,11 +34,12 @@ loop-event-preserved c =
           let there = first-there given.events at.index event following split in
           let (mention, here) = mention-at document given.events at.index event flat there in
           let more = length_at lengths (leads mention) in
-          let later = led_lengths lengths leads (drop (at.index + 1) mentions) in
+          let later = resolved_lengths lengths leads (drop (at.index + 1) mentions) in
           ap (λ n. capped (n + later)) (c.saturating_add-referred.ensures
           ∙ ap (λ n. capped (at.referred + n)) (c.referred_at.ensures document mention flat here))
           ∙ capped-more at.referred more later
-          ∙ ap (λ n. capped (at.referred + (more + led_lengths lengths leads (drop n mentions))))
+          ∙ ap (λ n. capped (at.referred + (more + resolved_lengths lengths leads
+          (drop n mentions))))
           next
           ∙ ap (λ n. capped (at.referred + n))
           (sym (led-step lengths leads mentions at.index mention here))
@@ -54,7 +55,7 @@ returns c = λ document flat.
     let given = c.args.checked.now in
     let whole = referred given.bytes document in
     let end : at.index ≡ length given.events = omega (arith, at.invariant.gone, ap length none) in
-    all-added at.referred (led_lengths (definition_lengths document)
+    all-added at.referred (resolved_lengths (definition_lengths document)
     (definition_for given.bytes (mentions_of document)) (drop at.index (mentions_of document)))
     whole at.invariant.referred_fits (led-all (definition_lengths document)
     (definition_for given.bytes (mentions_of document)) document given.events at.index flat end)

@@ -4,7 +4,7 @@ use Rattle.std.specs.Prelude.{drop}
 use Rattle.md_base.specs.Tree.{Forest, flatten}
 use Rattle.md_tree.specs.Mentions.{mentions_of}
 use Rattle.md_tree.specs.Numbers.{definition_for}
-use Rattle.md_html.specs.Reuse.{definition_lengths, led_lengths, referred}
+use Rattle.md_html.specs.Reuse.{definition_lengths, resolved_lengths, referred}
 use Rattle.md_measure.specs.Counting.{capped}
 use Rattle.md_html.proofs.reuse.referred_length.Given as goal
 
@@ -12,7 +12,7 @@ abbrev pub invariant-loop-event : goal.invariant-loop-event
 invariant-loop-event l = record {
   left : drop l.index l.checked.events ≡ l.rest;
   referred : (document : Forest) → flatten document ≡ l.checked.events →
-      capped (l.referred + led_lengths (definition_lengths document)
+      capped (l.referred + resolved_lengths (definition_lengths document)
       (definition_for l.checked.bytes (mentions_of document))
       (drop l.index (mentions_of document)))
       ≡ capped (referred l.checked.bytes document);

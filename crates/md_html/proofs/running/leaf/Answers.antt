@@ -2,8 +2,8 @@
 use Rattle.std.proofs.Common.{refl, sym, subst}
 use Rattle.std.specs.Prelude.{Result, Ok, Err, IfOk}
 use Rattle.md_tree.specs.Texts.{EntersAt, ExitsAt}
-use Rattle.md_told.specs.Told.{IsNoticedAt}
-use Rattle.md_told.proofs.EndLemmas.{one-more}
+use Rattle.md_facts.specs.NodeFacts.{IsNoticedAt}
+use Rattle.md_facts.proofs.EndLemmas.{one-more}
 use Rattle.md_html.proofs.running.leaf.Goals as goal
 
 pub is_leaf_before-requires-clause-enters : goal.is_leaf_before-requires-clause-enters
@@ -12,15 +12,16 @@ is_leaf_before-requires-clause-enters c =
 
 pub leaf-requires-clause-exits : goal.leaf-requires-clause-exits
 leaf-requires-clause-exits c =
-    let enters : EntersAt c.args.given.now.checked.now.events c.args.rest.start c.args.event.name =
+    let enters : EntersAt c.args.context.now.checked.now.events c.args.rest.start
+    c.args.event.name =
     (c.args.event, c.requires.there, c.in-Enter.is, refl) in
-    subst (λ i. ExitsAt c.args.given.now.checked.now.events i c.args.event.name)
+    subst (λ i. ExitsAt c.args.context.now.checked.now.events i c.args.event.name)
     (sym (one-more c.args.rest.start))
     (c.is_leaf_before.ensures.exits c.if-is_leaf_before.true c.args.event.name enters)
 
 pub leaf-requires-clause-one : goal.leaf-requires-clause-one
 leaf-requires-clause-one c = λ one there.
-    subst (λ i. IsNoticedAt c.args.given.now.checked.now i one) (sym (one-more c.args.rest.start))
+    subst (λ i. IsNoticedAt c.args.context.now.checked.now i one) (sym (one-more c.args.rest.start))
     (c.is_leaf_before.ensures.noticed c.if-is_leaf_before.true one there)
 
 both : {A E : Type 0} (P Q R : A → Type 0) (result : Result A E) →
@@ -32,7 +33,7 @@ both P Q R (Err e) f p q = tt
 pub returns-then-is_leaf_before-clause-left : goal.returns-then-is_leaf_before-clause-left
 returns-then-is_leaf_before-clause-left c =
     let name = c.args.event.name in
-    let enters : EntersAt c.args.given.now.checked.now.events c.args.rest.start name =
+    let enters : EntersAt c.args.context.now.checked.now.events c.args.rest.start name =
     (c.args.event, c.requires.there, c.in-Enter.is, refl) in
     both _ _ _ c.leaf.result (λ done alone left yes. record {
       enters = c.in-Enter.is;

@@ -1,7 +1,7 @@
 -- A definition is skipped, and another node is entered.
 use Rattle.std.proofs.Common.{◌≡◌, true, sym, ap, ◌∙◌}
 use Rattle.std.specs.Prelude.{if◌then◌else◌}
-use Rattle.md_shape.specs.Steps.{entered, passed, is_passed}
+use Rattle.md_steps.specs.Steps.{entered, passed, is_passed}
 use Rattle.md_html.proofs.running.open.Goals as goal
 
 pub returns-then-is_passed_over : goal.returns-then-is_passed_over
@@ -11,5 +11,5 @@ returns-then-is_passed_over c = λ at one supplies there.
       c.inside_at.ensures one there ∙ ap (λ b. if b then one.inside else 0) (sym same),
       c.pass_definition.ensures
           ∙ ap (λ b. if b then passed c.args.printer.now
-          else entered at one.told c.args.name c.args.printer.now) (sym same),
+          else entered at one.facts c.args.name c.args.printer.now) (sym same),
     )

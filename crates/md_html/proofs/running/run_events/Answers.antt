@@ -4,7 +4,7 @@ use Rattle.std.proofs.Common.{subst, arith}
 use Rattle.std.specs.Prelude.{slice_get}
 use Rattle.std.proofs.lemmas.Option.{slice_get-get_or}
 use Rattle.md_base.specs.declared.event.Event.{Event}
-use Rattle.md_shape.specs.State.{State}
+use Rattle.md_steps.specs.State.{State}
 use Rattle.md_html.specs.Stepping.{Goes}
 use Rattle.md_html.proofs.Turns.{turn-within, turn-cells, turn-fences}
 use Rattle.md_html.proofs.LeafTurns.{leaf-cells, leaf-fences}
@@ -24,7 +24,7 @@ two index = omega arith
 
 pub step-requires-clause-there : goal.step-requires-clause-there
 step-requires-clause-there c =
-    let code = c.args.given.now in
+    let code = c.args.context.now in
     let lt =
     inner c.loop-index.index c.args.to (length c.events-events.result.now) c.loop-index-test.true
     (subst (λ es. c.args.to ≤ length es) (sym c.events-events.ensures.events) c.requires.within) in
@@ -35,7 +35,7 @@ step-requires-clause-there c =
 
 pub overflow_add-index-else-branch : goal.overflow_add-index-else-branch
 overflow_add-index-else-branch c =
-    let code = c.args.given.now in
+    let code = c.args.context.now in
     let lt =
     inner c.loop-index.index c.args.to (length c.events-events.result.now) c.loop-index-test.true
     (subst (λ es. c.args.to ≤ length es) (sym c.events-events.ensures.events) c.requires.within) in
@@ -52,7 +52,7 @@ overflow_add-index-else-branch c =
 
 pub overflow_add-index-else-branch-2 : goal.overflow_add-index-else-branch-2
 overflow_add-index-else-branch-2 c =
-    let code = c.args.given.now in
+    let code = c.args.context.now in
     let lt =
     inner c.loop-index.index c.args.to (length c.events-events.result.now) c.loop-index-test.true
     (subst (λ es. c.args.to ≤ length es) (sym c.events-events.ensures.events) c.requires.within) in
@@ -69,7 +69,7 @@ overflow_add-index-else-branch-2 c =
 
 pub loop-index-preserved-then-branch : goal.loop-index-preserved-then-branch
 loop-index-preserved-then-branch c =
-    let code = c.args.given.now in
+    let code = c.args.context.now in
     let lt =
     inner c.loop-index.index c.args.to (length c.events-events.result.now) c.loop-index-test.true
     (subst (λ es. c.args.to ≤ length es) (sym c.events-events.ensures.events) c.requires.within) in
@@ -92,7 +92,7 @@ loop-index-preserved-then-branch c =
 
 pub loop-index-preserved : goal.loop-index-preserved
 loop-index-preserved c =
-    let code = c.args.given.now in
+    let code = c.args.context.now in
     let lt =
     inner c.loop-index.index c.args.to (length c.events-events.result.now) c.loop-index-test.true
     (subst (λ es. c.args.to ≤ length es) (sym c.events-events.ensures.events) c.requires.within) in

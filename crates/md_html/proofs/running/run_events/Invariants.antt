@@ -7,7 +7,7 @@ use Rattle.md_html.proofs.running.run_events.Given as goal
 abbrev pub invariant-loop-index : goal.invariant-loop-index
 invariant-loop-index l =
     (l.printer.cells ≤ l.index) × (l.printer.fences ≤ l.index)
-    × Goes l.given l.from l.index l.to l.fn.printer l.printer
+    × Goes l.context l.from l.index l.to l.fn.printer l.printer
 
 abbrev pub decreases-loop-index : goal.decreases-loop-index
 decreases-loop-index l = l.to - l.index

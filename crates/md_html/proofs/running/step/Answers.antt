@@ -2,7 +2,7 @@
 use Rattle.std.proofs.Common.{sym, ap, ◌∙◌}
 use Rattle.std.specs.Prelude.{if◌then◌else◌}
 use Rattle.md_base.specs.declared.event.Kind.TheVariants.{Enter, Exit}
-use Rattle.md_shape.specs.Steps.{entered, exited, passed, is_passed}
+use Rattle.md_steps.specs.Steps.{entered, exited, passed, is_passed}
 use Rattle.std.proofs.lemmas.Result.{IfOk-weaker}
 use Rattle.md_html.proofs.running.step.Goals as goal
 
@@ -17,7 +17,7 @@ returns-in-Enter c =
           (sym c.in-Enter.is),
       both.1 ∙ ap (λ k. elim k [
         | Enter ↦
-            if is_passed event.name then passed before else entered at one.told event.name before
-        | Exit ↦ exited at one.told event.name before
+            if is_passed event.name then passed before else entered at one.facts event.name before
+        | Exit ↦ exited at one.facts event.name before
       ]) (sym c.in-Enter.is),
     )) c.open.ensures

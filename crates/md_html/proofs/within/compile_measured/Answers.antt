@@ -41,7 +41,8 @@ returns-in-Some-clause-text c =
     let read : IsChecked given = c.in_ok-checked.ensures.grammatical in
     let worked : work given.events ≤ c.args.limits.work =
     ltb-false c.args.limits.work (work c.args.given.now.events.now)
-    (sym (c.exceeds.ensures (work c.args.given.now.events.now) (c.work.ensures c.args.given.now.events.now c.args.given.now.measured))
+    (sym (c.exceeds.ensures (work c.args.given.now.events.now)
+    (c.work.ensures c.args.given.now.events.now c.args.given.now.measured))
     ∙ c.if-exceeds.false) in
     let shallow : depth given.events ≤ c.args.limits.depth = search rules in
     let reused : IsReuseWithin c.args.options.now given c.args.limits.work =

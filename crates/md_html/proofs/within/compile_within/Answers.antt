@@ -14,7 +14,8 @@ on-ok P Q (Err error) says held = tt
 pub returns-clause-reuse : goal.returns-clause-reuse
 returns-clause-reuse c =
     on-ok _ _ c.compile_measured.result (λ text kept.
-    subst (λ given. IsReuseWithin c.args.options.now given c.args.limits.work) c.new-measured.ensures
+    subst (λ given. IsReuseWithin c.args.options.now given c.args.limits.work)
+    c.new-measured.ensures
     kept.reuse) c.compile_measured.ensures.text
 
 pub returns-clause-too_long : goal.returns-clause-too_long

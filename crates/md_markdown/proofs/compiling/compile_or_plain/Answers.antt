@@ -11,7 +11,8 @@ pub returns-then-depth-gt-MAX_DEPTH-clause-kept :
 returns-then-depth-gt-MAX_DEPTH-clause-kept c =
     IfOk-weaker c.compile_plain.result _ _
     (λ html _ document shown. absurd (too_deep (handed_by c.args.parsed.now) most_depth document
-    (subst (λ n. most_depth < n) (c.depth.ensures c.args.parsed.now.events.now c.args.parsed.now.measured) c.if-depth-gt-MAX_DEPTH.true) shown))
+    (subst (λ n. most_depth < n) (c.depth.ensures c.args.parsed.now.events.now
+    c.args.parsed.now.measured) c.if-depth-gt-MAX_DEPTH.true) shown))
     c.compile_plain.ensures.text
 
 pub returns-in-Ok-clause-plain : goal.returns-in-Ok-clause-plain
@@ -20,12 +21,14 @@ returns-in-Ok-clause-plain c =
     λ none. absurd (none checked.0 (is_shown (handed_by c.args.parsed.now) most_depth checked
     (sym (c.has_nested_link.ensures c.args.parsed.now.events.now checked.0
     c.args.parsed.now.measured checked.1.flattened) ∙ c.if-has_nested_link.false)
-    (subst (λ n. n ≤ most_depth) (c.depth.ensures c.args.parsed.now.events.now c.args.parsed.now.measured) c.if-depth-gt-MAX_DEPTH.false)))
+    (subst (λ n. n ≤ most_depth) (c.depth.ensures c.args.parsed.now.events.now
+    c.args.parsed.now.measured) c.if-depth-gt-MAX_DEPTH.false)))
 
 pub returns-in-Ok-clause-nesting : goal.returns-in-Ok-clause-nesting
 returns-in-Ok-clause-nesting c =
     meant_nests (handed_by c.args.parsed.now) c.args.options.now c.in-Ok.html c.requires.safe
-    (subst (λ n. n ≤ most_depth) (c.depth.ensures c.args.parsed.now.events.now c.args.parsed.now.measured) c.if-depth-gt-MAX_DEPTH.false)
+    (subst (λ n. n ≤ most_depth) (c.depth.ensures c.args.parsed.now.events.now
+    c.args.parsed.now.measured) c.if-depth-gt-MAX_DEPTH.false)
     c.in-Ok.ensures.promises.grammatical c.in-Ok.ensures.promises.meaning
 
 pub returns-then-has_nested_link-clause-kept : goal.returns-then-has_nested_link-clause-kept

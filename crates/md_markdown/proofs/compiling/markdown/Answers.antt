@@ -8,9 +8,11 @@ use Rattle.md_markdown.proofs.compiling.markdown.Goals as goal
 pub returns-then-is_empty-clause-made : goal.returns-then-is_empty-clause-made
 returns-then-is_empty-clause-made c =
     IfOk-weaker c.compile_or_plain.result _ _
-    (λ text made. of_either (is_some c.args.options.now.base) c.args.text.now [] c.measured_of.result.bytes.now
+    (λ text made. of_either (is_some c.args.options.now.base) c.args.text.now []
+    c.measured_of.result.bytes.now
     text (inr (inl refl))
-    (c.measured_of.ensures.bytes ∙ c.as_bytes-bytes.ensures.value ∙ sym (append-nil c.args.text.now)) made)
+    (c.measured_of.ensures.bytes ∙ c.as_bytes-bytes.ensures.value ∙ sym
+    (append-nil c.args.text.now)) made)
     c.compile_or_plain.ensures.made
 
 pub returns-then-is_empty-clause-distinct_ids : goal.returns-then-is_empty-clause-distinct_ids

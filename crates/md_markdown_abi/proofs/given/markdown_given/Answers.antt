@@ -19,5 +19,6 @@ returns-clause-ok c =
     (string_bytes c.in_ok-made.made.whole) c.in_ok-made.made.start
     (plain_of c.args.bytes.now c.in_ok-text.text.now c.args.given.now c.in_ok-options.options
     c.in_ok-html.html c.in_ok-text.ensures.ok.0 c.in_ok-options.ensures.ok html.made html.tokens
-    html.contained html.tree html.nesting html.distinct_ids) c.in_ok-rel.ensures.ok c.in_ok-prefix.ensures.ok c.in_ok-made.ensures.listed
+    html.contained html.tree html.nesting html.distinct_ids) c.in_ok-rel.ensures.ok
+    c.in_ok-prefix.ensures.ok c.in_ok-made.ensures.listed
     c.in_ok-made.ensures.tree (search rules)

@@ -1,7 +1,8 @@
 -- The lower half of a byte is an index of the table.
 use Rattle.std.proofs.Common.{◌<◌, ◌≡◌, ℕ, List, length, replicate, bit_and, refl, arith, w8}
 use Rattle.std.proofs.lemmas.Nat.{and_le_r}
-use Rattle.std.proofs.lemmas.Simd.{Each1-all, Each1-zip2, Each2-splat, length-zip2, SwzOk, SwzOk-from_below}
+use Rattle.std.proofs.lemmas.Simd.{Each1-all, Each1-zip2, Each2-splat, length-zip2, SwzOk}
+use Rattle.std.proofs.lemmas.Simd.{SwzOk-from_below}
 use lib.Lanes.{zip2}
 use Rattle.md_marks.proofs.marks.by_lower_half.Goals as goal
 

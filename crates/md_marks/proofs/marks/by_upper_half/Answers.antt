@@ -1,6 +1,7 @@
 -- The upper half of a byte is an index of the table.
 use Rattle.std.proofs.Common.{◌/◌, ◌^◌, ◌<◌, ◌≡◌, ℕ, List, length, replicate, refl, arith, w8, Fits}
-use Rattle.std.proofs.lemmas.Simd.{Each1-weaker, Each1-zip2, Each2-splat, below_from_Fits, length-zip2, SwzOk, SwzOk-from_below}
+use Rattle.std.proofs.lemmas.Simd.{Each1-weaker, Each1-zip2, Each2-splat, below_from_Fits}
+use Rattle.std.proofs.lemmas.Simd.{length-zip2, SwzOk, SwzOk-from_below}
 use lib.Lanes.{zip2, Each1}
 use Rattle.md_marks.proofs.marks.by_upper_half.Goals as goal
 

@@ -1,5 +1,5 @@
 -- Node after node.
-use Rattle.md_safe.proofs.ForestRuns.{whole}
+use Rattle.md_safe.proofs.Between.{whole}
 use Rattle.md_safe.proofs.tokens.forest_is_tokenized.Goals as goal
 
 pub returns : goal.returns

@@ -1,5 +1,5 @@
 -- The law is a lemma of `Numbering`: at a place stands one identifier.
-use Rattle.md_tree.proofs.MentionsLed.{which-one}
+use Rattle.md_tree.proofs.MentionsResolved.{which-one}
 use Rattle.md_tree.proofs.laws.one_identifier_for_each_place.Goals as goal
 
 pub returns : goal.returns

@@ -24,7 +24,8 @@ returns-in-Some c =
     let counted = c.leave_innermost-own.new.open_nodes.ok.0 in
     let some : 0 < length items = subst (λ n. 0 < n) counted (search rules) in
     let fact_is : c.fact_of-fact.result ≡ fact_of name (length pass.facts)
-    (length (Collected.tables pass.columns)) own.contributing own.sought own.told = search rules in
+    (length (Collected.tables pass.columns)) own.contributing own.sought own.summary = search rules
+    in
     let facts_is =
     put_then_pushed pass.facts own.entry c.fact_of-fact.result _ c.partner_alone.result
     (partner_alone own.entry) c.put.new.self c.push.new.self fact_is c.in_ok-put.ensures
@@ -50,7 +51,8 @@ returns-in-None c =
     let none : length items ≡ 0 =
     subst (λ n. n ≡ 0) c.leave_innermost-own.new.open_nodes.ok.0 (search rules) in
     let fact_is : c.fact_of-fact.result ≡ fact_of name (length pass.facts)
-    (length (Collected.tables pass.columns)) own.contributing own.sought own.told = search rules in
+    (length (Collected.tables pass.columns)) own.contributing own.sought own.summary = search rules
+    in
     let facts_is =
     put_then_pushed pass.facts own.entry c.fact_of-fact.result _ c.partner_alone.result
     (partner_alone own.entry) c.put.new.self c.push.new.self fact_is c.in_ok-put.ensures

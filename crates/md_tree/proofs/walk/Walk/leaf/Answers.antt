@@ -4,7 +4,7 @@
 use Rattle.std.proofs.Common.{◌≡◌, ◌⊎◌, Option, Some, None, sym, ap, ◌∙◌, subst, add-one, suc}
 use Rattle.std.specs.Prelude.{option_map}
 use Rattle.md_pattern.specs.declared.kinds.Symbol.{Symbol}
-use Rattle.md_pattern.specs.declared.places.Place.{Place}
+use Rattle.md_pattern.specs.declared.spine_state.SpineState.{SpineState}
 use Rattle.md_pattern.specs.Steps.{advance}
 use Rattle.md_pattern.specs.Places.{state_of}
 use Rattle.md_base.specs.Reference.{name_table}
@@ -19,8 +19,8 @@ use Rattle.md_tree.proofs.Leaves.{no-table-over, no-table-solid}
 use Rattle.md_tree.proofs.walk.Walk.leaf.Goals as goal
 
 -- where the spine is after a symbol
-advanced : (before : Option Symbol) (symbol : Symbol) (from : Place)
-    (result : Option Place) (next : Place) →
+advanced : (before : Option Symbol) (symbol : Symbol) (from : SpineState)
+    (result : Option SpineState) (next : SpineState) →
     option_map (λ n. state_of n (Some symbol)) result ≡ advance (state_of from None) symbol →
     result ≡ Some next →
     advance (state_of from before) symbol ≡ Some (state_of next (Some symbol))

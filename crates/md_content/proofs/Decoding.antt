@@ -1,0 +1,239 @@
+-- Each reference of a document of the grammar decodes, by the mark that stands before its value.
+use Rattle.std.proofs.Common.{◌≡◌, inl, inr, ℕ, zero, suc, Bool, true, false, ◌&&◌, Option, Some}
+use Rattle.std.proofs.Common.{None, List, [], ◌∷◌, ◌++◌, refl, sym, ap, ◌∙◌, subst, append_assoc}
+use Rattle.std.proofs.Common.{append-nil}
+use Rattle.std.specs.Prelude.{if◌then◌else◌, is_some, replicate, unwrap_or}
+use Rattle.std.specs.Option.{option_map_or}
+use Rattle.std.specs.List.{list_all}
+use Rattle.std.proofs.lemmas.Bool.{and_parts, and_from}
+use Rattle.md_base.proofs.Lies.{lie}
+use Rattle.md_base.specs.declared.event.Name.{Name}
+use Rattle.md_base.specs.declared.event.Name.TheVariants as name
+use Rattle.md_base.specs.declared.event.Point.{Point}
+use Rattle.md_base.specs.Place.{text_between}
+use Rattle.md_base.specs.Reference.{decoded}
+use Rattle.md_pattern.specs.declared.kinds.Symbol.{Symbol}
+use Rattle.md_pattern.specs.declared.kinds.Symbol.TheVariants as symbol
+use Rattle.md_pattern.specs.declared.kinds.Role.{Role}
+use Rattle.md_pattern.specs.declared.kinds.Role.TheVariants as role
+use Rattle.md_pattern.specs.declared.kinds.Standing.{Standing}
+use Rattle.md_pattern.specs.declared.kinds.Standing.TheVariants.{Through, Space, Solid, Mdx}
+use Rattle.md_tree.specs.declared.rule.Rule.TheVariants as rule
+use Rattle.md_base.specs.Tree.{Forest, Empty, Node}
+use Rattle.md_pattern.specs.Standing.{standing_of}
+use Rattle.md_pattern.specs.Pattern.{pattern_of}
+use Rattle.md_pattern.specs.Spine.{spine, shown, IsTail, IsGrouped, Matches}
+use Rattle.md_pattern.specs.Shape.{IsStanding, AreShaped, role_for, last_symbol, inner_role}
+use Rattle.md_pattern.specs.Shape.{inner_before}
+use Rattle.md_tree.specs.Rules.{broken_by, unless, is_decodable, marker_after}
+use Rattle.md_tree.specs.Laws.{symbols_of}
+use Rattle.md_tree.specs.Grammar.{IsGrammatical}
+use Rattle.md_base.specs.NameTests.{is_transparent}
+use Rattle.md_base.specs.Children.{spine_names}
+use Rattle.md_tree.proofs.Spines.{spine-names}
+use Rattle.md_meaning.specs.Surroundings.{last_of, spine_inside, spine_after_node}
+use Rattle.md_meaning.specs.Meaning.Spans.{marker}
+use Rattle.md_content.specs.References.{EverywhereAfter, Decodes}
+use Rattle.md_content.proofs.Symbols.{Behaves, behaves}
+use Rattle.md_content.proofs.FineNodes.{IsFine, AreFine, fine, shaped}
+use Rattle.md_content.proofs.RanksAndNumbers.{unless-holds}
+use Rattle.md_content.proofs.Letters.{letters, fits-all}
+use Rattle.md_content.proofs.LastNames.{symbol_in, symbol_of, last-got, last-symbols, solid-here}
+use Rattle.md_content.proofs.LastNames.{solid-names}
+
+-- ---- values stand after marks
+abbrev is_mark : Option Symbol → Bool
+is_mark (Some symbol.ReferenceMarker) = true
+is_mark (Some symbol.ReferenceNumeric) = true
+is_mark (Some symbol.ReferenceHexadecimal) = true
+is_mark _ = false
+
+-- it is no value, or stands after a mark
+abbrev stands_well : Option Symbol → Symbol → Bool
+stands_well before symbol.ReferenceValue = is_mark before
+stands_well before _ = true
+
+abbrev are_well : Option Symbol → List Symbol → Bool
+are_well before [] = true
+are_well before (seen ∷ symbols) = stands_well before seen && are_well (Some seen) symbols
+
+abbrev is_no_value : Symbol → Bool
+is_no_value symbol.ReferenceValue = false
+is_no_value _ = true
+
+well-first : (before : Option Symbol) (seen : Symbol) → is_no_value seen ≡ true →
+    stands_well before seen ≡ true
+well-first before symbol.ReferenceValue h = lie h
+well-first before _ h = refl
+
+well-endings : (n : ℕ) (before : Option Symbol) (rest : List Symbol) →
+    ((b : Option Symbol) → are_well b rest ≡ true) →
+    are_well before (replicate n symbol.LineEnding ++ rest) ≡ true
+well-endings zero before rest later = later before
+well-endings (suc n) before rest later = well-endings n (Some symbol.LineEnding) rest later
+
+well-tail : (first : Symbol) (tail rest : List Symbol) → IsTail first tail →
+    ((b : Option Symbol) → are_well b rest ≡ true) → are_well (Some first) (tail ++ rest) ≡ true
+well-tail symbol.ReferenceMarker tail rest is later = elim is [
+  | inl e ↦ ap (λ t. are_well (Some symbol.ReferenceMarker) (t ++ rest)) e
+      ∙ later (Some symbol.ReferenceValue)
+  | inr more ↦ elim more [
+    | inl e ↦ ap (λ t. are_well (Some symbol.ReferenceMarker) (t ++ rest)) e
+        ∙ later (Some symbol.ReferenceValue)
+    | inr e ↦ ap (λ t. are_well (Some symbol.ReferenceMarker) (t ++ rest)) e
+        ∙ later (Some symbol.ReferenceValue)
+  ]
+]
+well-tail symbol.SetextText tail rest is later =
+    ap (λ t. are_well (Some symbol.SetextText) (t ++ rest)) is.1
+    ∙ ap (are_well (Some symbol.SetextText))
+    (append_assoc (replicate is.0 symbol.LineEnding) (symbol.SetextUnderline ∷ []) rest)
+    ∙ well-endings is.0 (Some symbol.SetextText) (symbol.SetextUnderline
+    ∷ rest) (λ b. later (Some symbol.SetextUnderline))
+well-tail first tail rest is later =
+    ap (λ t. are_well (Some first) (t ++ rest)) is ∙ later (Some first)
+
+well-grouped : (firsts spine : List Symbol) → list_all is_no_value firsts ≡ true →
+    IsGrouped firsts spine →
+    (before : Option Symbol) → are_well before spine ≡ true
+well-grouped [] spine h is before = ap (are_well before) is
+well-grouped (first ∷ firsts) spine h is before =
+    let parts = and_parts (is_no_value first) (list_all is_no_value firsts) h in
+    ap (are_well before) is.2
+    ∙ and_from (stands_well before first) (are_well (Some first) (is.0 ++ is.1))
+    (well-first before first parts.0)
+    (well-tail first is.0 is.1 is.3 (well-grouped firsts is.1 parts.1 is.4))
+
+pattern-no_value : (around : Role) → letters is_no_value (pattern_of around) ≡ true
+pattern-no_value role.Flow = refl
+pattern-no_value _ = refl
+
+well-spine : (around : Role) (spine : List Symbol) → Matches around spine →
+    are_well None spine ≡ true
+well-spine around spine match = well-grouped match.0 spine (fits-all is_no_value (pattern_of around)
+    match.0 match.2 (pattern-no_value around)) match.1 None
+
+well-split : (before : Option Symbol) (symbols others : List Symbol) →
+    are_well before (symbols ++ others) ≡ true →
+    (are_well before symbols ≡ true) × (are_well (last_symbol before symbols) others ≡ true)
+well-split before [] others h = (refl, h)
+well-split before (seen ∷ symbols) others h =
+    let parts = and_parts (stands_well before seen) (are_well (Some seen) (symbols ++ others)) h in
+    let rest = well-split (Some seen) symbols others parts.1 in
+    (and_from (stands_well before seen) (are_well (Some seen) symbols) parts.0 rest.0, rest.1)
+
+-- ---- references
+mark-name : (n : Name) → is_mark (symbol_in (standing_of n)) ≡ true →
+    marker_after (symbol_in (standing_of n)) ≡ Some (marker n)
+mark-name name.CharacterReferenceMarker h = refl
+mark-name name.CharacterReferenceMarkerNumeric h = refl
+mark-name name.CharacterReferenceMarkerHexadecimal h = refl
+mark-name _ h = lie h
+
+decodable : (names : List (List ℕ × List ℕ)) (before : Option Symbol) (text : List ℕ) (m : ℕ) →
+    marker_after before ≡ Some m → is_decodable names before text ≡ true →
+    is_some (decoded names m text) ≡ true
+decodable names before text m e h =
+    ap (λ o. option_map_or (λ k. is_some (decoded names k text)) o true) (sym e) ∙ h
+
+after_name :
+    (names : List (List ℕ × List ℕ)) (before : Option Symbol) (text : List ℕ) (last : Option Name) →
+    is_mark before ≡ true → before ≡ symbol_of last → is_decodable names before text ≡ true →
+    is_some (decoded names (option_map_or marker last 38) text) ≡ true
+after_name names before text None h e d = lie (ap is_mark (sym e) ∙ h)
+after_name names before text (Some n) h e d =
+    decodable names before text (marker n)
+    (ap marker_after e ∙ mark-name n (ap is_mark (sym e) ∙ h)) d
+
+value-decodes : (names : List (List ℕ × List ℕ)) (before : Option Symbol) (text : Option (List ℕ))
+    (last : Option Name) → is_mark before ≡ true → before ≡ symbol_of last →
+    broken_by text (λ t. unless (is_decodable names before t) rule.CharacterReference) ≡ None →
+    is_some (decoded names (option_map_or marker last 38) (unwrap_or text [])) ≡ true
+value-decodes names before None last h e rules = cc
+value-decodes names before (Some text) last h e rules = after_name names before text last h e
+    (unless-holds (is_decodable names before text) rule.CharacterReference rules)
+
+node-decodes : (bytes : List ℕ) (names : List (List ℕ × List ℕ)) (earlier : List Name) (n : Name)
+    (start end : Point) (children : Forest) (around : Role) (before : Option Symbol) →
+    IsFine bytes names around before n start end children →
+    are_well before (shown (standing_of n) (spine children)) ≡ true →
+    before ≡ symbol_of (last_of earlier) →
+    Decodes bytes names earlier n start end children
+node-decodes bytes names earlier name.CharacterReferenceValue start end children around
+    before here well e =
+    subst (λ last. is_some (decoded names (option_map_or marker last 38)
+    (unwrap_or (text_between bytes start end) [])) ≡ true) (last-got earlier)
+    (value-decodes names before (text_between bytes start end) (last_of earlier)
+    (and_parts (is_mark before) true well).0 e here.1)
+node-decodes bytes names earlier _ start end children around before here well e = tt
+
+-- what holds of children by themselves holds of them where they stand
+inner-decodes :
+    (bytes : List ℕ) (names : List (List ℕ × List ℕ)) (earlier : List Name) (standing : Standing)
+    (n : Name) (children : Forest) (around : Role) (before : Option Symbol) → Behaves standing n →
+    IsStanding standing around before children →
+    AreFine bytes names children (inner_role standing around before)
+    (inner_before standing before) →
+    are_well before (shown standing (spine children)) ≡ true →
+    before ≡ symbol_of (last_of earlier) →
+    ((a : Role) (b : Option Symbol) (s : List Name) → AreFine bytes names children a b →
+    are_well b (spine children) ≡ true → b ≡ symbol_of (last_of s) →
+    EverywhereAfter (Decodes bytes names) s children) →
+    EverywhereAfter (Decodes bytes names) (spine_inside n earlier) children
+inner-decodes bytes names earlier Through n children around before says is all well e again =
+    subst (λ t. EverywhereAfter (Decodes bytes names) (if t then earlier else []) children)
+    (sym says) (again around before earlier all well e)
+inner-decodes bytes names earlier Space n children around before says is all well e again =
+    subst (λ c. EverywhereAfter (Decodes bytes names) (spine_inside n earlier) c) (sym is) tt
+inner-decodes bytes names earlier (Solid seen usual reading) n children around before says
+    is all well e again =
+    subst (λ t. EverywhereAfter (Decodes bytes names) (if t then earlier else []) children)
+    (sym says.0) (again (role_for around before usual) None [] all
+    (well-spine (role_for around before usual) (spine children) is) refl)
+inner-decodes bytes names earlier Mdx n children around before says is all well e again = absurd is
+
+-- the last symbol after a node is that of the last name there
+after-node :
+    (n : Name) (start end : Point) (children : Forest) (around : Role) (before : Option Symbol)
+    (earlier : List Name) → AreShaped (Node n start end children Empty) around before →
+    before ≡ symbol_of (last_of earlier) →
+    last_symbol before (shown (standing_of n) (spine children))
+    ≡ symbol_of (last_of (spine_after_node n children earlier))
+after-node n start end children around before earlier shaped_node e =
+    let own : List Name = if is_transparent n then spine_names children else n ∷ [] in
+    let same : shown (standing_of n) (spine children) ≡ symbols_of own =
+    sym (append-nil (shown (standing_of n) (spine children)))
+    ∙ spine-names (Node n start end children Empty) around before shaped_node
+    ∙ ap symbols_of (append-nil own)
+    in
+    ap (last_symbol before) same
+    ∙ last-symbols own earlier before (solid-here (standing_of n) n children around before refl
+    (behaves n) shaped_node.0.1 (solid-names children _ _ shaped_node.1)) e
+
+decodes : (bytes : List ℕ) (names : List (List ℕ × List ℕ)) (forest : Forest) (around : Role)
+    (before : Option Symbol) (earlier : List Name) → AreFine bytes names forest around before →
+    are_well before (spine forest) ≡ true →
+    before ≡ symbol_of (last_of earlier) →
+    EverywhereAfter (Decodes bytes names) earlier forest
+decodes bytes names Empty around before earlier all well e = tt
+decodes bytes names (Node n start end children rest) around before earlier all well e =
+    let parts = well-split before (shown (standing_of n) (spine children)) (spine rest) well in (
+      node-decodes bytes names earlier n start end children around before all.0 parts.0 e,
+      inner-decodes bytes names earlier (standing_of n) n children around before (behaves n)
+          all.0.0.1 all.1 parts.0 e
+          (λ a b s f w i. decodes bytes names children a b s f w i),
+      decodes bytes names rest around (last_symbol before (shown (standing_of n) (spine children)))
+          (spine_after_node n children earlier) all.2 parts.1
+          (after-node n start end children around before earlier (
+            all.0.0,
+            shaped bytes names children _ _ all.1,
+            tt,
+          ) e),
+    )
+
+pub references-decode : (bytes : List ℕ) (names : List (List ℕ × List ℕ)) (document : Forest) →
+    IsGrammatical bytes names document → EverywhereAfter (Decodes bytes names) [] document
+references-decode bytes names document grammatical =
+    decodes bytes names document role.Flow None []
+    (fine bytes names document role.Flow None grammatical.shape.0 grammatical.rules)
+    (well-spine role.Flow (spine document) grammatical.shape.1) refl

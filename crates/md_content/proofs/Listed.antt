@@ -1,0 +1,96 @@
+-- The definitions and footnotes of the meaning are those of the document, in the order of their
+-- exits: the targets of references.
+use Rattle.std.proofs.Common.{◌≡◌, ℕ, Bool, true, false, List, [], ◌∷◌, ◌++◌, refl, ap, ◌∙◌}
+use Rattle.std.proofs.Common.{append_assoc}
+use Rattle.std.specs.Prelude.{map, if◌then◌else◌, ◌&&◌}
+use Rattle.std.proofs.lemmas.List.{map-append}
+use Rattle.md_base.specs.Tree.{Forest, Empty, Node}
+use Rattle.md_base.specs.Children.{is_empty}
+use Rattle.md_pattern.specs.Looseness.{is_loose}
+use Rattle.md_base.specs.Is.{is}
+use Rattle.md_base.specs.declared.event.Name.TheVariants.{Definition, GfmFootnoteDefinition}
+use Rattle.md_tree.specs.Rules.{place}
+use Rattle.md_meaning.specs.declared.surroundings.Surroundings.{Surroundings}
+use Rattle.md_meaning.specs.Meaning.Inherited.{inside}
+use Rattle.md_meaning.specs.Meaning.Layout.{layout, when}
+use Rattle.md_meaning.specs.Meaning.At.{Context, Defined, Footnote, At, Before, target_in}
+use Rattle.md_meaning.specs.Meaning.At.{identifier_of}
+use Rattle.md_meaning.specs.Meaning.Before.{before_children}
+use Rattle.md_meaning.specs.Meaning.Nodes.{Outcome, outcome, node, before_next}
+use Rattle.md_content.specs.References.{defined_in, footnotes_defined_in}
+use Rattle.md_base.specs.declared.event.Point.{Point}
+
+-- a node with what is before, in and around it
+abbrev pub node_at : Surroundings → Before → Forest → Point → Point → Bool → Outcome → At
+node_at around before children start end last inner = record {
+  around = around;
+  before = before;
+  children = children;
+  found = inner.found;
+  calls = before.calls ++ inner.calls;
+  place = place start end;
+  is_last = last;
+}
+
+-- the identifiers of three parts in a row, by those of each
+in_a_row : {A : Type 0} (of : A → List ℕ) (inner own later : List A) (xs ys zs : List (List ℕ)) →
+    map of inner ≡ xs → map of own ≡ ys → map of later ≡ zs →
+    map of ((inner ++ own) ++ later) ≡ xs ++ (ys ++ zs)
+in_a_row of inner own later xs ys zs a b c =
+    map-append of (inner ++ own) later
+    ∙ ap (λ is. is ++ map of later) (map-append of inner own)
+    ∙ append_assoc (map of inner) (map of own) (map of later)
+    ∙ ap (λ is. is ++ (map of own ++ map of later)) a
+    ∙ ap (λ is. xs ++ (is ++ map of later)) b
+    ∙ ap (λ is. xs ++ (ys ++ is)) c
+
+-- the one of a node, if it is one
+own-one : {A : Type 0} (of : A → List ℕ) (test : Bool) (own : A) →
+    map of (if test then own ∷ [] else []) ≡ (if test then of own ∷ [] else [])
+own-one of true own = refl
+own-one of false own = refl
+
+pub definitions-listed :
+    (context : Context) (around : Surroundings) (before : Before) (forest : Forest) →
+    map (λ defined. defined.identifier) (outcome context around before forest).definitions
+    ≡ defined_in context.bytes forest
+definitions-listed context around before Empty = refl
+definitions-listed context around before (Node name start end children rest) =
+    let of : Defined → List ℕ = λ defined. defined.identifier in
+    let nested : Surroundings = inside context.options (is_loose children) name around in
+    let within : Before = before_children name children before in
+    let inner : Outcome = outcome context nested within children in
+    let at : At =
+    node_at around before children start end (around.is_outermost && is_empty rest) inner in
+    let next : Before = before_next at name (node context at name inner) in
+    let identifier = identifier_of context.bytes children in
+    let own : Defined = record { identifier = identifier; target = target_in at.found } in
+    in_a_row of inner.definitions (when (is Definition name) (own ∷ []))
+    (outcome context around next rest).definitions (defined_in context.bytes children)
+    (when (is Definition name) (identifier ∷ [])) (defined_in context.bytes rest)
+    (definitions-listed context nested within children) (own-one of (is Definition name) own)
+    (definitions-listed context around next rest)
+
+pub footnotes-listed : (context : Context) (around : Surroundings) (before : Before)
+    (forest : Forest) →
+    map (λ footnote. footnote.identifier) (outcome context around before forest).footnotes
+    ≡ footnotes_defined_in context.bytes forest
+footnotes-listed context around before Empty = refl
+footnotes-listed context around before (Node name start end children rest) =
+    let of : Footnote → List ℕ = λ footnote. footnote.identifier in
+    let nested : Surroundings = inside context.options (is_loose children) name around in
+    let within : Before = before_children name children before in
+    let inner : Outcome = outcome context nested within children in
+    let at : At =
+    node_at around before children start end (around.is_outermost && is_empty rest) inner in
+    let next : Before = before_next at name (node context at name inner) in
+    let identifier = identifier_of context.bytes children in
+    let own : Footnote =
+    record { identifier = identifier; text = layout context.ending inner.pieces } in
+    in_a_row of inner.footnotes (when (is GfmFootnoteDefinition name) (own ∷ []))
+    (outcome context around next rest).footnotes (footnotes_defined_in context.bytes children)
+    (when (is GfmFootnoteDefinition name) (identifier ∷ []))
+    (footnotes_defined_in context.bytes rest)
+    (footnotes-listed context nested within children)
+    (own-one of (is GfmFootnoteDefinition name) own)
+    (footnotes-listed context around next rest)

@@ -1,0 +1,229 @@
+-- What the meaning reads of a document of the grammar exists, and each reference finds its
+-- definition.
+use Rattle.std.proofs.Common.{◌≡◌, ◌⊎◌, inl, inr, ℕ, ◌<◌, Option, Some, None, List, [], ◌∷◌, ◌++◌}
+use Rattle.std.proofs.Common.{sym, ap, ◌∙◌, subst}
+use Rattle.std.specs.Prelude.{map, All, Contains}
+use Rattle.std.proofs.lemmas.List.{length-map, get_or-map}
+use Rattle.std.proofs.lemmas.List.Elements.{All-nil, All-cons, All-head, All-tail}
+use Rattle.md_base.specs.declared.event.Name.{Name}
+use Rattle.md_base.specs.declared.event.Name.TheVariants.{Link, Image, Definition, GfmFootnoteCall}
+use Rattle.md_base.specs.declared.event.Name.TheVariants.{GfmFootnoteDefinition}
+use Rattle.md_base.specs.declared.event.Point.{Point}
+use Rattle.md_base.specs.declared.event.Position.{Position}
+use Rattle.md_pattern.specs.declared.kinds.Symbol.{Symbol}
+use Rattle.md_pattern.specs.declared.kinds.Role.{Role}
+use Rattle.md_pattern.specs.declared.kinds.Role.TheVariants as role
+use Rattle.md_pattern.specs.declared.kinds.Reading.TheVariants as reading
+use Rattle.md_tree.specs.declared.mention.Referral.{Referral}
+use Rattle.md_tree.specs.declared.mention.Referral.TheVariants.{Missing, Label, Resource}
+use Rattle.md_tree.specs.declared.mention.Mention.{Mention}
+use Rattle.md_tree.specs.declared.mention.Mention.TheVariants as mention
+use Rattle.md_tree.specs.declared.rule.Rule.TheVariants as rule
+use Rattle.md_base.specs.Tree.{Forest, Empty, Node}
+use Rattle.md_pattern.specs.Standing.{standing_of}
+use Rattle.md_pattern.specs.Shape.{IsShapedNode, AreShaped, inner_role, inner_before}
+use Rattle.md_tree.specs.Rules.{broken_by_target, reading_of, target_of}
+use Rattle.md_tree.specs.Mentions.{mention_of, mentions_of, defined, footnoted, IsResolved}
+use Rattle.md_tree.specs.Mentions.{identifier_at as label_identifier}
+use Rattle.md_tree.specs.Grammar.{IsGrammatical}
+use Rattle.md_base.specs.Is.{is}
+use Rattle.md_content.specs.Labels.{label_in_node, referring_in}
+use Rattle.md_content.specs.References.{Everywhere, label_target, RefersAlike, defined_in}
+use Rattle.md_content.specs.References.{footnotes_defined_in, RefersSomewhere}
+use Rattle.md_content.proofs.FineNodes.{IsFine, fine, shaped}
+use Rattle.md_content.proofs.Referring.{media-refers, call-refers}
+use Rattle.md_content.proofs.Leading.{call-label, definition-label, footnote-label}
+use Rattle.md_content.proofs.TextsThere.{everywhere}
+use Rattle.md_content.proofs.Identifiers.{known, named, definitions-known, footnotes-known}
+
+both : (holds others more : Name → Point → Point → Forest → Type 0) →
+    ((name : Name) (start end : Point) (children : Forest) → holds name start end children →
+    others name start end children → more name start end children) →
+    (forest : Forest) → Everywhere holds forest → Everywhere others forest → Everywhere more forest
+both holds others more join Empty a b = tt
+both holds others more join (Node name start end children rest) a b = (
+  join name start end children a.0 b.0,
+  both holds others more join children a.1 b.1,
+  both holds others more join rest a.2 b.2,
+)
+
+-- ---- what is referred by
+shaped-node : (name : Name) (start end : Point) (children : Forest) (around : Role)
+    (before : Option Symbol) →
+    IsShapedNode around before name start end children →
+    AreShaped children (inner_role (standing_of name) around before)
+    (inner_before (standing_of name) before) →
+    RefersAlike name start end children
+shaped-node Link start end children around before is inner = media-refers children inner is.1
+shaped-node Image start end children around before is inner = media-refers children inner is.1
+shaped-node GfmFootnoteCall start end children around before is inner =
+    call-refers children inner is.1
+shaped-node Definition start end children around before is inner =
+    let found = definition-label children inner is.1 in found.2 ∙ ap label_target (sym found.1)
+shaped-node GfmFootnoteDefinition start end children around before is inner =
+    let found = footnote-label children inner is.1 in found.2 ∙ ap label_target (sym found.1)
+shaped-node _ start end children around before is inner = tt
+
+refer-alike : (forest : Forest) (around : Role) (before : Option Symbol) →
+    AreShaped forest around before →
+    Everywhere RefersAlike forest
+refer-alike Empty around before shaped = tt
+refer-alike (Node name start end children rest) around before shaped = (
+  shaped-node name start end children around before shaped.0 shaped.1,
+  refer-alike children _ _ shaped.1,
+  refer-alike rest _ _ shaped.2,
+)
+
+pub labels-alike : (bytes : List ℕ) (names : List (List ℕ × List ℕ)) (document : Forest) →
+    IsGrammatical bytes names document → Everywhere RefersAlike document
+labels-alike bytes names document grammatical =
+    refer-alike document role.Flow None grammatical.shape.0
+
+-- ---- each reference finds its definition
+all-left : {A : Type 0} (P : A → Type 0) (xs ys : List A) → All P (xs ++ ys) → All P xs
+all-left P [] ys a = All-nil P
+all-left P (x ∷ xs) ys a =
+    All-cons P x xs (All-head P x (xs ++ ys) a) (all-left P xs ys (All-tail P x (xs ++ ys) a))
+
+all-right : {A : Type 0} (P : A → Type 0) (xs ys : List A) → All P (xs ++ ys) → All P ys
+all-right P [] ys a = a
+all-right P (x ∷ xs) ys a = all-right P xs ys (All-tail P x (xs ++ ys) a)
+
+-- what holds of all that a document mentions holds of what each node mentions
+mention-everywhere : (P : Mention → Type 0) (forest : Forest) → All P (mentions_of forest) →
+    Everywhere (λ name start end children. P (mention_of (reading_of (standing_of name))
+    (target_of children Missing))) forest
+mention-everywhere P Empty all = tt
+mention-everywhere P (Node name start end children rest) all =
+    let own = mention_of (reading_of (standing_of name)) (target_of children Missing) in
+    let inner = mentions_of children in
+    let later = mentions_of rest in
+    let split = All-tail P mention.Nothing _ all in
+    let after = all-right P inner (own ∷ later) split in (
+      All-head P own later after,
+      mention-everywhere P children (all-left P inner (own ∷ later) split),
+      mention-everywhere P rest (All-tail P own later after),
+    )
+
+contains-map : {A B : Type 0} (f : A → B) (xs : List A) (x : A) → Contains xs x →
+    Contains (map f xs) (f x)
+contains-map f xs x there = (
+  there.0,
+  subst (λ n. there.0 < n) (sym (length-map xs f)) there.1,
+  get_or-map f xs there.0 x (f x) there.1
+      ∙ ap f there.2,
+)
+
+contains-known : (bytes : List ℕ) (found : List (Option (List ℕ))) (identifiers : List (List ℕ))
+    (target : Referral) (there : Position) → map known found ≡ identifiers → target ≡ Label there →
+    Contains found (label_identifier bytes there) → Contains identifiers (named bytes target)
+contains-known bytes found identifiers target there e is contained =
+    subst (λ t. Contains identifiers (named bytes t)) (sym is)
+    (subst (λ xs. Contains xs (known (label_identifier bytes there))) e
+    (contains-map known found (label_identifier bytes there) contained))
+
+-- a link or an image
+media-leads :
+    (bytes : List ℕ) (mentions : List Mention) (identifiers : List (List ℕ)) (target : Referral)
+    (referring : Option Position) → map known (defined bytes mentions) ≡ identifiers →
+    broken_by_target target ≡ None →
+    IsResolved bytes mentions (mention_of reading.Media target) →
+    (target ≡ Resource) ⊎ (target ≡ label_target referring) →
+    (target ≡ Resource) ⊎ Contains identifiers (named bytes target)
+media-leads bytes mentions identifiers target referring e rules resolved (inl resource) =
+    inl resource
+media-leads bytes mentions identifiers target None e rules resolved (inr alike) =
+    absurd (missing (ap broken_by_target (sym alike) ∙ rules))
+  where
+    missing : Some rule.Target ≡ None → ⊥
+    missing h = cc
+media-leads bytes mentions identifiers target (Some there) e rules resolved (inr alike) =
+    inr (contains-known bytes (defined bytes mentions) identifiers target there e alike
+    (subst (λ t. IsResolved bytes mentions (mention_of reading.Media t)) alike resolved))
+
+call-leads : (bytes : List ℕ) (mentions : List Mention) (identifiers : List (List ℕ))
+    (target : Referral) (label : Option Position) (there : Position) →
+    map known (footnoted bytes mentions) ≡ identifiers →
+    target ≡ label_target label → label ≡ Some there →
+    IsResolved bytes mentions (mention_of reading.Call target) →
+    Contains identifiers (named bytes target)
+call-leads bytes mentions identifiers target label there e alike is resolved =
+    let led : target ≡ Label there = alike ∙ ap label_target is in
+    contains-known bytes (footnoted bytes mentions) identifiers target there e led
+    (subst (λ t. IsResolved bytes mentions (mention_of reading.Call t)) led resolved)
+
+-- what is known of a node by the shape and the rules
+node-leads : (bytes : List ℕ) (names : List (List ℕ × List ℕ)) (mentions : List Mention)
+    (document : Forest) →
+    map known (defined bytes mentions) ≡ defined_in bytes document →
+    map known (footnoted bytes mentions) ≡ footnotes_defined_in bytes document →
+    (around : Role) (before : Option Symbol) (name : Name) (start end : Point) (children : Forest) →
+    IsFine bytes names around before name start end children →
+    AreShaped children (inner_role (standing_of name) around before)
+    (inner_before (standing_of name) before) →
+    IsResolved bytes mentions
+    (mention_of (reading_of (standing_of name)) (target_of children Missing)) →
+    RefersSomewhere bytes document name start end children
+node-leads bytes names mentions document d f around before Link start end children
+    here inner resolved =
+    media-leads bytes mentions (defined_in bytes document) (target_of children Missing)
+    (referring_in children) d here.1 resolved (media-refers children inner here.0.1)
+node-leads bytes names mentions document d f around before Image start end children
+    here inner resolved =
+    media-leads bytes mentions (defined_in bytes document) (target_of children Missing)
+    (referring_in children) d here.1 resolved (media-refers children inner here.0.1)
+node-leads bytes names mentions document d f around before GfmFootnoteCall start end children
+    here inner resolved =
+    let there = call-label children inner here.0.1 in
+    call-leads bytes mentions (footnotes_defined_in bytes document) (target_of children Missing)
+    (label_in_node children) there.0 f (call-refers children inner here.0.1) there.1 resolved
+node-leads bytes names mentions document d f around before _ start end children
+    here inner resolved = tt
+
+abbrev Refers : List ℕ → List Mention → Forest → Name → Point → Point → Forest → Type 0
+Refers bytes mentions document name start end children =
+    IsResolved bytes mentions
+    (mention_of (reading_of (standing_of name)) (target_of children Missing)) →
+    RefersSomewhere bytes document name start end children
+
+pub leads-somewhere : (bytes : List ℕ) (names : List (List ℕ × List ℕ)) (document : Forest) →
+    IsGrammatical bytes names document → Everywhere (RefersSomewhere bytes document) document
+leads-somewhere bytes names document grammatical =
+    let mentions = mentions_of document in
+    let d = definitions-known bytes document role.Flow None grammatical.shape.0 in
+    let f = footnotes-known bytes document role.Flow None grammatical.shape.0 in
+    both (λ name start end children. IsResolved bytes mentions
+    (mention_of (reading_of (standing_of name)) (target_of children Missing)))
+    (Refers bytes mentions document)
+    (RefersSomewhere bytes document)
+    (λ name start end children resolved leads. leads resolved)
+    document
+    (mention-everywhere (IsResolved bytes mentions) document grammatical.resolved)
+    (everywhere bytes names (Refers bytes mentions document)
+    (λ around before name start end children here inner. node-leads bytes names mentions
+    document d f around before
+    name start end children here (shaped bytes names children _ _ inner))
+    document role.Flow None
+    (fine bytes names document role.Flow None grammatical.shape.0 grammatical.rules))
+
+-- ---- a link or an image has a target
+abbrev pub HasTarget : Name → Point → Point → Forest → Type 0
+HasTarget Link start end children = broken_by_target (target_of children Missing) ≡ None
+HasTarget Image start end children = broken_by_target (target_of children Missing) ≡ None
+HasTarget _ start end children = Unit {0}
+
+node-targets : (bytes : List ℕ) (names : List (List ℕ × List ℕ)) (around : Role)
+    (before : Option Symbol) (name : Name) (start end : Point) (children : Forest) →
+    IsFine bytes names around before name start end children →
+    HasTarget name start end children
+node-targets bytes names around before Link start end children here = here.1
+node-targets bytes names around before Image start end children here = here.1
+node-targets bytes names around before _ start end children here = tt
+
+pub targets-there : (bytes : List ℕ) (names : List (List ℕ × List ℕ)) (document : Forest) →
+    IsGrammatical bytes names document → Everywhere HasTarget document
+targets-there bytes names document grammatical =
+    everywhere bytes names HasTarget
+    (λ around before name start end children here inner. node-targets bytes names around before name
+    start end children here) document role.Flow None
+    (fine bytes names document role.Flow None grammatical.shape.0 grammatical.rules)

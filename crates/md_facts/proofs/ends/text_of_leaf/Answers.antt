@@ -1,0 +1,7 @@
+-- The one search that proves it: it refuses a mutant in a second; the default search, with no
+-- answer given, takes ten.
+use Rattle.std.proofs.Common.{rules}
+use Rattle.md_facts.proofs.ends.text_of_leaf.Goals as goal
+
+pub returns : goal.returns
+returns c = search rules

@@ -1,0 +1,260 @@
+-- The facts that the pass finds about children are those of the definitions.
+use Rattle.std.proofs.Common.{◌≡◌, Bool, true, false, not, ◌&&◌, ◌||◌, cond, Option, Some, None}
+use Rattle.std.proofs.Common.{refl, sym, ap, ◌∙◌}
+use Rattle.std.specs.Prelude.{unwrap_or}
+use Rattle.std.specs.Option.{option_map_or}
+use Rattle.md_base.specs.declared.event.AlignKind.TheVariants as align
+use Rattle.md_base.specs.declared.event.Name.{Name}
+use Rattle.md_base.specs.declared.event.Name.TheVariants as name_variants
+use name_variants.{BlankLineEnding, ListItem, GfmTableDelimiterMarker, SpaceOrTab, ListItemPrefix}
+use name_variants.{BlockQuotePrefix, BlockQuote}
+use Rattle.md_pattern.specs.declared.summary.Last.{Last}
+use Rattle.md_pattern.specs.declared.summary.Last.TheVariants as final
+use Rattle.md_pattern.specs.declared.summary.Summary.{Summary}
+use Rattle.md_base.specs.Tree.{Forest, Empty, Node}
+use Rattle.md_base.specs.Is.{is}
+use Rattle.md_base.specs.Children.{is_empty, last_name}
+use Rattle.md_pattern.specs.Looseness.{is_bare}
+use Rattle.md_pattern.specs.Looseness as written
+use Rattle.md_pattern.specs.Blanks.{begins_blank, begins_space_blank, is_end, ends_bare}
+use Rattle.md_pattern.specs.Blanks.{has_parting_blank, has_inner_blank, is_loose_item}
+use Rattle.md_pattern.specs.Blanks.{has_loose_item}
+use Rattle.md_pattern.proofs.Loosened.{item-same, without-same, items-same}
+use Rattle.md_pattern.specs.Alignments.{begins_with_marker, ends_with_marker, alignment_of}
+use Rattle.md_pattern.specs.Summary.{spaced, is_bare_last, parts, loosens, is_nothing}
+use Rattle.md_pattern.specs.Summary.{is_marker_last}
+use Rattle.md_pattern.specs.Summary.{summary_with, empty_summary, summary_over, alignment}
+use Rattle.md_pattern.proofs.OneMoreChild.{is_quote_last, quote_with, marker_with, or-false}
+use Rattle.md_pattern.proofs.OneMoreChild.{nothing_with, begins_with, bare_with, bare_spaced_with}
+use Rattle.md_pattern.proofs.OneMoreChild.{or-assoc, without_with, parts_with, not_prefix}
+use Rattle.md_pattern.proofs.OneMoreChild.{item_with, loosens_with, prefix_with, loose_item_with}
+
+last_step : (test : Name → Bool) (o : Option Name) (name : Name) →
+    option_map_or test o (test name) ≡ test (unwrap_or o name)
+last_step test None name = refl
+last_step test (Some other) name = refl
+
+quote_over : (forest : Forest) (summary : Summary) → is_quote_last
+    (Summary.last (summary_over forest summary))
+    ≡ option_map_or (is BlockQuotePrefix) (last_name forest) (is_quote_last summary.last)
+quote_over Empty summary = refl
+quote_over (Node name start end children rest) summary =
+    let own = summary_over children empty_summary in
+    quote_over rest (summary_with name own summary)
+    ∙ ap (λ b. option_map_or (is BlockQuotePrefix) (last_name rest) b) (quote_with name own summary)
+    ∙ last_step (is BlockQuotePrefix) (last_name rest) name
+
+marker_over : (forest : Forest) (summary : Summary) → is_marker_last
+    (Summary.last (summary_over forest summary))
+    ≡ option_map_or (is GfmTableDelimiterMarker) (last_name forest) (is_marker_last summary.last)
+marker_over Empty summary = refl
+marker_over (Node name start end children rest) summary =
+    let own = summary_over children empty_summary in
+    marker_over rest (summary_with name own summary)
+    ∙ ap (λ b. option_map_or (is GfmTableDelimiterMarker) (last_name rest) b)
+    (marker_with name own summary)
+    ∙ last_step (is GfmTableDelimiterMarker) (last_name rest) name
+
+begins_over : (forest : Forest) (summary : Summary) → Summary.begins_with_marker
+    (summary_over forest summary)
+    ≡ (summary.begins_with_marker || (begins_with_marker forest && is_nothing summary.last))
+begins_over Empty summary = or-false summary.begins_with_marker
+begins_over (Node name start end children rest) summary =
+    let own = summary_over children empty_summary in
+    begins_over rest (summary_with name own summary)
+    ∙ ap (λ b. Summary.begins_with_marker (summary_with name own summary)
+    || (begins_with_marker rest && b)) (nothing_with name own summary)
+    ∙ by (begins_with_marker rest) (Summary.begins_with_marker (summary_with name own summary))
+    ∙ begins_with name own summary
+  where
+    by : (a b : Bool) → (b || (a && false)) ≡ b
+    by true b = sym (or-false b)
+    by false b = sym (or-false b)
+
+-- nothing stands after a marker in the last of some nodes after another
+abbrev bare_after : Last → Forest → Bool
+bare_after l forest =
+    cond (is_end forest) (cond (is_empty forest) (is_bare_last l) (is_bare_last (spaced l)))
+    (ends_bare forest)
+
+bare_step : (rest : Forest) (name : Name) (children : Forest) (own summary : Summary) →
+    is_quote_last own.last ≡ option_map_or (is BlockQuotePrefix) (last_name children) false →
+    bare_after (Summary.last (summary_with name own summary)) rest
+    ≡ cond (is SpaceOrTab name && is_empty rest) (is_bare_last (spaced summary.last))
+    (cond (is_end rest) (is_bare name children) (ends_bare rest))
+bare_step Empty name children own summary quote =
+    bare_with name own summary
+    ∙ ap (λ b. cond (is SpaceOrTab name) (is_bare_last (spaced summary.last))
+    (is ListItemPrefix name
+    || (is BlockQuote name && b))) quote
+    ∙ by (is SpaceOrTab name)
+  where
+    by : (s : Bool) → cond s (is_bare_last (spaced summary.last)) (is_bare name children)
+        ≡ cond (s && true) (is_bare_last (spaced summary.last)) (is_bare name children)
+    by true = refl
+    by false = refl
+bare_step (Node next start end inner rest) name children own summary quote =
+    ap (λ b. cond (is SpaceOrTab next && is_empty rest) b
+    (ends_bare (Node next start end inner rest))) (bare_spaced_with name own summary
+    ∙ ap (λ b. is ListItemPrefix name || (is BlockQuote name && b)) quote) ∙ by (is SpaceOrTab name)
+  where
+    by : (s : Bool) → cond (is SpaceOrTab next && is_empty rest) (is_bare name children)
+        (ends_bare (Node next start end inner rest)) ≡ cond (s
+        && false) (is_bare_last (spaced summary.last)) (cond (is SpaceOrTab next
+        && is_empty rest) (is_bare name children) (ends_bare (Node next start end inner rest)))
+    by true = refl
+    by false = refl
+
+bare_over : (forest : Forest) (summary : Summary) → is_bare_last
+    (Summary.last (summary_over forest summary))
+    ≡ bare_after summary.last forest
+bare_over Empty summary = refl
+bare_over (Node name start end children rest) summary =
+    let own = summary_over children empty_summary in
+    bare_over rest (summary_with name own summary)
+    ∙ bare_step rest name children own summary (quote_over children empty_summary)
+
+ends_bare-end : (forest : Forest) → bare_after final.Nothing forest ≡ ends_bare forest
+ends_bare-end Empty = refl
+ends_bare-end (Node name start end children Empty) = by name
+  where
+    by : (name : Name) →
+        cond (is SpaceOrTab name && true) false (is_bare name children) ≡ is_bare name children
+    by SpaceOrTab = refl
+    by _ = refl
+ends_bare-end (Node name start end children (Node next begin stop inner rest)) =
+    by (is SpaceOrTab name)
+  where
+    by : (s : Bool) → cond (s && false) false (ends_bare
+        (Node name start end children (Node next begin stop inner rest)))
+        ≡ ends_bare (Node name start end children (Node next begin stop inner rest))
+    by true = refl
+    by false = refl
+
+without_over : (forest : Forest) (summary : Summary) → Summary.without_items
+    (summary_over forest summary)
+    ≡ ((summary.without_items || (begins_blank forest && parts summary.last)) || has_parting_blank
+    forest)
+without_over Empty summary = or-false summary.without_items ∙ or-false
+    (summary.without_items || false)
+without_over (Node name start end children rest) summary =
+    let own = summary_over children empty_summary in
+    without_over rest (summary_with name own summary)
+    ∙ ap (λ b. (b || (begins_blank rest && parts (Summary.last (summary_with name own summary))))
+    || has_parting_blank rest) (without_with name own summary)
+    ∙ ap (λ b. ((summary.without_items || (is BlankLineEnding name && parts summary.last))
+    || (begins_blank rest && b)) || has_parting_blank rest) (parts_with name own summary
+    ∙ ap (λ b. not (is ListItem name && b)) (bare_over children empty_summary
+    ∙ ends_bare-end children))
+    ∙ or-assoc (summary.without_items || (is BlankLineEnding name && parts summary.last))
+    (begins_blank rest && not (is ListItem name && ends_bare children)) (has_parting_blank rest)
+
+-- the tests of an item, rearranged
+rearranged : (s p q r n i : Bool) → ((q && cond s n (not p)) || ((r && not p) || i))
+    ≡ (((s && q) && n) || ((not p && ((q && not s) || r)) || i))
+rearranged true true true true n i = refl
+rearranged true true true false n i = refl
+rearranged true true false true n i = refl
+rearranged true true false false n i = refl
+rearranged true false true true n i = refl
+rearranged true false true false n i = refl
+rearranged true false false true n i = refl
+rearranged true false false false n i = refl
+rearranged false true true true n i = refl
+rearranged false true true false n i = refl
+rearranged false true false true n i = refl
+rearranged false true false false n i = refl
+rearranged false false true true n i = refl
+rearranged false false true false n i = refl
+rearranged false false false true n i = refl
+rearranged false false false false n i = refl
+
+item_over : (forest : Forest) (summary : Summary) → Summary.of_item (summary_over forest summary)
+    ≡ (summary.of_item || ((begins_blank forest && loosens summary.last)
+    || ((begins_space_blank forest && not_prefix summary.last) || has_inner_blank forest)))
+item_over Empty summary = or-false summary.of_item
+item_over (Node name start end children rest) summary =
+    let own = summary_over children empty_summary in
+    item_over rest (summary_with name own summary)
+    ∙ ap (λ b. b || ((begins_blank rest && loosens (Summary.last (summary_with name own summary)))
+    || ((begins_space_blank rest && not_prefix (Summary.last (summary_with name own summary)))
+    || has_inner_blank rest))) (item_with name own summary)
+    ∙ ap (λ b. (summary.of_item || (is BlankLineEnding name && loosens summary.last))
+    || ((begins_blank rest && b)
+    || ((begins_space_blank rest && not_prefix (Summary.last (summary_with name own summary)))
+    || has_inner_blank rest))) (loosens_with name own summary)
+    ∙ ap (λ b. (summary.of_item || (is BlankLineEnding name && loosens summary.last))
+    || ((begins_blank rest
+    && cond (is SpaceOrTab name) (not_prefix summary.last) (not (is ListItemPrefix name)))
+    || ((begins_space_blank rest && b) || has_inner_blank rest))) (prefix_with name own summary)
+    ∙ ap (λ b. (summary.of_item || (is BlankLineEnding name && loosens summary.last))
+    || b) (rearranged (is SpaceOrTab name) (is ListItemPrefix name) (begins_blank rest)
+    (begins_space_blank rest) (not_prefix summary.last) (has_inner_blank rest))
+    ∙ or-assoc summary.of_item (is BlankLineEnding name && loosens summary.last)
+    (((is SpaceOrTab name && begins_blank rest) && not_prefix summary.last)
+    || has_inner_blank (Node name start end children rest))
+
+and-true : (b : Bool) → (b && true) ≡ b
+and-true true = refl
+and-true false = refl
+
+-- an item's children
+of_item_summary : (children : Forest) →
+    Summary.of_item (summary_over children empty_summary) ≡ is_loose_item children
+of_item_summary children =
+    item_over children empty_summary
+    ∙ ap (λ b. b || ((begins_space_blank children && true) || has_inner_blank children))
+    (and-true (begins_blank children))
+    ∙ ap (λ b. begins_blank children || (b || has_inner_blank children))
+    (and-true (begins_space_blank children)) ∙ sym (or-assoc (begins_blank children)
+    (begins_space_blank children) (has_inner_blank children))
+
+loose_items_over : (forest : Forest) (summary : Summary) → Summary.has_loose_item
+    (summary_over forest summary)
+    ≡ (summary.has_loose_item || has_loose_item forest)
+loose_items_over Empty summary = or-false summary.has_loose_item
+loose_items_over (Node name start end children rest) summary =
+    let own = summary_over children empty_summary in
+    loose_items_over rest (summary_with name own summary)
+    ∙ ap (λ b. b || has_loose_item rest) (loose_item_with name own summary
+    ∙ ap (λ b. summary.has_loose_item || (is ListItem name && b)) (of_item_summary children))
+    ∙ or-assoc summary.has_loose_item (is ListItem name && is_loose_item children)
+    (has_loose_item rest)
+
+-- a list's children, ignoring its items, and with them
+pub without_items-summary : (children : Forest) → Summary.without_items
+    (summary_over children empty_summary)
+    ≡ written.is_loose_without_items children
+without_items-summary children =
+    without_over children empty_summary
+    ∙ ap (λ b. b || has_parting_blank children) (and-true (begins_blank children))
+    ∙ without-same children
+
+pub with_items-summary : (children : Forest) → (Summary.without_items
+    (summary_over children empty_summary)
+    || Summary.has_loose_item (summary_over children empty_summary)) ≡ written.is_loose children
+with_items-summary children =
+    ap (λ b. b || Summary.has_loose_item (summary_over children empty_summary))
+    (without_items-summary children) ∙ ap (λ b. written.is_loose_without_items children || b)
+    (loose_items_over children empty_summary ∙ items-same children)
+
+pub of_item-summary : (children : Forest) → Summary.of_item (summary_over children empty_summary)
+    ≡ written.is_loose_item children
+of_item-summary children = of_item_summary children ∙ item-same children
+
+-- a value's children
+pub alignment-summary : (children : Forest) →
+    alignment (summary_over children empty_summary) ≡ alignment_of children
+alignment-summary children =
+    let summary = summary_over children empty_summary in
+    by summary.begins_with_marker (begins_with_marker children) (is_marker_last summary.last)
+    (ends_with_marker children)
+    (begins_over children empty_summary ∙ and-true (begins_with_marker children))
+    (marker_over children empty_summary)
+  where
+    by : (a b c d : Bool) → a ≡ b → c ≡ d →
+        cond a (cond c align.Center align.Left) (cond c align.Right align.None)
+        ≡ cond b (cond d align.Center align.Left) (cond d align.Right align.None)
+    by a b c d e f =
+        ap (λ x. cond x (cond c align.Center align.Left) (cond c align.Right align.None)) e
+        ∙ ap (λ y. cond b (cond y align.Center align.Left) (cond y align.Right align.None)) f

@@ -1,6 +1,0 @@
--- One by one, which the search doesn't try.
-use Rattle.md_pattern.proofs.PlaceLemmas.{role-numbered}
-use Rattle.md_pattern.proofs.places.number_of_role.Goals as goal
-
-pub returns-clause-role : goal.returns-clause-role
-returns-clause-role c = role-numbered c.args.role

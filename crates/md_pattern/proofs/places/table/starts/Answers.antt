@@ -1,8 +1,0 @@
--- The table, entry by entry.
-use Rattle.std.proofs.Common.{refl}
-use Rattle.md_pattern.specs.Places.{places, all_roles}
-use Rattle.md_pattern.proofs.places.table.starts.Goals as goal
-
-pub returns : goal.returns
-unfolding places all_roles
-returns c = refl

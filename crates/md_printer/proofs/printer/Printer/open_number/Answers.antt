@@ -1,0 +1,10 @@
+-- The one search that proves it: it refuses a mutant in a second; the default search, with no
+-- answer given, takes ten.
+use Rattle.std.proofs.Common.{rules}
+use Rattle.md_printer.proofs.printer.Printer.open_number.Goals as goal
+
+pub returns-then-eq : goal.returns-then-eq
+returns-then-eq c = search rules
+
+pub returns : goal.returns
+returns c = search rules

@@ -1,0 +1,28 @@
+-- What follows from each of two tests follows where one of them holds; and what holds of each of
+-- some things holds of one of them, and what follows from it of each.
+use Rattle.std.specs.Str.{bytes_eq}
+use Rattle.std.specs.List.{list_all}
+use Rattle.std.specs.Cmp.Lexicographic.{bytes_decides}
+use Rattle.std.proofs.Common.{◌≡◌, ℕ, Bool, true, ◌||◌, List, [], ◌∷◌, inl, inr, refl, sym, subst}
+use Rattle.std.proofs.lemmas.Bool.{or_cases, and_parts, and_from}
+use Rattle.md_base.proofs.Lies.{lie}
+use Rattle.md_text.specs.Bytes.{is_one_of}
+
+pub either : {A : Type 0} (a b : Bool) → (a || b) ≡ true → (a ≡ true → A) → (b ≡ true → A) → A
+either a b h f g = elim (or_cases a b h) [ inl is ↦ f is | inr is ↦ g is ]
+
+pub one_of-passes : (p : List ℕ → Bool) (listed : List (List ℕ)) (name : List ℕ) →
+    list_all p listed ≡ true → is_one_of listed name ≡ true → p name ≡ true
+one_of-passes p [] name g e = lie e
+one_of-passes p (t ∷ ts) name g e =
+    let parts = and_parts (p t) (list_all p ts) g in
+    either (bytes_eq name t) (is_one_of ts name) e
+    (λ same. subst (λ x. p x ≡ true) (sym ((bytes_decides name t).0 same)) parts.0)
+    (one_of-passes p ts name parts.1)
+
+pub all-weaker : {A : Type 0} (p q : A → Bool) → ((a : A) → p a ≡ true → q a ≡ true) →
+    (xs : List A) → list_all p xs ≡ true → list_all q xs ≡ true
+all-weaker p q weaker [] h = refl
+all-weaker p q weaker (x ∷ xs) h =
+    let parts = and_parts (p x) (list_all p xs) h in
+    and_from (q x) (list_all q xs) (weaker x parts.0) (all-weaker p q weaker xs parts.1)

@@ -1,0 +1,209 @@
+-- If strings are read alike, nodes that consist only of strings have the same meaning.
+use Rattle.std.proofs.Common.{◌≡◌, ℕ, Bool, true, ◌&&◌, ◌||◌, List, [], ◌∷◌, ◌++◌}
+use Rattle.std.proofs.Common.{Option, refl, ap, sym, ◌∙◌}
+use Rattle.std.specs.Prelude.{if◌then◌else◌}
+use Rattle.md_base.specs.declared.event.Name.{Name}
+use Rattle.md_base.specs.declared.event.Name.TheVariants.{Data}
+use Rattle.md_base.specs.declared.event.Position.{Position}
+use Rattle.md_base.proofs.Lies.{lie}
+use Rattle.md_base.specs.Tree.{Forest, Empty, Node}
+use Rattle.md_base.specs.Children.{is_empty, or_else, spine_names}
+use Rattle.md_base.specs.NameTests.{is_transparent}
+use Rattle.md_pattern.specs.Looseness.{is_loose}
+use Rattle.md_text.specs.declared.options.CompileOptions.{CompileOptions}
+use Rattle.md_meaning.specs.declared.surroundings.Surroundings.{Surroundings}
+use Rattle.md_meaning.specs.Meaning.Inherited.{inside}
+use Rattle.md_meaning.specs.Meaning.Layout.{Piece, layout}
+use Rattle.md_meaning.specs.Meaning.At.{Context, At, Before, Found}
+use Rattle.md_meaning.specs.Meaning.Before.{before_children}
+use Rattle.md_meaning.specs.Meaning.Means.{prints}
+use Rattle.md_meaning.specs.Meaning.Nodes.{outcome, found_at}
+use Rattle.md_steps.specs.Content.{Content, Strings, Sources, Nothing, Childless, Fits, is_string}
+use Rattle.md_steps.specs.Content.{is_code_data, is_source, is_allowed}
+use Rattle.md_steps.specs.Content.{content_inside, content_after_node}
+use Rattle.md_steps.specs.Claim.{at_node, inner_of, next_before, node_of}
+use Rattle.md_steps.proofs.Standing.{implies, follows, picked, allowed-facts, is_callless}
+use Rattle.md_steps.proofs.Staying.{node-same}
+use Rattle.md_steps.proofs.Quiet.{past-callless, defines-inside}
+
+-- names of nodes that consist only of strings
+abbrev pub is_plain : Name → Bool
+is_plain name = is_transparent name || (is_string name || (is_code_data name || is_source name))
+
+in_strings : (n : Name) → implies (is_allowed Strings n) (is_plain n) ≡ true
+in_strings Data = refl
+in_strings _ = refl
+
+in_sources : (n : Name) → implies (is_allowed Sources n) (is_plain n) ≡ true
+in_sources Data = refl
+in_sources _ = refl
+
+in_nothing : (n : Name) → implies (is_allowed Nothing n) (is_plain n) ≡ true
+in_nothing Data = refl
+in_nothing _ = refl
+
+pub plain : (c : Content) (n : Name) → is_callless c ≡ true → is_allowed c n ≡ true →
+    is_plain n ≡ true
+plain Strings n h k = follows (is_allowed Strings n) (is_plain n) (in_strings n) k
+plain Sources n h k = follows (is_allowed Sources n) (is_plain n) (in_sources n) k
+plain Nothing n h k = follows (is_allowed Nothing n) (is_plain n) (in_nothing n) k
+plain Childless n h k = lie k
+plain _ n h k = lie h
+
+-- two places in which strings are read alike
+pub record Alike (a b : Surroundings) (x y : Before) : Type 0 where
+  pub escaping : a.is_escaping ≡ b.is_escaping
+  pub code : a.in_code ≡ b.in_code
+  pub one : a.in_definition ≡ true
+  pub other : b.in_definition ≡ true
+  pub spine : x.spine ≡ y.spine
+  pub previous : x.previous ≡ y.previous
+
+-- of what is read of the surroundings only the same is read inside
+escaping-read : (options : CompileOptions) (loose : Bool) (name : Name) (a b : Surroundings) →
+    (inside options loose name a).is_escaping
+    ≡ (inside options loose name (record b { is_escaping = a.is_escaping })).is_escaping
+escaping-read options loose Data a b = refl
+escaping-read options loose _ a b = refl
+
+escaping-inside : (options : CompileOptions) (loose : Bool) (name : Name) (a b : Surroundings) →
+    a.is_escaping ≡ b.is_escaping →
+    (inside options loose name a).is_escaping ≡ (inside options loose name b).is_escaping
+escaping-inside options loose name a b h = escaping-read options loose name a b
+    ∙ ap (λ e. (inside options loose name (record b { is_escaping = e })).is_escaping) h
+
+code-read : (options : CompileOptions) (loose : Bool) (name : Name) (a b : Surroundings) →
+    (inside options loose name a).in_code
+    ≡ (inside options loose name (record b { in_code = a.in_code })).in_code
+code-read options loose Data a b = refl
+code-read options loose _ a b = refl
+
+code-inside : (options : CompileOptions) (loose : Bool) (name : Name) (a b : Surroundings) →
+    a.in_code ≡ b.in_code →
+    (inside options loose name a).in_code ≡ (inside options loose name b).in_code
+code-inside options loose name a b h = code-read options loose name a b
+    ∙ ap (λ e. (inside options loose name (record b { in_code = e })).in_code) h
+
+alike-inside : (options : CompileOptions) (name : Name) (children : Forest)
+    (a b : Surroundings) (x y : Before) →
+    Alike a b x y →
+    Alike (inside options (is_loose children) name a) (inside options (is_loose children) name b)
+    (before_children name children x) (before_children name children y)
+alike-inside options name children a b x y h = record {
+  escaping = escaping-inside options (is_loose children) name a b h.escaping;
+  code = code-inside options (is_loose children) name a b h.code;
+  one = defines-inside options (is_loose children) name a h.one;
+  other = defines-inside options (is_loose children) name b h.other;
+  spine = ap (λ l. if is_transparent name then l else []) h.spine;
+  previous = refl;
+}
+
+-- a place in a definition, with all that strings read of one
+abbrev read_at : Position → Surroundings → List Name → Option Name → Found → At → At
+read_at place around spine previous found at = record at {
+  place = place;
+  around = record at.around {
+    is_escaping = around.is_escaping;
+    in_code = around.in_code;
+    in_definition = true;
+  };
+  before = record at.before { spine = spine; previous = previous };
+  found = found;
+}
+
+prints-read : (context : Context) (name : Name) (place : Position) (around : Surroundings)
+    (spine : List Name) (previous : Option Name) (found : Found) (at other : At)
+    (p : List Piece) →
+    (if is_plain name then prints context (read_at place around spine previous found at) name p
+    else prints context (read_at place around spine previous found other) name p)
+    ≡ prints context (read_at place around spine previous found other) name p
+prints-read context Data place around spine previous found at other p = refl
+prints-read context _ place around spine previous found at other p = refl
+
+found-read : (name : Name) (at other : At) (text : List ℕ) →
+    found_at at name text ≡ found_at (record other { found = at.found }) name text
+found-read Data at other text = refl
+found-read _ at other text = refl
+
+defined : (at : At) → at.around.in_definition ≡ true →
+    read_at at.place at.around at.before.spine at.before.previous at.found at ≡ at
+defined at h = ap (λ d. record at { around = record at.around { in_definition = d } }) (sym h)
+
+module _ (context : Context) (at other : At) (place : at.place ≡ other.place)
+    (alike : Alike at.around other.around at.before other.before) (p q : List Piece)
+    (same : p ≡ q) where
+  other-read : (found : at.found ≡ other.found) →
+      read_at at.place at.around at.before.spine at.before.previous at.found other
+      ≡ read_at other.place other.around other.before.spine other.before.previous other.found other
+  other-read found =
+      let escaping = alike.escaping in
+      let code = alike.code in
+      let spine = alike.spine in
+      let previous = alike.previous in
+      cc
+
+  prints-alike : (name : Name) → is_plain name ≡ true → at.found ≡ other.found →
+      prints context at name p ≡ prints context other name q
+  prints-alike name h found =
+      ap (λ a. prints context a name p) (sym (defined at alike.one))
+      ∙ picked (is_plain name) _ _ (prints-read context name at.place at.around at.before.spine
+      at.before.previous at.found at other p) h
+      ∙ ap (λ a. prints context a name p) (other-read found ∙ defined other alike.other)
+      ∙ ap (λ l. prints context other name l) same
+
+  found-alike : (name : Name) → at.found ≡ other.found →
+      found_at at name (layout context.ending p) ≡ found_at other name (layout context.ending q)
+  found-alike name found = found-read name at other (layout context.ending p)
+      ∙ ap (λ f. found_at (record other { found = f }) name (layout context.ending p)) found
+      ∙ ap (λ l. found_at other name (layout context.ending l)) same
+
+-- of two findings, what each gives
+abbrev later_found : Found → Found → Found
+later_found one two = record {
+  heading = or_else two.heading one.heading;
+  destination = or_else two.destination one.destination;
+  title = or_else two.title one.title;
+  resource = or_else two.resource one.resource;
+}
+
+pub outcomes-alike :
+    (context : Context) (a b : Surroundings) (x y : Before) (c : Content) (forest : Forest) →
+    is_callless c ≡ true → Fits c forest → Alike a b x y →
+    ((outcome context a x forest).pieces ≡ (outcome context b y forest).pieces)
+    × ((outcome context a x forest).found ≡ (outcome context b y forest).found)
+outcomes-alike context a b x y c Empty h fits alike = (refl, refl)
+outcomes-alike context a b x y c (Node name start end children rest) h fits alike =
+    let lasts : Bool = a.is_outermost && is_empty rest in
+    let lastt : Bool = b.is_outermost && is_empty rest in
+    let at : At = at_node context a x lasts name start end children in
+    let other : At = at_node context b y lastt name start end children in
+    let facts = (allowed-facts c name fits.0).callless h in
+    let inner = outcomes-alike context (inside context.options (is_loose children) name a)
+    (inside context.options (is_loose children) name b) (before_children name children x)
+    (before_children name children y)
+    (content_inside c name) children facts.0 fits.1
+    (alike-inside context.options name children a b x y alike) in
+    let next = next_before context a x lasts name start end children in
+    let beyond = next_before context b y lastt name start end children in
+    let later = outcomes-alike context a b next beyond (content_after_node c name children) rest
+    (node-same is_callless past-callless c name children ∙ h) fits.2 (record {
+      escaping = alike.escaping;
+      code = alike.code;
+      one = alike.one;
+      other = alike.other;
+      spine = ap (λ l. l ++ (if is_transparent name then spine_names children else name ∷ []))
+          alike.spine;
+      previous = refl;
+    }) in
+    let is : _ = plain c name h fits.0 in
+    let found = found-alike context at other refl alike (inner_of context a x name children).pieces
+    (inner_of context b y name children).pieces inner.0 name inner.1 in (
+      ap (λ l. l ++ (outcome context a next rest).pieces)
+          (prints-alike context at other refl alike (inner_of context a x name children).pieces
+          (inner_of context b y name children).pieces inner.0 name is inner.1)
+          ∙ ap (λ l. prints context other name (inner_of context b y name children).pieces ++ l)
+          later.0,
+      ap (λ f. later_found f (outcome context a next rest).found) found
+          ∙ ap (λ f. later_found (node_of context b y lastt name start end children).found f)
+          later.1,
+    )

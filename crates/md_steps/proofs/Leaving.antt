@@ -1,0 +1,133 @@
+-- The other parts of a state where a node is left: headings, calls, footnotes, endings to slurp.
+use Rattle.std.proofs.Common.{◌≡◌, ℕ, ◌==◌, Bool, true, false, ◌&&◌, ◌||◌, List, [], ◌∷◌, ◌++◌}
+use Rattle.std.proofs.Common.{refl, ap, sym, ◌∙◌, append_assoc, append-nil, unwrap_or}
+use Rattle.std.specs.Prelude.{if◌then◌else◌, count_by}
+use Rattle.md_base.specs.declared.event.Name.{Name}
+use Rattle.md_base.specs.declared.event.Name.TheVariants as name_variants
+use name_variants.{LineEnding, SpaceOrTab, BlockQuotePrefix, Other, HeadingSetextText}
+use name_variants.{GfmFootnoteCall, GfmFootnoteDefinition}
+use Rattle.md_base.proofs.Lies.{lie}
+use Rattle.md_base.specs.Is.{is}
+use Rattle.md_base.specs.NameTests.{is_transparent, is_fence}
+use Rattle.md_meaning.specs.Meaning.Layout.{when}
+use Rattle.md_meaning.specs.Meaning.At.{Footnote, At}
+use Rattle.md_meaning.specs.Meaning.Before.{is_first_fence, lets_slurp}
+use Rattle.md_meaning.specs.Meaning.Nodes.{found_at}
+use Rattle.md_content.specs.Underlined.{waits_past}
+use Rattle.md_steps.specs.State.{State}
+use Rattle.md_steps.specs.Steps.{heading_after, calls_after, noted, footnotes_after, slurps_after}
+use Rattle.md_steps.specs.Claim.{noted_all, seen}
+use Rattle.md_steps.proofs.Noted.{noted-append}
+use Rattle.md_steps.proofs.EachSide.{none-counted}
+use Rattle.md_steps.proofs.Standing.{picked}
+
+-- ---- the text of a heading
+pub heading-known : (name : Name) (at : At) (waits after : Bool) (inner text heading : List ℕ) →
+    (is HeadingSetextText name ≡ true → inner ≡ text) →
+    (is_transparent name ≡ true → after ≡ true →
+    heading ≡ unwrap_or at.found.heading at.before.heading) →
+    (is LineEnding name ≡ true → waits ≡ true → heading ≡ at.before.heading) →
+    (if is_transparent name then after else waits_past waits name) ≡ true →
+    heading_after name inner heading ≡ unwrap_or (found_at at name text).heading at.before.heading
+heading-known SpaceOrTab at waits after inner text heading own through line h = through refl h
+heading-known BlockQuotePrefix at waits after inner text heading own through line h = through refl h
+heading-known (Other number) at waits after inner text heading own through line h = through refl h
+heading-known HeadingSetextText at waits after inner text heading own through line h = own refl
+heading-known LineEnding at waits after inner text heading own through line h = line refl h
+heading-known _ at waits after inner text heading own through line h = lie h
+
+-- ---- calls and footnotes
+pub calls-known : (name : Name) (identifier : List ℕ) (before own inner : List (List ℕ)) →
+    inner ≡ before ++ own →
+    calls_after name identifier inner
+    ≡ before ++ (own ++ when (is GfmFootnoteCall name) (identifier ∷ []))
+calls-known GfmFootnoteCall identifier before own inner k =
+    ap (λ l. l ++ identifier ∷ []) k ∙ append_assoc before own (identifier ∷ [])
+calls-known _ identifier before own inner k = k ∙ ap (λ l. before ++ l) (sym (append-nil own))
+
+pub footnotes-known :
+    (name : Name) (identifier text captured : List ℕ) (before own inner : List Footnote) →
+    (is GfmFootnoteDefinition name ≡ true → captured ≡ text) → inner ≡ noted_all before own →
+    footnotes_after name identifier captured inner ≡ noted_all before (own
+    ++ when (is GfmFootnoteDefinition name) (record { identifier = identifier; text = text } ∷ []))
+footnotes-known GfmFootnoteDefinition identifier text captured before own inner same k =
+    ap (λ l. noted l (record { identifier = identifier; text = captured })) k
+    ∙ sym (noted-append before own (record { identifier = identifier; text = captured } ∷ []))
+    ∙ ap (λ t. noted_all before (own ++ record { identifier = identifier; text = t } ∷ []))
+    (same refl)
+footnotes-known _ identifier text captured before own inner same k =
+    k ∙ ap (λ l. noted_all before l) (sym (append-nil own))
+
+-- ---- whether the next line ending is slurped
+
+-- a fence depends on the fences before it
+fence-slurps : (name : Name) (left : State) →
+    (if is_fence name then slurps_after name left
+    else (if left.scope.in_definition then left.slurps else (left.fences == 0) || left.slurps))
+    ≡ (if left.scope.in_definition then left.slurps else (left.fences == 0) || left.slurps)
+fence-slurps LineEnding left = refl
+fence-slurps _ left = refl
+
+fence-lets : (name : Name) (at : At) (slurps : Bool) →
+    (if is_fence name then lets_slurp at name slurps
+    else is_first_fence at || false || false || false || slurps && true)
+    ≡ is_first_fence at || false || false || false || slurps && true
+fence-lets LineEnding at slurps = refl
+fence-lets _ at slurps = refl
+
+or_falses : (a s : Bool) → a || s ≡ a || false || false || false || s && true
+or_falses true s = refl
+or_falses false true = refl
+or_falses false false = refl
+
+-- any other name by the surroundings alone
+abbrev slurping : At → Bool → Bool → Name → Bool → Bool
+slurping at defines code name slurps = if defines then slurps
+    else lets_slurp (record at { around = record at.around { in_code = code } }) name slurps
+
+abbrev SlurpsSo : Bool → Bool → Bool → Name → At → State → Type 0
+SlurpsSo defines code slurps name at left =
+    (if is_fence name then slurping at defines code name slurps
+    else slurps_after name (record left {
+      scope = seen (record at.around { in_definition = defines; in_code = code })
+          at.before.columns;
+      slurps = slurps;
+    })) ≡ slurping at defines code name slurps
+
+slurps-so : (defines code slurps : Bool) (name : Name) (at : At) (left : State) →
+    SlurpsSo defines code slurps name at left
+slurps-so true code slurps LineEnding at left = refl
+slurps-so true code slurps _ at left = refl
+slurps-so false true true LineEnding at left = refl
+slurps-so false true true _ at left = refl
+slurps-so false true false LineEnding at left = refl
+slurps-so false true false _ at left = refl
+slurps-so false false true LineEnding at left = refl
+slurps-so false false true _ at left = refl
+slurps-so false false false LineEnding at left = refl
+slurps-so false false false _ at left = refl
+
+pub slurps-known : (name : Name) (at : At) (left : State) (inner : Bool) → left.slurps ≡ inner →
+    (is_fence name ≡ true → left.fences ≡ count_by is_fence at.before.spine) →
+    slurps_after name (record left { scope = seen at.around at.before.columns })
+    ≡ (if at.around.in_definition then inner else lets_slurp at name inner)
+slurps-known name at left inner k fence =
+    by (is_fence name) refl
+    ∙ ap (λ s. if at.around.in_definition then s else lets_slurp at name s) k
+  where
+    by : (b : Bool) → is_fence name ≡ b →
+        slurps_after name (record left { scope = seen at.around at.before.columns })
+        ≡ (if at.around.in_definition then left.slurps else lets_slurp at name left.slurps)
+    by true e =
+        picked (is_fence name) _ _
+        (fence-slurps name (record left { scope = seen at.around at.before.columns })) e
+        ∙ ap (λ b. if at.around.in_definition then left.slurps else b || left.slurps)
+        (ap (λ n. n == 0) (fence e) ∙ none-counted is_fence at.before.spine)
+        ∙ ap (λ b. if at.around.in_definition then left.slurps else b)
+        (or_falses (is_first_fence at) left.slurps
+        ∙ sym (picked (is_fence name) _ _ (fence-lets name at left.slurps) e))
+    by false e =
+        ap (λ b. if b
+        then slurping at at.around.in_definition at.around.in_code name left.slurps
+        else slurps_after name (record left { scope = seen at.around at.before.columns })) (sym e)
+        ∙ slurps-so at.around.in_definition at.around.in_code left.slurps name at left

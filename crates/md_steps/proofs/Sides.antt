@@ -1,0 +1,268 @@
+-- What is printed at a node's two ends is what the node means, and its surroundings change as those
+-- of the meaning. For most names both sides compute to the same, once the facts in the state are
+-- substituted.
+use Rattle.std.proofs.Common.{◌≡◌, ℕ, ◌==◌, Bool, true, false, not, ◌||◌, List, [], ◌∷◌, ◌++◌}
+use Rattle.std.proofs.Common.{Option, refl, ap, sym, ◌∙◌, append-nil, codes}
+use Rattle.std.specs.Prelude.{if◌then◌else◌, count_by, slice_get}
+use Rattle.std.specs.List.{list_any}
+use Rattle.md_base.specs.declared.event.AlignKind.{AlignKind}
+use Rattle.md_base.specs.declared.event.Name.{Name}
+use Rattle.md_base.specs.declared.event.Name.TheVariants as name_variants
+use name_variants.{ListOrdered, ListUnordered, Paragraph, GfmTable, GfmTableCell, GfmFootnoteCall}
+use name_variants.{Link, Image}
+use Rattle.md_base.specs.Is.{is}
+use Rattle.md_base.specs.Children.{spine_names, last_name}
+use Rattle.md_base.specs.NameTests.{is_fence, is_chunk, is_cell}
+use Rattle.md_pattern.specs.Looseness.{is_loose}
+use Rattle.md_pattern.specs.Alignments.{alignments}
+use Rattle.md_meaning.specs.declared.surroundings.Container.TheVariants as container
+use Rattle.md_meaning.specs.declared.surroundings.Container.{Container}
+use Rattle.md_meaning.specs.declared.surroundings.Surroundings.{Surroundings}
+use Rattle.md_meaning.specs.Meaning.Inherited.{inside, is_tight}
+use Rattle.md_meaning.specs.Meaning.Layout.{Piece, Forced, layout, said, on_own_line, when}
+use Rattle.md_meaning.specs.Meaning.At.{Context, At}
+use Rattle.md_meaning.specs.Meaning.Before.{is_first_fence}
+use Rattle.md_meaning.specs.Meaning.Means.{prints}
+use Rattle.md_meaning.specs.Meaning.Media.{anchor, picture}
+use Rattle.md_content.specs.Underlined.{is_underline}
+use Rattle.md_steps.specs.Content.{Blocks, Lines, Fences, Cells, content_of}
+use Rattle.md_steps.specs.State.{State, opens_scope, scope_inside, captures}
+use Rattle.md_steps.specs.Steps.{is_ending, is_raw, is_row, is_labelled}
+use Rattle.md_steps.specs.Sides.{opens, closes, list_opening}
+use Rattle.md_steps.specs.Claim.{seen, mark_after}
+use Rattle.md_steps.proofs.Standing.{is_quiet, is_set_aside, picked}
+use Rattle.md_steps.proofs.EachSide.{facts_at, is_reference, Leaves, cell_sides}
+use Rattle.md_steps.proofs.EachSide.{list_sides, fence-sides, call-sides, led-sides}
+
+-- ---- the facts about a node at its exit, written into its state
+abbrev informed : Name → At → State → State
+informed name at left = record left {
+  scope = seen at.around at.before.columns;
+  slurps = if is_ending name then at.before.slurps else left.slurps;
+  ended = if is_ending name then at.before.previous else left.ended;
+  marker = if is_reference name then mark_after at.before.spine else left.marker;
+  fences = if is_raw name then count_by is_fence (spine_names at.children) else left.fences;
+  has_chunk =
+      if is_raw name then list_any is_chunk (spine_names at.children) else left.has_chunk;
+  heading = if is_underline name then at.before.heading else left.heading;
+  cells = if is_cell name then count_by (is GfmTableCell) at.before.spine
+      else (if is_row name then count_by (is GfmTableCell) (spine_names at.children)
+      else left.cells);
+  resource = if is_labelled name then at.found.resource else left.resource;
+}
+
+abbrev cells_at : Name → At → ℕ → ℕ
+cells_at name at cells = if is_cell name then count_by (is GfmTableCell) at.before.spine else cells
+
+abbrev ended_at : Name → At → Option Name → Option Name
+ended_at name at ended = if is_raw name then last_name at.children else ended
+
+chosen : {A : Type 0} (b : Bool) (x y : A) → (b ≡ true → y ≡ x) → (if b then x else y) ≡ y
+chosen true x y h = sym (h refl)
+chosen false x y h = refl
+
+informed-is : (context : Context) (name : Name) (at : At) (cells : ℕ) (left : State)
+    (ended : Option Name) → Leaves context name at cells left ended →
+    informed name at left ≡ record left { scope = seen at.around at.before.columns }
+informed-is context name at cells left ended k =
+    let slurps = chosen (is_ending name) at.before.slurps left.slurps (λ e. (k.ending e).0) in
+    let previous = chosen (is_ending name) at.before.previous left.ended (λ e. (k.ending e).1) in
+    let marker = chosen (is_reference name) (mark_after at.before.spine) left.marker k.marker in
+    let fences = chosen (is_raw name) (count_by is_fence (spine_names at.children)) left.fences
+    (λ e. (k.raw e).0) in
+    let chunk = chosen (is_raw name) (list_any is_chunk (spine_names at.children)) left.has_chunk
+    (λ e. (k.raw e).1) in
+    let heading = chosen (is_underline name) at.before.heading left.heading k.heading in
+    let row = chosen (is_row name) (count_by (is GfmTableCell) (spine_names at.children))
+    left.cells k.row in
+    let cell = chosen (is_cell name) (count_by (is GfmTableCell) at.before.spine) left.cells
+    (λ e. (k.cell e).1) in
+    let resource = chosen (is_labelled name) at.found.resource left.resource
+    (λ e. sym (k.resource e)) in
+    cc
+
+-- ---- both sides, name by name
+
+-- what is printed at the end of these depends on their content
+abbrev is_open : Name → Bool
+is_open name = elim (content_of name) [
+  | Blocks ↦ true
+  | Lines ↦ true
+  | Fences ↦ true
+  | Cells ↦ true
+  | _ ↦ false
+]
+
+-- what a node's children print with what is printed at its end, which may be nothing
+abbrev joined : List Piece → List Piece → List Piece
+joined inner [] = inner
+joined inner (piece ∷ pieces) = inner ++ (piece ∷ pieces)
+
+abbrev ended_by : Name → List Piece → List Piece → List Piece
+ended_by name inner stop = if captures name || is_quiet name then stop
+    else (if is_open name then inner ++ stop else joined inner stop)
+
+ended-is : (c q o : Bool) (inner stop : List Piece) → (q ≡ true → inner ≡ []) →
+    (if c || q then stop else (if o then inner ++ stop else joined inner stop))
+    ≡ (if c then [] else inner) ++ stop
+ended-is true q o inner stop h = refl
+ended-is false true o inner stop h = ap (λ i. i ++ stop) (sym (h refl))
+ended-is false false true inner stop h = refl
+ended-is false false false inner [] h = sym (append-nil inner)
+ended-is false false false inner (piece ∷ pieces) h = refl
+
+-- what a node prints, from what its children print, in a state that has the facts that it needs
+abbrev Ends : Context → At → ℕ → State → Option Name → List Piece → Name → List Piece
+Ends context at cells left ended inner name =
+    opens context (seen at.around at.before.columns) (cells_at name at cells) (facts_at context at)
+    name
+    ++ ended_by name inner (closes context (informed name at left) (ended_at name at ended)
+    (facts_at context at) (if captures name then layout context.ending inner else []) name)
+
+abbrev Meant : Context → At → List Piece → Name → List Piece
+Meant context at inner name = prints context at name (if is_quiet name then [] else inner)
+
+-- that is what the node means, but for texts that are set aside and for fences, which count those
+-- before them; what is quiet has nothing inside
+abbrev BothSides : Context → At → ℕ → State → Option Name → List Piece → Name → Type 0
+BothSides context at cells left ended inner name =
+    (if is_set_aside name || is_fence name then Ends context at cells left ended inner name
+    else Meant context at inner name) ≡ Ends context at cells left ended inner name
+
+tight_sides : (b : Bool) (inner start : List Piece) (piece : Piece) (pieces : List Piece) →
+    (if b then inner else start ++ (inner ++ (piece ∷ pieces)))
+    ≡ when (not b) start ++ joined inner (when (not b) (piece ∷ pieces))
+tight_sides true inner start piece pieces = refl
+tight_sides false inner start piece pieces = refl
+
+both-sides : (context : Context) (at : At) (cells : ℕ) (left : State) (ended : Option Name)
+    (inner : List Piece) (name : Name) → Leaves context name at cells left ended →
+    BothSides context at cells left ended inner name
+both-sides context at cells left ended inner ListOrdered k =
+    list_sides (on_own_line (codes "<ol")) (list_opening context (facts_at context at))
+    (said (codes ">")) inner (Forced ∷ said (codes "</ol>"))
+both-sides context at cells left ended inner Paragraph k =
+    tight_sides (is_tight at.around.container) inner _ _ _
+both-sides context at cells left ended inner GfmTableCell k =
+    cell_sides at.around.in_head (slice_get at.before.columns
+    (count_by (is GfmTableCell) at.before.spine)) (layout context.ending inner)
+both-sides context at cells left ended inner GfmFootnoteCall k =
+    let calls = k.calls refl in
+    call-sides context at left calls.0 calls.1 calls.2
+both-sides context at cells left ended inner Link k =
+    ap (λ t. if at.around.in_image then said (layout context.ending inner)
+    else anchor context.options t (layout context.ending inner)) (led-sides context at k.referred)
+both-sides context at cells left ended inner Image k =
+    ap (λ t. if at.around.in_image then said (layout context.ending inner)
+    else picture context.options t (layout context.ending inner)) (led-sides context at k.referred)
+both-sides context at cells left ended inner name k =
+    elim at.around.in_image as (λ b. BothSides context
+    (record at { around = record at.around { in_image = b } }) cells left ended inner name) [
+      | true ↦ refl
+      | false ↦ refl
+    ]
+
+-- the end of a fence depends on the fences before it
+fence-meant : (context : Context) (at : At) (inner : List Piece) (name : Name) →
+    (if is_fence name then Meant context at inner name
+    else inner ++ when (is_first_fence at) (said (codes ">")))
+    ≡ inner ++ when (is_first_fence at) (said (codes ">"))
+fence-meant context at inner Paragraph = refl
+fence-meant context at inner _ = refl
+
+fence-ends : (context : Context) (at : At) (cells : ℕ) (left : State) (ended : Option Name)
+    (inner : List Piece) (name : Name) →
+    (if is_fence name then Ends context at cells left ended inner name
+    else inner ++ when (left.fences == 0) (said (codes ">")))
+    ≡ inner ++ when (left.fences == 0) (said (codes ">"))
+fence-ends context at cells left ended inner Paragraph = refl
+fence-ends context at cells left ended inner _ = refl
+
+ends-meant : (context : Context) (at : At) (cells : ℕ) (left : State) (ended : Option Name)
+    (inner : List Piece) (name : Name) → is_set_aside name ≡ false →
+    Leaves context name at cells left ended →
+    Meant context at inner name ≡ Ends context at cells left ended inner name
+ends-meant context at cells left ended inner name aside k =
+    by (is_fence name) refl (both-sides context at cells left ended inner name k)
+  where
+    by : (b : Bool) → is_fence name ≡ b →
+        (if is_set_aside name || b then Ends context at cells left ended inner name
+        else Meant context at inner name) ≡ Ends context at cells left ended inner name →
+        Meant context at inner name ≡ Ends context at cells left ended inner name
+    by true e h = picked (is_fence name) _ _ (fence-meant context at inner name) e
+        ∙ fence-sides at left inner (k.fences e)
+        ∙ sym (picked (is_fence name) _ _ (fence-ends context at cells left ended inner name) e)
+    by false e h = ap (λ a. if a || false then Ends context at cells left ended inner name
+        else Meant context at inner name) (sym aside) ∙ h
+
+-- the two ends of a node, in the surroundings that the meaning sees
+pub sides-seen :
+    (context : Context) (at : At) (cells : ℕ) (left : State) (ended : Option Name)
+    (inner : List Piece)
+    (name : Name) → is_set_aside name ≡ false → (is_quiet name ≡ true → inner ≡ []) →
+    Leaves context name at cells left ended →
+    prints context at name inner
+    ≡ opens context (seen at.around at.before.columns) cells (facts_at context at) name
+    ++ ((if captures name then [] else inner)
+    ++ closes context (record left { scope = seen at.around at.before.columns }) ended
+    (facts_at context at) (if captures name then layout context.ending inner else []) name)
+sides-seen context at cells left ended inner name aside quiet k =
+    let own : List ℕ = if captures name then layout context.ending inner else [] in
+    let starts : ℕ → List Piece =
+    λ n. opens context (seen at.around at.before.columns) n (facts_at context at) name in
+    let stops : State → Option Name → List Piece =
+    λ s o. closes context s o (facts_at context at) own name in
+    let stop : List Piece =
+    stops (record left { scope = seen at.around at.before.columns }) ended in
+    ap (λ i. prints context at name i) (sym (chosen (is_quiet name) [] inner quiet))
+    ∙ ends-meant context at cells left ended inner name aside k
+    ∙ ap (λ n. starts n ++ ended_by name inner (stops (informed name at left)
+    (ended_at name at ended))) (chosen (is_cell name) _ cells (λ e. (k.cell e).0))
+    ∙ ap (λ s. starts cells ++ ended_by name inner (stops s (ended_at name at ended)))
+    (informed-is context name at cells left ended k)
+    ∙ ap (λ o. starts cells ++ ended_by name inner
+    (stops (record left { scope = seen at.around at.before.columns }) o))
+    (chosen (is_raw name) _ ended (λ e. (k.raw e).2))
+    ∙ ap (λ l. starts cells ++ l)
+    (ended-is (captures name) (is_quiet name) (is_open name) inner stop quiet)
+
+-- ---- the surroundings in a node are those that its children see
+abbrev contained_is : Container → Bool
+contained_is kind = elim kind [ container.Nothing ↦ false | _ ↦ true ]
+
+tight_is : (loose : Bool) →
+    not loose ≡ is_tight (if loose then container.Another else container.TightList)
+tight_is true = refl
+tight_is false = refl
+
+contained_list : (loose : Bool) →
+    true ≡ contained_is (if loose then container.Another else container.TightList)
+contained_list true = refl
+contained_list false = refl
+
+abbrev table_or : Name → List AlignKind → List AlignKind → List AlignKind
+table_or name own columns = if is GfmTable name then own else columns
+
+pub scope_inside-seen :
+    (context : Context) (around : Surroundings) (columns : List AlignKind) (at : At) (name : Name) →
+    (if opens_scope name then scope_inside context.options (facts_at context at) name
+    (seen around columns)
+    else seen around columns) ≡ seen (inside context.options (is_loose at.children) name around)
+    (table_or name (alignments at.children) columns)
+scope_inside-seen context around columns at ListUnordered =
+    ap (λ b. record (seen around columns) { is_contained = true; is_tight = b })
+    (tight_is (is_loose at.children)) ∙ ap (λ b. record (seen around columns) {
+      is_contained = b;
+      is_tight =
+          is_tight (if is_loose at.children then container.Another else container.TightList);
+    })
+    (contained_list (is_loose at.children))
+scope_inside-seen context around columns at ListOrdered =
+    ap (λ b. record (seen around columns) { is_contained = true; is_tight = b })
+    (tight_is (is_loose at.children)) ∙ ap (λ b. record (seen around columns) {
+      is_contained = b;
+      is_tight =
+          is_tight (if is_loose at.children then container.Another else container.TightList);
+    })
+    (contained_list (is_loose at.children))
+scope_inside-seen context around columns at _ = refl
