@@ -19,8 +19,8 @@ ROOT = pathlib.Path(__file__).resolve().parents[2]
 CRATES = ["md_base", "md_text", "md_tree", "md_html", "md_script", "md_page", "md_slugs",
           "md_markdown"]
 BELOW_HTML = ["md_base", "md_text", "md_tree"]
-# Crates whose own list has what they re-export from a lower crate.
-HANDED_ON = {"md_script": "md_html", "md_markdown": "md_html"}
+# Crates whose own list has what they re-export from lower crates.
+HANDED_ON = {"md_script": {"md_html"}, "md_markdown": {"md_html", "md_blocks"}}
 # The C interface, the programs and the benchmark, whose folder stays as it is; what the README of
 # each other crate says.
 OTHERS = ["md_ffi", "mdevents", "mdhtml", "md_bench"]
@@ -100,7 +100,8 @@ def crates_faults(found):
     for crate in CRATES:
         others = {name for crates, names in inner if crate in crates for name in names}
         own, handed = exported(crate)
-        own |= handed.pop(HANDED_ON.get(crate), set())
+        for below in HANDED_ON.get(crate, ()):
+            own |= handed.pop(below, set())
         faults += told(crate, public[crate] | others, own | methods(crate, own))
         if crate == "md_html":
             for below in BELOW_HTML:

@@ -39,7 +39,7 @@ use Rattle.md_abi.specs.declared.option.CText.{CText}
 use Rattle.md_abi.specs.declared.option.COptions.{COptions}
 use Rattle.md_abi.specs.declared.attributes.CAttributes.{CAttributes}
 use Rattle.md_abi.specs.declared.refusal.Refusal.{Refusal}
-use Rattle.md_abi.proofs.GivenLemmas.{told_of}
+use Rattle.md_abi.proofs.GivenLemmas.{reported_of}
 
 -- ---- safe options of C encode safe options
 is_off : (flag : ℕ) → flag_of flag ≡ Some false → flag ≡ 0
@@ -93,7 +93,7 @@ reads_once text read = record {
 }
 
 -- ---- a list after a text
-after : (text list whole : List ℕ) (start : ℕ) → whole ≡ text ++ list → start ≡ length text →
+pub after : (text list whole : List ℕ) (start : ℕ) → whole ≡ text ++ list → start ≡ length text →
     (take start whole ≡ text) × (drop start whole ≡ list) × (start ≤ length whole)
 after text list whole start is at =
     let same : length text ≤ length text = omega arith in (
@@ -210,15 +210,15 @@ made_text events bytes options names attributes rel prefix plain whole start giv
 -- ---- refusals
 
 -- the error of a safe text
-pub safe_told : {T : Type 0} (given : Handed) (options : CompileOptions) (why : SafeError)
+pub safe_reported : {T : Type 0} (given : Handed) (options : CompileOptions) (why : SafeError)
     (r : Result T Refusal) →
     IsErrAnd r (λ made. made ≡ refusal_of why) → IsRefusedFor options why →
     OfCompile (IsRefusal given) why → IfErr r (IsRefusalFor given options)
-safe_told given options why (Ok x) same unsafe refused = tt
-safe_told given options why (Err made) same unsafe refused =
+safe_reported given options why (Ok x) same unsafe refused = tt
+safe_reported given options why (Err made) same unsafe refused =
     subst (IsRefusalFor given options) (sym same) (of why unsafe refused)
   where
     of : (why : SafeError) → IsRefusedFor options why → OfCompile (IsRefusal given) why →
         IsRefusalFor given options (refusal_of why)
     of wrong.Options unsafe refused = unsafe
-    of (wrong.Compile cause) unsafe refused = told_of given cause refused
+    of (wrong.Compile cause) unsafe refused = reported_of given cause refused

@@ -18,7 +18,7 @@ use Rattle.md_abi.specs.References.{reference_of}
 use Rattle.md_abi.specs.Options.{flag_of, text_of, HasOptions, KeepsGrammar, KeepsLinks}
 use Rattle.md_abi.specs.Options.{KeepsImages, KeepsIds}
 use Rattle.md_abi.specs.Rendered.{IsRendered}
-use Rattle.md_abi.specs.Compiled.{IsCompiled}
+use Rattle.md_html.specs.Promises.{Promises}
 use Rattle.md_abi.specs.Failures.{failure_of, IsRefusalOf, Explains}
 use Rattle.md_abi.specs.declared.event.CEvent.{CEvent}
 use Rattle.md_abi.specs.declared.reference.CReference.{CReference}
@@ -111,7 +111,7 @@ module _ (events : List CEvent) (bytes : List ℕ) (options : COptions) (names :
     (slice : List Event)
     (given : CompileOptions) (pairs : List (Bor (List ℕ) × Bor (List ℕ)))
     (read : IsRead events options names slice given pairs) where
-  unfoldable pub rendered : (text : List ℕ) → IsCompiled (handed slice bytes pairs) given text →
+  unfoldable pub rendered : (text : List ℕ) → Promises given (handed slice bytes pairs) text →
       IsRendered events bytes options names text
   rendered text compiled = record {
     document = compiled.grammatical.0;
@@ -121,7 +121,7 @@ module _ (events : List CEvent) (bytes : List ℕ) (options : COptions) (names :
     options_stand = read.options_stand;
     names_stand = read.names_stand;
     grammatical = compiled.grammatical.1.grammatical;
-    means = compiled.means compiled.grammatical.0 compiled.grammatical.1.flattened;
+    means = compiled.meaning compiled.grammatical.0 compiled.grammatical.1.flattened;
     one_reading =
         λ keeps. compiled.one_reading (keeps_grammar options given read.options_stand keeps);
     safe_links = λ keeps. compiled.safe_links (keeps_links options given read.options_stand keeps);
@@ -155,7 +155,7 @@ module _ (events : List CEvent) (bytes : List ℕ) (options : COptions) (names :
   }
 
   pub text_given : {S : Type 0} (bytes_of : S → List ℕ) (r : Result S Failure) →
-      IfOk r (λ text. IsCompiled (handed slice bytes pairs) given (bytes_of text)) →
+      IfOk r (λ text. Promises given (handed slice bytes pairs) (bytes_of text)) →
       IfOk r (λ text. IsRendered events bytes options names (bytes_of text))
   text_given bytes_of (Ok text) h = rendered (bytes_of text) h
   text_given bytes_of (Err why) h = tt
@@ -168,15 +168,15 @@ module _ (events : List CEvent) (bytes : List ℕ) (options : COptions) (names :
 
 -- ---- a compiler's refusal as a failure
 
-pub told_of : (given : Handed) (why : CompileError) → IsRefusal given why →
+pub reported_of : (given : Handed) (why : CompileError) → IsRefusal given why →
     IsRefusalOf given (failure_of why)
-told_of given refusal.Memory h = tt
-told_of given (refusal.Event index rule) h = h
+reported_of given refusal.Memory h = tt
+reported_of given (refusal.Event index rule) h = h
 
 -- what the conversion of a refusal gives
-pub told : {T : Type 0} (given : Handed) (why : CompileError) (r : Result T Failure) →
+pub reported : {T : Type 0} (given : Handed) (why : CompileError) (r : Result T Failure) →
     IsRefusal given why →
     IsErrAnd r (λ made. made ≡ failure_of why) → IfErr r (IsRefusalOf given)
-told given why (Ok x) refused is = tt
-told given why (Err made) refused is =
-    subst (IsRefusalOf given) (sym is) (told_of given why refused)
+reported given why (Ok x) refused is = tt
+reported given why (Err made) refused is =
+    subst (IsRefusalOf given) (sym is) (reported_of given why refused)

@@ -17,37 +17,37 @@ use Rattle.md_abi.proofs.AnswerLemmas.{never}
 use Rattle.md_abi.proofs.WithinLemmas.{some_once}
 
 -- the answer about the document that some events encode
-abbrev pub IsToldOf : List CEvent → Bool → Type 0
-IsToldOf events nested = (document : Forest) → StandFor event_of events (flatten document) →
+abbrev pub IsNestingOf : List CEvent → Bool → Type 0
+IsNestingOf events nested = (document : Forest) → StandFor event_of events (flatten document) →
     nested ≡ has_nested_link false document
 
 -- the events that were read are those of that document
-pub told_of_read : (events : List CEvent) (read : List Event) (nested : Bool) →
+pub nesting_of_read : (events : List CEvent) (read : List Event) (nested : Bool) →
     StandFor event_of events read →
     ((document : Forest) → flatten document ≡ read → nested ≡ has_nested_link false document) →
-    IsToldOf events nested
-told_of_read events read nested stand told document other =
-    told document (some_once (flatten document) read (sym other ∙ stand))
+    IsNestingOf events nested
+nesting_of_read events read nested stand nests document other =
+    nests document (some_once (flatten document) read (sym other ∙ stand))
 
-pub nested_told : (events : List CEvent) (answer : Answer) → answer ≡ about 12 0 →
-    AreRead events → IsToldOf events true → TellsOfLinks events answer
-nested_told events answer is read told = subst (TellsOfLinks events) (sym is) (record {
+pub nested_reported : (events : List CEvent) (answer : Answer) → answer ≡ about 12 0 →
+    AreRead events → IsNestingOf events true → TellsOfLinks events answer
+nested_reported events answer is read nests = subst (TellsOfLinks events) (sym is) (record {
   known = inr (inl refl);
   read = λ _. read;
   without = never 12 0 refl;
-  with_one = λ _ document stand. sym (told document stand);
+  with_one = λ _ document stand. sym (nests document stand);
   first_invalid = never 12 3 refl;
   no_place = λ _. refl;
   no_rule = refl;
   no_length = refl;
 })
 
-pub none_told : (events : List CEvent) (answer : Answer) → answer ≡ about 0 0 →
-    AreRead events → IsToldOf events false → TellsOfLinks events answer
-none_told events answer is read told = subst (TellsOfLinks events) (sym is) (record {
+pub none_reported : (events : List CEvent) (answer : Answer) → answer ≡ about 0 0 →
+    AreRead events → IsNestingOf events false → TellsOfLinks events answer
+none_reported events answer is read nests = subst (TellsOfLinks events) (sym is) (record {
   known = inl refl;
   read = λ _. read;
-  without = λ _ document stand. sym (told document stand);
+  without = λ _ document stand. sym (nests document stand);
   with_one = never 0 12 refl;
   first_invalid = never 0 3 refl;
   no_place = λ _. refl;
@@ -55,9 +55,9 @@ none_told events answer is read told = subst (TellsOfLinks events) (sym is) (rec
   no_length = refl;
 })
 
-pub failure_told : (events : List CEvent) (why : Failure) (answer : Answer) →
+pub failure_reported : (events : List CEvent) (why : Failure) (answer : Answer) →
     answer ≡ answer_of why → IsEventFault events why → TellsOfLinks events answer
-failure_told events why answer is fault = subst (TellsOfLinks events) (sym is) (of why fault)
+failure_reported events why answer is fault = subst (TellsOfLinks events) (sym is) (of why fault)
   where
     neither : (status : ℕ) → {A : Type 0} → eqb status 0 ≡ false → eqb status 12 ≡ false →
         (status ≡ 0) ⊎ (status ≡ 12) → A

@@ -37,14 +37,14 @@ list_handed claim whole start old new answer holds listed =
       untouched = alone.untouched;
     })
 
-abbrev told_so : ℕ → ℕ → ℕ → Answer
-told_so status start size = record { status = status; rule = 0; index = start; length = size }
+abbrev answer_with : ℕ → ℕ → ℕ → Answer
+answer_with status start size = record { status = status; rule = 0; index = start; length = size }
 
 abbrev pub moved : ℕ → Answer → Answer
 moved start answer = record answer { index = start }
 
 so-plain : (status start size : ℕ) → status ≤ 1 → start ≤ size →
-    IsOfAttributed (told_so status start size)
+    IsOfAttributed (answer_with status start size)
 so-plain status start size few within = record {
   known = omega (arith, few);
   without_lines = λ is. omega (arith, few, is);
@@ -62,13 +62,13 @@ list_is_plain whole start old new answer within listed = of listed.handed
   where
     of : IsHandedOver whole old new listed.alone → IsOfAttributed answer × (answer.status ≤ 1)
     of (inl done) =
-        let is : answer ≡ told_so 0 start (length whole) =
+        let is : answer ≡ answer_with 0 start (length whole) =
         listed.answered ∙ ap (moved start) done.answered in (
           subst IsOfAttributed (sym is) (so-plain 0 start (length whole) (omega arith) within),
           omega (arith, ap (λ a. a.status) is),
         )
     of (inr kept) =
-        let is : answer ≡ told_so 1 start (length whole) =
+        let is : answer ≡ answer_with 1 start (length whole) =
         listed.answered ∙ ap (moved start) kept.answered in (
           subst IsOfAttributed (sym is) (so-plain 1 start (length whole) (omega arith) within),
           omega (arith, ap (λ a. a.status) is),

@@ -21,9 +21,9 @@ module _ {A : Type 0} (options : COptions) (field : ℕ) (value : Option A)
   fault_of (failure.Refused index rule) fault = absurd fault
 
   -- the result of `?`
-  pub fault_told : {T : Type 0} (r : Result T Failure) (why : Failure) →
+  pub fault_reported : {T : Type 0} (r : Result T Failure) (why : Failure) →
       IsErrAnd r (λ made. made ≡ why) →
       IsFaultOf field value why → IfErr r (IsOptionFault options)
-  fault_told (Ok x) why same fault = tt
-  fault_told (Err made) why same fault =
+  fault_reported (Ok x) why same fault = tt
+  fault_reported (Err made) why same fault =
       subst (IsOptionFault options) (sym same) (fault_of why fault)

@@ -34,7 +34,7 @@ use Rattle.md_abi.specs.declared.unnested.UnnestedFailure.{UnnestedFailure}
 use Rattle.md_abi.specs.declared.unnested.UnnestedFailure.TheVariants.{Nested, Refused}
 use Rattle.md_abi.proofs.GivenLemmas as on_given
 use Rattle.md_abi.proofs.GivenLemmas.{IsRead, rendered, explained}
-use Rattle.md_abi.proofs.AttributedLemmas.{keeps_images, safe_told}
+use Rattle.md_abi.proofs.AttributedLemmas.{keeps_images, safe_reported}
 use Rattle.md_abi.proofs.AnswerLemmas.{never, failed, failure_hands_over, failure_of_compile}
 use Rattle.md_abi.proofs.AnswerLemmas.{failure_says, text_of_compile}
 
@@ -47,16 +47,17 @@ fault_of : (given : Handed) (options : CompileOptions) (why : UnnestedError) →
 fault_of given options unnested.Nested nests checked unsafe refused = (checked, nests)
 fault_of given options (unnested.Safe cause) nests checked unsafe refused =
     let made : Result ℕ Refusal = Err (refusal_of cause) in
-    safe_told given options cause made refl unsafe refused
+    safe_reported given options cause made refl unsafe refused
 
 -- what its conversion gives
-pub told_unnested : {T : Type 0} (given : Handed) (options : CompileOptions) (why : UnnestedError)
-    (r : Result T UnnestedFailure) → IsErrAnd r (λ made. made ≡ unnested_failure_of why) →
+pub unnested_reported : {T : Type 0} (given : Handed) (options : CompileOptions)
+    (why : UnnestedError) (r : Result T UnnestedFailure) →
+    IsErrAnd r (λ made. made ≡ unnested_failure_of why) →
     OfNested (AreNested given.events) why → OfNested (IsChecked given) why →
     OfSafe (IsRefusedFor options) why → OfSafe (OfCompile (IsRefusal given)) why →
     IfErr r (IsUnnestedFault given options)
-told_unnested given options why (Ok x) same nests checked unsafe refused = tt
-told_unnested given options why (Err made) same nests checked unsafe refused =
+unnested_reported given options why (Ok x) same nests checked unsafe refused = tt
+unnested_reported given options why (Err made) same nests checked unsafe refused =
     subst (IsUnnestedFault given options) (sym same)
     (fault_of given options why nests checked unsafe refused)
 

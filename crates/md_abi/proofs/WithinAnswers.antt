@@ -77,8 +77,8 @@ module _ (events : List CEvent) (bytes : List ℕ) (options : COptions) (names :
       of TooMuch h = over_fields 11 (omega arith) (omega arith) (never 11 12 refl)
       of TooDeep h = over_fields 13 (omega arith) (omega arith) (never 13 12 refl)
       of (Failed cause) h =
-          let told = answer_of cause in
-          let known = failure_of_compile events bytes options names cause told h.0 refl in
+          let given = answer_of cause in
+          let known = failure_of_compile events bytes options names cause given h.0 refl in
           record {
             known = omega (arith, known.plain.known);
             without_nested = λ is. omega (arith, is, known.plain.known);
@@ -103,14 +103,14 @@ module _ (events : List CEvent) (bytes : List ℕ) (options : COptions) (names :
     pub shallow : TellsPastDepth answer.status → IsShallow events limits
 
   -- a failure that reports events is a refused one
-  tells : (claim : Type 0) (cause : Failure) → TellsPastDepth (answer_of cause).status →
+  past_depth : (claim : Type 0) (cause : Failure) → TellsPastDepth (answer_of cause).status →
       OfRefused claim cause → claim
-  tells claim failure.Memory is h = absurd (omega (arith, is))
-  tells claim (failure.Event index) is h = absurd (omega (arith, is))
-  tells claim (failure.Name index) is h = absurd (omega (arith, is))
-  tells claim (failure.Option number) is h = absurd (omega (arith, is))
-  tells claim (failure.Line number) is h = absurd (omega (arith, is))
-  tells claim (failure.Refused index rule) is h = h
+  past_depth claim failure.Memory is h = absurd (omega (arith, is))
+  past_depth claim (failure.Event index) is h = absurd (omega (arith, is))
+  past_depth claim (failure.Name index) is h = absurd (omega (arith, is))
+  past_depth claim (failure.Option number) is h = absurd (omega (arith, is))
+  past_depth claim (failure.Line number) is h = absurd (omega (arith, is))
+  past_depth claim (failure.Refused index rule) is h = h
 
   pub within_says : (why : WithinFailure) (answer : Answer) → answer ≡ answer_of_within why →
       ExplainsWithin events bytes options names limits why → SaysWithin answer
@@ -152,9 +152,9 @@ module _ (events : List CEvent) (bytes : List ℕ) (options : COptions) (names :
         shallow = λ is. absurd (omega (arith, is));
       }
       of (Failed cause) h =
-          let told = answer_of cause in
-          let says = failure_says events bytes options names cause told h.0 refl in
-          let of_it = failure_of_compile events bytes options names cause told h.0 refl in
+          let given = answer_of cause in
+          let says = failure_says events bytes options names cause given h.0 refl in
+          let of_it = failure_of_compile events bytes options names cause given h.0 refl in
           let known = of_it.plain.known in
           record {
             refused = says.refused;
@@ -164,8 +164,8 @@ module _ (events : List CEvent) (bytes : List ℕ) (options : COptions) (names :
             too_long = λ is. absurd (omega (arith, is, known));
             too_much = λ is. absurd (omega (arith, is, known));
             too_deep = λ is. absurd (omega (arith, is, known));
-            bounded = λ is. (tells _ cause (inl is) h.1).0;
-            shallow = λ is. (tells _ cause is h.1).1;
+            bounded = λ is. (past_depth _ cause (inl is) h.1).0;
+            shallow = λ is. (past_depth _ cause is h.1).1;
           }
 
   pub text_says_within : (answer : Answer) → answer.status ≤ 1 → IsBounded events limits →

@@ -15,13 +15,14 @@ use Rattle.md_depth.proofs.Nodes.{events-nest}
 use Rattle.md_html.specs.Work.{work}
 use Rattle.md_html.specs.Reuse.{reuse}
 use Rattle.md_html.specs.Within.{IsLonger, IsOver, IsTooMuchFor, IsTooDeepFor, OfTooLong, OfWithin}
+use Rattle.md_html.specs.Within.{WithinPromises}
 use Rattle.md_html.specs.declared.within.Limits.{Limits}
 use Rattle.md_html.specs.declared.within.WithinError.{WithinError}
 use Rattle.md_html.specs.declared.within.WithinError.TheVariants as within
 use Rattle.md_abi.specs.Within.{IsRenderedWithin, IsTooLong, IsTooMuch, IsBounded, IsShallow}
 use Rattle.md_abi.specs.Within.{NestsTooDeep, depth_limit}
-use Rattle.md_abi.specs.WithinFailures.{within_failure_of, IsCompiledWithin}
-use Rattle.md_abi.specs.WithinFailures.{IsTooLongOf, IsFailureWithin, OfRefused, ExplainsWithin}
+use Rattle.md_abi.specs.WithinFailures.{within_failure_of, IsTooLongOf, IsFailureWithin}
+use Rattle.md_abi.specs.WithinFailures.{OfRefused, ExplainsWithin}
 use Rattle.md_abi.specs.declared.event.CEvent.{CEvent}
 use Rattle.md_abi.specs.declared.reference.CReference.{CReference}
 use Rattle.md_abi.specs.declared.option.COptions.{COptions}
@@ -31,7 +32,7 @@ use Rattle.md_abi.specs.declared.within.CLimits.{CLimits}
 use Rattle.md_abi.specs.declared.within.WithinFailure.{WithinFailure}
 use Rattle.md_abi.specs.declared.within.WithinFailure.TheVariants.{TooLong, TooMuch, TooDeep}
 use Rattle.md_abi.specs.declared.within.WithinFailure.TheVariants.{Failed}
-use Rattle.md_abi.proofs.GivenLemmas.{told_of, IsRead, rendered, explained}
+use Rattle.md_abi.proofs.GivenLemmas.{reported_of, IsRead, rendered, explained}
 
 -- ---- the failure for a compiler's error
 
@@ -50,17 +51,17 @@ failure_within given options limits within.TooLong deep much longer checked refu
 failure_within given options limits within.TooMuch deep much longer checked refusal = (deep, much)
 failure_within given options limits within.TooDeep deep much longer checked refusal = deep
 failure_within given options limits (within.Compile cause) deep much longer checked refusal =
-    (deep, much, told_of given cause refusal)
+    (deep, much, reported_of given cause refusal)
 
 -- what its conversion gives
-pub told_within : {T : Type 0} (given : Handed) (options : CompileOptions) (limits : Limits)
+pub within_reported : {T : Type 0} (given : Handed) (options : CompileOptions) (limits : Limits)
     (why : WithinError) (r : Result T WithinFailure) →
     IsErrAnd r (λ made. made ≡ within_failure_of why) →
     IsTooDeepFor given.events limits.depth why → IsTooMuchFor options given limits.work why →
     OfTooLong (IsLonger options given limits.text) why → OfTooLong (IsChecked given) why →
     OfWithin (IsRefusal given) why → IfErr r (IsFailureWithin given options limits)
-told_within given options limits why (Ok x) same deep much longer checked refusal = tt
-told_within given options limits why (Err made) same deep much longer checked refusal =
+within_reported given options limits why (Ok x) same deep much longer checked refusal = tt
+within_reported given options limits why (Err made) same deep much longer checked refusal =
     subst (IsFailureWithin given options limits) (sym same)
     (failure_within given options limits why deep much longer checked refusal)
 
@@ -165,36 +166,36 @@ module _ (events : List CEvent) (bytes : List ℕ) (options : COptions) (names :
 
   pub text_within : {S : Type 0} (bytes_of : S → List ℕ) (r : Result S WithinFailure) →
       own.text ≡ limits.text → own.work ≡ limits.work → own.depth ≡ depth_limit limits.depth →
-      IfOk r (λ text. IsCompiledWithin (handed slice bytes pairs) given own (bytes_of text)) →
+      IfOk r (λ text. WithinPromises given (handed slice bytes pairs) own (bytes_of text)) →
       IfOk r (λ text. IsRenderedWithin events bytes options names limits (bytes_of text))
   unfolding rendered
   text_within bytes_of (Ok text) same same_work same_depth h =
-      let document : Forest = h.compiled.grammatical.0 in
-      let reused = h.reused document h.compiled.grammatical.1.flattened in
+      let document : Forest = h.promises.grammatical.0 in
+      let reused = h.reuse document h.promises.grammatical.1.flattened in
       let within : reuse given bytes document ≤ limits.work = omega (arith, reused, same_work) in
       let nests : depth slice ≡ height document =
-      sym (ap depth h.compiled.grammatical.1.flattened) ∙ events-nest document in
+      sym (ap depth h.promises.grammatical.1.flattened) ∙ events-nest document in
       record {
         rendered =
-            rendered events bytes options names slice given pairs read (bytes_of text) h.compiled;
-        fits = omega (arith, h.fits, same);
+            rendered events bytes options names slice given pairs read (bytes_of text) h.promises;
+        fits = omega (arith, h.within, same);
         reused = within;
-        shallow = omega (arith, nests, h.shallow, same_depth);
+        shallow = omega (arith, nests, h.depth, same_depth);
       }
   text_within bytes_of (Err why) same same_work same_depth h = tt
 
   pub bounded_within : {S : Type 0} (bytes_of : S → List ℕ) (r : Result S WithinFailure) →
       own.work ≡ limits.work →
-      IfOk r (λ text. IsCompiledWithin (handed slice bytes pairs) given own (bytes_of text)) →
+      IfOk r (λ text. WithinPromises given (handed slice bytes pairs) own (bytes_of text)) →
       OnOk r (IsBounded events limits)
-  bounded_within bytes_of (Ok text) same h = bounded_given same h.bounded
+  bounded_within bytes_of (Ok text) same h = bounded_given same h.work
   bounded_within bytes_of (Err why) same h = tt
 
   pub shallow_within : {S : Type 0} (bytes_of : S → List ℕ) (r : Result S WithinFailure) →
       own.depth ≡ depth_limit limits.depth →
-      IfOk r (λ text. IsCompiledWithin (handed slice bytes pairs) given own (bytes_of text)) →
+      IfOk r (λ text. WithinPromises given (handed slice bytes pairs) own (bytes_of text)) →
       OnOk r (IsShallow events limits)
-  shallow_within bytes_of (Ok text) same h = shallow_given same h.shallow
+  shallow_within bytes_of (Ok text) same h = shallow_given same h.depth
   shallow_within bytes_of (Err why) same h = tt
 
   pub failure_given : {S : Type 0} (r : Result S WithinFailure) → own.text ≡ limits.text →

@@ -7,7 +7,6 @@ pub mod Events
 pub mod References
 pub mod Options
 pub mod Rendered
-pub mod Compiled
 pub mod Failures
 pub mod Buffer
 pub mod Answers

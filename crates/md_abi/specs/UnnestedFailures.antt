@@ -10,7 +10,7 @@ use Rattle.md_html.specs.declared.unnested.UnnestedError.{UnnestedError}
 use Rattle.md_html.specs.declared.unnested.UnnestedError.TheVariants as unnested
 use Rattle.md_abi.specs.Numbers.{nested}
 use Rattle.md_abi.specs.Options.{KeepsImages}
-use Rattle.md_abi.specs.Compiled.{IsCompiled}
+use Rattle.md_html.specs.Promises.{Promises}
 use Rattle.md_abi.specs.Failures.{about, Explains}
 use Rattle.md_abi.specs.Refusals.{refusal_of, answer_of_refusal, IsRefusalFor}
 use Rattle.md_abi.specs.Unnested.{IsNestedIn}
@@ -36,7 +36,7 @@ answer_of_unnested (Refused refusal) = answer_of_refusal refusal
 -- a text of the converted input
 pub record IsCompiledUnnested (handed : Handed) (options : CompileOptions) (text : List ℕ)
     : Type 0 where
-  pub compiled : IsCompiled handed options text
+  pub compiled : Promises options handed text
   pub safe : given.KeepsImages options
   pub tree : IsBuiltAsRead text
 

@@ -1,6 +1,6 @@
 -- Why there is no text within limits, and the answer to it. No contract of a function for C cites
 -- this.
-use Rattle.std.specs.Prelude.{ℕ, ◌≤◌, ◌<◌, List, length}
+use Rattle.std.specs.Prelude.{ℕ, ◌≤◌, ◌<◌, List}
 use Rattle.md_tree.specs.Grammar.{Handed, IsChecked}
 use Rattle.md_text.specs.declared.options.CompileOptions.{CompileOptions}
 use Rattle.md_depth.specs.Depth.{depth}
@@ -10,7 +10,6 @@ use Rattle.md_html.specs.declared.within.Limits.{Limits}
 use Rattle.md_html.specs.declared.within.WithinError.{WithinError}
 use Rattle.md_html.specs.declared.within.WithinError.TheVariants as within
 use Rattle.md_abi.specs.Numbers.{too_long, too_much, too_deep}
-use Rattle.md_abi.specs.Compiled.{IsCompiled}
 use Rattle.md_abi.specs.Failures.{failure_of, about, answer_of, Explains, IsRefusalOf}
 use Rattle.md_abi.specs.Within.{IsTooLong, IsTooMuch, IsBounded, IsShallow, NestsTooDeep}
 use Rattle.md_abi.specs.declared.answer.Answer.{Answer}
@@ -37,16 +36,6 @@ answer_of_within TooLong = about too_long 0
 answer_of_within TooMuch = about too_much 0
 answer_of_within TooDeep = about too_deep 0
 answer_of_within (Failed failure) = answer_of failure
-
--- a text of the converted input, within limits
-pub record IsCompiledWithin (given : Handed) (options : CompileOptions) (limits : Limits)
-    (text : List ℕ)
-    : Type 0 where
-  pub compiled : IsCompiled given options text
-  pub fits : length text ≤ limits.text
-  pub bounded : work given.events ≤ limits.work
-  pub shallow : depth given.events ≤ limits.depth
-  pub reused : IsReuseWithin options given limits.work
 
 -- the text of the converted input is too long
 pub record IsTooLongOf (given : Handed) (options : CompileOptions) (limits : Limits) : Type 0 where

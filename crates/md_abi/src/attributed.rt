@@ -9,7 +9,7 @@ ghost use Rattle.md_safe.specs.Token.{Token};
 ghost use Rattle.md_safe.specs.Tokenizer.{IsTokenized};
 ghost use Rattle.md_page.specs.Built.{IsBuiltAsWritten};
 ghost use Rattle.md_page.specs.Headings.{listed};
-ghost use Rattle.md_abi.specs.Compiled.{IsCompiled};
+ghost use Rattle.md_html.specs.Promises.{Promises};
 ghost use Rattle.md_abi.specs.Attributes.{heading_line, listing, with_rel};
 ghost use Rattle.md_abi.specs.Attributed.{IsAttributedText, IsListedAfter};
 ghost use Rattle.md_abi.specs.Refusals.{ExplainsRefusal, IsRefusalFor};
@@ -78,7 +78,7 @@ fn compile_read_safely(
     names: &[(&str, &str)],
 ) -> Result<SafeHtml, Refusal>
     ensures safe { OnOk result (KeepsImages options.now) }
-    ensures ok { IfOk result (IsCompiled (handed events.now bytes.now names.now) options.now) }
+    ensures ok { IfOk result (Promises options.now (handed events.now bytes.now names.now)) }
     ensures err { IfErr result (IsRefusalFor (handed events.now bytes.now names.now) options.now) }
 {
     let html = compile_safe(alloc, events, bytes, options, names)?;

@@ -4,7 +4,7 @@ ghost use Rattle.std.specs.Prelude.{string_bytes, IfOk, IfErr};
 ghost use Rattle.md_tree.specs.Grammar.{handed};
 ghost use Rattle.md_abi.specs.Rendered.{IsRendered};
 ghost use Rattle.md_abi.specs.Failures.{Explains, IsRefusalOf};
-ghost use Rattle.md_abi.specs.Compiled.{IsCompiled};
+ghost use Rattle.md_html.specs.Promises.{Promises};
 
 use crate::event::{CEvent, read_c_events};
 use crate::failure::Failure;
@@ -60,7 +60,7 @@ fn compile_read(
     names: &[(&str, &str)],
 ) -> Result<String, Failure>
     ensures ok { IfOk result (λ text.
-        IsCompiled (handed events.now bytes.now names.now) options.now (string_bytes text)) }
+        Promises options.now (handed events.now bytes.now names.now) (string_bytes text)) }
     ensures err { IfErr result (IsRefusalOf (handed events.now bytes.now names.now)) }
 {
     Ok(compile(alloc, events, bytes, options, names)?)

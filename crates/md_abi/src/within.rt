@@ -2,8 +2,9 @@
 
 ghost use Rattle.std.specs.Prelude.{◌≡◌, OnOk, IfOk, IfErr, string_bytes};
 ghost use Rattle.md_tree.specs.Grammar.{handed};
+ghost use Rattle.md_html.specs.Within.{WithinPromises};
 ghost use Rattle.md_abi.specs.Within.{IsRenderedWithin, IsBounded, IsShallow, depth_limit};
-ghost use Rattle.md_abi.specs.WithinFailures.{IsCompiledWithin, IsFailureWithin, ExplainsWithin};
+ghost use Rattle.md_abi.specs.WithinFailures.{IsFailureWithin, ExplainsWithin};
 
 use crate::event::read_c_events;
 use crate::failure::Failure;
@@ -123,9 +124,9 @@ fn compile_read_within(
     options: &CompileOptions,
     limits: Limits,
 ) -> Result<String, WithinFailure>
-    ensures ok { IfOk result (λ text. IsCompiledWithin
+    ensures ok { IfOk result (λ text. WithinPromises options.now
         (handed read.entry.events.now read.entry.bytes.now read.entry.names.now)
-        options.now limits (string_bytes text)) }
+        limits (string_bytes text)) }
     ensures err { IfErr result (IsFailureWithin
         (handed read.entry.events.now read.entry.bytes.now read.entry.names.now)
         options.now limits) }

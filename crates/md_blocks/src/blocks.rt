@@ -5,7 +5,7 @@ ghost use Rattle.md_blocks.specs.Tape.{leads};
 
 use crate::block::{Block, LineRange};
 use crate::definition::Definitions;
-use crate::options::BlockOptions;
+use crate::options::MarkdownOptions;
 use crate::pass::Pass;
 use md_lines::Line;
 use std::alloc::{AllocError, Global};
@@ -40,7 +40,7 @@ impl Blocks {
 pub fn parse_blocks(
     alloc: Global,
     bytes: &[u8],
-    options: BlockOptions,
+    options: &MarkdownOptions,
 ) -> Result<Blocks, AllocError> {
     let mut pass = Pass::new(alloc, bytes, options)?;
     match pass.run() {

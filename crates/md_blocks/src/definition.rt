@@ -55,12 +55,6 @@ impl Definitions {
         self.list.is_empty()
     }
 
-    /// Whether a footnote is defined.
-    #[inline(always)]
-    pub fn has_footnotes(&self) -> bool {
-        !self.footnotes.is_empty()
-    }
-
     /// Returns the first definition with a label: the text of `lines` between two places in them.
     /// `None` also if the label has only spaces, or isn't UTF-8.
     ///

@@ -23,6 +23,6 @@ pub use block::{Block, ContainerKind, LineRange};
 pub use blocks::{Blocks, parse_blocks};
 pub use definition::{Definition, Definitions};
 pub use nesting::MAX_DEPTH;
-pub use options::BlockOptions;
+pub use options::{DocumentHtml, MarkdownOptions};
 pub use preamble::{FrontMatter, front_matter};
 pub use table::next_cell;

@@ -1,6 +1,6 @@
 //! The pass over the lines of a document.
 
-ghost use Rattle.std.specs.Prelude.{◌≡◌, ◌≤◌, vec_len, OnOk};
+ghost use Rattle.std.specs.Prelude.{◌≡◌, ◌≤◌, false, vec_len, OnOk};
 
 use crate::block::{Block, ContainerKind, LineRange};
 use crate::blocks::Blocks;
@@ -8,7 +8,7 @@ use crate::code::Fence;
 use crate::definition::Definitions;
 use crate::html::HtmlKind;
 use crate::nesting::{Nesting, Open};
-use crate::options::BlockOptions;
+use crate::options::MarkdownOptions;
 use crate::position::Position;
 use crate::preamble::{front_matter, start_of};
 use md_lines::{Line, Span, after_ending, line_end};
@@ -59,7 +59,7 @@ pub(crate) struct NoBreak {
 pub(crate) struct Pass<'a> {
     pub(crate) alloc: Global,
     pub(crate) bytes: &'a [u8],
-    pub(crate) options: BlockOptions,
+    pub(crate) options: &'a MarkdownOptions,
     pub(crate) nesting: Nesting,
     pub(crate) lines: Vec<Line>,
     pub(crate) definitions: Definitions,
@@ -82,7 +82,7 @@ impl<'a> Pass<'a> {
     pub(crate) fn new(
         alloc: Global,
         bytes: &'a [u8],
-        options: BlockOptions,
+        options: &'a MarkdownOptions,
     ) -> Result<Self, AllocError> {
         let nesting = Nesting::new(alloc, bytes.len() / BYTES_PER_BLOCK + LEAST_ROOM)?;
         let lines = Vec::with_capacity(alloc, bytes.len() / BYTES_PER_LINE + LEAST_ROOM)?;
@@ -126,11 +126,7 @@ impl<'a> Pass<'a> {
         ensures { OnOk result (vec_len self.new.nesting.stack ≤ 0) }
     {
         let bytes = self.bytes;
-        let mut at = if self.options.front_matter {
-            self.read_front_matter()?
-        } else {
-            start_of(bytes)
-        };
+        let mut at = self.read_front_matter()?;
         'lines: while at < bytes.len() {
             let end = line_end(bytes, at);
             let next = after_ending(bytes, end);
@@ -141,8 +137,15 @@ impl<'a> Pass<'a> {
         self.close_unmatched(0)
     }
 
-    /// Reads front matter. Returns the index after it, or after a byte order mark.
-    fn read_front_matter(&mut self) -> Result<usize, AllocError> {
+    /// Reads front matter, if the options say so. Returns the index after it, or after a byte order
+    /// mark.
+    fn read_front_matter(&mut self) -> Result<usize, AllocError>
+        ensures off { self.old.options.now.front_matter ≡ false
+            → OnOk result (self.new ≡ self.old) }
+    {
+        if !self.options.front_matter {
+            return Ok(start_of(self.bytes));
+        }
         match front_matter(self.bytes) {
             Some(found) => {
                 self.nesting.put(Block::FrontMatter {

@@ -112,7 +112,7 @@ pub fn has_nested_link(events: &[Event]) -> bool
     let mut links = Links::new();
     let mut rest = events;
     while let Some((event, following)) = rest.split_first() {
-        links = links.after(event);
+        links.note(event);
         rest = following;
     }
     links.nested

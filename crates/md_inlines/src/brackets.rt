@@ -1,6 +1,6 @@
 //! Reads brackets: links, images and calls of footnotes.
 
-ghost use Rattle.std.specs.Prelude.{◌≡◌, OnOk, false, vec_len};
+ghost use Rattle.std.specs.Prelude.{◌≡◌, OnOk, IfOk, false, vec_len};
 
 use crate::reader::Reader;
 use md_lines::{Cursor, Place, Span, Title, read_destination, read_label, read_title};
@@ -109,7 +109,10 @@ impl<'a> Reader<'a> {
         leaf: &Leaf,
         open: &Bracket,
         here: Place,
-    ) -> Result<bool, AllocError> {
+    ) -> Result<bool, AllocError>
+        ensures off { self.old.options.now.footnotes ≡ false
+            → IfOk result (λ is_call. is_call ≡ false) }
+    {
         let text = leaf.bytes.get(open.inside.at..here.at).unwrap_or(b"");
         let is_label = text.starts_with(b"^") && text.len() <= MOST_OF_LABEL;
         if !is_label || open.has_bracket || open.inside.line != here.line {

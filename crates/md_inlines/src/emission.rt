@@ -1,13 +1,13 @@
 //! Writes events for tokens.
 
-ghost use Rattle.std.specs.Prelude.{◌≡◌, OnOk, false};
+ghost use Rattle.std.specs.Prelude.{◌≡◌, false, not, true, OnOk};
 
 use crate::links::write_label_start;
-use crate::options::InlineOptions;
 use crate::reader::Reader;
 use crate::source::Source;
 use crate::strings::write_reference;
 use md_base::Name;
+use md_blocks::DocumentHtml;
 use md_lines::{Span, find_any};
 use md_marks::{BareLink, Leaf, Mark, Token, address, domain_end, is_www, run_length, url, www};
 use md_writer::Writer;
@@ -44,7 +44,6 @@ pub(crate) struct LeafContext<'e> {
     pub(crate) leaf: &'e Leaf<'e>,
     pub(crate) source: &'e Source<'e>,
     pub(crate) reader: &'e Reader<'e>,
-    options: InlineOptions,
     /// How many links are open.
     pub(crate) links: usize,
     /// How many images are open.
@@ -64,7 +63,6 @@ pub(crate) fn write_tokens(
         leaf,
         source,
         reader,
-        options: reader.options,
         links: 0,
         images: 0,
         spans: 0,
@@ -198,17 +196,11 @@ impl<'e> LeafContext<'e> {
 
     /// Writes HTML, unless it is to be left out.
     fn write_html(&self, writer: &mut Writer, token: &Token) -> Result<(), AllocError>
-        ensures left_out { self.now.options.html ≡ false
-            → self.now.options.comments ≡ false → OnOk result (writer.new.events.items
-            ≡ writer.old.events.items) }
+        ensures left_out { self.now.reader.now.options.now.html ≡ DocumentHtml.LeftOut
+            → OnOk result (writer.new.events.items ≡ writer.old.events.items) }
     {
         let rest = self.leaf.bytes.get(token.start..).unwrap_or(b"");
-        let is_kept = if rest.starts_with(b"<!--") {
-            self.options.comments
-        } else {
-            self.options.html
-        };
-        if !is_kept {
+        if !keeps(self.reader.options.html, rest.starts_with(b"<!--")) {
             return Ok(());
         }
         let text = Span::new(token.start, token.end);
@@ -309,6 +301,19 @@ impl<'e> LeafContext<'e> {
             };
         }
         Ok(at)
+    }
+}
+
+/// Whether HTML is kept, which may be a comment.
+fn keeps(html: DocumentHtml, is_comment: bool) -> bool
+    ensures left_out { html ≡ DocumentHtml.LeftOut → result ≡ false }
+    ensures text { html ≡ DocumentHtml.Text → result ≡ true }
+    ensures comments { html ≡ DocumentHtml.WithoutComments → result ≡ not is_comment }
+{
+    match html {
+        DocumentHtml::Text => true,
+        DocumentHtml::LeftOut => false,
+        DocumentHtml::WithoutComments => !is_comment,
     }
 }
 

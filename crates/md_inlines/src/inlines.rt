@@ -1,12 +1,11 @@
 //! The inline pass over the leaves of a document.
 
 use crate::emission::write_tokens;
-use crate::options::InlineOptions;
 use crate::reader::Reader;
 use crate::source::Source;
 use crate::strings::write_string;
 use crate::targets::write_definition;
-use md_blocks::Definitions;
+use md_blocks::{Definitions, MarkdownOptions};
 use md_lines::{Line, Span};
 use md_marks::Leaf;
 use md_urls::Base;
@@ -23,15 +22,18 @@ pub struct Inlines<'a> {
 }
 
 impl<'a> Inlines<'a> {
-    /// A pass over a document; URLs are resolved against a base, if there is one.
+    /// A pass over a document.
     pub fn new(
         alloc: Global,
         bytes: &'a [u8],
         lines: &'a [Line],
         definitions: &'a Definitions,
-        options: InlineOptions,
-        base: Option<Base<'a>>,
+        options: &'a MarkdownOptions,
     ) -> Inlines<'a> {
+        let base = match &options.base {
+            Some(base) => Some(Base::new(base.as_str())),
+            None => None,
+        };
         Inlines {
             source: Source {
                 alloc,

@@ -5,7 +5,6 @@ mod brackets;
 mod emission;
 mod inlines;
 mod links;
-mod options;
 mod reader;
 mod reading;
 mod source;
@@ -15,4 +14,3 @@ mod urls;
 
 pub use inlines::Inlines;
 pub use md_writer::Writer;
-pub use options::InlineOptions;

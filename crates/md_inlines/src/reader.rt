@@ -1,8 +1,7 @@
 //! Reads the tokens of a leaf, mark by mark.
 
 use crate::brackets::{Bracket, Target};
-use crate::options::InlineOptions;
-use md_blocks::Definitions;
+use md_blocks::{Definitions, MarkdownOptions};
 use md_lines::{Place, trim_end};
 use md_marks::{Delimiters, Dollars, Endings, Leaf, Mark, Marks, Ticks, Token, push_token};
 use std::alloc::{AllocError, Global};
@@ -15,7 +14,7 @@ const USUAL_TOKENS: usize = 16;
 pub(crate) struct Reader<'a> {
     pub(crate) alloc: Global,
     pub(crate) definitions: &'a Definitions,
-    pub(crate) options: InlineOptions,
+    pub(crate) options: &'a MarkdownOptions,
     /// The marks of the document near the place that was read last.
     pub(crate) marks: Marks,
     /// The tokens of the leaf so far.
@@ -44,7 +43,7 @@ impl<'a> Reader<'a> {
     pub(crate) fn new(
         alloc: Global,
         definitions: &'a Definitions,
-        options: InlineOptions,
+        options: &'a MarkdownOptions,
     ) -> Reader<'a> {
         Reader {
             alloc,

@@ -1,5 +1,7 @@
 //! Reads each kind of mark, by one method for each.
 
+ghost use Rattle.std.specs.Prelude.{◌≡◌, false, OnOk};
+
 use crate::reader::Reader;
 use md_base::Name;
 use md_lines::{Class, Place, find_any, is};
@@ -13,7 +15,9 @@ use std::alloc::AllocError;
 impl<'a> Reader<'a> {
     /// Reads a full stop, which may be that of `www.`.
     #[inline(never)]
-    pub(crate) fn read_dot(&mut self, leaf: &Leaf, here: Place) -> Result<Place, AllocError> {
+    pub(crate) fn read_dot(&mut self, leaf: &Leaf, here: Place) -> Result<Place, AllocError>
+        ensures off { self.old.options.now.bare_links ≡ false → OnOk result (self.new ≡ self.old) }
+    {
         let low = self.from.max(leaf.start(here.line));
         let may_begin = self.options.bare_links && here.at >= self.no_www_before;
         if !may_begin || !is_www(leaf.bytes, low, here.at) {
@@ -35,7 +39,9 @@ impl<'a> Reader<'a> {
 
     /// Reads a colon, which may be that of a URL.
     #[inline(never)]
-    pub(crate) fn read_colon(&mut self, leaf: &Leaf, here: Place) -> Result<Place, AllocError> {
+    pub(crate) fn read_colon(&mut self, leaf: &Leaf, here: Place) -> Result<Place, AllocError>
+        ensures off { self.old.options.now.bare_links ≡ false → OnOk result (self.new ≡ self.old) }
+    {
         if !self.options.bare_links || !leaf.rest(here).starts_with(b"://") {
             return Ok(here);
         }
@@ -126,7 +132,9 @@ impl<'a> Reader<'a> {
 
     /// Reads `$` or `$$`: math, if the same follows.
     #[inline(never)]
-    pub(crate) fn read_math(&mut self, leaf: &Leaf, here: Place) -> Result<Place, AllocError> {
+    pub(crate) fn read_math(&mut self, leaf: &Leaf, here: Place) -> Result<Place, AllocError>
+        ensures off { self.old.options.now.math ≡ false → OnOk result (self.new ≡ self.old) }
+    {
         if !self.options.math {
             return Ok(here);
         }

@@ -1,6 +1,7 @@
 //! A place in the lines of a leaf, and a cursor that moves from it.
 
-ghost use Rattle.std.specs.Prelude.{◌≤◌, ◌<◌, length, IsTrue};
+ghost use Rattle.std.specs.Prelude.{◌≡◌, ◌≤◌, ◌<◌, ◌+◌, ◌&&◌, ◌==◌, length, min, suc, nat_lt};
+ghost use Rattle.std.specs.Prelude.{IsTrue, IfNone, IfSome, Some, None, false, slice_get, if◌then◌else◌};
 
 use crate::class::{Class, is};
 use crate::line::Line;
@@ -28,7 +29,7 @@ pub struct Cursor<'a> {
 }
 
 impl<'a> Cursor<'a> {
-    ghost use Rattle.md_lines.specs.Reading.{left};
+    ghost use Rattle.md_lines.specs.Reading.{left, is_next};
 
     /// A cursor at a place in the lines.
     #[inline]
@@ -52,15 +53,16 @@ impl<'a> Cursor<'a> {
         }
     }
 
-    /// The current byte index.
-    #[inline(always)]
-    pub fn at(&self) -> usize {
-        self.at
-    }
-
     /// The next byte, a line feed between two lines; `None` at the end of the last line.
     #[inline]
-    pub fn peek(&self) -> Option<u8> {
+    pub fn peek(&self) -> Option<u8>
+        ensures in_line { self.now.at < self.now.end
+            → result ≡ slice_get self.now.bytes.now self.now.at }
+        ensures between { self.now.end ≤ self.now.at
+            → suc self.now.line < length self.now.lines.now → result ≡ Some 10 }
+        ensures after { self.now.end ≤ self.now.at
+            → length self.now.lines.now ≤ suc self.now.line → result ≡ None }
+    {
         if self.at < self.end {
             Some(self.bytes[self.at])
         } else if self.line + 1 < self.lines.len() {
@@ -79,7 +81,9 @@ impl<'a> Cursor<'a> {
     /// Moves past the next byte; at the end of the last line it doesn't move.
     #[inline]
     pub fn advance(&mut self)
-        ensures { left self.new ≤ left self.old }
+        ensures never_back { left self.new ≤ left self.old }
+        ensures in_line { self.old.at < self.old.end
+            → self.new.at ≡ suc self.old.at }
     {
         if self.at < self.end {
             self.at += 1;
@@ -93,6 +97,9 @@ impl<'a> Cursor<'a> {
     pub fn take(&mut self, byte: u8) -> bool
         ensures never_back { left self.new ≤ left self.old }
         ensures goes_on { IsTrue result → left self.new < left self.old }
+        ensures same { result ≡ is_next self.old byte }
+        ensures passed { IsTrue result → self.new.at ≡ suc self.old.at }
+        ensures stays { result ≡ false → self.new ≡ self.old }
     {
         if self.at < self.end && self.bytes[self.at] == byte {
             self.at += 1;
@@ -134,6 +141,13 @@ impl<'a> Cursor<'a> {
     pub(crate) fn next_line(&mut self) -> bool
         ensures never_back { left self.new ≤ left self.old }
         ensures goes_on { IsTrue result → left self.new < left self.old }
+        ensures there { result ≡ nat_lt (suc self.old.line) (length self.old.lines.now) }
+        ensures stays { result ≡ false → self.new ≡ self.old }
+        ensures line { IsTrue result → self.new.line ≡ suc self.old.line }
+        ensures at { IsTrue result → IfSome (slice_get self.old.lines.now self.new.line)
+            (λ next. self.new.at ≡ next.start) }
+        ensures end { IsTrue result → IfSome (slice_get self.old.lines.now self.new.line)
+            (λ next. self.new.end ≡ min next.end (length self.old.bytes.now)) }
     {
         let Some(next) = self.lines.get(self.line + 1) else {
             return false;
@@ -148,7 +162,10 @@ impl<'a> Cursor<'a> {
 /// The end of the text of a line.
 #[inline(always)]
 fn end_of(bytes: &[u8], lines: &[Line], line: usize) -> usize
-    ensures { result ≤ length bytes.now }
+    ensures within { result ≤ length bytes.now }
+    ensures some { IfSome (slice_get lines.now line)
+        (λ line. result ≡ min line.end (length bytes.now)) }
+    ensures none { IfNone (slice_get lines.now line) (result ≡ 0) }
 {
     match lines.get(line) {
         Some(line) => line.end.min(bytes.len()),

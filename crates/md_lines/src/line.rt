@@ -6,6 +6,7 @@ ghost use Rattle.std.specs.Int.{w64, trailing_zeros};
 ghost use Rattle.std.specs.List.{prefix_len};
 ghost use Rattle.md_lines.specs.Lines.{ends_no_line};
 
+use crate::find::{LANES, Search, find, first_set};
 use std::simd::prelude::*;
 
 /// A line of a leaf block, without the prefixes of its containers. Its text extends from `start` to
@@ -47,9 +48,6 @@ impl Line {
     }
 }
 
-/// The number of bytes that one step reads.
-const LANES: usize = 16;
-
 /// The beginning of the first line ending at or after `from`: the index of a line feed or of a
 /// carriage return. The length of the bytes if there is none, and `from` if it is beyond them.
 #[inline]
@@ -59,71 +57,28 @@ pub fn line_end(bytes: &[u8], from: usize) -> usize
     ensures first { from ≤ length bytes.now
         → result ≡ from + prefix_len ends_no_line (drop from bytes.now) }
 {
-    if from > bytes.len() {
-        return from;
+    find(InLine, bytes, from, bytes.len())
+}
+
+/// The search for the end of a line.
+#[derive(Clone, Copy)]
+struct InLine;
+
+impl Search for InLine {
+    ghost use Rattle.md_lines.specs.Lines.{ends_no_line};
+
+    ghost skips = { λ _. ends_no_line };
+
+    #[inline(always)]
+    fn is_skipped(self, byte: u8) -> bool {
+        byte != b'\n' && byte != b'\r'
     }
-    from + line_length(&bytes[from..])
-}
 
-/// The number of bytes before the first that ends a line.
-#[inline(always)]
-fn line_length(bytes: &[u8]) -> usize
-    ensures within { result ≤ length bytes.now }
-    ensures value { result ≡ prefix_len ends_no_line bytes.now }
-{
-    let mut at = 0;
-    while bytes.len() - at >= LANES {
-        let run = run_in(bytes, at);
-        if run < LANES {
-            return at + run;
-        }
-        at += LANES;
-    }
-    line_length_from(bytes, at)
-}
-
-/// The same, byte by byte from an index; no byte before it ends a line.
-#[inline(always)]
-fn line_length_from(bytes: &[u8], from: usize) -> usize
-    requires { from ≤ prefix_len ends_no_line bytes.now }
-    ensures within { result ≤ length bytes.now }
-    ensures value { result ≡ prefix_len ends_no_line bytes.now }
-{
-    let mut at = from;
-    while at < bytes.len() && ends_no_line(bytes[at]) {
-        at += 1;
-    }
-    at
-}
-
-/// Whether a byte is neither a line feed nor a carriage return.
-#[inline(always)]
-fn ends_no_line(byte: u8) -> bool
-    ensures { result ≡ ends_no_line byte }
-{
-    byte != b'\n' && byte != b'\r'
-}
-
-/// Among the bytes of one step, the number before the first that ends a line.
-#[inline(always)]
-fn run_in(bytes: &[u8], at: usize) -> usize
-    requires { at + 16 ≤ length bytes.now }
-    ensures { result ≡ min 16 (prefix_len ends_no_line (drop at bytes.now)) }
-{
-    let block = Simd::<u8, LANES>::from_slice(&bytes[at..]);
-    let endings = block.simd_eq(Simd::splat(b'\n')) | block.simd_eq(Simd::splat(b'\r'));
-    first_set(endings.to_bitmask())
-}
-
-/// The index of the lowest set bit, or the number of lanes if none is set.
-#[inline(always)]
-pub(crate) fn first_set(marks: u64) -> usize
-    ensures { result ≡ (if marks == 0 then 16 else trailing_zeros w64 marks) }
-{
-    if marks == 0 {
-        LANES
-    } else {
-        marks.trailing_zeros() as usize
+    #[inline(always)]
+    fn run_in(self, bytes: &[u8], at: usize) -> usize {
+        let block = Simd::<u8, LANES>::from_slice(&bytes[at..]);
+        let endings = block.simd_eq(Simd::splat(b'\n')) | block.simd_eq(Simd::splat(b'\r'));
+        first_set(endings.to_bitmask())
     }
 }
 

@@ -1,15 +1,15 @@
 //! The parts of links and of their definitions: labels, destinations and titles.
 
-ghost use Rattle.std.specs.Prelude.{◌≤◌, ◌<◌, length};
+ghost use Rattle.std.specs.Prelude.{◌≡◌, ◌≤◌, ◌<◌, length, min};
+ghost use Rattle.std.specs.List.{prefix_len};
+ghost use Rattle.md_lines.specs.Lines.{goes_on_in_label};
 
 use crate::class::{Class, is};
 use crate::cursor::Cursor;
+use crate::find::{LANES, Search, find, first_set};
 use crate::span::Span;
 use crate::trim::trim_start;
 use std::simd::prelude::*;
-
-/// The number of bytes that one step reads.
-const LANES: usize = 16;
 
 /// The maximum number of characters in a label.
 const MOST_IN_LABEL: usize = 999;
@@ -35,7 +35,8 @@ pub fn read_label(cursor: &mut Cursor<'_>) -> bool {
     while count <= MOST_IN_LABEL {
         let from = cursor.at;
         let most = MOST_IN_LABEL + 1 - count;
-        let length = label_length(&cursor.bytes[..cursor.end], from, most);
+        let text = cursor.bytes[..cursor.end].get(from..).unwrap_or(b"");
+        let length = label_length(text, most);
         cursor.at = from.saturating_add(length);
         is_blank = is_blank && trim_start(cursor.bytes, from, cursor.at) == cursor.at;
         count += length;
@@ -54,18 +55,24 @@ pub fn read_label(cursor: &mut Cursor<'_>) -> bool {
     false
 }
 
-/// The number of bytes, at most `most`, before the next bracket or backslash of a line.
+/// The number of bytes, at most `most`, before the next bracket or backslash of a text.
 #[inline(always)]
-fn label_length(line: &[u8], from: usize, most: usize) -> usize
-    ensures { result ≤ most }
+fn label_length(text: &[u8], most: usize) -> usize
+    ensures { result ≡ min most (prefix_len goes_on_in_label text.now) }
 {
-    let text = line.get(from..).unwrap_or(b"");
     let mut length = 0;
-    // `[`, `\` and `]`, which are neighbours.
-    while length < most && length < text.len() && !matches!(text[length], b'['..=b']') {
+    while length < most && length < text.len() && goes_on_in_label(text[length]) {
         length += 1;
     }
     length
+}
+
+/// Whether a byte is none of `[`, `\` and `]`, which are neighbours.
+#[inline(always)]
+fn goes_on_in_label(byte: u8) -> bool
+    ensures { result ≡ goes_on_in_label byte }
+{
+    !matches!(byte, b'['..=b']')
 }
 
 /// Skips a backslash and the punctuation mark that it escapes; returns whether there was one.
@@ -116,7 +123,7 @@ fn bare_destination(cursor: &mut Cursor<'_>) -> Option<Span> {
     let mut at = from;
     let mut depth = 0;
     while at < end {
-        at = next_of_destination(bytes, at, end);
+        at = find(InDestination, bytes, at, end);
         if at >= end {
             at = end;
             break;
@@ -143,46 +150,30 @@ fn bare_destination(cursor: &mut Cursor<'_>) -> Option<Span> {
     }
 }
 
-/// The index, at or after `from`, of the next byte that may end a destination or that counts in it;
-/// `end` or later if there is none before `end`.
-#[inline(always)]
-fn next_of_destination(bytes: &[u8], from: usize, end: usize) -> usize
-    ensures { from ≤ result }
-{
-    let mut at = from;
-    while at < end && at < bytes.len() {
-        let rest = &bytes[at..];
-        if rest.len() < LANES {
-            return at.saturating_add(position_in_destination(rest));
-        }
-        let bits = marks_of_destination(rest);
-        if bits != 0 {
-            return at + bits.trailing_zeros() as usize;
-        }
-        at += LANES;
+/// The search for a byte that may end a destination, or that counts in it.
+#[derive(Clone, Copy)]
+struct InDestination;
+
+impl Search for InDestination {
+    ghost use Rattle.md_lines.specs.Lines.{goes_on_in_destination};
+
+    ghost skips = { λ _. goes_on_in_destination };
+
+    #[inline(always)]
+    fn is_skipped(self, byte: u8) -> bool {
+        byte > b' ' && !matches!(byte, b'(' | b')' | b'\\' | 127)
     }
-    at
-}
 
-/// The index of the first such byte of a text, else its length.
-#[inline(never)]
-fn position_in_destination(text: &[u8]) -> usize {
-    let index = text.iter().position(|byte| is(*byte, Class::Destination));
-    index.unwrap_or(text.len())
-}
-
-/// A bit for each such byte among the first 16 of a text.
-#[inline(always)]
-fn marks_of_destination(text: &[u8]) -> u64
-    requires { 16 ≤ length text.now }
-{
-    let block = Simd::<u8, LANES>::from_slice(text);
-    let found = block.simd_le(Simd::splat(b' '))
-        | block.simd_eq(Simd::splat(b'('))
-        | block.simd_eq(Simd::splat(b')'))
-        | block.simd_eq(Simd::splat(b'\\'))
-        | block.simd_eq(Simd::splat(127));
-    found.to_bitmask()
+    #[inline(always)]
+    fn run_in(self, bytes: &[u8], at: usize) -> usize {
+        let block = Simd::<u8, LANES>::from_slice(&bytes[at..]);
+        let found = block.simd_lt(Simd::splat(b'!'))
+            | block.simd_eq(Simd::splat(b'('))
+            | block.simd_eq(Simd::splat(b')'))
+            | block.simd_eq(Simd::splat(b'\\'))
+            | block.simd_eq(Simd::splat(127));
+        first_set(found.to_bitmask())
+    }
 }
 
 /// The index after the backslash at `at`, and after the punctuation mark that it escapes, if any.

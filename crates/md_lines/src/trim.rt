@@ -1,8 +1,8 @@
 //! Trims spaces and tabs at the ends of a part of a line.
 
-ghost use Rattle.std.specs.Prelude.{◌≤◌};
-
-use crate::class::{Class, is};
+ghost use Rattle.std.specs.Prelude.{◌≡◌, ◌≤◌, ◌<◌, ◌+◌, ◌-◌, false, length, drop, get_or};
+ghost use Rattle.std.specs.List.{prefix_len};
+ghost use Rattle.md_lines.specs.Lines.{is_blank};
 
 /// The index of the first byte from `start` that is neither a space nor a tab; `end` if all bytes
 /// before it are.
@@ -10,13 +10,13 @@ use crate::class::{Class, is};
 pub fn trim_start(bytes: &[u8], start: usize, end: usize) -> usize
     ensures after { start ≤ result }
     ensures within { start ≤ end → result ≤ end }
+    ensures none_skipped { result ≤ start + prefix_len is_blank (drop start bytes.now) }
+    ensures first { result < end
+        → result ≡ start + prefix_len is_blank (drop start bytes.now) }
 {
     let mut at = start;
-    while at < end {
-        match bytes.get(at) {
-            Some(byte) if is(*byte, Class::Space) => at += 1,
-            _ => break,
-        }
+    while at < end && at < bytes.len() && is_blank(bytes[at]) {
+        at += 1;
     }
     at
 }
@@ -26,13 +26,20 @@ pub fn trim_start(bytes: &[u8], start: usize, end: usize) -> usize
 pub fn trim_end(bytes: &[u8], start: usize, end: usize) -> usize
     ensures within { result ≤ end }
     ensures after { start ≤ end → start ≤ result }
+    ensures blank { end ≤ result + prefix_len is_blank (drop result bytes.now) }
+    ensures last { start < result → is_blank (get_or bytes.now (result - 1) 0) ≡ false }
 {
     let mut at = end;
-    while at > start {
-        match bytes.get(at - 1) {
-            Some(byte) if is(*byte, Class::Space) => at -= 1,
-            _ => break,
-        }
+    while at > start && at <= bytes.len() && is_blank(bytes[at - 1]) {
+        at -= 1;
     }
     at
+}
+
+/// Whether a byte is a space or a tab.
+#[inline(always)]
+fn is_blank(byte: u8) -> bool
+    ensures { result ≡ is_blank byte }
+{
+    byte == b' ' || byte == b'\t'
 }

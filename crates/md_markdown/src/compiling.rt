@@ -17,9 +17,9 @@ ghost use Rattle.md_markdown.specs.Parsed.{IsShown, IsMadeOfEither};
 
 use crate::error::{MarkdownWithinError, is_memory, of_limits};
 use crate::events::write_events;
-use crate::options::MarkdownOptions;
+use crate::options::for_compiler;
 use crate::plain::{Within, compile_plain, compile_plain_within};
-use md_blocks::parse_blocks;
+use md_blocks::{MarkdownOptions, parse_blocks};
 use md_html::{Limits, MeasuredEvents, SafeHtml, compile_safe, compile_safe_measured};
 use md_inlines::Writer;
 use md_text::CompileOptions;
@@ -65,7 +65,7 @@ pub fn markdown(
 {
     let bytes = text.as_bytes();
     let writer = events_of(alloc, bytes, options)?;
-    let compile_options = options.for_compiler(alloc)?;
+    let compile_options = for_compiler(alloc, options)?;
     if writer.added.is_empty() {
         return compile_or_plain(alloc, &measured_of(&writer, bytes), text, &compile_options);
     }
@@ -111,7 +111,7 @@ pub fn markdown_within(
 {
     let bytes = text.as_bytes();
     let writer = events_of(alloc, bytes, options)?;
-    let compile_options = options.for_compiler(alloc)?;
+    let compile_options = for_compiler(alloc, options)?;
     let within = Within {
         options: &compile_options,
         limits: Limits {
@@ -168,10 +168,7 @@ fn compile_or_plain(
     ensures distinct_ids { IfOk result
         (λ html. options.now.gfm_footnote_number_ids ≡ true → HasDistinctIds html) }
 {
-    if parsed.measure.depth() > MAX_DEPTH {
-        return compile_plain(alloc, text, options);
-    }
-    if parsed.measure.has_nested_link() {
+    if parsed.measure.depth() > MAX_DEPTH || parsed.measure.has_nested_link() {
         return compile_plain(alloc, text, options);
     }
     match compile_safe(alloc, parsed.events, parsed.bytes, options, parsed.names) {
@@ -249,7 +246,7 @@ pub fn events_of(
     bytes: &[u8],
     options: &MarkdownOptions,
 ) -> Result<Writer, AllocError> {
-    let blocks = parse_blocks(alloc, bytes, options.for_blocks())?;
+    let blocks = parse_blocks(alloc, bytes, options)?;
     let mut writer = Writer::new(alloc, bytes.len());
     // Documents that people write have an event for about every six bytes.
     writer.reserve((bytes.len() / 4).saturating_add(64))?;

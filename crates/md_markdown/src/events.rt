@@ -5,13 +5,11 @@ ghost use Rattle.std.specs.Prelude.{◌≡◌, OnOk};
 use crate::endings::{ending_before, write_last_ending};
 use crate::html::{has_text, without_comments, write_html, write_pieces};
 use crate::leaves::{ends_of, write_front_matter};
-use crate::options::{DocumentHtml, MarkdownOptions};
 use crate::prefixes::{write_footnote_start, write_item_start, write_task};
 use md_base::Name;
-use md_blocks::{Block, Blocks, ContainerKind, LineRange};
+use md_blocks::{Block, Blocks, ContainerKind, DocumentHtml, LineRange, MarkdownOptions};
 use md_inlines::{Inlines, Writer};
 use md_lines::Span;
-use md_urls::Base;
 use std::alloc::{AllocError, Global};
 
 /// What precedes the next child of an open block.
@@ -58,17 +56,11 @@ pub(crate) fn write_events(
     writer: &mut Writer,
 ) -> Result<(), AllocError> {
     let lines = blocks.lines.as_slice();
-    let base = match &options.base {
-        Some(base) => Some(Base::new(base.as_str())),
-        None => None,
-    };
-    let definitions = &blocks.definitions;
-    let for_inlines = options.for_inlines();
     let mut emission = Emission {
         alloc,
         bytes,
         blocks,
-        inlines: Inlines::new(alloc, bytes, lines, definitions, for_inlines, base),
+        inlines: Inlines::new(alloc, bytes, lines, &blocks.definitions, options),
         html: options.html,
         open: Vec::new(alloc),
         is_first_item: false,

@@ -17,5 +17,5 @@ mod table;
 pub use compiling::{MAX_DEPTH, events_of, markdown, markdown_within};
 pub use error::MarkdownWithinError;
 pub use front::front_matter_of;
+pub use md_blocks::{DocumentHtml, MarkdownOptions};
 pub use md_html::{Limits, SafeHtml};
-pub use options::{DocumentHtml, MarkdownOptions};

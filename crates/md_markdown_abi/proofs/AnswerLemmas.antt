@@ -9,7 +9,7 @@ use Rattle.md_abi.specs.declared.failure.Failure.TheVariants as failure
 use Rattle.md_abi.proofs.AnswerLemmas.{never, failure_hands_over, failed}
 use Rattle.md_abi.proofs.ListAnswerLemmas.{moved}
 use Rattle.md_markdown_abi.specs.Text.{IsRead}
-use Rattle.md_markdown_abi.specs.Failures.{tell, answer_of_markdown, ExplainsFault}
+use Rattle.md_markdown_abi.specs.Failures.{answer_with, answer_of_markdown, ExplainsFault}
 use Rattle.md_markdown_abi.specs.Failures.{ExplainsMarkdown}
 use Rattle.md_markdown_abi.specs.Answers.{TellsOfMarkdown, IsOfMarkdown}
 use Rattle.md_markdown_abi.specs.declared.option.CMarkdownOptions.{CMarkdownOptions}
@@ -26,11 +26,11 @@ markdown_hands_over claim old why answer is =
   where
     of : (why : MarkdownFailure) →
         HandsOver (claim (answer_of_markdown why).index) old old (answer_of_markdown why)
-    of NoVersion = failed (claim 0) old (tell 35 0 0) (omega arith)
-    of (InputTooLong size) = failed (claim 0) old (tell 32 0 size) (omega arith)
-    of (NotUtf8 index) = failed (claim index) old (tell 34 index 0) (omega arith)
-    of OutputTooLong = failed (claim 0) old (tell 33 0 0) (omega arith)
-    of TooMuchWork = failed (claim 0) old (tell 37 0 0) (omega arith)
+    of NoVersion = failed (claim 0) old (answer_with 35 0 0) (omega arith)
+    of (InputTooLong size) = failed (claim 0) old (answer_with 32 0 size) (omega arith)
+    of (NotUtf8 index) = failed (claim index) old (answer_with 34 index 0) (omega arith)
+    of OutputTooLong = failed (claim 0) old (answer_with 33 0 0) (omega arith)
+    of TooMuchWork = failed (claim 0) old (answer_with 37 0 0) (omega arith)
     of (Failed cause) =
         failure_hands_over (claim (answer_of cause).index) old cause (answer_of cause) refl
 
@@ -115,20 +115,20 @@ module _ (bytes : List ℕ) (options : CMarkdownOptions) where
     invalid_from = λ _. h.1;
     utf8 = λ _ other. absurd (other refl);
   }
-  of_failure OutputTooLong h = of_read (tell 33 0 0) (never 33 35 refl) (never 33 5 refl)
+  of_failure OutputTooLong h = of_read (answer_with 33 0 0) (never 33 35 refl) (never 33 5 refl)
       (never 33 32 refl) (never 33 34 refl) h
-  of_failure TooMuchWork h = of_read (tell 37 0 0) (never 37 35 refl) (never 37 5 refl)
+  of_failure TooMuchWork h = of_read (answer_with 37 0 0) (never 37 35 refl) (never 37 5 refl)
       (never 37 32 refl) (never 37 34 refl) h
   of_failure (Failed cause) h = of_fault cause h
 
-  pub markdown_tells : (why : MarkdownFailure) (answer : Answer) → answer ≡ answer_of_markdown why →
+  pub markdown_says : (why : MarkdownFailure) (answer : Answer) → answer ≡ answer_of_markdown why →
       ExplainsMarkdown bytes options why → TellsOfMarkdown bytes options answer
-  markdown_tells why answer is h = subst (TellsOfMarkdown bytes options) (sym is) (of_failure why h)
+  markdown_says why answer is h = subst (TellsOfMarkdown bytes options) (sym is) (of_failure why h)
 
   -- with a text, or one that is too long for the buffer
-  pub text_tells : (answer : Answer) → answer.status ≤ 1 → IsRead bytes options →
+  pub text_says : (answer : Answer) → answer.status ≤ 1 → IsRead bytes options →
       TellsOfMarkdown bytes options answer
-  text_tells answer few read = of_read answer (λ is. omega (arith, is, few))
+  text_says answer few read = of_read answer (λ is. omega (arith, is, few))
       (λ is. omega (arith, is, few)) (λ is. omega (arith, is, few)) (λ is. omega (arith, is, few))
       read
 
@@ -153,9 +153,10 @@ module _ (bytes : List ℕ) (options : CMarkdownOptions) where
   fault_fields (failure.Name index) h = absurd h
   fault_fields (failure.Line number) h = absurd h
 
-  told_fields : (status index size : ℕ) → 32 ≤ status → (status ≤ 35) ⊎ (status ≡ 37) →
-      (status ≢ 34 → index ≡ 0) → (status ≢ 32 → size ≡ 0) → IsOfMarkdown (tell status index size)
-  told_fields status index size many few place counted = record {
+  answer_fields : (status index size : ℕ) → 32 ≤ status → (status ≤ 35) ⊎ (status ≡ 37) →
+      (status ≢ 34 → index ≡ 0) → (status ≢ 32 → size ≡ 0) →
+      IsOfMarkdown (answer_with status index size)
+  answer_fields status index size many few place counted = record {
     known = inr (inr (inr (many, few)));
     no_rule = refl;
     within = λ less. absurd (omega (arith, less, many));
@@ -169,19 +170,20 @@ module _ (bytes : List ℕ) (options : CMarkdownOptions) where
     where
       of : (why : MarkdownFailure) → ExplainsMarkdown bytes options why →
           IsOfMarkdown (answer_of_markdown why)
-      of NoVersion h = told_fields 35 0 0 (omega arith) (inl (omega arith)) (λ _. refl) (λ _. refl)
-      of (InputTooLong size) h = told_fields 32 0 size (omega arith) (inl (omega arith)) (λ _. refl)
-          (λ other. absurd (other refl))
-      of (NotUtf8 index) h = told_fields 34 index 0 (omega arith) (inl (omega arith))
-          (λ other. absurd (other refl)) (λ _. refl)
-      of OutputTooLong h = told_fields 33 0 0 (omega arith) (inl (omega arith)) (λ _. refl)
+      of NoVersion h = answer_fields 35 0 0 (omega arith) (inl (omega arith)) (λ _. refl)
           (λ _. refl)
-      of TooMuchWork h = told_fields 37 0 0 (omega arith) (inr refl) (λ _. refl) (λ _. refl)
+      of (InputTooLong size) h = answer_fields 32 0 size (omega arith) (inl (omega arith))
+          (λ _. refl) (λ other. absurd (other refl))
+      of (NotUtf8 index) h = answer_fields 34 index 0 (omega arith) (inl (omega arith))
+          (λ other. absurd (other refl)) (λ _. refl)
+      of OutputTooLong h = answer_fields 33 0 0 (omega arith) (inl (omega arith)) (λ _. refl)
+          (λ _. refl)
+      of TooMuchWork h = answer_fields 37 0 0 (omega arith) (inr refl) (λ _. refl) (λ _. refl)
       of (Failed cause) h = fault_fields cause h
 
 -- of a text and its list
 text_of_markdown : (status start size : ℕ) → status ≤ 1 → start ≤ size →
-    IsOfMarkdown (tell status start size)
+    IsOfMarkdown (answer_with status start size)
 text_of_markdown status start size few within = record {
   known = inl (omega (arith, few));
   no_rule = refl;
@@ -196,12 +198,12 @@ text_fields whole start old new answer within listed = of listed.handed
   where
     of : IsHandedOver whole old new listed.alone → IsOfMarkdown answer
     of (inl done) =
-        let is : answer ≡ tell 0 start (length whole) =
+        let is : answer ≡ answer_with 0 start (length whole) =
         listed.answered ∙ ap (moved start) done.answered in
         subst IsOfMarkdown (sym is)
         (text_of_markdown 0 start (length whole) (omega arith) within)
     of (inr kept) =
-        let is : answer ≡ tell 1 start (length whole) =
+        let is : answer ≡ answer_with 1 start (length whole) =
         listed.answered ∙ ap (moved start) kept.answered in
         subst IsOfMarkdown (sym is)
         (text_of_markdown 1 start (length whole) (omega arith) within)

@@ -24,7 +24,7 @@ use Rattle.md_abi.proofs.AttributedLemmas.{asked_is}
 use Rattle.md_depth.specs.Levels.{NestsWithin}
 use Rattle.md_markdown.specs.Depth.{most_depth}
 use Rattle.md_markdown.specs.Made.{IsMadeOf}
-use Rattle.md_markdown.specs.declared.options.MarkdownOptions.{MarkdownOptions}
+use Rattle.md_blocks.specs.declared.options.MarkdownOptions.{MarkdownOptions}
 use Rattle.md_markdown.specs.declared.error.MarkdownWithinError.{MarkdownWithinError}
 use Rattle.md_markdown.specs.declared.error.MarkdownWithinError.TheVariants as within
 use Rattle.md_markdown_abi.specs.Numbers.{markdown_version}
@@ -113,20 +113,20 @@ module _ {A : Type 0} (options : CMarkdownOptions) (field : ℕ) (value : Option
   fault_of (failure.Refused index rule) fault = absurd fault
 
   -- the result of `?`
-  pub fault_told : {T : Type 0} (r : Result T Failure) (why : Failure) →
+  pub fault_reported : {T : Type 0} (r : Result T Failure) (why : Failure) →
       IsErrAnd r (λ made. made ≡ why) →
       IsFaultOf field value why → IfErr r (IsOptionFault options)
-  fault_told (Ok x) why same fault = tt
-  fault_told (Err made) why same fault =
+  fault_reported (Ok x) why same fault = tt
+  fault_reported (Err made) why same fault =
       subst (IsOptionFault options) (sym same) (fault_of why fault)
 
 module _ (bytes : List ℕ) (given : CMarkdownOptions) where
   -- what `?` makes of a failure that is explained
-  pub told : {T : Type 0} (r : Result T MarkdownFailure) (why : MarkdownFailure) →
+  pub reported : {T : Type 0} (r : Result T MarkdownFailure) (why : MarkdownFailure) →
       IsErrAnd r (λ made. made ≡ why) → ExplainsMarkdown bytes given why →
       IfErr r (ExplainsMarkdown bytes given)
-  told (Ok x) why same explained = tt
-  told (Err made) why same explained = subst (ExplainsMarkdown bytes given) (sym same) explained
+  reported (Ok x) why same explained = tt
+  reported (Err made) why same explained = subst (ExplainsMarkdown bytes given) (sym same) explained
 
   pub option_fault : given.version ≡ markdown_version → (why : Failure) → IsOptionFault given why →
       ExplainsMarkdown bytes given (Failed why)
@@ -147,8 +147,8 @@ module _ (bytes : List ℕ) (given : CMarkdownOptions) where
   document_fault read TooMuchWork fault = absurd fault
   document_fault read (Failed cause) fault = absurd fault
 
-  pub within_told : IsRead bytes given → (why : MarkdownWithinError) →
+  pub within_reported : IsRead bytes given → (why : MarkdownWithinError) →
       ExplainsMarkdown bytes given (failure_within why)
-  within_told read within.TooLong = read
-  within_told read within.TooMuch = read
-  within_told read within.Memory = read.readable.options_read.version
+  within_reported read within.TooLong = read
+  within_reported read within.TooMuch = read
+  within_reported read within.Memory = read.readable.options_read.version

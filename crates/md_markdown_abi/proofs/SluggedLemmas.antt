@@ -1,10 +1,7 @@
 -- From the promises about a text with ids to those about C's result.
-use Rattle.std.proofs.Common.{◌≡◌, ℕ, ◌≤◌, List, [], ◌∷◌, ◌++◌, length, take, drop}
-use Rattle.std.proofs.Common.{Option, Some, sym, ap, ◌∙◌, subst}
-use Rattle.std.proofs.Common.{arith}
+use Rattle.std.proofs.Common.{◌≡◌, ℕ, ◌≤◌, List, [], ◌∷◌, ◌++◌, length, take}
+use Rattle.std.proofs.Common.{Option, Some, sym, subst}
 use Rattle.std.specs.Prelude.{IsTrue}
-use Rattle.std.proofs.lemmas.List.{length-append, take-append-le, drop-append-le, take_all}
-use Rattle.std.proofs.lemmas.List.{drop_all}
 use Rattle.md_text.specs.Ids.{are_distinct}
 use Rattle.md_safe.specs.Token.{Token, EndOfFile}
 use Rattle.md_safe.specs.Tokens.{tokens}
@@ -19,7 +16,7 @@ use Rattle.md_page.proofs.Forests.{read-built}
 use Rattle.md_page.proofs.Rules.{attributed}
 use Rattle.md_abi.specs.Options.{text_of}
 use Rattle.md_abi.specs.Attributes.{with_rel, listing}
-use Rattle.md_abi.proofs.AttributedLemmas.{asked_is}
+use Rattle.md_abi.proofs.AttributedLemmas.{after, asked_is}
 use Rattle.md_markdown_abi.specs.Text.{IsPlainOf}
 use Rattle.md_markdown_abi.specs.Slugged.{IsSluggedText, IsSluggedAfter, id_listing}
 use Rattle.md_markdown_abi.specs.declared.option.CMarkdownOptions.{CMarkdownOptions}
@@ -32,24 +29,15 @@ pub listed-slugs : (text whole : List ℕ) (start : ℕ) (ids : List (List ℕ))
     IsTrue (are_distinct (ids_among (with_given_ids ids x)))) →
     IsWritten text → IsSluggedAfter x start whole
 listed-slugs text whole start ids x is at count tokenized distinct written =
-    let list = listing (headings_of x) ++ id_listing ids in
-    let same : length text ≤ length text = omega arith in
-    let before : take start whole ≡ text =
-    ap (λ n. take n whole) at ∙ ap (take (length text)) is
-    ∙ take-append-le (length text) text list same
-    ∙ take_all (length text) text same in
-    let behind : drop start whole ≡ list =
-    ap (λ n. drop n whole) at ∙ ap (drop (length text)) is
-    ∙ drop-append-le (length text) text list same
-    ∙ ap (λ first. first ++ list) (drop_all (length text) text same) in
+    let parts = after text (listing (headings_of x) ++ id_listing ids) whole start is at in
     record {
       ids = ids;
-      within = omega (arith, at, ap length is, length-append text list);
+      within = parts.2;
       count = count;
-      added = subst (λ t. IsTokenized t (with_given_ids ids x)) (sym before) tokenized;
-      attributed = subst IsAttributed (sym before) (attributed text written);
-      written = subst IsWritten (sym before) written;
-      headings = behind;
+      added = subst (λ t. IsTokenized t (with_given_ids ids x)) (sym parts.0) tokenized;
+      attributed = subst IsAttributed (sym parts.0) (attributed text written);
+      written = subst IsWritten (sym parts.0) written;
+      headings = parts.1;
       distinct = distinct;
     }
 
@@ -57,10 +45,7 @@ listed-slugs text whole start ids x is at count tokenized distinct written =
 pub built-slugs : (text list whole : List ℕ) (start : ℕ) → whole ≡ text ++ list →
     start ≡ length text → IsBuiltAsWritten text → IsBuiltAsWritten (take start whole)
 built-slugs text list whole start is at built =
-    let same : length text ≤ length text = omega arith in
-    subst IsBuiltAsWritten (sym (ap (λ n. take n whole) at ∙ ap (take (length text)) is
-    ∙ take-append-le (length text) text list same
-    ∙ take_all (length text) text same)) built
+    subst IsBuiltAsWritten (sym (after text list whole start is at).0) built
 
 -- ---- of a document
 pub made_slugged : (bytes : List ℕ) (given : CMarkdownOptions) (rel : Option (List ℕ))

@@ -23,16 +23,16 @@ failure_within within.TooMuch = TooMuchWork
 failure_within within.Memory = Failed failure.Memory
 
 -- a status, an index and a length
-abbrev pub tell : ℕ → ℕ → ℕ → Answer
-tell status index size = record { status = status; rule = 0; index = index; length = size }
+abbrev pub answer_with : ℕ → ℕ → ℕ → Answer
+answer_with status index size = record { status = status; rule = 0; index = index; length = size }
 
 -- the answer to a failure
 abbrev pub answer_of_markdown : MarkdownFailure → Answer
-answer_of_markdown NoVersion = tell no_version 0 0
-answer_of_markdown (InputTooLong size) = tell input_too_long 0 size
-answer_of_markdown (NotUtf8 index) = tell not_utf8 index 0
-answer_of_markdown OutputTooLong = tell output_too_long 0 0
-answer_of_markdown TooMuchWork = tell too_much_work 0 0
+answer_of_markdown NoVersion = answer_with no_version 0 0
+answer_of_markdown (InputTooLong size) = answer_with input_too_long 0 size
+answer_of_markdown (NotUtf8 index) = answer_with not_utf8 index 0
+answer_of_markdown OutputTooLong = answer_with output_too_long 0 0
+answer_of_markdown TooMuchWork = answer_with too_much_work 0 0
 answer_of_markdown (Failed cause) = answer_of cause
 
 -- why there is no text, if an option or memory is the reason

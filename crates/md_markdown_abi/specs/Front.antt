@@ -16,7 +16,7 @@ pub record TellsOfFrontMatter (bytes : List ℕ) (answer : Answer) : Type 0 wher
   pub no_rule : answer.rule ≡ 0
 
 -- the position is reported; only the contract of a private function cites it
-pub record IsPlaceTold (bytes : List ℕ) (answer : Answer) : Type 0 where
-  pub told : answer.status ≡ written
+pub record IsPlaceReported (bytes : List ℕ) (answer : Answer) : Type 0 where
+  pub known : answer.status ≡ written
   pub within : answer.index + answer.length ≤ length bytes
   pub no_rule : answer.rule ≡ 0

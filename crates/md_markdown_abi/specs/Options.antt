@@ -3,10 +3,10 @@ use Rattle.std.specs.Prelude.{◌≡◌, ℕ, ◌==◌, ◌+◌, ◌-◌, ◌*�
 use Rattle.std.specs.Prelude.{List, [], ◌∷◌, replicate, true}
 use Rattle.std.specs.Prelude.{Option, Some, None, is_some, option_map, slice_get, string_bytes}
 use Rattle.md_abi.specs.Options.{flag_of, text_of}
-use Rattle.md_markdown.specs.declared.options.DocumentHtml.{DocumentHtml}
-use Rattle.md_markdown.specs.declared.options.DocumentHtml.TheVariants.{Text, LeftOut}
-use Rattle.md_markdown.specs.declared.options.DocumentHtml.TheVariants.{WithoutComments}
-use Rattle.md_markdown.specs.declared.options.MarkdownOptions.{MarkdownOptions}
+use Rattle.md_blocks.specs.declared.options.DocumentHtml.{DocumentHtml}
+use Rattle.md_blocks.specs.declared.options.DocumentHtml.TheVariants.{Text, LeftOut}
+use Rattle.md_blocks.specs.declared.options.DocumentHtml.TheVariants.{WithoutComments}
+use Rattle.md_blocks.specs.declared.options.MarkdownOptions.{MarkdownOptions}
 use Rattle.md_markdown_abi.specs.declared.option.CMarkdownOptions.{CMarkdownOptions}
 
 -- 0 as text, 1 not at all, 2 as text without comments

@@ -1,7 +1,7 @@
 //! The answer of a call with Markdown.
 
 ghost use Rattle.std.specs.Prelude.{◌≡◌};
-ghost use Rattle.md_markdown_abi.specs.Failures.{answer_of_markdown, tell};
+ghost use Rattle.md_markdown_abi.specs.Failures.{answer_of_markdown, answer_with};
 
 use crate::failure::MarkdownFailure;
 use md_abi::{Answer, answer_to};
@@ -29,18 +29,18 @@ pub fn answer_to_markdown(failure: &MarkdownFailure) -> Answer
     ensures { result ≡ answer_of_markdown failure.now }
 {
     match failure {
-        MarkdownFailure::NoVersion => tell(NO_VERSION, 0, 0),
-        MarkdownFailure::InputTooLong(length) => tell(INPUT_TOO_LONG, 0, *length),
-        MarkdownFailure::NotUtf8(index) => tell(NOT_UTF8, *index, 0),
-        MarkdownFailure::OutputTooLong => tell(OUTPUT_TOO_LONG, 0, 0),
-        MarkdownFailure::TooMuchWork => tell(TOO_MUCH_WORK, 0, 0),
+        MarkdownFailure::NoVersion => answer_with(NO_VERSION, 0, 0),
+        MarkdownFailure::InputTooLong(length) => answer_with(INPUT_TOO_LONG, 0, *length),
+        MarkdownFailure::NotUtf8(index) => answer_with(NOT_UTF8, *index, 0),
+        MarkdownFailure::OutputTooLong => answer_with(OUTPUT_TOO_LONG, 0, 0),
+        MarkdownFailure::TooMuchWork => answer_with(TOO_MUCH_WORK, 0, 0),
         MarkdownFailure::Failed(failure) => answer_to(failure),
     }
 }
 
 /// The answer without a rule.
-pub(crate) fn tell(status: u32, index: usize, length: usize) -> Answer
-    ensures { result ≡ tell status index length }
+pub(crate) fn answer_with(status: u32, index: usize, length: usize) -> Answer
+    ensures { result ≡ answer_with status index length }
 {
     Answer {
         status,

@@ -1,9 +1,9 @@
 //! Finds a document's front matter.
 
 ghost use Rattle.std.specs.Prelude.{◌+◌, ◌≤◌, length, IfSome};
-ghost use Rattle.md_markdown_abi.specs.Front.{TellsOfFrontMatter, IsPlaceTold};
+ghost use Rattle.md_markdown_abi.specs.Front.{TellsOfFrontMatter, IsPlaceReported};
 
-use crate::answer::{NOT_UTF8, OK, tell};
+use crate::answer::{NOT_UTF8, OK, answer_with};
 use md_abi::Answer;
 use md_blocks::front_matter;
 
@@ -13,18 +13,18 @@ pub fn answer_to_front_matter(bytes: &[u8]) -> Answer
     ensures { TellsOfFrontMatter bytes.now result }
 {
     match simdutf8::compat::from_utf8(bytes) {
-        Ok(_) => tell_place(bytes),
-        Err(error) => tell(NOT_UTF8, error.valid_up_to(), 0),
+        Ok(_) => answer_to_place(bytes),
+        Err(error) => answer_with(NOT_UTF8, error.valid_up_to(), 0),
     }
 }
 
 /// The same for a document that is UTF-8.
-fn tell_place(bytes: &[u8]) -> Answer
-    ensures { IsPlaceTold bytes.now result }
+fn answer_to_place(bytes: &[u8]) -> Answer
+    ensures { IsPlaceReported bytes.now result }
 {
     match front_matter_place(bytes) {
-        Some((start, length)) => tell(OK, start, length),
-        None => tell(OK, 0, 0),
+        Some((start, length)) => answer_with(OK, start, length),
+        None => answer_with(OK, 0, 0),
     }
 }
 

@@ -1,4 +1,5 @@
 //! The meanings of worked trees, computed: each is the contract of a function that does nothing.
+#![tactic(auto, unfolding(crate::proofs::Computed::is_utf8, crate::proofs::Computed::chars, crate::proofs::Computed::encode, crate::proofs::Computed::caseless, crate::proofs::Computed::digits))]
 
 pub mod blocks;
 pub mod endings;

@@ -33,19 +33,18 @@ impl Links {
         }
     }
 
-    /// The state after one more event.
+    /// Follows one more event.
     #[inline(always)]
-    pub fn after(self, event: &Event) -> Links
-        requires { self.images < 2 ^ 63 }
-        ensures in_link { result.in_link ≡ link_after self.in_link self.images event.now }
-        ensures images { result.images ≡ images_after self.images event.now }
-        ensures nested { result.nested
-            ≡ self.nested || is_nested self.in_link self.images event.now }
+    pub fn note(&mut self, event: &Event)
+        requires { self.old.images < 2 ^ 63 }
+        ensures in_link { self.new.in_link
+            ≡ link_after self.old.in_link self.old.images event.now }
+        ensures images { self.new.images ≡ images_after self.old.images event.now }
+        ensures nested { self.new.nested
+            ≡ self.old.nested || is_nested self.old.in_link self.old.images event.now }
     {
         if bears_on_links(event.name) {
-            self.after_link(event)
-        } else {
-            self
+            *self = self.after_link(event);
         }
     }
 

@@ -53,8 +53,8 @@ impl Measure {
     {
         self.progress.note(event, is_read(event.name));
         self.levels.note(event);
-        self.parts = self.parts.after(event);
-        self.links = self.links.after(event);
+        self.parts.note(event);
+        self.links.note(event);
     }
 
     /// How deep the events nest: the maximum number of nodes that are open at once.

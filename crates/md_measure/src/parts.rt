@@ -32,21 +32,21 @@ impl Parts {
         }
     }
 
-    /// The state after one more event.
+    /// Counts one more event.
     #[inline(always)]
-    pub fn after(self, event: &Event) -> Parts
-        requires columns { self.columns < 2 ^ 63 }
-        requires calls { self.calls < 2 ^ 63 }
-        ensures columns { result.columns ≡ columns_after self.columns event.now }
-        ensures cells { result.cells ≡ capped (self.cells
-            + (if exits is_row event.now then 5 * self.columns else 0)) }
-        ensures calls { result.calls
-            ≡ self.calls + (if enters is_call event.now then 1 else 0) }
+    pub fn note(&mut self, event: &Event)
+        requires columns { self.old.columns < 2 ^ 63 }
+        requires calls { self.old.calls < 2 ^ 63 }
+        ensures columns { self.new.columns ≡ columns_after self.old.columns event.now }
+        ensures cells { self.new.cells ≡ capped (self.old.cells
+            + (if exits is_row event.now then 5 * self.old.columns else 0)) }
+        ensures calls { self.new.calls
+            ≡ self.old.calls + (if enters is_call event.now then 1 else 0) }
     {
+        // Reading it brings its range into the proof.
+        let _cells = self.cells;
         if is_part(event.name) {
-            self.after_part(event)
-        } else {
-            self
+            *self = self.after_part(event);
         }
     }
 

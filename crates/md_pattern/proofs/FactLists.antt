@@ -1,10 +1,13 @@
 -- What words say where a record has come, and where a word comes or changes.
-use Rattle.std.proofs.Common.{◌≡◌, ℕ, ◌+◌, ◌<◌, ◌^◌, List, [], ◌∷◌, ◌++◌, Result, Ok, Err}
+use Rattle.std.proofs.Common.{◌≡◌, ℕ, ◌+◌, ◌-◌, ◌<◌, ◌^◌, List, [], ◌∷◌, ◌++◌, Result, Ok, Err}
+use Rattle.std.proofs.Common.{length, get_or, if◌then◌else◌}
 use Rattle.std.proofs.Common.{refl, sym, ap, ◌∙◌, subst, arith}
 use Rattle.std.specs.Prelude.{set, OnOk, OnErr, IfOk}
 use Rattle.std.proofs.lemmas.List.{map-append, map-set}
+use Rattle.std.proofs.lemmas.Bool.{lt-leb}
 use Rattle.std.proofs.lemmas.List.Elements.{All-head, All-tail, All-weaker, All-push, All-set}
 use Rattle.md_pattern.specs.declared.facts.Fact.{Fact}
+use Rattle.md_pattern.specs.Facts.{partner_alone}
 use Rattle.md_pattern.specs.FactWords.{IsWord, AreWords, fact_of_word, facts_of_words}
 
 module _ (old new : List Fact) (still : (word : ℕ) → IsWord old word → IsWord new word)
@@ -68,6 +71,26 @@ AreWords-two records words new (Ok entry) are low is none =
     (below_records records entry (low_before entry low)))
 AreWords-two records words new (Err error) are low is same =
     subst (λ ws. AreWords records ws) (sym same) are
+
+-- an index that is low enough encodes a partner
+partner-low : (records : List Fact) (index : ℕ) → index < 2 ^ 63 →
+    fact_of_word records index ≡ partner_alone index
+partner-low records index low =
+    ap (λ b. if b then get_or records (index - 2 ^ 63) (partner_alone 0) else partner_alone index)
+    (lt-leb (2 ^ 63) index low)
+
+pub facts-closed : (records : List Fact) (words : List ℕ) (entry : ℕ) (fact : Fact) →
+    entry < length words → length words < 2 ^ 63 → fact ≡ partner_alone (length words) →
+    facts_of_words records (set words entry (length words) ++ entry ∷ [])
+    ≡ set (facts_of_words records words) entry fact ++ partner_alone entry ∷ []
+facts-closed records words entry fact before low is =
+    map-append (fact_of_word records) (set words entry (length words)) (entry ∷ [])
+    ∙ ap (λ facts. facts ++ fact_of_word records entry ∷ [])
+    (map-set (fact_of_word records) words entry (length words))
+    ∙ ap (λ f. set (facts_of_words records words) entry f ++ fact_of_word records entry ∷ [])
+    (partner-low records (length words) low ∙ sym is)
+    ∙ ap (λ f. set (facts_of_words records words) entry fact ++ f ∷ [])
+    (partner-low records entry (omega (arith, before, low)))
 
 -- a result with one more known fact
 pub on_ok : {A E : Type 0} (P Q : Type 0) → (P → Q) → (result : Result A E) → OnOk result P →

@@ -1,7 +1,7 @@
 -- The lemmas on places in a pattern: each fits a byte, and which patterns let a spine be empty.
 pub mod PlaceLemmas
 -- That the pass from event to event finds what is defined of a tree: `Passing`, `Summaries` and
--- `FirstIndex`. `Opens` and `Leaves` are for the steps of the code.
+-- `FirstIndex`. `CommonNames`, `Opens` and `Leaves` are for the steps of the code.
 pub mod Loosened
 pub mod OneMoreChild
 pub mod Summaries
@@ -12,3 +12,4 @@ pub mod Passing
 pub mod FactLists
 pub mod FirstIndex
 pub mod Leaves
+pub mod CommonNames

@@ -1,6 +1,6 @@
 //! The pass over the events, in order, which finds or infers the facts about each node.
 
-ghost use Rattle.std.specs.Prelude.{◌≡◌, false, OnOk, map};
+ghost use Rattle.std.specs.Prelude.{◌≡◌, true, false, OnOk, map};
 ghost use Rattle.std.specs.Prelude.{◌&&◌, IfOk};
 ghost use Rattle.md_base.specs.NameTests.{is_table};
 ghost use Rattle.md_pattern.specs.Facts as spec;
@@ -10,9 +10,9 @@ mod following;
 mod list;
 mod nodes;
 
-use self::following::{follow, follow_leaf};
+use self::following::{follow, follow_common, follow_leaf, is_common};
 pub use self::list::FactList;
-use self::nodes::{document_node, fact_of, opened, partner_alone, push_node};
+use self::nodes::{common_fact, document_node, fact_of, partner_alone, push_opened};
 use crate::columns::Columns;
 use crate::seeking::Sought;
 use crate::summary::{Looseness, Summary};
@@ -162,8 +162,7 @@ impl Pass {
         let entry = self.facts.len();
         self.facts.push(partner_alone(0))?;
         self.ended.columns.enter(name)?;
-        let inside = opened(entry, name, innermost(&self.open_nodes, &self.document));
-        push_node(&mut self.open_nodes, inside)
+        push_opened(&mut self.open_nodes, &self.document, entry, name)
     }
 
     /// Handles the exit of a node.
@@ -171,17 +170,38 @@ impl Pass {
     fn exit(&mut self, alloc: Global, name: Name) -> Result<(), AllocError>
         ensures { OnOk result (self.new ≡ spec.passed_exit name self.old) }
     {
-        // Many nodes have one of these names. A name that is written here lets the compiler compute
-        // at build time what depends on the name.
-        match name {
-            Name::Other(number) => self.exit_named(alloc, Name::Other(number)),
-            _ => self.exit_named(alloc, name),
+        // Most nodes with children have a common name, and only this test depends on it.
+        if is_common(name) {
+            self.exit_common(name)
+        } else {
+            self.exit_rare(alloc, name)
         }
     }
 
-    /// The same, for a name that may be a constant at the call.
+    /// The same, for a common name. Such a node changes no columns and no definitions.
     #[inline(always)]
-    fn exit_named(&mut self, alloc: Global, name: Name) -> Result<(), AllocError>
+    fn exit_common(&mut self, name: Name) -> Result<(), AllocError>
+        requires { spec.is_common name ≡ true }
+        ensures { OnOk result (self.new ≡ spec.passed_exit name self.old) }
+    {
+        let child = leave_innermost(&mut self.open_nodes, &mut self.document);
+        let fact = common_fact(name, self.facts.len(), &child);
+        self.facts.close(child.entry, fact)?;
+        match self.open_nodes.last_mut() {
+            Some(here) => {
+                follow_common(here, name, &child);
+                Ok(())
+            }
+            None => {
+                follow_common(&mut self.document, name, &child);
+                Ok(())
+            }
+        }
+    }
+
+    /// The same, for any name.
+    #[inline(always)]
+    fn exit_rare(&mut self, alloc: Global, name: Name) -> Result<(), AllocError>
         ensures { OnOk result (self.new ≡ spec.passed_exit name self.old) }
     {
         let own = leave_innermost(&mut self.open_nodes, &mut self.document);

@@ -1,4 +1,4 @@
--- Which event of the document is meant by a call.
+-- That a call is a step follows if it is one under a name that is known to be the event's.
 use Rattle.std.proofs.Common.{◌≡◌, ℕ, List, ap, sym, ◌∙◌}
 use Rattle.md_base.specs.declared.event.Name.{Name}
 use Rattle.md_meaning.specs.Meaning.At.{Context}

@@ -1,5 +1,5 @@
--- The definitions that the printer's code uses besides the steps: heads of links and images, the
--- text of code, surroundings.
+-- The definitions that the printer's code uses besides the steps: its surroundings, its input, and
+-- texts that it prints in parts.
 pub mod View
 pub mod Supplies
 pub mod Parts

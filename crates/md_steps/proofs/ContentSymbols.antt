@@ -1,4 +1,4 @@
--- What may stand where, said by the symbols of the grammar in place of names, and that both say the
+-- What may stand where, by the symbols of the grammar instead of by names, and that both say the
 -- same. `facts` says of each name what proofs ask of how it stands.
 use Rattle.std.proofs.Common.{◌≡◌, Bool, true, false, not, ◌&&◌, ◌||◌, List, [], ◌∷◌, refl}
 use Rattle.md_base.specs.declared.event.Name.{Name}

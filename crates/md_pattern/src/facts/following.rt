@@ -52,6 +52,24 @@ fn search_after(sought: &mut Sought, name: Name, entry: usize, own: &Sought)
     }
 }
 
+/// The same after a child of a common name.
+#[inline(always)]
+fn search_common(sought: &mut Sought, name: Name, entry: usize, own: &Sought)
+    requires { spec.is_common name ≡ true }
+    ensures { sought.new ≡ spec.sought_after name entry own.now sought.old }
+{
+    if matches!(name, Name::Other(_)) {
+        // Assigning field by field avoids copying the padding between them.
+        *sought = Sought {
+            read_at: own.read_at,
+            wanted: own.wanted,
+            found: own.found,
+        };
+    } else if !is_idle(*sought) {
+        see(sought, name, entry, own.read_at);
+    }
+}
+
 /// Continues a search after a node without children.
 #[inline(always)]
 fn search_leaf(sought: &mut Sought, name: Name, entry: usize)
@@ -80,11 +98,6 @@ pub(super) fn follow(
         ≡ spec.definitions_with name own.now.entry ended.old.definitions.items) }
 {
     search_after(&mut here.sought, name, own.entry, &own.sought);
-    if is_common(name) {
-        here.contributing = own.entry;
-        here.summary.last = Last::Plain;
-        return Ok(());
-    }
     ended.columns.exit(alloc, name, own.summary, here.collects)?;
     note_child(
         &mut here.contributing,
@@ -94,6 +107,17 @@ pub(super) fn follow(
     )?;
     add_child(&mut here.summary, name, own.summary);
     Ok(())
+}
+
+/// The same after a child of a common name.
+#[inline(always)]
+pub(super) fn follow_common(here: &mut OpenNode, name: Name, own: &OpenNode)
+    requires { spec.is_common name ≡ true }
+    ensures { here.new ≡ spec.followed name own.now here.old }
+{
+    search_common(&mut here.sought, name, own.entry, &own.sought);
+    here.contributing = own.entry;
+    here.summary.last = Last::Plain;
 }
 
 /// The same after a child that has no children.
@@ -143,7 +167,7 @@ fn follow_simple(here: &mut OpenNode, name: Name, entry: usize)
 
 /// Whether a node is of a common name: it contributes, and its parent doesn't examine it further.
 #[inline(always)]
-fn is_common(name: Name) -> bool
+pub(super) fn is_common(name: Name) -> bool
     ensures { result ≡ spec.is_common name }
 {
     match name {

@@ -97,6 +97,26 @@ impl FactList {
         push_two(&mut self.words)
     }
 
+    /// Replaces the fact at the entry of a node that exits at the next event, if the entry exists,
+    /// and adds the fact at that exit. Here a partner needs no test of its size: both words are
+    /// indices of events.
+    ///
+    /// # Errors
+    ///
+    /// `AllocError`, only if memory runs out.
+    #[inline(always)]
+    pub(super) fn close(&mut self, entry: usize, fact: Fact) -> Result<(), AllocError>
+        requires { fact.partner ≡ length self.old }
+        ensures { OnOk result
+            (self.new ≡ set self.old entry fact ++ spec.partner_alone entry ∷ []) }
+    {
+        if entry < self.words.len() && is_plain(&fact) {
+            return close_words(&mut self.words, entry);
+        }
+        self.put(entry, fact)?;
+        self.push(partner_alone(entry))
+    }
+
     /// Replaces the fact at the event with this index, if there is one.
     ///
     /// # Errors
@@ -112,17 +132,24 @@ impl FactList {
     }
 }
 
+/// Whether a fact is only a partner.
+#[inline(always)]
+fn is_plain(fact: &Fact) -> bool
+    ensures { result ≡ true → fact.now ≡ spec.partner_alone fact.now.partner }
+{
+    fact.read_at == 0
+        && !fact.looseness.without_items
+        && !fact.looseness.with_items
+        && !fact.looseness.of_item
+}
+
 /// Whether a fact is only a partner, and fits in a word.
 #[inline(always)]
 fn is_partner_alone(fact: &Fact) -> bool
     ensures alone { result ≡ true → fact.now ≡ spec.partner_alone fact.now.partner }
     ensures fits { result ≡ true → fact.now.partner < 2 ^ 63 }
 {
-    fact.read_at == 0
-        && !fact.looseness.without_items
-        && !fact.looseness.with_items
-        && !fact.looseness.of_item
-        && fact.partner < RECORDS
+    is_plain(fact) && fact.partner < RECORDS
 }
 
 /// Returns the word for a fact, and adds a record if it needs one. `events` is the number of events
@@ -203,6 +230,21 @@ fn push_two(words: &mut Vec<usize>) -> Result<usize, AllocError>
     words.push_reserved(entry + 1);
     words.push_reserved(entry);
     Ok(entry)
+}
+
+/// Writes the word of an entry whose exit is the next event, and adds the word of the exit.
+#[inline(always)]
+fn close_words(words: &mut Vec<usize>, entry: usize) -> Result<(), AllocError>
+    requires { entry < length words.old.items }
+    ensures fits { length words.old.items < 2 ^ 63 }
+    ensures closed { OnOk result (words.new.items
+        ≡ set words.old.items entry (length words.old.items) ++ entry ∷ []) }
+    ensures refused { OnErr result (words.new.items
+        ≡ set words.old.items entry (length words.old.items)) }
+{
+    let exit = words.len();
+    words[entry] = exit;
+    push_word(words, entry)
 }
 
 /// Writes a word at an index, if it exists.

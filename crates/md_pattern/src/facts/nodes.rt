@@ -1,11 +1,11 @@
 //! The state of an open node, and the fact of one that ends.
 
-ghost use Rattle.std.specs.Prelude.{◌≡◌, ◌+◌, false, OnOk, [], ◌∷◌, ◌++◌, length};
+ghost use Rattle.std.specs.Prelude.{◌≡◌, ◌+◌, ℕ, true, false, OnOk, [], ◌∷◌, ◌++◌, length};
 ghost use Rattle.std.specs.Prelude.{set, IfOk};
 ghost use Rattle.md_base.specs.NameTests.{is_transparent};
 ghost use Rattle.md_pattern.specs.Facts as spec;
 
-use super::{Fact, OpenNode};
+use super::{Fact, OpenNode, innermost};
 use crate::columns::collects_in;
 use crate::seeking::{NOTHING_SOUGHT, Sought, search_of};
 use crate::summary::{EMPTY_SUMMARY, NOT_LOOSE, summary_looseness};
@@ -19,6 +19,20 @@ pub(super) fn document_node() -> OpenNode
 {
     OpenNode {
         entry: 0,
+        contributing: 0,
+        collects: false,
+        sought: NOTHING_SOUGHT,
+        summary: EMPTY_SUMMARY,
+    }
+}
+
+/// A node entered at an index, inside which nothing is sought or collected.
+#[inline(always)]
+fn node_apart(entry: usize) -> OpenNode
+    ensures { result ≡ record spec.document_node { entry = entry } }
+{
+    OpenNode {
+        entry,
         contributing: 0,
         collects: false,
         sought: NOTHING_SOUGHT,
@@ -40,8 +54,28 @@ fn sought_inside(name: Name, around: Sought) -> Sought
 
 /// A node entered at an index, inside an open node.
 #[inline(always)]
-pub(super) fn opened(entry: usize, name: Name, around: &OpenNode) -> OpenNode
+fn opened(entry: usize, name: Name, around: &OpenNode) -> OpenNode
     ensures { result ≡ spec.opened entry name around.now }
+{
+    OpenNode {
+        entry,
+        contributing: 0,
+        collects: collects_in(name, around.collects),
+        sought: sought_inside(name, around.sought),
+        summary: EMPTY_SUMMARY,
+    }
+}
+
+/// Adds a node entered at an index. For most nodes only constants are written, by the second arm.
+#[inline(always)]
+pub(super) fn push_opened(
+    open_nodes: &mut Vec<OpenNode>,
+    document: &OpenNode,
+    entry: usize,
+    name: Name,
+) -> Result<(), AllocError>
+    ensures { OnOk result (open_nodes.new.items ≡ open_nodes.old.items ++ spec.opened entry name
+        (spec.next_outer (spec.opens open_nodes.old.items document.now)) ∷ []) }
 {
     match name {
         Name::BlockQuotePrefix
@@ -59,26 +93,13 @@ pub(super) fn opened(entry: usize, name: Name, around: &OpenNode) -> OpenNode
         | Name::ListItem
         | Name::ListItemPrefix
         | Name::ListOrdered
-        | Name::SpaceOrTab => OpenNode {
-            entry,
-            contributing: 0,
-            collects: collects_in(name, around.collects),
-            sought: sought_inside(name, around.sought),
-            summary: EMPTY_SUMMARY,
-        },
-        // A search and a table of the parent continue inside it.
-        Name::Other(_) => OpenNode {
-            entry,
-            contributing: 0,
-            collects: around.collects,
-            sought: around.sought,
-            summary: EMPTY_SUMMARY,
-        },
+        | Name::SpaceOrTab
+        | Name::Other(_) => {
+            let inside = opened(entry, name, innermost(open_nodes, document));
+            push_node(open_nodes, inside)
+        }
         // Inside any other node nothing is sought or collected.
-        _ => OpenNode {
-            entry,
-            ..document_node()
-        },
+        _ => push_node(open_nodes, node_apart(entry)),
     }
 }
 
@@ -109,6 +130,25 @@ pub(super) fn fact_of(name: Name, exit: usize, table: usize, own: &OpenNode) -> 
     }
 }
 
+/// The same for a node of a common name, which is no table.
+#[inline(always)]
+pub(super) fn common_fact(name: Name, exit: usize, own: &OpenNode) -> Fact
+    requires { spec.is_common name ≡ true }
+    ensures { (table : ℕ) → result
+        ≡ spec.fact_of name exit table own.now.contributing own.now.sought own.now.summary }
+{
+    let read_at = if matches!(name, Name::Other(_)) {
+        0
+    } else {
+        own.sought.read_at
+    };
+    Fact {
+        partner: exit,
+        read_at,
+        looseness: summary_looseness(own.summary),
+    }
+}
+
 /// The fact at an exit, and at an entry before its exit.
 pub(super) fn partner_alone(partner: usize) -> Fact
     ensures { result ≡ spec.partner_alone partner }
@@ -122,7 +162,7 @@ pub(super) fn partner_alone(partner: usize) -> Fact
 
 /// Adds an open node. Usually there is capacity, and no call is made.
 #[inline(always)]
-pub(super) fn push_node(open_nodes: &mut Vec<OpenNode>, node: OpenNode) -> Result<(), AllocError>
+fn push_node(open_nodes: &mut Vec<OpenNode>, node: OpenNode) -> Result<(), AllocError>
     ensures { OnOk result (open_nodes.new.items ≡ open_nodes.old.items ++ node ∷ []) }
 {
     if open_nodes.len() == open_nodes.capacity() {

@@ -1,6 +1,6 @@
 -- What is promised of a safe text, and of why there is none.
 use Rattle.md_tree.specs.Grammar.{handed}
-use Rattle.md_abi.proofs.AttributedLemmas.{reads_once, safe_told}
+use Rattle.md_abi.proofs.AttributedLemmas.{reads_once, safe_reported}
 use Rattle.md_abi.proofs.attributed.compile_read_safely.Goals as goal
 
 pub returns-clause-ok : goal.returns-clause-ok
@@ -8,7 +8,7 @@ returns-clause-ok c =
     let made = c.in_ok-html.ensures.promises in
     record {
       grammatical = made.grammatical;
-      means = made.meaning;
+      meaning = made.meaning;
       one_reading = λ _. reads_once c.in_ok-html.html made.tokens.as_read;
       safe_links = λ _. c.as_str-text.ensures.safe.safe_links;
       safe_images = λ _. c.as_str-text.ensures.safe.safe_images;
@@ -23,5 +23,5 @@ returns-clause-ok c =
 pub returns-in_err-html-clause-err : goal.returns-in_err-html-clause-err
 returns-in_err-html-clause-err c =
     let why = c.in_err-html.ensures in
-    safe_told (handed c.args.events.now c.args.bytes.now c.args.names.now) c.args.options.now
+    safe_reported (handed c.args.events.now c.args.bytes.now c.args.names.now) c.args.options.now
     c.in_err-html.field-0.0 c.from_residual.result c.from_residual.ensures.1 why.options why.refused

@@ -1,13 +1,13 @@
 -- The compiler's refusal stays true as the failure that `?` converts it to. The search alone
 -- doesn't combine the five clauses of a refusal.
 use Rattle.md_tree.specs.Grammar.{handed}
-use Rattle.md_abi.proofs.GivenLemmas.{told}
+use Rattle.md_abi.proofs.GivenLemmas.{reported}
 use Rattle.md_abi.proofs.given.compile_read.Goals as goal
 
 pub returns-in_err-compile-clause-err : goal.returns-in_err-compile-clause-err
 returns-in_err-compile-clause-err c =
     let why = c.in_err-compile.ensures in
-    told (handed c.args.events.now c.args.bytes.now c.args.names.now) c.in_err-compile.field-0.0
+    reported (handed c.args.events.now c.args.bytes.now c.args.names.now) c.in_err-compile.field-0.0
     c.from_residual.result
     (record {
       order = why.order;

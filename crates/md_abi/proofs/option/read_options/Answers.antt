@@ -1,77 +1,79 @@
 -- A field that encodes no option is reported with its own number; else each option is the one of
 -- its field. The search alone takes long for so many fields.
 use Rattle.std.proofs.Common.{refl}
-use Rattle.md_abi.proofs.OptionLemmas.{fault_told}
+use Rattle.md_abi.proofs.OptionLemmas.{fault_reported}
 use Rattle.md_abi.proofs.option.read_options.Goals as goal
 
 pub returns-in_err-read_flag-clause-err : goal.returns-in_err-read_flag-clause-err
 returns-in_err-read_flag-clause-err c =
     let made = c.from_residual in
-    fault_told c.args.given.now 0 _ refl made.result _ made.ensures.1 c.in_err-read_flag.ensures.err
+    fault_reported c.args.given.now 0 _ refl made.result _ made.ensures.1
+    c.in_err-read_flag.ensures.err
 
 pub returns-in_err-read_flag-2-clause-err : goal.returns-in_err-read_flag-2-clause-err
 returns-in_err-read_flag-2-clause-err c =
     let made = c.from_residual-in_err-read_flag-2 in
-    fault_told c.args.given.now 1 _ refl made.result _ made.ensures.1
+    fault_reported c.args.given.now 1 _ refl made.result _ made.ensures.1
     c.in_err-read_flag-2.ensures.err
 
 pub returns-in_err-read_flag-3-clause-err : goal.returns-in_err-read_flag-3-clause-err
 returns-in_err-read_flag-3-clause-err c =
     let made = c.from_residual-in_err-read_flag-3 in
-    fault_told c.args.given.now 2 _ refl made.result _ made.ensures.1
+    fault_reported c.args.given.now 2 _ refl made.result _ made.ensures.1
     c.in_err-read_flag-3.ensures.err
 
 pub returns-in_err-read_flag-4-clause-err : goal.returns-in_err-read_flag-4-clause-err
 returns-in_err-read_flag-4-clause-err c =
     let made = c.from_residual-in_err-read_flag-4 in
-    fault_told c.args.given.now 3 _ refl made.result _ made.ensures.1
+    fault_reported c.args.given.now 3 _ refl made.result _ made.ensures.1
     c.in_err-read_flag-4.ensures.err
 
 pub returns-in_err-read_flag-5-clause-err : goal.returns-in_err-read_flag-5-clause-err
 returns-in_err-read_flag-5-clause-err c =
     let made = c.from_residual-in_err-read_flag-5 in
-    fault_told c.args.given.now 4 _ refl made.result _ made.ensures.1
+    fault_reported c.args.given.now 4 _ refl made.result _ made.ensures.1
     c.in_err-read_flag-5.ensures.err
 
 pub returns-in_err-read_flag-6-clause-err : goal.returns-in_err-read_flag-6-clause-err
 returns-in_err-read_flag-6-clause-err c =
     let made = c.from_residual-in_err-read_flag-6 in
-    fault_told c.args.given.now 11 _ refl made.result _ made.ensures.1
+    fault_reported c.args.given.now 11 _ refl made.result _ made.ensures.1
     c.in_err-read_flag-6.ensures.err
 
 pub returns-in_err-read_ending-clause-err : goal.returns-in_err-read_ending-clause-err
 returns-in_err-read_ending-clause-err c =
     let made = c.from_residual-in_err-read_ending in
-    fault_told c.args.given.now 5 _ refl made.result _ made.ensures.1
+    fault_reported c.args.given.now 5 _ refl made.result _ made.ensures.1
     c.in_err-read_ending.ensures.err
 
 pub returns-in_err-read_text-clause-err : goal.returns-in_err-read_text-clause-err
 returns-in_err-read_text-clause-err c =
     let made = c.from_residual-in_err-read_text in
-    fault_told c.args.given.now 6 _ refl made.result _ made.ensures.1 c.in_err-read_text.ensures.err
+    fault_reported c.args.given.now 6 _ refl made.result _ made.ensures.1
+    c.in_err-read_text.ensures.err
 
 pub returns-in_err-read_text-2-clause-err : goal.returns-in_err-read_text-2-clause-err
 returns-in_err-read_text-2-clause-err c =
     let made = c.from_residual-in_err-read_text-2 in
-    fault_told c.args.given.now 7 _ refl made.result _ made.ensures.1
+    fault_reported c.args.given.now 7 _ refl made.result _ made.ensures.1
     c.in_err-read_text-2.ensures.err
 
 pub returns-in_err-read_text-3-clause-err : goal.returns-in_err-read_text-3-clause-err
 returns-in_err-read_text-3-clause-err c =
     let made = c.from_residual-in_err-read_text-3 in
-    fault_told c.args.given.now 8 _ refl made.result _ made.ensures.1
+    fault_reported c.args.given.now 8 _ refl made.result _ made.ensures.1
     c.in_err-read_text-3.ensures.err
 
 pub returns-in_err-read_text-4-clause-err : goal.returns-in_err-read_text-4-clause-err
 returns-in_err-read_text-4-clause-err c =
     let made = c.from_residual-in_err-read_text-4 in
-    fault_told c.args.given.now 9 _ refl made.result _ made.ensures.1
+    fault_reported c.args.given.now 9 _ refl made.result _ made.ensures.1
     c.in_err-read_text-4.ensures.err
 
 pub returns-in_err-read_text-5-clause-err : goal.returns-in_err-read_text-5-clause-err
 returns-in_err-read_text-5-clause-err c =
     let made = c.from_residual-in_err-read_text-5 in
-    fault_told c.args.given.now 10 _ refl made.result _ made.ensures.1
+    fault_reported c.args.given.now 10 _ refl made.result _ made.ensures.1
     c.in_err-read_text-5.ensures.err
 
 pub returns-clause-ok : goal.returns-clause-ok

@@ -1,7 +1,7 @@
 -- What is promised of a text without a link in a link, and of why there is none.
 use Rattle.md_tree.specs.Grammar.{handed}
 use Rattle.md_abi.proofs.AttributedLemmas.{reads_once}
-use Rattle.md_abi.proofs.UnnestedLemmas.{told_unnested}
+use Rattle.md_abi.proofs.UnnestedLemmas.{unnested_reported}
 use Rattle.md_abi.proofs.unnested.compile_read_unnested.Goals as goal
 
 pub returns-clause-ok : goal.returns-clause-ok
@@ -10,7 +10,7 @@ returns-clause-ok c =
     record {
       compiled = record {
         grammatical = made.grammatical;
-        means = made.meaning;
+        meaning = made.meaning;
         one_reading = λ _. reads_once c.in_ok-html.html made.tokens.as_read;
         safe_links = λ _. c.as_str-text.ensures.safe.safe_links;
         safe_images = λ _. c.as_str-text.ensures.safe.safe_images;
@@ -28,6 +28,6 @@ returns-clause-ok c =
 pub returns-in_err-html-clause-err : goal.returns-in_err-html-clause-err
 returns-in_err-html-clause-err c =
     let why = c.in_err-html.ensures in
-    told_unnested (handed c.args.events.now c.args.bytes.now c.args.names.now) c.args.options.now
-    c.in_err-html.field-0.0 c.from_residual.result c.from_residual.ensures.1 why.nested
-    why.nested_grammatical why.options why.refused
+    unnested_reported (handed c.args.events.now c.args.bytes.now c.args.names.now)
+    c.args.options.now c.in_err-html.field-0.0 c.from_residual.result c.from_residual.ensures.1
+    why.nested why.nested_grammatical why.options why.refused

@@ -3,8 +3,8 @@
 use Rattle.std.proofs.Common.{◌≤◌, length, subst, sym}
 use Rattle.md_abi.proofs.ListAnswerLemmas.{list_handed, list_status}
 use Rattle.md_markdown_abi.specs.Text.{IsMarkdownText}
-use Rattle.md_markdown_abi.proofs.AnswerLemmas.{text_tells, text_fields}
-use Rattle.md_markdown_abi.proofs.AnswerLemmas.{markdown_hands_over, markdown_tells}
+use Rattle.md_markdown_abi.proofs.AnswerLemmas.{text_says, text_fields}
+use Rattle.md_markdown_abi.proofs.AnswerLemmas.{markdown_hands_over, markdown_says}
 use Rattle.md_markdown_abi.proofs.AnswerLemmas.{markdown_fields}
 use Rattle.md_ffi.proofs.export.bivdrazo_markdown_into.Goals as goal
 
@@ -18,7 +18,7 @@ returns-in-Ok-clause-text c =
 
 pub returns-in-Ok-clause-told : goal.returns-in-Ok-clause-told
 returns-in-Ok-clause-told c =
-    text_tells c.args.text.now c.args.options.now c.hand_over_listed.result
+    text_says c.args.text.now c.args.options.now c.hand_over_listed.result
     (list_status c.as_str.result.now c.in-Ok.made.start c.args.buffer.now _
     c.hand_over_listed.result
     (subst (λ whole. c.in-Ok.made.start ≤ length whole) (sym c.as_str.ensures.value)
@@ -38,7 +38,7 @@ returns-in-Err-clause-text c =
 
 pub returns-in-Err-clause-told : goal.returns-in-Err-clause-told
 returns-in-Err-clause-told c =
-    markdown_tells c.args.text.now c.args.options.now c.in-Err.failure c.answer_to_markdown.result
+    markdown_says c.args.text.now c.args.options.now c.in-Err.failure c.answer_to_markdown.result
     c.answer_to_markdown.ensures c.in-Err.ensures.err
 
 pub returns-in-Err-clause-fields : goal.returns-in-Err-clause-fields

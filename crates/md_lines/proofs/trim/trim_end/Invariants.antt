@@ -1,9 +1,13 @@
--- What is cut off stands before the end.
-use Rattle.std.proofs.Common.{◌≤◌}
+-- What is cut off stands before the end, and is blank.
+use Rattle.std.proofs.Common.{◌+◌, ◌≤◌, drop}
+use Rattle.std.specs.List.{prefix_len}
+use Rattle.md_lines.specs.Lines.{is_blank}
 use Rattle.md_lines.proofs.trim.trim_end.Given as goal
 
 abbrev pub invariant-loop-at : goal.invariant-loop-at
-invariant-loop-at l = (l.at ≤ l.end) × (l.start ≤ l.end → l.start ≤ l.at)
+invariant-loop-at l =
+    (l.at ≤ l.end) × (l.start ≤ l.end → l.start ≤ l.at)
+    × (l.end ≤ l.at + prefix_len is_blank (drop l.at l.bytes))
 
 abbrev pub decreases-loop-at : goal.decreases-loop-at
 decreases-loop-at l = l.at

@@ -1,14 +1,14 @@
 -- The promises about a text, for C's answer and the input that was read. The search alone doesn't
 -- combine the clauses.
 use Rattle.std.proofs.Common.{option_copied, string_bytes, rules}
-use Rattle.md_markdown_abi.proofs.GivenLemmas.{plain_of, told, option_fault}
+use Rattle.md_markdown_abi.proofs.GivenLemmas.{plain_of, reported, option_fault}
 use Rattle.md_markdown_abi.proofs.SluggedLemmas.{made_slugged}
 use Rattle.md_markdown_abi.proofs.slugged.markdown_slugged.Goals as goal
 
 pub returns-in_err-options-clause-err : goal.returns-in_err-options-clause-err
 returns-in_err-options-clause-err c =
     let made = c.from_residual-in_err-options in
-    told c.args.bytes.now c.args.given.now made.result _ made.ensures.1
+    reported c.args.bytes.now c.args.given.now made.result _ made.ensures.1
     (option_fault c.args.bytes.now c.args.given.now c.in_ok-check_version.ensures.ok _
     c.in_err-options.ensures.err)
 

@@ -12,35 +12,35 @@ returns c = λ events held.
     let event = c.args.event.now in
     let opens = c.note.ensures in
     let levels = c.note-2.ensures in
-    let parts = c.after-self.ensures in
-    let links = c.after-self-2.ensures in
+    let parts = c.note-3.ensures in
+    let links = c.note-4.ensures in
     let moves = opens.depth ∙ ap (λ b. moved self.progress.depth event.kind b) c.is_read.ensures in
     record {
       read = λ rest. read-step self.progress.length self.progress.index self.progress.depth
           c.note.new.self.length c.note.new.self.index c.note.new.self.depth event
           events rest opens.index moves opens.length (held.read (event ∷ rest));
-      cells = λ rest. cells-step self.parts.cells self.parts.columns c.after-self.result.cells
-          c.after-self.result.columns event events rest parts.columns parts.cells
+      cells = λ rest. cells-step self.parts.cells self.parts.columns c.note-3.new.self.cells
+          c.note-3.new.self.columns event events rest parts.columns parts.cells
           (held.cells (event ∷ rest));
-      calls = λ rest. calls-step self.parts.calls c.after-self.result.calls event events rest
+      calls = λ rest. calls-step self.parts.calls c.note-3.new.self.calls event events rest
           parts.calls (held.calls (event ∷ rest));
       depth = λ rest. depth-step self.levels.deepest self.levels.opened
           c.note-2.new.self.deepest c.note-2.new.self.opened event events rest held.opened
           levels.opened levels.deepest (held.depth (event ∷ rest));
       nested = λ rest. nested-step self.links.nested self.links.in_link
-          c.after-self-2.result.nested c.after-self-2.result.in_link self.links.images
-          c.after-self-2.result.images event events rest links.nested links.in_link links.images
+          c.note-4.new.self.nested c.note-4.new.self.in_link self.links.images
+          c.note-4.new.self.images event events rest links.nested links.in_link links.images
           (held.nested (event ∷ rest));
       few_open = few-open event events self.progress.depth held.few_open
           c.note.new.self.depth c.is_read.result opens.depth;
       few_levels = few-levels event events self.levels.opened held.few_levels
           c.note-2.new.self.opened levels.opened;
       few_columns = few-columns event events self.parts.columns held.few_columns
-          c.after-self.result.columns parts.columns;
+          c.note-3.new.self.columns parts.columns;
       few_calls = few-calls event events self.parts.calls held.few_calls
-          c.after-self.result.calls _ parts.calls;
+          c.note-3.new.self.calls _ parts.calls;
       few_images = few-images event events self.links.images held.few_images
-          c.after-self-2.result.images links.images;
+          c.note-4.new.self.images links.images;
       read_fits = subst (λ n. n ≤ 2 ^ 128 - 1) (sym opens.length) (capped-fits _);
       cells_fit = subst (λ n. n ≤ 2 ^ 128 - 1) (sym parts.cells) (capped-fits _);
       opened = search rules;
