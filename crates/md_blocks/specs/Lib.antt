@@ -1,2 +1,3 @@
 -- The definitions that the contracts of the block pass cite.
 pub mod Tape
+pub mod Marks

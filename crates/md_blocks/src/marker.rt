@@ -1,6 +1,10 @@
 //! Recognizes marks, markers and labels at the beginning of a line's text.
 
-ghost use Rattle.std.specs.Prelude.{◌≤◌, ◌<◌, ◌+◌, length, IfSome};
+ghost use Rattle.std.specs.Prelude.{◌≡◌, ◌≤◌, ◌<◌, ◌+◌, ◌&&◌, ◌||◌, ◌==◌, length, drop};
+ghost use Rattle.std.specs.Prelude.{not, get_or, is_some, IfSome};
+ghost use Rattle.md_blocks.specs.Marks.{run_of, is_apart, opens_heading, number_length};
+ghost use Rattle.md_blocks.specs.Marks.{is_blank_text, opens_item, may_interrupt, opens_task};
+ghost use Rattle.md_blocks.specs.Marks.{ends_marker};
 
 use md_lines::{Span, trim_end, trim_start};
 
@@ -24,6 +28,7 @@ pub(crate) struct Marker {
 pub(crate) fn run_end(line: &[u8], from: usize, byte: u8) -> usize
     ensures after { from ≤ result }
     ensures within { from ≤ length line.now → result ≤ length line.now }
+    ensures value { result ≡ from + run_of byte (drop from line.now) }
 {
     let mut at = from;
     while at < line.len() && line[at] == byte {
@@ -34,19 +39,29 @@ pub(crate) fn run_end(line: &[u8], from: usize, byte: u8) -> usize
 
 /// Whether only spaces and tabs follow from an index.
 #[inline(always)]
-pub(crate) fn is_blank_from(line: &[u8], from: usize) -> bool {
-    trim_start(line, from, line.len()) >= line.len()
+pub(crate) fn is_blank_from(line: &[u8], from: usize) -> bool
+    ensures { result ≡ is_blank_text (drop from line.now) }
+{
+    match line.get(from..) {
+        Some(rest) => trim_start(rest, 0, rest.len()) == rest.len(),
+        None => true,
+    }
 }
 
 /// Whether there is a space, a tab or the line's end at an index.
 #[inline(always)]
-fn is_space_at(line: &[u8], at: usize) -> bool {
+fn is_space_at(line: &[u8], at: usize) -> bool
+    ensures { result ≡ is_apart (drop at line.now) }
+{
     matches!(line.get(at), None | Some(b' ' | b'\t'))
 }
 
 /// The number signs of a heading at an index, at most six.
 pub(crate) fn heading_marks(line: &[u8], at: usize) -> Option<Span>
-    ensures { IfSome result (λ marks. marks.end ≤ marks.start + 6) }
+    ensures short { IfSome result (λ marks. marks.end ≤ marks.start + 6) }
+    ensures there { is_some result ≡ opens_heading (drop at line.now) }
+    ensures start { IfSome result (λ marks. marks.start ≡ at) }
+    ensures end { IfSome result (λ marks. marks.end ≡ at + run_of 35 (drop at line.now)) }
 {
     let end = run_end(line, at, b'#');
     if end - at <= 6 && is_space_at(line, end) {
@@ -76,25 +91,59 @@ pub(crate) fn heading_end(line: &[u8], from: usize) -> usize {
 pub(crate) fn item_marker(line: &[u8], at: usize, in_paragraph: bool) -> Option<Marker>
     ensures within { IfSome result (λ marker. at + marker.digits < length line.now) }
     ensures short { IfSome result (λ marker. marker.digits ≤ 9) }
+    ensures there { is_some result ≡ (opens_item (drop at line.now)
+        && (not in_paragraph || may_interrupt (drop at line.now))) }
+    ensures digits { IfSome result (λ marker. marker.digits ≡ number_length (drop at line.now)) }
+    ensures byte { IfSome result (λ marker. marker.byte
+        ≡ get_or line.now (at + marker.digits) 0) }
 {
-    let end = digits_end(line, at);
-    let digits = end - at;
-    let byte = *line.get(end)?;
-    let is_marker = match byte {
-        b'*' | b'-' | b'+' => digits == 0,
-        b'.' | b')' => digits > 0,
-        _ => false,
-    };
-    if !is_marker || !is_space_at(line, end + 1) {
+    let text = line.get(at..)?;
+    let marker = marker_of(text)?;
+    if in_paragraph && !may_interrupt(text, marker.digits) {
         return None;
     }
-    if in_paragraph {
-        let is_first = digits == 0 || (digits == 1 && line.get(at) == Some(&b'1'));
-        if !is_first || is_blank_from(line, end + 1) {
-            return None;
-        }
+    Some(marker)
+}
+
+/// The marker of an item that begins a text, wherever that is.
+#[inline(always)]
+fn marker_of(text: &[u8]) -> Option<Marker>
+    ensures within { IfSome result (λ marker. marker.digits < length text.now) }
+    ensures there { is_some result ≡ opens_item text.now }
+    ensures digits { IfSome result (λ marker. marker.digits ≡ number_length text.now) }
+    ensures byte { IfSome result (λ marker. marker.byte ≡ get_or text.now marker.digits 0) }
+{
+    let digits = digits_end(text, 0);
+    let byte = *text.get(digits)?;
+    if ends_marker(digits, byte) && is_space_at(text, digits + 1) {
+        Some(Marker { byte, digits })
+    } else {
+        None
     }
-    Some(Marker { byte, digits })
+}
+
+/// Whether a byte after so many digits is the last of an item's marker.
+#[inline(always)]
+fn ends_marker(digits: usize, byte: u8) -> bool
+    ensures { result ≡ ends_marker digits byte }
+{
+    if digits == 0 {
+        matches!(byte, b'*' | b'+' | b'-')
+    } else {
+        matches!(byte, b'.' | b')')
+    }
+}
+
+/// Whether an item that begins a text, and whose number has so many digits, may interrupt a
+/// paragraph.
+#[inline(always)]
+fn may_interrupt(text: &[u8], digits: usize) -> bool
+    requires number { digits ≡ number_length text.now }
+    requires within { digits < length text.now }
+    ensures { result ≡ may_interrupt text.now }
+{
+    let is_first = digits == 0 || (digits == 1 && text[0] == b'1');
+    is_first && !is_blank_from(text, digits + 1)
 }
 
 /// The end of the digits that begin at an index, of which at most nine are read.
@@ -102,6 +151,7 @@ pub(crate) fn item_marker(line: &[u8], at: usize, in_paragraph: bool) -> Option<
 fn digits_end(line: &[u8], at: usize) -> usize
     ensures after { at ≤ result }
     ensures short { result ≤ at + 9 }
+    ensures value { result ≡ at + number_length (drop at line.now) }
 {
     let mut end = at;
     while end < line.len() && end - at < MOST_DIGITS && line[end].is_ascii_digit() {
@@ -138,7 +188,9 @@ fn ends_label(byte: u8) -> bool {
 
 /// The checkbox at an index: `Some(true)` if it is checked.
 pub(crate) fn task_box(line: &[u8], at: usize) -> Option<bool>
-    ensures { IfSome result (λ _. at + 3 ≤ length line.now) }
+    ensures within { IfSome result (λ _. at + 3 ≤ length line.now) }
+    ensures there { is_some result ≡ opens_task (drop at line.now) }
+    ensures done { IfSome result (λ is_done. is_done ≡ not (get_or line.now (at + 1) 0 == 32)) }
 {
     match line.get(at..at.saturating_add(4)) {
         Some([b'[', b' ', b']', b' ' | b'\t']) => Some(false),

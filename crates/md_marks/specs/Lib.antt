@@ -1,0 +1,2 @@
+-- The definitions that the contracts of runs of marks cite.
+pub mod Emphasis

@@ -1,6 +1,7 @@
 //! Classes of characters, as the rules of emphasis distinguish them.
 
-ghost use Rattle.std.specs.Prelude.{◌≡◌, [], false};
+ghost use Rattle.std.specs.Prelude.{◌≡◌, []};
+ghost use Rattle.md_marks.specs.Emphasis.{can_open, can_close, is_left_flanking};
 
 use md_lines::{Class, is};
 use std::str;
@@ -94,7 +95,10 @@ pub fn flanks(
     length: usize,
     before: CharacterClass,
     after: CharacterClass,
-) -> (bool, bool) {
+) -> (bool, bool)
+    ensures opens { result.0 ≡ can_open byte length before after }
+    ensures closes { result.1 ≡ can_close byte length before after }
+{
     let is_left = flanks_on_one_side(after, before);
     let is_right = flanks_on_one_side(before, after);
     match byte {
@@ -109,7 +113,7 @@ pub fn flanks(
 
 /// Whether a run belongs to the character on one side of it, by that on the other.
 fn flanks_on_one_side(near: CharacterClass, far: CharacterClass) -> bool
-    ensures { near ≡ CharacterClass.Space → result ≡ false }
+    ensures { result ≡ is_left_flanking far near }
 {
     match near {
         CharacterClass::Space => false,

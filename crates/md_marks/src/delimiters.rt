@@ -1,6 +1,7 @@
 //! Pairs runs of `*`, `_` and `~`.
 
-ghost use Rattle.std.specs.Prelude.{◌≡◌, ◌<◌, ◌-◌, IsTrue};
+ghost use Rattle.std.specs.Prelude.{◌≡◌, ◌<◌, ◌-◌};
+ghost use Rattle.md_marks.specs.Emphasis.{may_pair, pair_width};
 
 use crate::token::{Mark, Token, set_mark};
 use std::alloc::{AllocError, Global};
@@ -39,7 +40,7 @@ impl Delimiter {
 
     /// Whether it opens what another run closes.
     fn fits(&self, closer: &Delimiter) -> bool
-        ensures { IsTrue result → self.now.byte ≡ closer.now.byte }
+        ensures { result ≡ may_pair self.now closer.now }
     {
         if self.byte != closer.byte {
             return false;
@@ -63,7 +64,9 @@ impl Delimiter {
     }
 
     /// How many bytes of each run form a pair.
-    fn width(&self, closer: &Delimiter) -> usize {
+    fn width(&self, closer: &Delimiter) -> usize
+        ensures { result ≡ pair_width self.now closer.now }
+    {
         if closer.byte == b'~' {
             self.length
         } else if self.available > 1 && closer.available > 1 {

@@ -1,9 +1,12 @@
--- What is passed stands in the line.
-use Rattle.std.proofs.Common.{◌≤◌, ◌-◌, length}
+-- What is passed is this byte.
+use Rattle.std.proofs.Common.{◌≡◌, ◌≤◌, ◌+◌, ◌-◌, length, drop}
+use Rattle.md_blocks.specs.Marks.{run_of}
 use Rattle.md_blocks.proofs.marker.run_end.Given as goal
 
 abbrev pub invariant-loop-at : goal.invariant-loop-at
-invariant-loop-at l = (l.from ≤ l.at) × (l.from ≤ length l.line → l.at ≤ length l.line)
+invariant-loop-at l =
+    (l.from ≤ l.at) × (l.from ≤ length l.line → l.at ≤ length l.line)
+    × (l.from + run_of l.byte (drop l.from l.line) ≡ l.at + run_of l.byte (drop l.at l.line))
 
 abbrev pub decreases-loop-at : goal.decreases-loop-at
 decreases-loop-at l = length l.line - l.at
