@@ -56,7 +56,7 @@ fn is_space_at(line: &[u8], at: usize) -> bool
     matches!(line.get(at), None | Some(b' ' | b'\t'))
 }
 
-/// The number signs of a heading at an index, at most six.
+/// The number signs of a heading at an index; `None` if there is none, or more than six.
 pub(crate) fn heading_marks(line: &[u8], at: usize) -> Option<Span>
     ensures short { IfSome result (λ marks. marks.end ≤ marks.start + 6) }
     ensures there { is_some result ≡ opens_heading (drop at line.now) }
@@ -64,7 +64,7 @@ pub(crate) fn heading_marks(line: &[u8], at: usize) -> Option<Span>
     ensures end { IfSome result (λ marks. marks.end ≡ at + run_of 35 (drop at line.now)) }
 {
     let end = run_end(line, at, b'#');
-    if end - at <= 6 && is_space_at(line, end) {
+    if at < end && end - at <= 6 && is_space_at(line, end) {
         Some(Span::new(at, end))
     } else {
         None
@@ -87,7 +87,7 @@ pub(crate) fn heading_end(line: &[u8], from: usize) -> usize {
 }
 
 /// The marker of an item that begins at an index. An item that interrupts a paragraph must have
-/// text, and its number must be 1.
+/// text, and its number must be the digit 1.
 pub(crate) fn item_marker(line: &[u8], at: usize, in_paragraph: bool) -> Option<Marker>
     ensures within { IfSome result (λ marker. at + marker.digits < length line.now) }
     ensures short { IfSome result (λ marker. marker.digits ≤ 9) }

@@ -2,7 +2,7 @@
 use Rattle.std.specs.Prelude.{ℕ, Bool, ◌+◌, ◌-◌, ◌*◌, ◌==◌, ◌&&◌, nat_lt, length, get_or}
 use Rattle.md_lines.specs.declared.cursor.Cursor.{Cursor}
 
--- the rest of the cursor's line, and for each line after it more than its length
+-- the bytes left in the cursor's line, and 2^64 for that line and for each after it
 abbrev pub left : Cursor → ℕ
 left cursor =
     (length cursor.lines.now - cursor.line) * 18446744073709551616 + (cursor.end - cursor.at)

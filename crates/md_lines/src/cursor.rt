@@ -84,6 +84,11 @@ impl<'a> Cursor<'a> {
         ensures never_back { left self.new ≤ left self.old }
         ensures in_line { self.old.at < self.old.end
             → self.new.at ≡ suc self.old.at }
+        ensures line { self.old.at < self.old.end → self.new.line ≡ self.old.line }
+        ensures end { self.old.at < self.old.end → self.new.end ≡ self.old.end }
+        ensures next_line { self.old.end ≤ self.old.at
+            → suc self.old.line < length self.old.lines.now
+            → self.new.line ≡ suc self.old.line }
     {
         if self.at < self.end {
             self.at += 1;
@@ -92,13 +97,15 @@ impl<'a> Cursor<'a> {
         }
     }
 
-    /// Moves past the next byte if it is this one; returns whether it is.
+    /// Moves past the next byte of the line if it is this one; returns whether it is.
     #[inline]
     pub fn take(&mut self, byte: u8) -> bool
         ensures never_back { left self.new ≤ left self.old }
         ensures goes_on { IsTrue result → left self.new < left self.old }
         ensures same { result ≡ is_next self.old byte }
         ensures passed { IsTrue result → self.new.at ≡ suc self.old.at }
+        ensures line { self.new.line ≡ self.old.line }
+        ensures end { self.new.end ≡ self.old.end }
         ensures stays { result ≡ false → self.new ≡ self.old }
     {
         if self.at < self.end && self.bytes[self.at] == byte {

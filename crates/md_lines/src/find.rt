@@ -19,14 +19,15 @@ pub(crate) trait Search: Copy {
     fn is_skipped(self, byte: u8) -> bool
         ensures { result ≡ skips self byte };
 
-    /// Among the bytes of one step, the number before the first that it doesn't skip.
+    /// The number of bytes from `at` on before the first that it doesn't skip, at most 16.
     fn run_in(self, bytes: &[u8], at: usize) -> usize
         requires { at + 16 ≤ length bytes.now }
         ensures { result ≡ min 16 (prefix_len (skips self) (drop at bytes.now)) };
 }
 
-/// The index of the next byte that a search doesn't skip, at `from` or later; `end` or later if
-/// there is none before `end`. It may read up to fifteen bytes after `end`.
+/// The index of the next byte that a search doesn't skip, at `from` or later. If there is none
+/// before `end`, it is `end` or later, or the length of `bytes` or later if `end` is past it. It may
+/// read up to fifteen bytes after `end`.
 #[inline(always)]
 pub(crate) fn find<S: Search>(search: S, bytes: &[u8], from: usize, end: usize) -> usize
     ensures within { from ≤ length bytes.now → result ≤ length bytes.now }
@@ -41,8 +42,8 @@ pub(crate) fn find<S: Search>(search: S, bytes: &[u8], from: usize, end: usize) 
     from + skipped(search, &bytes[from..], end - from)
 }
 
-/// How many bytes come before the first that a search doesn't skip, or at least `count` if there is
-/// none among the first `count`.
+/// How many bytes come before the first that a search doesn't skip. If there is none among the first
+/// `count`, at least `count`, or all bytes if they are fewer.
 #[inline(always)]
 fn skipped<S: Search>(search: S, bytes: &[u8], count: usize) -> usize
     ensures within { result ≤ length bytes.now }
@@ -63,7 +64,7 @@ fn skipped<S: Search>(search: S, bytes: &[u8], count: usize) -> usize
     at
 }
 
-/// The same for all bytes, byte by byte.
+/// How many bytes come before the first that a search doesn't skip, read one by one.
 #[inline(never)]
 fn skipped_by_bytes<S: Search>(search: S, bytes: &[u8]) -> usize
     ensures within { result ≤ length bytes.now }

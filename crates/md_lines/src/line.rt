@@ -4,6 +4,7 @@ ghost use Rattle.std.specs.Prelude.{◌≡◌, ◌≤◌, ◌<◌, ◌+◌, ◌-
 ghost use Rattle.std.specs.Prelude.{if◌then◌else◌};
 ghost use Rattle.std.specs.Int.{w64, trailing_zeros};
 ghost use Rattle.std.specs.List.{prefix_len};
+ghost use Rattle.md_lines.specs.Lines as lines;
 ghost use Rattle.md_lines.specs.Lines.{ends_no_line};
 
 use crate::find::{LANES, Search, find, first_set};
@@ -56,6 +57,7 @@ pub fn line_end(bytes: &[u8], from: usize) -> usize
     ensures after { from ≤ result }
     ensures first { from ≤ length bytes.now
         → result ≡ from + prefix_len ends_no_line (drop from bytes.now) }
+    ensures beyond { length bytes.now < from → result ≡ from }
 {
     find(InLine, bytes, from, bytes.len())
 }
@@ -90,6 +92,7 @@ pub fn after_ending(bytes: &[u8], end: usize) -> usize
     ensures after { end ≤ result }
     ensures passes { end < length bytes.now → end < result }
     ensures short { result ≤ end + 2 }
+    ensures value { result ≡ lines.after_ending bytes.now end }
 {
     match bytes.get(end) {
         None => end,

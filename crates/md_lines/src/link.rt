@@ -11,7 +11,7 @@ use crate::span::Span;
 use crate::trim::trim_start;
 use std::simd::prelude::*;
 
-/// The maximum number of characters in a label.
+/// The maximum number of bytes in a label.
 const MOST_IN_LABEL: usize = 999;
 
 /// How deep parentheses in a destination may nest.
@@ -27,8 +27,8 @@ pub struct Title {
 }
 
 /// Reads a link's label, from after its `[` to its `]`; returns whether it is valid. A label has a
-/// character other than spaces, at most 999 characters in all, and no bracket without a backslash
-/// before it.
+/// character other than spaces, tabs and line endings, at most 999 bytes, and no bracket without a
+/// backslash before it.
 pub fn read_label(cursor: &mut Cursor<'_>) -> bool {
     let mut is_blank = true;
     let mut count = 0;
@@ -115,8 +115,8 @@ fn pointed_destination(cursor: &mut Cursor<'_>) -> Option<Span> {
     None
 }
 
-/// Reads a destination without angle brackets: its parentheses are paired, and it has no space and
-/// no control character except NUL.
+/// Reads a destination without angle brackets, which may be empty: its parentheses are paired, and
+/// it has no space and no control character except NUL, which is printed as U+FFFD.
 fn bare_destination(cursor: &mut Cursor<'_>) -> Option<Span> {
     let (bytes, end) = (cursor.bytes, cursor.end);
     let from = cursor.at;
@@ -150,7 +150,7 @@ fn bare_destination(cursor: &mut Cursor<'_>) -> Option<Span> {
     }
 }
 
-/// The search for a byte that may end a destination, or that counts in it.
+/// The search for a space, a control character, a parenthesis or a backslash.
 #[derive(Clone, Copy)]
 struct InDestination;
 

@@ -27,28 +27,31 @@ is_right_flanking before after =
     not (is_space before)
     && (not (is_punctuation before) || (is_space after || is_punctuation after))
 
--- whether a run of a byte and a length can open: one of `_` not inside a word, one of `~` only if it
--- has one byte or two
+-- whether a run of so many of a byte can open: it is left-flanking; and if it is of `_`, it isn't
+-- right-flanking, or punctuation precedes it; and if it is of `~`, it has two bytes at most
 abbrev pub can_open : ℕ → ℕ → CharacterClass → CharacterClass → Bool
 can_open byte length before after =
     is_left_flanking before after
     && (if byte == 95 then not (is_right_flanking before after) || is_punctuation before
     else not (byte == 126 && nat_lt 2 length))
 
--- whether it can close, likewise
+-- whether it can close: likewise, with right and left exchanged, and what follows it in place of what
+-- precedes it
 abbrev pub can_close : ℕ → ℕ → CharacterClass → CharacterClass → Bool
 can_close byte length before after =
     is_right_flanking before after
     && (if byte == 95 then not (is_left_flanking before after) || is_punctuation after
     else not (byte == 126 && nat_lt 2 length))
 
--- whether both lengths are multiples of three, or their sum isn't
+-- whether the lengths of two runs are both multiples of three, or their sum isn't; bytes that are
+-- used already count
 abbrev pub is_fair : ℕ → ℕ → Bool
 is_fair one other =
     (one % 3 == 0 && other % 3 == 0) || not ((one + other) % 3 == 0)
 
--- whether an opener and a closer may pair: they have one byte; of `~` one length, with no byte used
--- before; otherwise, if one of them could also do what the other does, their lengths are fair
+-- whether an opener and a closer may pair: they are of the same byte; if that is `~`, they are equally
+-- long, and the opener is unused; otherwise, if the opener also closes or the closer also opens, their
+-- lengths are fair
 abbrev pub may_pair : Delimiter → Delimiter → Bool
 may_pair opener closer =
     opener.byte == closer.byte
@@ -56,7 +59,7 @@ may_pair opener closer =
     then opener.length == closer.length && opener.available == opener.length
     else not (opener.closes || closer.opens) || is_fair opener.length closer.length)
 
--- how many bytes of each make the pair: all of `~`, otherwise two if both have two
+-- how many bytes of each make the pair: all of `~`; otherwise two if at least two of each are left
 abbrev pub pair_width : Delimiter → Delimiter → ℕ
 pair_width opener closer =
     if closer.byte == 126 then opener.length

@@ -111,7 +111,8 @@ pub fn flanks(
     }
 }
 
-/// Whether a run belongs to the character on one side of it, by that on the other.
+/// Whether a run flanks the character `near`, with `far` on its other side: it is left-flanking if
+/// `near` follows it, and right-flanking if `near` precedes it.
 fn flanks_on_one_side(near: CharacterClass, far: CharacterClass) -> bool
     ensures { result ≡ is_left_flanking far near }
 {

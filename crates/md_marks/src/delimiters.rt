@@ -55,7 +55,7 @@ impl Delimiter {
 
     /// The run with `width` bytes fewer remaining.
     fn without(self, width: usize) -> Delimiter
-        ensures { result.available ≡ self.available - width }
+        ensures { result ≡ record self { available = self.available - width } }
     {
         Delimiter {
             available: self.available.saturating_sub(width),

@@ -21,3 +21,16 @@ returns-clause-first c within =
       )
       | inr before ↦ c.find.ensures.first before
     ]
+
+pub returns-clause-beyond : goal.returns-clause-beyond
+returns-clause-beyond c beyond =
+    let bytes = c.args.bytes.now in
+    let from = c.args.from in
+    omega (
+      arith,
+      beyond,
+      c.find.ensures.after,
+      c.find.ensures.none_skipped,
+      prefix_len-le-length ends_no_line (drop from bytes),
+      length-drop from bytes,
+    )

@@ -1,4 +1,4 @@
--- At most 999 characters are read.
+-- At most 999 bytes are read.
 use Rattle.std.proofs.Common.{◌-◌}
 use Rattle.md_lines.proofs.link.read_label.Given as goal
 
