@@ -1,5 +1,5 @@
--- The marks at the beginning of a line's text, as CommonMark and GFM define them. A text is the rest
--- of a line, without its ending.
+-- The marks at the beginning of a line's text, as CommonMark and GFM define them. A text is the
+-- rest of a line, without its ending.
 use Rattle.std.specs.Prelude.{ℕ, Bool, List, [], ◌∷◌, true, false, ◌==◌, ◌&&◌, ◌||◌, not, nat_lt}
 use Rattle.std.specs.Prelude.{drop, get_or, length, min, suc, if◌then◌else◌}
 use Rattle.std.specs.List.{prefix_len}
@@ -32,8 +32,8 @@ number_length text = min 9 (prefix_len is_digit text)
 abbrev pub is_blank_text : List ℕ → Bool
 is_blank_text text = prefix_len is_blank text == length text
 
--- whether a byte completes an item's marker after so many digits: `*`, `+` or `-` after none, `.` or
--- `)` after some
+-- whether a byte completes an item's marker after so many digits: `*`, `+` or `-` after none, `.`
+-- or `)` after some
 abbrev pub ends_marker : ℕ → ℕ → Bool
 ends_marker digits byte =
     if digits == 0 then byte == 42 || (byte == 43 || byte == 45) else byte == 46 || byte == 41
@@ -45,8 +45,8 @@ opens_item text =
     && (ends_marker (number_length text) (get_or text (number_length text) 0)
     && is_apart (drop (suc (number_length text)) text))
 
--- whether an item that begins a text may interrupt a paragraph: it has no digit or only the digit 1,
--- and text that isn't blank
+-- whether an item that begins a text may interrupt a paragraph: it has no digit or only the digit
+-- 1, and text that isn't blank
 abbrev pub may_interrupt : List ℕ → Bool
 may_interrupt text =
     (number_length text == 0 || (number_length text == 1 && get_or text 0 0 == 49))

@@ -1,7 +1,7 @@
 //! A place in the lines of a leaf, and a cursor that moves from it.
 
-ghost use Rattle.std.specs.Prelude.{◌≡◌, ◌≤◌, ◌<◌, ◌+◌, ◌&&◌, ◌==◌, length, min, suc, nat_lt};
-ghost use Rattle.std.specs.Prelude.{IsTrue, IfNone, IfSome, Some, None, false, slice_get, if◌then◌else◌};
+ghost use Rattle.std.specs.Prelude.{◌≡◌, ◌≤◌, ◌<◌, length, min, suc, nat_lt};
+ghost use Rattle.std.specs.Prelude.{IsTrue, IfNone, IfSome, Some, None, false, slice_get};
 
 use crate::class::{Class, is};
 use crate::line::Line;

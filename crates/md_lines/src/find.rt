@@ -26,8 +26,8 @@ pub(crate) trait Search: Copy {
 }
 
 /// The index of the next byte that a search doesn't skip, at `from` or later. If there is none
-/// before `end`, it is `end` or later, or the length of `bytes` or later if `end` is past it. It may
-/// read up to fifteen bytes after `end`.
+/// before `end`, it is `end` or later, or the length of `bytes` or later if `end` is past it. It
+/// may read up to fifteen bytes after `end`.
 #[inline(always)]
 pub(crate) fn find<S: Search>(search: S, bytes: &[u8], from: usize, end: usize) -> usize
     ensures within { from ≤ length bytes.now → result ≤ length bytes.now }
@@ -42,8 +42,8 @@ pub(crate) fn find<S: Search>(search: S, bytes: &[u8], from: usize, end: usize) 
     from + skipped(search, &bytes[from..], end - from)
 }
 
-/// How many bytes come before the first that a search doesn't skip. If there is none among the first
-/// `count`, at least `count`, or all bytes if they are fewer.
+/// How many bytes come before the first that a search doesn't skip. If there is none among the
+/// first `count`, at least `count`, or all bytes if they are fewer.
 #[inline(always)]
 fn skipped<S: Search>(search: S, bytes: &[u8], count: usize) -> usize
     ensures within { result ≤ length bytes.now }

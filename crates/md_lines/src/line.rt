@@ -1,8 +1,6 @@
 //! Lines, and where they end.
 
-ghost use Rattle.std.specs.Prelude.{◌≡◌, ◌≤◌, ◌<◌, ◌+◌, ◌-◌, ◌^◌, ◌==◌, length, drop, min, max};
-ghost use Rattle.std.specs.Prelude.{if◌then◌else◌};
-ghost use Rattle.std.specs.Int.{w64, trailing_zeros};
+ghost use Rattle.std.specs.Prelude.{◌≡◌, ◌≤◌, ◌<◌, ◌+◌, ◌-◌, ◌^◌, length, drop, min, max};
 ghost use Rattle.std.specs.List.{prefix_len};
 ghost use Rattle.md_lines.specs.Lines as lines;
 ghost use Rattle.md_lines.specs.Lines.{ends_no_line};

@@ -1,6 +1,6 @@
 //! Trims spaces and tabs at the ends of a part of a line.
 
-ghost use Rattle.std.specs.Prelude.{◌≡◌, ◌≤◌, ◌<◌, ◌+◌, ◌-◌, false, length, drop, get_or};
+ghost use Rattle.std.specs.Prelude.{◌≡◌, ◌≤◌, ◌<◌, ◌+◌, ◌-◌, false, drop, get_or};
 ghost use Rattle.std.specs.List.{prefix_len};
 ghost use Rattle.md_lines.specs.Lines.{is_blank};
 

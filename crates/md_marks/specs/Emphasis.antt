@@ -35,8 +35,8 @@ can_open byte length before after =
     && (if byte == 95 then not (is_right_flanking before after) || is_punctuation before
     else not (byte == 126 && nat_lt 2 length))
 
--- whether it can close: likewise, with right and left exchanged, and what follows it in place of what
--- precedes it
+-- whether it can close: likewise, with right and left exchanged, and what follows it in place of
+-- what precedes it
 abbrev pub can_close : ℕ → ℕ → CharacterClass → CharacterClass → Bool
 can_close byte length before after =
     is_right_flanking before after
@@ -49,9 +49,9 @@ abbrev pub is_fair : ℕ → ℕ → Bool
 is_fair one other =
     (one % 3 == 0 && other % 3 == 0) || not ((one + other) % 3 == 0)
 
--- whether an opener and a closer may pair: they are of the same byte; if that is `~`, they are equally
--- long, and the opener is unused; otherwise, if the opener also closes or the closer also opens, their
--- lengths are fair
+-- whether an opener and a closer may pair: they are of the same byte; if that is `~`, they are
+-- equally long, and the opener is unused; otherwise, if the opener also closes or the closer also
+-- opens, their lengths are fair
 abbrev pub may_pair : Delimiter → Delimiter → Bool
 may_pair opener closer =
     opener.byte == closer.byte
