@@ -45,11 +45,15 @@ pub(crate) fn read_c_events(alloc: Global, events: &[CEvent]) -> Result<Vec<Even
     Ok(read)
 }
 
-/// Appends an event.
+/// Appends an event. There is capacity for all, so no call is made.
+#[inline(always)]
 fn add_event(events: &mut Vec<Event>, event: Event) -> Result<(), AllocError>
     ensures { OnOk result (events.new.items ≡ events.old.items ++ event ∷ []) }
 {
-    events.push(event)?;
+    if events.len() == events.capacity() {
+        events.reserve(1)?;
+    }
+    events.push_reserved(event);
     Ok(())
 }
 

@@ -1,14 +1,15 @@
 -- What words say where a record has come, and where a word comes or changes.
-use Rattle.std.proofs.Common.{◌≡◌, ℕ, ◌+◌, ◌-◌, ◌<◌, ◌^◌, List, [], ◌∷◌, ◌++◌, Result, Ok, Err}
+use Rattle.std.proofs.Common.{◌≡◌, ℕ, ◌-◌, ◌<◌, ◌^◌, List, [], ◌∷◌, ◌++◌, Result, Ok, Err}
 use Rattle.std.proofs.Common.{length, get_or, if◌then◌else◌}
 use Rattle.std.proofs.Common.{refl, sym, ap, ◌∙◌, subst, arith}
-use Rattle.std.specs.Prelude.{set, OnOk, OnErr, IfOk}
-use Rattle.std.proofs.lemmas.List.{map-append, map-set}
+use Rattle.std.specs.Prelude.{set, OnOk, ◌≤◌}
+use Rattle.std.proofs.lemmas.List.{map-append, map-set, append-nil, length-map}
+use Rattle.std.proofs.lemmas.List.{set-append_left, set-append_right}
 use Rattle.std.proofs.lemmas.Bool.{lt-leb}
 use Rattle.std.proofs.lemmas.List.Elements.{All-head, All-tail, All-weaker, All-push, All-set}
 use Rattle.md_pattern.specs.declared.facts.Fact.{Fact}
 use Rattle.md_pattern.specs.Facts.{partner_alone}
-use Rattle.md_pattern.specs.FactWords.{IsWord, AreWords, fact_of_word, facts_of_words}
+use Rattle.md_pattern.specs.FactWords.{IsWord, AreWords, fact_of_word, facts_of_words, all_facts}
 
 module _ (old new : List Fact) (still : (word : ℕ) → IsWord old word → IsWord new word)
     (same : (word : ℕ) → IsWord old word → fact_of_word new word ≡ fact_of_word old word) where
@@ -52,35 +53,32 @@ module _ (old new : List Fact) (still : (word : ℕ) → IsWord old word → IsW
       ∙ ap (λ facts. set facts index (fact_of_word new word)) (facts-same words are)
       ∙ ap (λ f. set (facts_of_words old words) index f) says
 
--- the index of an event that is low enough is a word
-below_records : (records : List Fact) (index : ℕ) → index < 2 ^ 63 → IsWord records index
-below_records records index low = omega (arith, low)
-
-low_before : (index : ℕ) → index + 1 < 2 ^ 63 → index < 2 ^ 63
-low_before index low = omega (arith, low)
-
--- two words that are added, or none
-pub AreWords-two : {E : Type 0} (records : List Fact) (words new : List ℕ) (result : Result ℕ E) →
-    AreWords records words → IfOk result (λ entry. entry + 1 < 2 ^ 63) →
-    IfOk result (λ entry. new ≡ (words ++ (entry + 1) ∷ []) ++ entry ∷ []) →
-    OnErr result (new ≡ words) → AreWords records new
-AreWords-two records words new (Ok entry) are low is none =
-    subst (λ ws. AreWords records ws) (sym is)
-    (All-push (IsWord records) (words ++ (entry + 1) ∷ []) entry
-    (All-push (IsWord records) words (entry + 1) are (below_records records (entry + 1) low))
-    (below_records records entry (low_before entry low)))
-AreWords-two records words new (Err error) are low is same =
-    subst (λ ws. AreWords records ws) (sym same) are
-
 -- an index that is low enough encodes a partner
-partner-low : (records : List Fact) (index : ℕ) → index < 2 ^ 63 →
+partner-low : (records : List Fact) (index : ℕ) → index < 2 ^ 31 →
     fact_of_word records index ≡ partner_alone index
 partner-low records index low =
-    ap (λ b. if b then get_or records (index - 2 ^ 63) (partner_alone 0) else partner_alone index)
-    (lt-leb (2 ^ 63) index low)
+    ap (λ b. if b then get_or records (index - 2 ^ 31) (partner_alone 0) else partner_alone index)
+    (lt-leb (2 ^ 31) index low)
 
+-- with no rest the facts are those that the words encode
+pub no_rest : (records : List Fact) (words : List ℕ) (rest : List Fact) → rest ≡ [] →
+    all_facts records words rest ≡ facts_of_words records words
+no_rest records words rest none =
+    ap (λ facts. facts_of_words records words ++ facts) none
+    ∙ append-nil (facts_of_words records words)
+
+-- with no rest, what changes the words and adds to them changes the facts likewise
+pub by_words : (old new : List Fact) (words changed : List ℕ) (rest more : List Fact) → rest ≡ [] →
+    (change : List Fact → List Fact) →
+    facts_of_words new changed ≡ change (facts_of_words old words) ++ more →
+    all_facts new changed rest ≡ change (all_facts old words rest) ++ more
+by_words old new words changed rest more none change is =
+    no_rest new changed rest none ∙ is
+    ∙ ap (λ facts. change facts ++ more) (sym (no_rest old words rest none))
+
+-- the word of an entry whose exit is the next event, and the word of the exit
 pub facts-closed : (records : List Fact) (words : List ℕ) (entry : ℕ) (fact : Fact) →
-    entry < length words → length words < 2 ^ 63 → fact ≡ partner_alone (length words) →
+    entry < length words → length words < 2 ^ 31 → fact ≡ partner_alone (length words) →
     facts_of_words records (set words entry (length words) ++ entry ∷ [])
     ≡ set (facts_of_words records words) entry fact ++ partner_alone entry ∷ []
 facts-closed records words entry fact before low is =
@@ -91,6 +89,34 @@ facts-closed records words entry fact before low is =
     (partner-low records (length words) low ∙ sym is)
     ∙ ap (λ f. set (facts_of_words records words) entry fact ++ f ∷ [])
     (partner-low records entry (omega (arith, before, low)))
+
+-- a fact that is written at an index, among those that words encode and among the rest
+pub facts-written : (old new : List Fact) (words changed : List ℕ) (rest : List Fact) (index : ℕ)
+    (fact : Fact) → index < length words →
+    facts_of_words new changed ≡ set (facts_of_words old words) index fact →
+    all_facts new changed rest ≡ set (all_facts old words rest) index fact
+facts-written old new words changed rest index fact before is =
+    ap (λ facts. facts ++ rest) is
+    ∙ sym (set-append_left (facts_of_words old words) rest index fact
+    (subst (λ n. index < n) (sym (length-map words (fact_of_word old))) before))
+
+pub rest-written : (records : List Fact) (words : List ℕ) (rest : List Fact) (n index : ℕ)
+    (fact : Fact) → length words ≡ n → n ≤ index →
+    all_facts records words (set rest (index - n) fact)
+    ≡ set (all_facts records words rest) index fact
+rest-written records words rest n index fact is after =
+    sym (set-append_right (facts_of_words records words) rest n index fact
+    (length-map words (fact_of_word records) ∙ is) after)
+
+-- the index of an event that comes as a word
+pub facts-pushed : (records : List Fact) (words : List ℕ) (rest : List Fact) (partner : ℕ) →
+    rest ≡ [] → partner < 2 ^ 31 →
+    all_facts records (words ++ partner ∷ []) rest
+    ≡ all_facts records words rest ++ partner_alone partner ∷ []
+facts-pushed records words rest partner none low =
+    by_words records records words (words ++ partner ∷ []) rest (partner_alone partner ∷ []) none
+    (λ facts. facts) (map-append (fact_of_word records) words (partner ∷ [])
+    ∙ ap (λ f. facts_of_words records words ++ f ∷ []) (partner-low records partner low))
 
 -- a result with one more known fact
 pub on_ok : {A E : Type 0} (P Q : Type 0) → (P → Q) → (result : Result A E) → OnOk result P →

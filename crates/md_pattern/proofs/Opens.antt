@@ -72,15 +72,6 @@ grounded-others : (r : List OpenNode) → others_outer (grounded r) ≡ others_o
 grounded-others [] = refl
 grounded-others (x ∷ r) = refl
 
--- a fact written among others, and one pushed after them
-pub put_then_pushed :
-    (facts : List Fact) (index : ℕ) (fact whole last alone : Fact) (put pushed : List Fact) →
-    fact ≡ whole → put ≡ set facts index fact → last ≡ alone → pushed ≡ put ++ last ∷ [] →
-    pushed ≡ set facts index whole ++ alone ∷ []
-put_then_pushed facts index fact whole last alone put pushed fact_is put_is last_is pushed_is =
-    pushed_is ∙ ap (λ fs. fs ++ last ∷ []) (put_is ∙ ap (λ f. set facts index f) fact_is)
-    ∙ ap (λ f. set facts index whole ++ f ∷ []) last_is
-
 -- the exit of a node, by the results of each step: the node, the rest, and its new value
 pub passed_exit-by :
     (name : Name) (pass : PassState) (own here after : OpenNode) (facts : List Fact)

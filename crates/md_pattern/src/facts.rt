@@ -12,10 +12,10 @@ mod nodes;
 
 use self::following::{follow, follow_common, follow_leaf, is_common};
 pub use self::list::FactList;
-use self::nodes::{common_fact, document_node, fact_of, partner_alone, push_opened};
+use self::nodes::{common_read_at, document_node, push_opened, read_at_of};
 use crate::columns::Columns;
 use crate::seeking::Sought;
-use crate::summary::{Looseness, Summary};
+use crate::summary::{Looseness, Summary, summary_looseness};
 use md_base::name_tests::is_link_definition;
 use md_base::{AlignKind, Event, Kind, Name};
 use std::alloc::{AllocError, Global};
@@ -159,8 +159,7 @@ impl Pass {
     fn enter(&mut self, name: Name) -> Result<(), AllocError>
         ensures { OnOk result (self.new ≡ spec.passed_entry name self.old) }
     {
-        let entry = self.facts.len();
-        self.facts.push(partner_alone(0))?;
+        let entry = self.facts.push_open()?;
         self.ended.columns.enter(name)?;
         push_opened(&mut self.open_nodes, &self.document, entry, name)
     }
@@ -185,8 +184,9 @@ impl Pass {
         ensures { OnOk result (self.new ≡ spec.passed_exit name self.old) }
     {
         let child = leave_innermost(&mut self.open_nodes, &mut self.document);
-        let fact = common_fact(name, self.facts.len(), &child);
-        self.facts.close(child.entry, fact)?;
+        let read_at = common_read_at(name, &child);
+        self.facts
+            .close(child.entry, read_at, summary_looseness(child.summary))?;
         match self.open_nodes.last_mut() {
             Some(here) => {
                 follow_common(here, name, &child);
@@ -205,9 +205,9 @@ impl Pass {
         ensures { OnOk result (self.new ≡ spec.passed_exit name self.old) }
     {
         let own = leave_innermost(&mut self.open_nodes, &mut self.document);
-        let fact = fact_of(name, self.facts.len(), self.ended.columns.count(), &own);
-        self.facts.put(own.entry, fact)?;
-        self.facts.push(partner_alone(own.entry))?;
+        let read_at = read_at_of(name, self.ended.columns.count(), &own);
+        self.facts
+            .close(own.entry, read_at, summary_looseness(own.summary))?;
         match self.open_nodes.last_mut() {
             Some(here) => follow(alloc, here, &mut self.ended, name, &own),
             None => follow(alloc, &mut self.document, &mut self.ended, name, &own),

@@ -1,4 +1,4 @@
-//! The facts at the events. An event whose fact is only the partner takes one word.
+//! The facts at the events. An event whose fact is only the partner takes one word of four bytes.
 
 ghost use Rattle.std.specs.Prelude.{◌≡◌, ◌+◌, ◌<◌, ◌^◌, true, OnOk, OnErr, IfOk, ℕ, [], ◌∷◌};
 ghost use Rattle.std.specs.Prelude.{◌++◌};
@@ -8,30 +8,38 @@ ghost use Rattle.md_pattern.specs.FactWords.{IsWord, fact_of_word};
 
 use super::Fact;
 use super::nodes::partner_alone;
+use crate::summary::Looseness;
 use std::alloc::{AllocError, Global};
 use std::marker::Model;
 
 /// A word from here on is the number of a record; a lower one is the index of an event.
-const RECORDS: usize = 0x8000_0000_0000_0000;
+const RECORDS: u32 = 0x8000_0000;
+
+/// The maximum number of words: the indices of so many events are all lower than `RECORDS`.
+const WORDS: usize = 0x8000_0000;
 
 /// The fact at each event, in the order of the events.
 #[derive(Drop)]
 pub struct FactList {
-    /// For each event its partner, if that is its whole fact, or the number of its record.
-    words: Vec<usize>,
+    /// For each of the first events its partner, if that is its whole fact, or the number of its
+    /// record.
+    words: Vec<u32>,
+    /// The facts that aren't only a partner. Each event has at most one.
     records: Vec<Fact>,
+    /// The facts at the events after `WORDS` events.
+    rest: Vec<Fact>,
 }
 
 impl Model for FactList {
     ghost use Rattle.std.specs.Prelude.{List};
     ghost use Rattle.md_pattern.specs.declared.facts.Fact.{Fact};
-    ghost use Rattle.md_pattern.specs.FactWords.{facts_of_words, AreWords};
+    ghost use Rattle.md_pattern.specs.FactWords.{all_facts, AreParts};
 
     ghost Value = { List Fact };
 
-    ghost view = { λ list. facts_of_words list.records.items list.words.items };
+    ghost view = { λ list. all_facts list.records.items list.words.items list.rest.items };
 
-    ghost invariant = { λ list. AreWords list.records.items list.words.items };
+    ghost invariant = { λ list. AreParts list.records.items list.words.items list.rest.items };
 }
 
 impl FactList {
@@ -47,8 +55,9 @@ impl FactList {
         ensures { IfOk result (λ list. list ≡ []) }
     {
         Ok(FactList {
-            words: Vec::with_capacity(alloc, events)?,
+            words: Vec::with_capacity(alloc, events.min(WORDS))?,
             records: Vec::new(alloc),
+            rest: Vec::new(alloc),
         })
     }
 
@@ -57,7 +66,7 @@ impl FactList {
     pub fn len(&self) -> usize
         ensures { result ≡ length self.now }
     {
-        self.words.len()
+        self.words.len() + self.rest.len()
     }
 
     /// The fact at the event with this index, if there is one.
@@ -65,21 +74,30 @@ impl FactList {
     pub fn get(&self, index: usize) -> Option<Fact>
         ensures { result ≡ slice_get self.now index }
     {
-        let word = *self.words.get(index)?;
-        Some(fact_of_word(&self.records, word))
+        match self.words.get(index) {
+            Some(word) => Some(fact_of_word(&self.records, *word)),
+            None => self.rest.get(index - self.words.len()).copied(),
+        }
     }
 
-    /// Adds the fact at the next event.
+    /// Adds the fact at the entry of an open node; returns its index.
     ///
     /// # Errors
     ///
     /// `AllocError`, only if memory runs out.
     #[inline(always)]
-    pub fn push(&mut self, fact: Fact) -> Result<(), AllocError>
-        ensures { OnOk result (self.new ≡ self.old ++ fact ∷ []) }
+    pub fn push_open(&mut self) -> Result<usize, AllocError>
+        ensures entry { IfOk result (λ entry. entry ≡ length self.old) }
+        ensures facts { OnOk result (self.new ≡ self.old ++ spec.partner_alone 0 ∷ []) }
     {
-        let word = word_for(&mut self.records, fact, self.words.capacity())?;
-        push_word(&mut self.words, word)
+        let entry = self.words.len();
+        if entry < WORDS {
+            push_word(&mut self.words, 0)?;
+            return Ok(entry);
+        }
+        let entry = self.len();
+        self.push_rare(0)?;
+        Ok(entry)
     }
 
     /// Adds the facts at an entry and at the exit right after it; returns the index of the entry.
@@ -94,27 +112,71 @@ impl FactList {
             (λ entry. self.new ≡ (self.old ++ spec.partner_alone (entry + 1) ∷ [])
             ++ spec.partner_alone entry ∷ []) }
     {
-        push_two(&mut self.words)
+        if self.words.len() < WORDS - 1 {
+            return push_two(&mut self.words);
+        }
+        let entry = self.len();
+        self.push_rare(entry + 1)?;
+        self.push_rare(entry)?;
+        Ok(entry)
     }
 
     /// Replaces the fact at the entry of a node that exits at the next event, if the entry exists,
-    /// and adds the fact at that exit. Here a partner needs no test of its size: both words are
-    /// indices of events.
+    /// and adds the fact at that exit.
     ///
     /// # Errors
     ///
     /// `AllocError`, only if memory runs out.
     #[inline(always)]
-    pub(super) fn close(&mut self, entry: usize, fact: Fact) -> Result<(), AllocError>
-        requires { fact.partner ≡ length self.old }
-        ensures { OnOk result
-            (self.new ≡ set self.old entry fact ++ spec.partner_alone entry ∷ []) }
+    pub(super) fn close(
+        &mut self,
+        entry: usize,
+        read_at: usize,
+        looseness: Looseness,
+    ) -> Result<(), AllocError>
+        ensures { OnOk result (self.new ≡ set self.old entry
+            (record (spec.partner_alone (length self.old)) { read_at = read_at; looseness = looseness })
+            ++ spec.partner_alone entry ∷ []) }
     {
-        if entry < self.words.len() && is_plain(&fact) {
+        let exit = self.words.len();
+        if exit < WORDS && entry < exit && is_plain(read_at, looseness) {
             return close_words(&mut self.words, entry);
         }
-        self.put(entry, fact)?;
-        self.push(partner_alone(entry))
+        let partner = self.len();
+        self.put(
+            entry,
+            Fact {
+                partner,
+                read_at,
+                looseness,
+            },
+        )?;
+        self.push(entry)
+    }
+
+    /// Adds a fact that is only a partner, at the next event.
+    #[inline(always)]
+    fn push(&mut self, partner: usize) -> Result<(), AllocError>
+        ensures { OnOk result (self.new ≡ self.old ++ spec.partner_alone partner ∷ []) }
+    {
+        if self.words.len() < WORDS && partner < WORDS {
+            return push_word(&mut self.words, partner as u32);
+        }
+        self.push_rare(partner)
+    }
+
+    /// The same. It is called only if there are as many words as there may be.
+    #[inline(never)]
+    fn push_rare(&mut self, partner: usize) -> Result<(), AllocError>
+        ensures { OnOk result (self.new ≡ self.old ++ spec.partner_alone partner ∷ []) }
+    {
+        let fact = partner_alone(partner);
+        if self.words.len() < WORDS {
+            let word = word_for(&mut self.records, fact, self.words.capacity())?;
+            return push_word(&mut self.words, word);
+        }
+        self.rest.push(fact)?;
+        Ok(())
     }
 
     /// Replaces the fact at the event with this index, if there is one.
@@ -126,36 +188,38 @@ impl FactList {
     pub fn put(&mut self, index: usize, fact: Fact) -> Result<(), AllocError>
         ensures { OnOk result (self.new ≡ set self.old index fact) }
     {
-        let word = word_for(&mut self.records, fact, self.words.capacity())?;
-        put_word(&mut self.words, index, word);
+        if index < self.words.len() {
+            let word = word_for(&mut self.records, fact, self.words.capacity())?;
+            put_word(&mut self.words, index, word);
+        } else {
+            put_fact(&mut self.rest, index - self.words.len(), fact);
+        }
         Ok(())
     }
 }
 
-/// Whether a fact is only a partner.
+/// Whether nothing is known of a node but its partner.
 #[inline(always)]
-fn is_plain(fact: &Fact) -> bool
-    ensures { result ≡ true → fact.now ≡ spec.partner_alone fact.now.partner }
+fn is_plain(read_at: usize, looseness: Looseness) -> bool
+    ensures read { result ≡ true → read_at ≡ 0 }
+    ensures loose { result ≡ true → looseness ≡ (spec.partner_alone 0).looseness }
 {
-    fact.read_at == 0
-        && !fact.looseness.without_items
-        && !fact.looseness.with_items
-        && !fact.looseness.of_item
+    read_at == 0 && !looseness.without_items && !looseness.with_items && !looseness.of_item
 }
 
 /// Whether a fact is only a partner, and fits in a word.
 #[inline(always)]
 fn is_partner_alone(fact: &Fact) -> bool
     ensures alone { result ≡ true → fact.now ≡ spec.partner_alone fact.now.partner }
-    ensures fits { result ≡ true → fact.now.partner < 2 ^ 63 }
+    ensures fits { result ≡ true → fact.now.partner < 2 ^ 31 }
 {
-    is_plain(fact) && fact.partner < RECORDS
+    is_plain(fact.read_at, fact.looseness) && fact.partner < WORDS
 }
 
 /// Returns the word for a fact, and adds a record if it needs one. `events` is the number of events
 /// for which there is capacity.
 #[inline(always)]
-fn word_for(records: &mut Vec<Fact>, fact: Fact, events: usize) -> Result<usize, AllocError>
+fn word_for(records: &mut Vec<Fact>, fact: Fact, events: usize) -> Result<u32, AllocError>
     ensures word { IfOk result (λ word. IsWord records.new.items word) }
     ensures fact { IfOk result (λ word. fact_of_word records.new.items word ≡ fact) }
     ensures words { (word : ℕ) → IsWord records.old.items word → IsWord records.new.items word }
@@ -163,7 +227,7 @@ fn word_for(records: &mut Vec<Fact>, fact: Fact, events: usize) -> Result<usize,
         → fact_of_word records.new.items word ≡ fact_of_word records.old.items word }
 {
     if is_partner_alone(&fact) {
-        Ok(fact.partner)
+        Ok(fact.partner as u32)
     } else {
         number_of_record(records, fact, events)
     }
@@ -172,7 +236,7 @@ fn word_for(records: &mut Vec<Fact>, fact: Fact, events: usize) -> Result<usize,
 /// Adds a record for a fact, and returns its word. The first record reserves capacity for an eighth
 /// of the events, since growing step by step would copy the records repeatedly.
 #[inline(always)]
-fn number_of_record(records: &mut Vec<Fact>, fact: Fact, events: usize) -> Result<usize, AllocError>
+fn number_of_record(records: &mut Vec<Fact>, fact: Fact, events: usize) -> Result<u32, AllocError>
     ensures word { IfOk result (λ word. IsWord records.new.items word) }
     ensures fact { IfOk result (λ word. fact_of_word records.new.items word ≡ fact) }
     ensures words { (word : ℕ) → IsWord records.old.items word → IsWord records.new.items word }
@@ -180,29 +244,33 @@ fn number_of_record(records: &mut Vec<Fact>, fact: Fact, events: usize) -> Resul
         → fact_of_word records.new.items word ≡ fact_of_word records.old.items word }
 {
     let number = records.len();
+    // Each event has at most one record, so their numbers stay below this.
+    if number >= WORDS {
+        return Err(AllocError);
+    }
     if number == records.capacity() {
         records.reserve(events / 8 + 1)?;
     }
     records.push_reserved(fact);
-    Ok(RECORDS + number)
+    Ok(RECORDS + number as u32)
 }
 
 /// The fact that a word encodes.
 #[inline(always)]
-fn fact_of_word(records: &[Fact], word: usize) -> Fact
+fn fact_of_word(records: &[Fact], word: u32) -> Fact
     requires { IsWord records.now word }
     ensures { result ≡ fact_of_word records.now word }
 {
     if word < RECORDS {
-        partner_alone(word)
+        partner_alone(word as usize)
     } else {
-        records[word - RECORDS]
+        records[(word - RECORDS) as usize]
     }
 }
 
 /// Adds a word. Usually there is capacity, and no call is made.
 #[inline(always)]
-fn push_word(words: &mut Vec<usize>, word: usize) -> Result<(), AllocError>
+fn push_word(words: &mut Vec<u32>, word: u32) -> Result<(), AllocError>
     ensures pushed { OnOk result (words.new.items ≡ words.old.items ++ word ∷ []) }
     ensures refused { OnErr result (words.new.items ≡ words.old.items) }
 {
@@ -216,9 +284,9 @@ fn push_word(words: &mut Vec<usize>, word: usize) -> Result<(), AllocError>
 /// Adds the words of an entry and of the exit right after it, likewise; returns the index of the
 /// entry.
 #[inline(always)]
-fn push_two(words: &mut Vec<usize>) -> Result<usize, AllocError>
+fn push_two(words: &mut Vec<u32>) -> Result<usize, AllocError>
+    requires { length words.old.items + 1 < 2 ^ 31 }
     ensures entry { IfOk result (λ entry. entry ≡ length words.old.items) }
-    ensures fits { IfOk result (λ entry. entry + 1 < 2 ^ 63) }
     ensures pushed { IfOk result
         (λ entry. words.new.items ≡ (words.old.items ++ (entry + 1) ∷ []) ++ entry ∷ []) }
     ensures refused { OnErr result (words.new.items ≡ words.old.items) }
@@ -227,32 +295,43 @@ fn push_two(words: &mut Vec<usize>) -> Result<usize, AllocError>
     if words.capacity() - entry < 2 {
         words.reserve(2)?;
     }
-    words.push_reserved(entry + 1);
-    words.push_reserved(entry);
+    let word = entry as u32;
+    words.push_reserved(word + 1);
+    words.push_reserved(word);
     Ok(entry)
 }
 
 /// Writes the word of an entry whose exit is the next event, and adds the word of the exit.
 #[inline(always)]
-fn close_words(words: &mut Vec<usize>, entry: usize) -> Result<(), AllocError>
-    requires { entry < length words.old.items }
-    ensures fits { length words.old.items < 2 ^ 63 }
+fn close_words(words: &mut Vec<u32>, entry: usize) -> Result<(), AllocError>
+    requires exists { entry < length words.old.items }
+    requires fits { length words.old.items < 2 ^ 31 }
     ensures closed { OnOk result (words.new.items
         ≡ set words.old.items entry (length words.old.items) ++ entry ∷ []) }
     ensures refused { OnErr result (words.new.items
         ≡ set words.old.items entry (length words.old.items)) }
 {
-    let exit = words.len();
+    let exit = words.len() as u32;
     words[entry] = exit;
-    push_word(words, entry)
+    push_word(words, entry as u32)
 }
 
 /// Writes a word at an index, if it exists.
 #[inline(always)]
-fn put_word(words: &mut Vec<usize>, index: usize, word: usize)
+fn put_word(words: &mut Vec<u32>, index: usize, word: u32)
     ensures { words.new.items ≡ set words.old.items index word }
 {
     if index < words.len() {
         words[index] = word;
+    }
+}
+
+/// Writes a fact at an index, if it exists.
+#[inline(never)]
+fn put_fact(facts: &mut Vec<Fact>, index: usize, fact: Fact)
+    ensures { facts.new.items ≡ set facts.old.items index fact }
+{
+    if index < facts.len() {
+        facts[index] = fact;
     }
 }

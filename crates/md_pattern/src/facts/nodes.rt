@@ -8,7 +8,7 @@ ghost use Rattle.md_pattern.specs.Facts as spec;
 use super::{Fact, OpenNode, innermost};
 use crate::columns::collects_in;
 use crate::seeking::{NOTHING_SOUGHT, Sought, search_of};
-use crate::summary::{EMPTY_SUMMARY, NOT_LOOSE, summary_looseness};
+use crate::summary::{EMPTY_SUMMARY, NOT_LOOSE};
 use md_base::Name;
 use md_base::name_tests::is_transparent;
 use std::alloc::AllocError;
@@ -106,7 +106,7 @@ pub(super) fn push_opened(
 /// Where to find what is read of a node: the number of the table, the last contributing child, or
 /// the result of the search.
 #[inline(always)]
-fn read_at_of(name: Name, table: usize, own: &OpenNode) -> usize
+pub(super) fn read_at_of(name: Name, table: usize, own: &OpenNode) -> usize
     ensures { result ≡ spec.read_at_of name table own.now.contributing own.now.sought }
 {
     match name {
@@ -117,35 +117,15 @@ fn read_at_of(name: Name, table: usize, own: &OpenNode) -> usize
     }
 }
 
-/// The fact of a node that exits at an index.
+/// The same for a node of a common name, which is no table and no item.
 #[inline(always)]
-pub(super) fn fact_of(name: Name, exit: usize, table: usize, own: &OpenNode) -> Fact
-    ensures { result
-        ≡ spec.fact_of name exit table own.now.contributing own.now.sought own.now.summary }
-{
-    Fact {
-        partner: exit,
-        read_at: read_at_of(name, table, own),
-        looseness: summary_looseness(own.summary),
-    }
-}
-
-/// The same for a node of a common name, which is no table.
-#[inline(always)]
-pub(super) fn common_fact(name: Name, exit: usize, own: &OpenNode) -> Fact
+pub(super) fn common_read_at(name: Name, own: &OpenNode) -> usize
     requires { spec.is_common name ≡ true }
-    ensures { (table : ℕ) → result
-        ≡ spec.fact_of name exit table own.now.contributing own.now.sought own.now.summary }
+    ensures { (table : ℕ) → result ≡ spec.read_at_of name table own.now.contributing own.now.sought }
 {
-    let read_at = if matches!(name, Name::Other(_)) {
-        0
-    } else {
-        own.sought.read_at
-    };
-    Fact {
-        partner: exit,
-        read_at,
-        looseness: summary_looseness(own.summary),
+    match name {
+        Name::Other(_) => 0,
+        _ => own.sought.read_at,
     }
 }
 

@@ -24,7 +24,11 @@ returns-in-Some c =
     let after = c.follow_common.new.here in
     let counted = c.leave_innermost-child.new.open_nodes.ok.0 in
     let some : 0 < length items = subst (λ n. 0 < n) counted (search rules) in
-    let fact_is : c.common_fact-fact.result ≡ fact_of name (length pass.facts)
+    let fact = record (partner_alone (length pass.facts)) {
+      read_at = c.common_read_at-read_at.result;
+      looseness = c.summary_looseness.result;
+    } in
+    let fact_is : fact ≡ fact_of name (length pass.facts)
     (length (Collected.tables pass.columns)) own.contributing own.sought own.summary = search rules
     in
     let facts_is = c.in_ok-close.ensures
@@ -49,7 +53,11 @@ returns-in-None c =
     let after = c.follow_common-in-None.new.here in
     let none : length items ≡ 0 =
     subst (λ n. n ≡ 0) c.leave_innermost-child.new.open_nodes.ok.0 (search rules) in
-    let fact_is : c.common_fact-fact.result ≡ fact_of name (length pass.facts)
+    let fact = record (partner_alone (length pass.facts)) {
+      read_at = c.common_read_at-read_at.result;
+      looseness = c.summary_looseness.result;
+    } in
+    let fact_is : fact ≡ fact_of name (length pass.facts)
     (length (Collected.tables pass.columns)) own.contributing own.sought own.summary = search rules
     in
     let facts_is = c.in_ok-close.ensures

@@ -1,13 +1,13 @@
 -- What `exit_rare` leaves is the pass after this exit, in an open node and where only the
 -- document is left. The search can't see that the first of the open nodes changes where the last
 -- of the vector does.
-use Rattle.std.proofs.Common.{rules, ◌≡◌, ◌<◌, ◌-◌, ◌∷◌, [], length, get_or, refl, sym, ap, ◌∙◌}
+use Rattle.std.proofs.Common.{rules, ◌≡◌, ◌<◌, ◌-◌, ◌++◌, ◌∷◌, [], length, get_or, refl, sym, ap, ◌∙◌}
 use Rattle.std.proofs.Common.{subst}
 use Rattle.std.specs.Prelude.{set}
 use Rattle.md_pattern.specs.contracts.facts.Pass.{the_view}
 use Rattle.md_pattern.specs.Facts.{opens, fact_of, partner_alone}
 use Rattle.md_pattern.specs.Columns.{Collected}
-use Rattle.md_pattern.proofs.Opens.{on_answer, opens-set, opens-last, opens-alone, put_then_pushed}
+use Rattle.md_pattern.proofs.Opens.{on_answer, opens-set, opens-last, opens-alone}
 use Rattle.md_pattern.proofs.Opens.{passed_exit-by}
 use Rattle.md_pattern.proofs.facts.Pass.exit_rare.Goals as goal
 
@@ -23,19 +23,21 @@ returns-in-Some c =
     let after = c.follow.new.here in
     let counted = c.leave_innermost-own.new.open_nodes.ok.0 in
     let some : 0 < length items = subst (λ n. 0 < n) counted (search rules) in
-    let fact_is : c.fact_of-fact.result ≡ fact_of name (length pass.facts)
+    let fact = record (partner_alone (length pass.facts)) {
+      read_at = c.read_at_of-read_at.result;
+      looseness = c.summary_looseness.result;
+    } in
+    let fact_is : fact ≡ fact_of name (length pass.facts)
     (length (Collected.tables pass.columns)) own.contributing own.sought own.summary = search rules
     in
-    let facts_is =
-    put_then_pushed pass.facts own.entry c.fact_of-fact.result _ c.partner_alone.result
-    (partner_alone own.entry) c.put.new.self c.push.new.self fact_is c.in_ok-put.ensures
-    c.partner_alone.ensures c.in_ok-push.ensures in
+    let facts_is = c.in_ok-close.ensures
+    ∙ ap (λ f. set pass.facts own.entry f ++ partner_alone own.entry ∷ []) fact_is in
     let here_is = c.in-Some.ensures.value ∙ ap (λ n. get_or items (n - 1) here) counted
     ∙ opens-last items document here some in
     let stack_is = ap (λ n. opens (set items (n - 1) after) document) counted
     ∙ opens-set items document after some in
     rw (← c.self.view_is) (on_answer _ _ _ _ (λ after_is columns_is definitions_is.
-    passed_exit-by name pass own here after c.push.new.self c.follow.new.ended.columns
+    passed_exit-by name pass own here after c.close.new.self c.follow.new.ended.columns
     c.follow.new.ended.definitions.items left _ c.leave_innermost-own.ensures.own
     c.leave_innermost-own.ensures.left here_is stack_is after_is facts_is columns_is definitions_is)
     c.follow.result c.follow.ensures.here c.follow.ensures.columns c.follow.ensures.definitions)
@@ -50,16 +52,18 @@ returns-in-None c =
     let after = c.follow-in-None.new.here in
     let none : length items ≡ 0 =
     subst (λ n. n ≡ 0) c.leave_innermost-own.new.open_nodes.ok.0 (search rules) in
-    let fact_is : c.fact_of-fact.result ≡ fact_of name (length pass.facts)
+    let fact = record (partner_alone (length pass.facts)) {
+      read_at = c.read_at_of-read_at.result;
+      looseness = c.summary_looseness.result;
+    } in
+    let fact_is : fact ≡ fact_of name (length pass.facts)
     (length (Collected.tables pass.columns)) own.contributing own.sought own.summary = search rules
     in
-    let facts_is =
-    put_then_pushed pass.facts own.entry c.fact_of-fact.result _ c.partner_alone.result
-    (partner_alone own.entry) c.put.new.self c.push.new.self fact_is c.in_ok-put.ensures
-    c.partner_alone.ensures c.in_ok-push.ensures in
+    let facts_is = c.in_ok-close.ensures
+    ∙ ap (λ f. set pass.facts own.entry f ++ partner_alone own.entry ∷ []) fact_is in
     let left_is = sym (opens-alone items document none) ∙ c.leave_innermost-own.ensures.left in
     rw (← c.self.view_is) (on_answer _ _ _ _ (λ after_is columns_is definitions_is.
-    passed_exit-by name pass own document after c.push.new.self
+    passed_exit-by name pass own document after c.close.new.self
     c.follow-in-None.new.ended.columns c.follow-in-None.new.ended.definitions.items (document ∷ [])
     _ c.leave_innermost-own.ensures.own left_is
     refl (opens-alone items after none) after_is facts_is columns_is definitions_is)

@@ -1,19 +1,29 @@
 -- Both words that change are indices of events: `FactLists` shows what they encode, by induction.
-use Rattle.std.proofs.Common.{rules, ◌≡◌, ◌<◌, length, ap, sym, ◌∙◌}
+use Rattle.std.proofs.Common.{rules, ◌≡◌, ◌<◌, ◌^◌, [], ◌∷◌, length, ap, ◌∙◌}
+use Rattle.std.specs.Prelude.{set}
 use Rattle.std.proofs.lemmas.List.{length-map}
 use Rattle.md_pattern.specs.Facts.{partner_alone}
-use Rattle.md_pattern.specs.FactWords.{fact_of_word, facts_of_words}
-use Rattle.md_pattern.proofs.FactLists.{facts-closed, on_ok}
+use Rattle.md_pattern.specs.FactWords.{fact_of_word, all_facts}
+use Rattle.md_pattern.proofs.FactLists.{by_words, no_rest, facts-closed, on_ok}
 use Rattle.md_pattern.proofs.facts.list.FactList.close.Goals as goal
 
 pub returns-then-is_plain : goal.returns-then-is_plain
 returns-then-is_plain c =
     let records = c.self.inside.records.items in
     let words = c.self.inside.words.items in
+    let rest = c.self.inside.rest.items in
+    let few : length words < 2 ^ 31 = search rules in
     let before : c.args.entry < length words = search rules in
-    let plain : c.args.fact ≡ partner_alone c.args.fact.partner = search rules in
-    let partner_is = c.requires ∙ ap length (sym c.self.view_is)
-    ∙ length-map words (fact_of_word records) in
-    rw (← c.self.view_is) (on_ok _ _ (λ closed. ap (facts_of_words records) closed
-    ∙ facts-closed records words c.args.entry c.args.fact before c.close_words.ensures.fits
-    (plain ∙ ap partner_alone partner_is)) c.close_words.result c.close_words.ensures.closed)
+    let none = c.self.invariant.1 few in
+    let fact = record (partner_alone (length (all_facts records words rest))) {
+      read_at = c.args.read_at;
+      looseness = c.args.looseness;
+    } in
+    let counted : length (all_facts records words rest) ≡ length words =
+    ap length (no_rest records words rest none) ∙ length-map words (fact_of_word records) in
+    let plain : fact ≡ partner_alone (length words) = search rules in
+    rw (← c.self.view_is) (on_ok _ _ (λ closed. ap (λ ws. all_facts records ws rest) closed
+    ∙ by_words records records words _ rest (partner_alone c.args.entry ∷ []) none
+    (λ facts. set facts c.args.entry fact)
+    (facts-closed records words c.args.entry fact before few plain))
+    c.close_words.result c.close_words.ensures.closed)

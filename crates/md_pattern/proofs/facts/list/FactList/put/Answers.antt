@@ -1,21 +1,28 @@
--- After a word is written, the words encode the previous facts with the new fact written:
--- `FactLists` shows it by induction.
-use Rattle.std.proofs.Common.{sym, ap, ◌∙◌, subst}
-use Rattle.md_pattern.specs.FactWords.{facts_of_words, AreWords}
-use Rattle.md_pattern.proofs.FactLists.{AreWords-put, facts-put}
+-- What is written among the words or in the rest is written among the facts: `FactLists` shows it
+-- by induction.
+use Rattle.std.proofs.Common.{rules, ◌≡◌, ◌<◌, ◌≤◌, length, ap, ◌∙◌}
+use Rattle.md_pattern.specs.FactWords.{facts_of_words, all_facts}
+use Rattle.md_pattern.proofs.FactLists.{facts-put, facts-written, rest-written}
 use Rattle.md_pattern.proofs.facts.list.FactList.put.Goals as goal
 
-pub invariant_of-self-2 : goal.invariant_of-self-2
-invariant_of-self-2 c =
-    subst (λ ws. AreWords c.word_for.new.records.items ws) (sym c.put_word.ensures)
-    (AreWords-put c.self.inside.records.items c.word_for.new.records.items c.word_for.ensures.words
-    c.word_for.ensures.facts c.self.inside.words.items c.args.index c.in_ok-word.word
-    c.self.invariant c.in_ok-word.ensures.word)
-
-pub returns : goal.returns
-returns c =
+pub returns-in_ok-word : goal.returns-in_ok-word
+returns-in_ok-word c =
+    let before = c.self.inside.records.items in
     let records = c.word_for.new.records.items in
-    rw (← c.self.view_is) (ap (facts_of_words records) c.put_word.ensures
-    ∙ facts-put c.self.inside.records.items records c.word_for.ensures.words
-    c.word_for.ensures.facts c.self.inside.words.items c.args.index c.in_ok-word.word c.args.fact
-    c.self.invariant c.in_ok-word.ensures.fact)
+    let words = c.self.inside.words.items in
+    let exists : c.args.index < length words = search rules in
+    rw (← c.self.view_is) (facts-written before records words c.put_word.new.words.items
+    c.self.inside.rest.items c.args.index c.args.fact exists
+    (ap (facts_of_words records) c.put_word.ensures
+    ∙ facts-put before records c.word_for.ensures.words c.word_for.ensures.facts words c.args.index
+    c.in_ok-word.word c.args.fact c.self.invariant.0 c.in_ok-word.ensures.fact))
+
+pub returns-else-index-len : goal.returns-else-index-len
+returns-else-index-len c =
+    let records = c.self.inside.records.items in
+    let words = c.self.inside.words.items in
+    let counted : length words ≡ c.len-else-index-len.result = search rules in
+    let after : c.len-else-index-len.result ≤ c.args.index = search rules in
+    rw (← c.self.view_is) (ap (all_facts records words) c.put_fact.ensures
+    ∙ rest-written records words c.self.inside.rest.items
+    c.len-else-index-len.result c.args.index c.args.fact counted after)
