@@ -4,7 +4,7 @@
     bench/measure/tables.py [--write] [--jobs TITLE=PROGRAM]... [NAME..]
 
 A page has a line `<!-- NAME: bench/measure/tables.py -->` before each table that this script makes.
-It prints the tables, and with --write puts them into the pages; names keep only these tables. It
+It prints the tables, and with --write writes them into the pages; names keep only these. It
 requires what the scripts that measure do: `mdevents` and `md_bench` built in their folders, and
 clients/build for renderers and events; BIVDRAZO_ORIGINAL for what is beside the original. --jobs
 adds a column to the table of jobs, for another build of md_bench, with its ratio to the first.
@@ -146,7 +146,7 @@ def jobs(builds):
 
 
 def put(name, lines):
-    """Puts a table into the page that has its mark."""
+    """Writes a table into the page that has its mark."""
     mark = MARK.format(name)
     for page in PAGES:
         text = page.read_text("utf-8")

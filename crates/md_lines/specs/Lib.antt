@@ -1,3 +1,5 @@
 -- The definitions that the contracts of the scanners cite.
 pub mod Lines
+pub mod Classes
+pub mod Escapes
 pub mod Reading

@@ -1,33 +1,54 @@
 //! Classes of bytes.
 
+ghost use Rattle.std.specs.Prelude.{◌≡◌};
+ghost use Rattle.md_lines.specs.Classes.{is_in, class_number};
+
 /// A class of bytes. A byte may be in several.
 #[derive(Clone, Copy, PartialEq, Eq, Debug)]
 pub enum Class {
     /// A space or a tab.
-    Space = 1,
+    Space,
     /// ASCII punctuation.
-    Punctuation = 2,
+    Punctuation,
     /// An ASCII letter or digit.
-    Alphanumeric = 4,
+    Alphanumeric,
     /// An ASCII letter.
-    Alphabetic = 8,
+    Alphabetic,
     /// A byte that may begin a mark in text: an escape, code, a link, emphasis, math, a bare
     /// address.
-    Mark = 16,
+    Mark,
     /// A byte of an attribute's name: a letter, a digit, `_`, `:`, `.` or `-`.
-    Name = 32,
+    Name,
     /// A byte of an unquoted attribute value.
-    Unquoted = 64,
+    Unquoted,
 }
 
 /// Whether a byte is in a class.
 #[inline(always)]
-pub fn is(byte: u8, class: Class) -> bool {
-    CLASSES[byte as usize] & class as u8 != 0
+pub fn is(byte: u8, class: Class) -> bool
+    ensures { result ≡ is_in class byte }
+{
+    CLASSES[usize::from(byte)] & number_of(class) != 0
+}
+
+/// The number of a class: a power of two, so that sums of them are sets.
+#[inline(always)]
+fn number_of(class: Class) -> u8
+    ensures { result ≡ class_number class }
+{
+    match class {
+        Class::Space => 1,
+        Class::Punctuation => 2,
+        Class::Alphanumeric => 4,
+        Class::Alphabetic => 8,
+        Class::Mark => 16,
+        Class::Name => 32,
+        Class::Unquoted => 64,
+    }
 }
 
 /// The sum of the classes of each byte.
-static CLASSES: [u8; 256] = [
+const CLASSES: [u8; 256] = [
     64, 64, 64, 64, 64, 64, 64, 64, 64, 1, 0, 64, 64, 0, 64, 64, 64, 64, 64, 64, 64, 64, 64, 64,
     64, 64, 64, 64, 64, 64, 64, 64, 1, 82, 2, 66, 82, 66, 82, 2, 66, 66, 82, 66, 66, 98, 114, 66,
     100, 100, 100, 100, 100, 100, 100, 100, 100, 100, 114, 66, 18, 2, 2, 66, 82, 108, 108, 108,
@@ -41,26 +62,3 @@ static CLASSES: [u8; 256] = [
     64, 64, 64, 64, 64, 64, 64, 64, 64, 64, 64, 64, 64, 64, 64, 64, 64, 64, 64, 64, 64, 64, 64, 64,
     64, 64, 64, 64, 64, 64, 64, 64, 64,
 ];
-
-#[cfg(test)]
-mod tests {
-    use super::*;
-
-    #[test]
-    fn has_the_classes_of_each_byte(rt: HostRuntime) {
-        for byte in 0..=u8::MAX {
-            let is_letter = byte.is_ascii_alphabetic();
-            let is_name = byte.is_ascii_alphanumeric() || b"_:.-".contains(&byte);
-            assert_eq!(rt; is(byte, Class::Space), byte == b' ' || byte == b'\t');
-            assert_eq!(rt; is(byte, Class::Punctuation), byte.is_ascii_punctuation());
-            assert_eq!(rt; is(byte, Class::Alphanumeric), byte.is_ascii_alphanumeric());
-            assert_eq!(rt; is(byte, Class::Alphabetic), is_letter);
-            assert_eq!(rt; is(byte, Class::Mark), b"\\`&<[]!*_~$@:.".contains(&byte));
-            assert_eq!(rt; is(byte, Class::Name), is_name);
-            assert_eq!(rt;
-                is(byte, Class::Unquoted),
-                !b" \t\n\r\"'=<>`".contains(&byte)
-            );
-        }
-    }
-}

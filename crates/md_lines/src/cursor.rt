@@ -1,7 +1,9 @@
 //! A place in the lines of a leaf, and a cursor that moves from it.
 
 ghost use Rattle.std.specs.Prelude.{◌≡◌, ◌≤◌, ◌<◌, length, min, suc, nat_lt};
-ghost use Rattle.std.specs.Prelude.{IsTrue, IfNone, IfSome, Some, None, false, slice_get};
+ghost use Rattle.std.specs.Prelude.{IsTrue, IfNone, IfSome, Some, None, false, slice_get, ◌+◌, drop};
+ghost use Rattle.std.specs.List.{prefix_len};
+ghost use Rattle.md_lines.specs.Classes.{is_in};
 
 use crate::class::{Class, is};
 use crate::line::Line;
@@ -121,6 +123,12 @@ impl<'a> Cursor<'a> {
     pub fn skip(&mut self, class: Class) -> bool
         ensures never_back { left self.new ≤ left self.old }
         ensures goes_on { IsTrue result → left self.new < left self.old }
+        ensures passed { self.old.at < self.old.end → self.new.at ≡ min self.old.end
+            (self.old.at + prefix_len (is_in class) (drop self.old.at self.old.bytes.now)) }
+        ensures stays { self.old.end ≤ self.old.at → self.new.at ≡ self.old.at }
+        ensures any { result ≡ nat_lt self.old.at self.new.at }
+        ensures line { self.new.line ≡ self.old.line }
+        ensures end { self.new.end ≡ self.old.end }
     {
         let mut at = self.at;
         while at < self.end && is(self.bytes[at], class) {

@@ -2,7 +2,10 @@
 
 ghost use Rattle.std.specs.Prelude.{◌≡◌, ◌≤◌, ◌<◌, length, min};
 ghost use Rattle.std.specs.List.{prefix_len};
+ghost use Rattle.std.specs.Prelude.{drop, suc, ◌+◌, ◌-◌, option_map, IfSome};
 ghost use Rattle.md_lines.specs.Lines.{goes_on_in_label};
+ghost use Rattle.md_lines.specs.Escapes.{before_unescaped, in_line, is_angle};
+ghost use Rattle.md_lines.specs.Escapes.{pointed_length, stops_title, width};
 
 use crate::class::{Class, is};
 use crate::cursor::Cursor;
@@ -98,21 +101,39 @@ pub fn read_destination(cursor: &mut Cursor<'_>) -> Option<Span> {
 }
 
 /// Reads a destination in angle brackets, from after its `<` to after its `>`.
-fn pointed_destination(cursor: &mut Cursor<'_>) -> Option<Span> {
+fn pointed_destination(cursor: &mut Cursor<'_>) -> Option<Span>
+    ensures length { option_map (λ span. span.end - span.start) result
+        ≡ pointed_length (in_line cursor.old) }
+    ensures start { IfSome result (λ span. span.start ≡ cursor.old.at) }
+    ensures passed { IfSome result (λ span. cursor.new.at ≡ suc span.end) }
+{
     let from = cursor.at;
-    let mut at = from;
-    while at < cursor.end {
-        match cursor.bytes[at] {
-            b'>' => {
-                cursor.at = at + 1;
-                return Some(Span::new(from, at));
-            }
-            b'<' => return None,
-            b'\\' => at = after_escape(&cursor.bytes[..cursor.end], at),
-            _ => at += 1,
-        }
+    let text = cursor.bytes[..cursor.end].get(from..).unwrap_or(b"");
+    let length = pointed_length(text);
+    if text.get(length) != Some(&b'>') {
+        return None;
     }
-    None
+    cursor.at = from + length + 1;
+    Some(Span::new(from, from + length))
+}
+
+/// The number of bytes before the first angle bracket of a text that isn't escaped.
+fn pointed_length(text: &[u8]) -> usize
+    ensures { result ≡ before_unescaped is_angle text.now }
+{
+    let mut at = 0;
+    while at < text.len() && !is_angle(text[at]) {
+        at = after_byte(text, at);
+    }
+    at
+}
+
+/// Whether a byte is an angle bracket.
+#[inline(always)]
+fn is_angle(byte: u8) -> bool
+    ensures { result ≡ is_angle byte }
+{
+    byte == b'<' || byte == b'>'
 }
 
 /// Reads a destination without angle brackets, which may be empty: its parentheses are paired, and
@@ -134,7 +155,7 @@ fn bare_destination(cursor: &mut Cursor<'_>) -> Option<Span> {
             b')' if depth == 0 => break,
             b')' => depth -= 1,
             b'\\' => {
-                at = after_escape(&bytes[..end], at);
+                at = after_byte(&bytes[..end], at);
                 continue;
             }
             0 => {}
@@ -176,15 +197,16 @@ impl Search for InDestination {
     }
 }
 
-/// The index after the backslash at `at`, and after the punctuation mark that it escapes, if any.
+/// The index after the byte at `at`, and after the punctuation mark that it escapes, if any.
 #[inline(always)]
-fn after_escape(line: &[u8], at: usize) -> usize
-    requires { at < length line.now }
+fn after_byte(text: &[u8], at: usize) -> usize
+    requires { at < length text.now }
     ensures after { at < result }
-    ensures within { result ≤ length line.now }
+    ensures within { result ≤ length text.now }
+    ensures width { result ≡ at + width (drop at text.now) }
 {
-    match line.get(at + 1) {
-        Some(byte) if is(*byte, Class::Punctuation) => at + 2,
+    match text.get(at + 1) {
+        Some(next) if text[at] == b'\\' && is(*next, Class::Punctuation) => at + 2,
         _ => at + 1,
     }
 }
@@ -230,21 +252,32 @@ enum Ending {
 }
 
 /// The end of a title in a line, searched from an index.
-fn title_end(line: &[u8], from: usize, open: u8, close: u8) -> Ending {
-    let mut at = from;
-    while at < line.len() {
-        let byte = line[at];
-        if byte == close {
-            return Ending::At(at);
-        }
-        if byte == b'(' && open == b'(' {
-            return Ending::Never;
-        }
-        at = if byte == b'\\' {
-            after_escape(line, at)
-        } else {
-            at + 1
-        };
+fn title_end(line: &[u8], from: usize, mark: u8, close: u8) -> Ending {
+    let text = line.get(from..).unwrap_or(b"");
+    let length = title_length(text, mark, close);
+    match text.get(length) {
+        Some(byte) if *byte == close => Ending::At(from + length),
+        Some(_) => Ending::Never,
+        None => Ending::Later,
     }
-    Ending::Later
+}
+
+/// The number of bytes before the first of a text that ends a title, well or not, and isn't
+/// escaped.
+fn title_length(text: &[u8], mark: u8, close: u8) -> usize
+    ensures { result ≡ before_unescaped (stops_title mark close) text.now }
+{
+    let mut at = 0;
+    while at < text.len() && !stops_title(mark, close, text[at]) {
+        at = after_byte(text, at);
+    }
+    at
+}
+
+/// Whether a byte ends a title that begins with a mark and is closed by another, well or not.
+#[inline(always)]
+fn stops_title(mark: u8, close: u8, byte: u8) -> bool
+    ensures { result ≡ stops_title mark close byte }
+{
+    byte == close || (byte == b'(' && mark == b'(')
 }

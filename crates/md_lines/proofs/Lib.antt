@@ -1,0 +1,2 @@
+-- Lemmas for the scanners.
+pub mod Escapes

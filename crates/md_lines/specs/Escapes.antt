@@ -1,0 +1,44 @@
+-- Where a text ends that may have escapes: a backslash before a punctuation mark.
+use Rattle.std.specs.Prelude.{ℕ, Bool, List, [], ◌∷◌, ◌+◌, ◌==◌, ◌&&◌, ◌||◌, suc, nat_lt}
+use Rattle.std.specs.Prelude.{get_or, length, if◌then◌else◌}
+use Rattle.std.specs.Prelude.{Option, Some, None, drop, take}
+use Rattle.std.specs.Char.{is_ascii_punctuation}
+use Rattle.md_lines.specs.declared.cursor.Cursor.{Cursor}
+
+-- whether a byte and the next one are an escape
+abbrev pub is_escape : ℕ → ℕ → Bool
+is_escape byte next = byte == 92 && is_ascii_punctuation next
+
+-- how many bytes begin a text as one: two for an escape
+abbrev pub width : List ℕ → ℕ
+width [] = 1
+width (byte ∷ []) = 1
+width (byte ∷ next ∷ rest) = if is_escape byte next then 2 else 1
+
+-- how many bytes come before the first that passes a test, if escaped bytes aren't tested
+abbrev pub before_unescaped : (ℕ → Bool) → List ℕ → ℕ
+before_unescaped test [] = 0
+before_unescaped test (byte ∷ []) = if test byte then 0 else 1
+before_unescaped test (byte ∷ next ∷ rest) =
+    if test byte then 0
+    else if is_escape byte next then 2 + before_unescaped test rest
+    else suc (before_unescaped test (next ∷ rest))
+
+-- whether a byte is an angle bracket
+abbrev pub is_angle : ℕ → Bool
+is_angle byte = byte == 60 || byte == 62
+
+-- whether a byte ends a title, well or not: its closing mark, or a parenthesis that opens in one in
+-- parentheses
+abbrev pub stops_title : ℕ → ℕ → ℕ → Bool
+stops_title mark close byte = byte == close || (byte == 40 && mark == 40)
+
+-- the text of a cursor's line from its place on
+abbrev pub in_line : Cursor → List ℕ
+in_line cursor = drop cursor.at (take cursor.end cursor.bytes.now)
+
+-- how long a destination is that an angle bracket closes: the first that isn't escaped is no `<`
+abbrev pub pointed_length : List ℕ → Option ℕ
+pointed_length text =
+    let count = before_unescaped is_angle text in
+    if nat_lt count (length text) && get_or text count 0 == 62 then Some count else None
