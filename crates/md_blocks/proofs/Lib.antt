@@ -1,2 +1,3 @@
--- The lemmas on tapes.
+-- The lemmas on tapes, and on what is trimmed.
 pub mod TapeLemmas
+pub mod Trimming
