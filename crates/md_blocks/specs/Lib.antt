@@ -2,3 +2,4 @@
 pub mod Tape
 pub mod Marks
 pub mod Leaves
+pub mod HtmlBlocks

@@ -65,7 +65,7 @@ pub(crate) fn delimiter_columns(text: &[u8]) -> Option<usize>
 
 /// A text without a byte at its beginning, if it has it.
 #[inline(always)]
-fn without_first(text: &[u8], byte: u8) -> &[u8]
+pub(crate) fn without_first(text: &[u8], byte: u8) -> &[u8]
     ensures value { result.now ≡ without_first byte text.now }
     ensures within { length result.now ≤ length text.now }
 {
