@@ -1,4 +1,4 @@
--- The lemmas on tapes, and on what is trimmed.
+-- The lemmas on tapes, on what is trimmed, and on where HTML ends.
 pub mod TapeLemmas
 pub mod Trimming
 pub mod Somewhere

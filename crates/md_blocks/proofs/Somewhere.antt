@@ -1,8 +1,8 @@
 -- Where a line may have what ends a block of HTML.
 use Rattle.std.proofs.Common.{ℕ, Bool, List, [], ◌∷◌, zero, suc, true, false, ◌≡◌, ◌+◌}
-use Rattle.std.proofs.Common.{◌<◌, ◌≤◌, ◌-◌, ◌||◌, ◌∙◌, take, Some, None, nat_eq, length, drop, get_or}
+use Rattle.std.proofs.Common.{◌<◌, ◌≤◌, ◌-◌, ◌||◌, ◌∙◌, take, Some, None, nat_eq, length}
+use Rattle.std.proofs.Common.{drop, get_or}
 use Rattle.std.proofs.Common.{ap, refl, sym, inl, inr, arith, unwrap_or, is_none}
-use Rattle.std.specs.List.{list_any}
 use Rattle.std.specs.Char.{to_ascii_lowercase}
 use Rattle.std.proofs.lemmas.Bool.{cases_lt, ne_eqb, eq-eqb, eqb-false}
 use Rattle.std.proofs.lemmas.List.{at_drop_more, drop_more, drop_all, take_rest}
@@ -10,7 +10,7 @@ use Rattle.std.proofs.lemmas.Str.Ascii.{lowercase_is}
 use Rattle.md_blocks.specs.declared.html.HtmlKind.{HtmlKind}
 use Rattle.md_blocks.specs.declared.html.HtmlKind.TheVariants.{Raw, Comment, Instruction}
 use Rattle.md_blocks.specs.declared.html.HtmlKind.TheVariants.{Declaration, Data, Block, Tag}
-use Rattle.md_blocks.specs.HtmlBlocks.{begins_with, html_ends, first_of_end, somewhere}
+use Rattle.md_blocks.specs.HtmlBlocks.{is_end, first_of_end, somewhere}
 use Rattle.md_blocks.specs.HtmlBlocks.{is_html_end}
 use Rattle.memchr.specs.Find.{IsFirstByte, is_byte}
 
@@ -26,10 +26,6 @@ lower_other byte first small other = ne_eqb _ first (λ same. other (elim (cases
   ]
 ]))
 
--- whether a text begins with what ends a block of a kind
-abbrev pub is_end : HtmlKind → List ℕ → Bool
-is_end kind text = list_any (begins_with text) (html_ends kind)
-
 first_is : (wanted first : ℕ) → Some wanted ≡ Some first → wanted ≡ first
 first_is wanted first is = ap (λ byte. unwrap_or byte 0) is
 
@@ -39,13 +35,13 @@ other_byte : (kind : HtmlKind) (first byte : ℕ) (rest : List ℕ)
 other_byte Raw first byte rest is other =
     rw (lower_other byte 60 (omega arith) (λ same. other (same ∙ first_is 60 first is))) refl
 other_byte Comment first byte rest is other =
-    rw (lower_other byte 45 (omega arith) (λ same. other (same ∙ first_is 45 first is))) refl
+    rw (ne_eqb 45 byte (λ same. other (sym same ∙ first_is 45 first is))) refl
 other_byte Instruction first byte rest is other =
-    rw (lower_other byte 63 (omega arith) (λ same. other (same ∙ first_is 63 first is))) refl
+    rw (ne_eqb 63 byte (λ same. other (sym same ∙ first_is 63 first is))) refl
 other_byte Declaration first byte rest is other =
-    rw (lower_other byte 62 (omega arith) (λ same. other (same ∙ first_is 62 first is))) refl
+    rw (ne_eqb 62 byte (λ same. other (sym same ∙ first_is 62 first is))) refl
 other_byte Data first byte rest is other =
-    rw (lower_other byte 93 (omega arith) (λ same. other (same ∙ first_is 93 first is))) refl
+    rw (ne_eqb 93 byte (λ same. other (sym same ∙ first_is 93 first is))) refl
 other_byte Block first byte rest is other = refl
 other_byte Tag first byte rest is other = refl
 

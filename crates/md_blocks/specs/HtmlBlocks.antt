@@ -15,9 +15,13 @@ use Rattle.md_blocks.specs.declared.html.HtmlKind.TheVariants.{Declaration, Data
 abbrev pub begins_with : List ℕ → List ℕ → Bool
 begins_with text word = str_eq_ignore_ascii_case (take (length word) text) word
 
--- the names of tags whose block ends at a closing tag, in any case
+-- the names of tags whose block ends at a closing tag of any of them
 abbrev pub raw_names : List (List ℕ)
 raw_names = codes "script" ∷ codes "pre" ∷ codes "style" ∷ codes "textarea" ∷ []
+
+-- those closing tags
+abbrev pub raw_ends : List (List ℕ)
+raw_ends = codes "</script>" ∷ codes "</pre>" ∷ codes "</style>" ∷ codes "</textarea>" ∷ []
 
 -- the names of tags whose block ends at a blank line, by their length
 abbrev pub block_names : List (List (List ℕ))
@@ -42,11 +46,11 @@ block_names =
     ∷ (codes "blockquote" ∷ codes "figcaption" ∷ [])
     ∷ []
 
--- whether a tag's name is one of the first
+-- whether a tag's name is one of those whose block ends at a closing tag, in any case
 abbrev pub is_raw_name : List ℕ → Bool
 is_raw_name name = list_any (str_eq_ignore_ascii_case name) raw_names
 
--- whether it is one of the others
+-- whether a tag's name is one of those whose block ends at a blank line, in any case
 abbrev pub is_block_name : List ℕ → Bool
 is_block_name name =
     list_any (str_eq_ignore_ascii_case name) (get_or block_names (length name) [])
@@ -59,7 +63,8 @@ name_length text = prefix_len is_ascii_alphanumeric text
 abbrev pub ends_name : List ℕ → Bool
 ends_name text = elim text [ [] ↦ true | byte ∷ _ ↦ is_blank byte || byte == 62 ]
 
--- the kind of a tag, by whether it is a closing one, its name and what follows that
+-- the kind of the block that a tag begins, by whether it is a closing tag, its name and what
+-- follows the name
 abbrev pub named_kind : Bool → List ℕ → List ℕ → Option HtmlKind
 named_kind is_closing name after =
     if ends_name after && (not is_closing && is_raw_name name) then Some Raw
@@ -67,14 +72,14 @@ named_kind is_closing name after =
     then Some Block
     else None
 
--- the kind of the block that a tag begins, by its name after `<` or `</`
+-- the kind of the block that a tag begins, whose name follows `<` or `</`
 abbrev pub tag_kind : List ℕ → Option HtmlKind
 tag_kind text =
     let inside = without_first 47 (drop 1 text) in
     named_kind (starts_with nat_eq text (codes "</")) (take (name_length inside) inside)
     (drop (name_length inside) inside)
 
--- the kind of the block that a text begins; `None` if it is text or any other tag
+-- the kind of the block that a text begins; `None` if it is text, or a tag of another name
 abbrev pub html_kind : List ℕ → Option HtmlKind
 html_kind text =
     if starts_with nat_eq text (codes "<!--") then Some Comment
@@ -84,16 +89,17 @@ html_kind text =
     then (if is_ascii_alphabetic (get_or text 2 0) then Some Declaration else None)
     else tag_kind text
 
--- what ends a block of a kind, wherever a line has it; a blank line ends the last two
-abbrev pub html_ends : HtmlKind → List (List ℕ)
-html_ends kind = elim kind [
-  | Raw ↦ codes "</script>" ∷ codes "</pre>" ∷ codes "</style>" ∷ codes "</textarea>" ∷ []
-  | Comment ↦ codes "-->" ∷ []
-  | Instruction ↦ codes "?>" ∷ []
-  | Declaration ↦ codes ">" ∷ []
-  | Data ↦ codes "]]>" ∷ []
-  | Block ↦ []
-  | Tag ↦ []
+-- whether a text begins with what ends a block of a kind: for the first kind one of the closing
+-- tags, in any case; a blank line ends the last two kinds
+abbrev pub is_end : HtmlKind → List ℕ → Bool
+is_end kind text = elim kind [
+  | Raw ↦ list_any (begins_with text) raw_ends
+  | Comment ↦ starts_with nat_eq text (codes "-->")
+  | Instruction ↦ starts_with nat_eq text (codes "?>")
+  | Declaration ↦ starts_with nat_eq text (codes ">")
+  | Data ↦ starts_with nat_eq text (codes "]]>")
+  | Block ↦ false
+  | Tag ↦ false
 ]
 
 -- whether a blank line ends a block of a kind
@@ -105,9 +111,9 @@ abbrev pub somewhere : (List ℕ → Bool) → List ℕ → Bool
 somewhere test [] = test []
 somewhere test (byte ∷ rest) = test (byte ∷ rest) || somewhere test rest
 
--- whether a line ends a block of a kind: it has what ends one, in any case
+-- whether a line ends a block of a kind: it has what ends one
 abbrev pub is_html_end : HtmlKind → List ℕ → Bool
-is_html_end kind line = somewhere (λ rest. list_any (begins_with rest) (html_ends kind)) line
+is_html_end kind line = somewhere (is_end kind) line
 
 -- the first byte of what ends a block of a kind
 abbrev pub first_of_end : HtmlKind → Option ℕ

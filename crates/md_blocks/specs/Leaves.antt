@@ -1,9 +1,8 @@
--- Which texts begin, continue or end a leaf block, as CommonMark defines them. A text is the rest
--- of a line after its indentation, without its ending.
+-- Which texts begin or end a leaf block, as CommonMark and GFM define them. A text is the rest of a
+-- line after its indentation, without its ending.
 use Rattle.std.specs.Prelude.{ℕ, Bool, List, [], ◌∷◌, ◌==◌, ◌-◌, ◌&&◌, ◌||◌, true, not, nat_lt}
 use Rattle.std.specs.Prelude.{length, take, drop, get_or, if◌then◌else◌}
-use Rattle.std.specs.List.{list_all, list_any, count_by, prefix_len, suffix_len}
-use Rattle.std.specs.List.{onto_first}
+use Rattle.std.specs.List.{list_all, list_any, count_by, prefix_len, suffix_len, onto_first}
 use Rattle.md_lines.specs.Lines.{is_blank}
 use Rattle.md_blocks.specs.Marks.{run_of, is_blank_text}
 
@@ -20,8 +19,8 @@ is_break mark text =
 abbrev pub has : ℕ → List ℕ → Bool
 has wanted text = list_any (λ byte. byte == wanted) text
 
--- whether a text begins a fence: so many of a mark at least, and if the mark may not come again,
--- none of it after them
+-- whether a text begins a fence: at least so many of a mark, and if they must be the last of the
+-- line, no more of it after them
 abbrev pub opens_fence : ℕ → ℕ → Bool → List ℕ → Bool
 opens_fence mark least is_last text =
     not (nat_lt (run_of mark text) least)
@@ -49,7 +48,8 @@ blanks text = prefix_len is_blank text
 abbrev pub word_length : List ℕ → ℕ
 word_length text = prefix_len (λ byte. not (is_blank byte)) text
 
--- whether a text underlines a heading: marks of one kind, and then only spaces and tabs
+-- whether a text underlines a heading: one or more of a mark, `=` or `-`, and then only spaces and
+-- tabs
 abbrev pub is_underline : ℕ → List ℕ → Bool
 is_underline mark text =
     nat_lt 0 (run_of mark text) && is_blank_text (drop (run_of mark text) text)
@@ -66,8 +66,8 @@ without_number_signs text = take (length text - suffix_len (λ byte. byte == 35)
 abbrev pub ends_blank : List ℕ → Bool
 ends_blank text = is_blank (get_or text (length text - 1) 0)
 
--- the content of a heading: without spaces and tabs at its end, and without a closing sequence, that
--- is number signs after a space or a tab
+-- the content of a heading: without spaces and tabs at its end, and without a closing sequence,
+-- which is number signs after a space or a tab
 abbrev pub heading_content : List ℕ → List ℕ
 heading_content text =
     let whole = without_blanks text in
@@ -95,6 +95,10 @@ is_delimiter cell =
     let marks = without_first 58 (drop (blanks cell) cell) in
     nat_lt 0 (run_of 45 marks)
     && is_blank_text (without_first 58 (drop (run_of 45 marks) marks))
+
+-- whether a cell that begins with a byte may delimit a column
+abbrev pub may_begin_delimiter : ℕ → Bool
+may_begin_delimiter byte = byte == 45 || (byte == 58 || is_blank byte)
 
 -- the cells of a delimiter row
 abbrev pub delimiters : List ℕ → List (List ℕ)

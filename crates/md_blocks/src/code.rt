@@ -84,9 +84,10 @@ impl Fence {
         ensures { result ≡ (nat_lt position.now.indent 4
             && closes_fence self.mark self.length (drop position.now.text position.now.line.now)) }
     {
-        let text = position.bytes();
-        let end = run_end(text, 0, self.mark);
-        position.indent <= MOST_INDENT && end >= self.length && is_blank_from(text, end)
+        let end = run_end(position.line, position.text, self.mark);
+        position.indent <= MOST_INDENT
+            && end - position.text >= self.length
+            && is_blank_from(position.line, end)
     }
 }
 

@@ -1,12 +1,12 @@
 //! Blocks of HTML.
 
 ghost use Rattle.std.specs.Prelude.{◌≡◌, ◌≤◌, true, false, length, is_some, IfSome};
-ghost use Rattle.std.specs.List.{list_any};
 ghost use Rattle.std.specs.Str.{str_eq_ignore_ascii_case};
 ghost use Rattle.md_blocks.specs.declared.html.HtmlKind.TheVariants.{Tag};
 ghost use Rattle.md_blocks.specs.HtmlBlocks.{html_kind, tag_kind, name_length, is_raw_name};
-ghost use Rattle.md_blocks.specs.HtmlBlocks.{is_block_name, begins_with, html_ends, is_html_end};
-ghost use Rattle.md_blocks.specs.HtmlBlocks.{first_of_end, ends_at_blank_line, named_kind, ends_name};
+ghost use Rattle.md_blocks.specs.HtmlBlocks.{is_block_name, begins_with, is_end, is_html_end};
+ghost use Rattle.md_blocks.specs.HtmlBlocks.{first_of_end, ends_at_blank_line, named_kind};
+ghost use Rattle.md_blocks.specs.HtmlBlocks.{ends_name};
 
 use crate::marker::is_blank_from;
 use crate::table::without_first;
@@ -101,7 +101,7 @@ impl HtmlKind {
 
     /// Whether a text begins with what ends a block of this kind.
     fn is_end(self, text: &[u8]) -> bool
-        ensures { result ≡ list_any (begins_with text.now) (html_ends self) }
+        ensures { result ≡ is_end self text.now }
     {
         match self {
             HtmlKind::Raw => {
@@ -110,10 +110,10 @@ impl HtmlKind {
                     || begins_with(text, b"</style>")
                     || begins_with(text, b"</textarea>")
             }
-            HtmlKind::Comment => begins_with(text, b"-->"),
-            HtmlKind::Instruction => begins_with(text, b"?>"),
-            HtmlKind::Declaration => begins_with(text, b">"),
-            HtmlKind::Data => begins_with(text, b"]]>"),
+            HtmlKind::Comment => text.starts_with(b"-->"),
+            HtmlKind::Instruction => text.starts_with(b"?>"),
+            HtmlKind::Declaration => text.starts_with(b">"),
+            HtmlKind::Data => text.starts_with(b"]]>"),
             HtmlKind::Block | HtmlKind::Tag => false,
         }
     }

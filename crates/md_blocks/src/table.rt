@@ -2,7 +2,7 @@
 
 ghost use Rattle.std.specs.Prelude.{◌≡◌, ◌≤◌, ◌<◌, ◌∷◌, length, is_some, IfSome};
 ghost use Rattle.md_blocks.specs.Leaves.{is_delimiter_row, delimiters, is_delimiter};
-ghost use Rattle.md_blocks.specs.Leaves.{cells, cell_length, without_first};
+ghost use Rattle.md_blocks.specs.Leaves.{cells, cell_length, without_first, may_begin_delimiter};
 
 use crate::marker::{is_blank_from, run_end, without_blanks};
 use md_lines::{Line, trim_end, trim_start};
@@ -48,7 +48,10 @@ pub(crate) fn delimiter_columns(text: &[u8]) -> Option<usize>
 {
     let mut rest = without_first(without_blanks(text), b'|');
     let mut columns = 0;
-    while !rest.is_empty() {
+    while let Some(first) = rest.first() {
+        if !may_begin_delimiter(*first) {
+            return None;
+        }
         let (cell, after) = split_cell(rest);
         if !is_delimiter(cell) {
             return None;
@@ -97,6 +100,14 @@ fn cell_length(row: &[u8]) -> usize
         end += 1;
     }
     end
+}
+
+/// Whether a cell that begins with a byte may delimit a column.
+#[inline(always)]
+fn may_begin_delimiter(byte: u8) -> bool
+    ensures { result ≡ may_begin_delimiter byte }
+{
+    matches!(byte, b'-' | b':' | b' ' | b'\t')
 }
 
 /// Whether a cell delimits a column.

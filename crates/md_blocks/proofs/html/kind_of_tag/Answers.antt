@@ -7,9 +7,9 @@ use Rattle.md_blocks.specs.Leaves.{without_first}
 use Rattle.md_blocks.specs.HtmlBlocks.{named_kind, name_length, tag_kind}
 use Rattle.md_blocks.proofs.html.kind_of_tag.Goals as goal
 
-kind : (text rest inside : List ℕ) (n : ℕ) (is_closing : Bool) → rest ≡ take (length text - 1) (drop 1 text)
-    → inside ≡ without_first 47 rest → n ≡ name_length inside
-    → is_closing ≡ starts_with nat_eq text (codes "</")
+kind : (text rest inside : List ℕ) (n : ℕ) (is_closing : Bool)
+    → rest ≡ take (length text - 1) (drop 1 text) → inside ≡ without_first 47 rest
+    → n ≡ name_length inside → is_closing ≡ starts_with nat_eq text (codes "</")
     → named_kind is_closing (take n inside) (take (length inside - n) (drop n inside))
     ≡ tag_kind text
 kind text rest inside n is_closing rest_is inside_is n_is closing_is =

@@ -4,11 +4,11 @@ use Rattle.std.specs.List.{list_all}
 use Rattle.md_blocks.specs.Leaves.{cells, delimiters, is_delimiter}
 use Rattle.md_blocks.proofs.table.delimiter_columns.Given as goal
 
-abbrev pub invariant-loop-rest : goal.invariant-loop-rest
-invariant-loop-rest l =
+abbrev pub invariant-loop-first : goal.invariant-loop-first
+invariant-loop-first l =
     (l.columns + length l.rest ≤ length l.text)
     × (list_all is_delimiter (delimiters l.text) ≡ list_all is_delimiter (cells l.rest))
     × (length (delimiters l.text) ≡ l.columns + length (cells l.rest))
 
-abbrev pub decreases-loop-rest : goal.decreases-loop-rest
-decreases-loop-rest l = length l.rest
+abbrev pub decreases-loop-first : goal.decreases-loop-first
+decreases-loop-first l = length l.rest

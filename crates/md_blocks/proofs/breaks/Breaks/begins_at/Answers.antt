@@ -1,21 +1,22 @@
 -- A byte that can't be in a break is in the text.
-use Rattle.std.proofs.Common.{ℕ, Bool, List, [], ◌∷◌, zero, suc, true, false, ◌≡◌, ◌+◌, ◌-◌, ◌<◌, ◌≤◌}
-use Rattle.std.proofs.Common.{◌&&◌, ◌==◌, nat_lt, ◌∙◌, length, get_or, drop, ap, refl, sym, arith}
+use Rattle.std.proofs.Common.{ℕ, Bool, List, [], ◌∷◌, zero, suc, true, false, ◌≡◌, ◌+◌, ◌-◌}
+use Rattle.std.proofs.Common.{◌<◌, ◌≤◌, ◌&&◌, ◌==◌, nat_lt, ◌∙◌, length, get_or, drop, ap, refl}
+use Rattle.std.proofs.Common.{sym, arith}
 use Rattle.std.specs.List.{list_all, count_by}
 use Rattle.std.proofs.lemmas.List.{get_or-drop, length-drop}
 use Rattle.md_blocks.specs.Leaves.{may_be_in_break}
 use Rattle.md_blocks.proofs.breaks.Breaks.begins_at.Goals as goal
 
-and_false : (b : Bool) → (b && false) ≡ false
-and_false true = refl
-and_false false = refl
+rest_decides : (first rest : Bool) → rest ≡ false → (first && rest) ≡ false
+rest_decides true rest fails = fails
+rest_decides false rest fails = refl
 
 one_fails : (p : ℕ → Bool) (text : List ℕ) (n : ℕ) → n < length text
     → p (get_or text n 0) ≡ false → list_all p text ≡ false
 one_fails p [] n within fails = absurd (omega arith)
 one_fails p (x ∷ text) zero within fails = ap (λ b. b && list_all p text) fails
 one_fails p (x ∷ text) (suc n) within fails =
-    ap (λ b. p x && b) (one_fails p text n (omega arith) fails) ∙ and_false (p x)
+    rest_decides (p x) (list_all p text) (one_fails p text n (omega arith) fails)
 
 rest_fails : (p : ℕ → Bool) (line : List ℕ) (from last : ℕ) → from ≤ last → last < length line
     → p (get_or line last 0) ≡ false → list_all p (drop from line) ≡ false
