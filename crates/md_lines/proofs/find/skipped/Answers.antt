@@ -1,5 +1,5 @@
 -- A step in which all bytes are skipped goes on by as many.
-use Rattle.std.proofs.Common.{◌+◌, ◌≤◌, length, drop, arith}
+use Rattle.std.proofs.Common.{◌+◌, ◌≤◌, arith}
 use Rattle.std.specs.List.{prefix_len}
 use Rattle.std.proofs.lemmas.List.Sums.{prefix_len-le-length}
 use Rattle.md_text.proofs.RunLemmas.{run_goes_on, prefix_len-drop}
