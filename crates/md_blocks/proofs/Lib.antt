@@ -1,2 +1,4 @@
--- The lemmas on tapes.
+-- The lemmas on tapes, on what is trimmed, and on where HTML ends.
 pub mod TapeLemmas
+pub mod Trimming
+pub mod Somewhere

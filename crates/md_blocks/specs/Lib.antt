@@ -1,3 +1,5 @@
 -- The definitions that the contracts of the block pass cite.
 pub mod Tape
 pub mod Marks
+pub mod Leaves
+pub mod HtmlBlocks

@@ -4,6 +4,7 @@
 
 mod block;
 mod blocks;
+mod breaks;
 mod closing;
 mod code;
 mod containers;

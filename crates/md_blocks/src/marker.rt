@@ -1,10 +1,12 @@
 //! Recognizes marks, markers and labels at the beginning of a line's text.
 
-ghost use Rattle.std.specs.Prelude.{◌≡◌, ◌≤◌, ◌<◌, ◌+◌, ◌&&◌, ◌||◌, ◌==◌, length, drop};
+ghost use Rattle.std.specs.Prelude.{◌≡◌, ◌≤◌, ◌<◌, ◌+◌, ◌&&◌, ◌||◌, ◌==◌, length, drop, max};
 ghost use Rattle.std.specs.Prelude.{not, get_or, is_some, IfSome};
 ghost use Rattle.md_blocks.specs.Marks.{run_of, is_apart, opens_heading, number_length};
 ghost use Rattle.md_blocks.specs.Marks.{is_blank_text, opens_item, may_interrupt, opens_task};
 ghost use Rattle.md_blocks.specs.Marks.{ends_marker};
+ghost use Rattle.md_blocks.specs.Leaves.{is_underline, without_blanks, without_number_signs};
+ghost use Rattle.md_blocks.specs.Leaves.{heading_content};
 
 use md_lines::{Span, trim_end, trim_start};
 
@@ -27,7 +29,7 @@ pub(crate) struct Marker {
 #[inline(always)]
 pub(crate) fn run_end(line: &[u8], from: usize, byte: u8) -> usize
     ensures after { from ≤ result }
-    ensures within { from ≤ length line.now → result ≤ length line.now }
+    ensures within { result ≤ max from (length line.now) }
     ensures value { result ≡ from + run_of byte (drop from line.now) }
 {
     let mut at = from;
@@ -58,6 +60,7 @@ fn is_space_at(line: &[u8], at: usize) -> bool
 
 /// The number signs of a heading at an index; `None` if there is none, or more than six.
 pub(crate) fn heading_marks(line: &[u8], at: usize) -> Option<Span>
+    ensures within { IfSome result (λ marks. marks.end ≤ length line.now) }
     ensures short { IfSome result (λ marks. marks.end ≤ marks.start + 6) }
     ensures there { is_some result ≡ opens_heading (drop at line.now) }
     ensures start { IfSome result (λ marks. marks.start ≡ at) }
@@ -71,18 +74,53 @@ pub(crate) fn heading_marks(line: &[u8], at: usize) -> Option<Span>
     }
 }
 
-/// The end of the text of a heading, before spaces and the closing number signs; its first number
-/// signs end at `from`, before a space or at the end of the line.
-pub(crate) fn heading_end(line: &[u8], from: usize) -> usize {
-    let end = trim_end(line, from, line.len());
-    let mut mark = end;
-    while mark > from && line.get(mark - 1) == Some(&b'#') {
-        mark -= 1;
+/// The content of a heading, without spaces and the closing number signs at its end; `text` follows
+/// the first number signs.
+pub(crate) fn heading_content(text: &[u8]) -> &[u8]
+    ensures value { result.now ≡ heading_content text.now }
+    ensures within { length result.now ≤ length text.now }
+{
+    let whole = without_blanks(text);
+    let content = without_number_signs(whole);
+    match content.last() {
+        Some(b' ' | b'\t') => without_blanks(content),
+        _ => whole,
     }
-    if mark > from && mark < end && is_space_at(line, mark - 1) {
-        trim_end(line, from, mark)
+}
+
+/// A text without the spaces and tabs at its end.
+#[inline(always)]
+pub(crate) fn without_blanks(text: &[u8]) -> &[u8]
+    ensures value { result.now ≡ without_blanks text.now }
+    ensures within { length result.now ≤ length text.now }
+{
+    &text[..trim_end(text, 0, text.len())]
+}
+
+/// A text without the number signs at its end.
+#[inline(always)]
+fn without_number_signs(text: &[u8]) -> &[u8]
+    ensures value { result.now ≡ without_number_signs text.now }
+    ensures within { length result.now ≤ length text.now }
+{
+    let mut end = text.len();
+    while end > 0 && text[end - 1] == b'#' {
+        end -= 1;
+    }
+    &text[..end]
+}
+
+/// The underline of a heading at an index: marks of one kind, and then only spaces and tabs.
+pub(crate) fn underline(line: &[u8], at: usize, mark: u8) -> Option<Span>
+    ensures there { is_some result ≡ is_underline mark (drop at line.now) }
+    ensures start { IfSome result (λ marks. marks.start ≡ at) }
+    ensures end { IfSome result (λ marks. marks.end ≡ at + run_of mark (drop at line.now)) }
+{
+    let end = run_end(line, at, mark);
+    if at < end && is_blank_from(line, end) {
+        Some(Span::new(at, end))
     } else {
-        end
+        None
     }
 }
 

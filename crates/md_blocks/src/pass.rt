@@ -4,6 +4,7 @@ ghost use Rattle.std.specs.Prelude.{◌≡◌, ◌≤◌, false, vec_len, OnOk};
 
 use crate::block::{Block, ContainerKind, LineRange};
 use crate::blocks::Blocks;
+use crate::breaks::Breaks;
 use crate::code::Fence;
 use crate::definition::Definitions;
 use crate::html::HtmlKind;
@@ -47,13 +48,6 @@ pub(crate) struct BlankLine {
     pub(crate) ending: Span,
 }
 
-/// Records that no thematic break of a mark begins before an index.
-#[derive(Clone, Copy)]
-pub(crate) struct NoBreak {
-    pub(crate) mark: u8,
-    pub(crate) before: usize,
-}
-
 /// The state of the pass between two lines.
 #[derive(Drop)]
 pub(crate) struct Pass<'a> {
@@ -74,7 +68,7 @@ pub(crate) struct Pass<'a> {
     pub(crate) is_after_blank: bool,
     /// The index up to which the document is read.
     pub(crate) at: usize,
-    pub(crate) no_break: NoBreak,
+    pub(crate) breaks: Breaks,
 }
 
 impl<'a> Pass<'a> {
@@ -99,7 +93,7 @@ impl<'a> Pass<'a> {
             blank_line: None,
             is_after_blank: false,
             at: 0,
-            no_break: NoBreak { mark: 0, before: 0 },
+            breaks: Breaks::new(),
         })
     }
 

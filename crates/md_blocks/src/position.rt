@@ -1,6 +1,6 @@
 //! A position in a line, by bytes and by columns.
 
-ghost use Rattle.std.specs.Prelude.{◌≡◌, ◌+◌, ◌≤◌, ◌<◌, ◌%◌, length, IsSome, true};
+ghost use Rattle.std.specs.Prelude.{◌≡◌, ◌+◌, ◌≤◌, ◌<◌, ◌%◌, length, drop, IsSome, true};
 
 use md_lines::Line;
 
@@ -64,6 +64,14 @@ impl<'a> Position<'a> {
     #[inline(always)]
     pub(crate) fn is_blank(&self) -> bool {
         self.text >= self.line.len()
+    }
+
+    /// The text, to the end of the line.
+    #[inline(always)]
+    pub(crate) fn bytes(&self) -> &'a [u8]
+        ensures { result.now ≡ drop self.now.text self.now.line.now }
+    {
+        &self.line[self.text..]
     }
 
     /// Skips `columns` columns of spaces and tabs, or all if fewer remain.

@@ -3,8 +3,8 @@
 use crate::block::Block;
 use crate::code::{Fence, first_word};
 use crate::html::HtmlKind;
-use crate::marker::{heading_end, heading_marks, is_blank_from, run_end};
-use crate::pass::{CODE_INDENT, NoBreak, OpenLeaf, Pass};
+use crate::marker::{heading_content, heading_marks, run_end, underline};
+use crate::pass::{CODE_INDENT, OpenLeaf, Pass};
 use crate::position::Position;
 use crate::table::{count_cells, delimiter_columns};
 use md_lines::{Class, Line, Span, is, trim_start};
@@ -83,10 +83,10 @@ impl<'a> Pass<'a> {
             return Ok(false);
         };
         self.make_room(depth)?;
-        let end = heading_end(position.line, marks.end);
+        let content = heading_content(&position.line[marks.end..]);
         self.nesting.put(Block::AtxHeading {
             level: (marks.end - marks.start) as u8,
-            span: Span::new(marks.start, end),
+            span: Span::new(marks.start, marks.end + content.len()),
         })?;
         Ok(true)
     }
@@ -98,7 +98,7 @@ impl<'a> Pass<'a> {
         position: &Position<'_>,
         depth: usize,
     ) -> Result<bool, AllocError> {
-        let Some(fence) = Fence::at(position, mark, 3, mark == b'`') else {
+        let Some(fence) = Fence::of_code(position, mark) else {
             return Ok(false);
         };
         self.make_room(depth)?;
@@ -110,7 +110,7 @@ impl<'a> Pass<'a> {
 
     /// Begins math after a line of dollar signs.
     fn begin_math(&mut self, position: &Position<'_>, depth: usize) -> Result<bool, AllocError> {
-        let Some(fence) = Fence::at(position, b'$', 2, true) else {
+        let Some(fence) = Fence::of_math(position) else {
             return Ok(false);
         };
         self.make_room(depth)?;
@@ -152,11 +152,13 @@ impl<'a> Pass<'a> {
 
     /// Changes the open paragraph to a heading, if this line underlines it.
     fn begin_underlined(&mut self, mark: u8, position: &Position<'_>) -> Result<bool, AllocError> {
-        let end = run_end(position.line, position.text, mark);
-        if !is_blank_from(position.line, end) || !self.take_definitions()? {
+        let Some(marks) = underline(position.line, position.text, mark) else {
+            return Ok(false);
+        };
+        if !self.take_definitions()? {
             return Ok(false);
         }
-        self.lines.push(Line::part(position.text, end))?;
+        self.lines.push(Line::part(marks.start, marks.end))?;
         self.leaf = OpenLeaf::None;
         let lines = self.leaf_lines();
         self.nesting.put(Block::SetextHeading(lines))?;
@@ -170,30 +172,13 @@ impl<'a> Pass<'a> {
         position: &Position<'_>,
         depth: usize,
     ) -> Result<bool, AllocError> {
-        if !self.is_break(mark, position.line, position.text) {
+        if !self.breaks.begins_at(mark, position.line, position.text) {
             return Ok(false);
         }
         self.make_room(depth)?;
         let span = Span::new(position.text, position.line.len());
         self.nesting.put(Block::ThematicBreak(span))?;
         Ok(true)
-    }
-
-    /// Whether a thematic break begins at an index: three or more of these marks, and spaces.
-    fn is_break(&mut self, mark: u8, line: &[u8], from: usize) -> bool {
-        if self.no_break.mark == mark && from < self.no_break.before {
-            return false;
-        }
-        let mut count: usize = 0;
-        for at in from..line.len() {
-            if line[at] == mark {
-                count += 1;
-            } else if !is(line[at], Class::Space) {
-                self.no_break = NoBreak { mark, before: at };
-                return false;
-            }
-        }
-        count >= 3
     }
 
     /// Reads a line with the indentation of code that doesn't continue a paragraph.
@@ -253,7 +238,7 @@ impl<'a> Pass<'a> {
         if !self.options.tables {
             return Ok(false);
         }
-        let Some(columns) = delimiter_columns(position.line, position.text) else {
+        let Some(columns) = delimiter_columns(position.bytes()) else {
             return Ok(false);
         };
         let Some(head) = self.lines.last().copied() else {
