@@ -1,7 +1,6 @@
 -- Texts in a row.
 use Rattle.std.proofs.Common.{◌≡◌, ℕ, Bool, ◌&&◌, true, false, List, [], ◌∷◌, ◌++◌, refl, sym, ap}
-use Rattle.std.proofs.Common.{◌∙◌, subst}
-use Rattle.std.proofs.Common.{append-nil, append_assoc}
+use Rattle.std.proofs.Common.{◌∙◌, subst, append-nil, append_assoc}
 use Rattle.md_text.specs.Html.{Attribute, Forest, is_forest, written, IsReading, HasOneReadingWith}
 use Rattle.md_safe.specs.Input.{with_line_feeds, begins_with_line_feed}
 use Rattle.md_safe.specs.Token.{Token, EndOfFile}

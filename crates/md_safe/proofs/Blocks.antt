@@ -1,7 +1,6 @@
 -- What stands among blocks, in lists and in tables: each node prints the content that
 -- stands where it is.
-use Rattle.std.proofs.Common.{◌≡◌, Bool, true, false, ◌||◌, List, [], ◌∷◌, refl, sym}
-use Rattle.std.proofs.Common.{drop, codes}
+use Rattle.std.proofs.Common.{◌≡◌, Bool, true, false, ◌||◌, List, refl, sym, drop, codes}
 use Rattle.std.specs.Prelude.{slice_get, count_by}
 use Rattle.md_base.proofs.Lies.{lie}
 use Rattle.md_base.specs.declared.event.Name.{Name}
@@ -12,12 +11,10 @@ use Rattle.md_base.specs.Is.{is as named}
 use Rattle.md_base.specs.Children.{spine_names}
 use Rattle.md_base.specs.NameTests.{is_transparent}
 use Rattle.md_meaning.specs.Meaning.At.{At}
-use Rattle.md_meaning.specs.Meaning.Layout.{Piece, Needed, layout, said, on_own_line, when}
+use Rattle.md_meaning.specs.Meaning.Layout.{Piece, layout}
 use Rattle.md_meaning.specs.Meaning.Means.{prints}
-use Rattle.md_meaning.specs.Meaning.Spans.{line_ending}
 use Rattle.md_content.specs.Built.{is_part, is_source}
-use Rattle.md_safe.proofs.SpanContents.{NodePrints}
-use Rattle.md_safe.proofs.Texts.{Escaped}
+use Rattle.md_safe.proofs.SpanContents.{NodePrints, Prints, Known, Own}
 use Rattle.md_safe.proofs.Laid.{adds-weaker, adds-alone}
 use Rattle.md_safe.proofs.FlowNodes.{line-escaped}
 use Rattle.md_safe.proofs.Costs.{Document, read_in}
@@ -25,10 +22,9 @@ use Rattle.md_safe.specs.Contents.{Content, Flow, Phrasing, Linked, Items, Parts
 use Rattle.md_safe.specs.Contents.{Preformatted, Characters}
 use Rattle.md_safe.specs.Placed.{Ending, sort_of, may_stand}
 use Rattle.md_safe.proofs.Linking.{is_spans, with_links}
-use Rattle.md_safe.proofs.Stands.{is_spaced, Stands, stands-text, turns-plain, white_beside}
+use Rattle.md_safe.proofs.Stands.{is_spaced, stands-text, turns-plain, white_beside}
 use Rattle.md_safe.proofs.Tags.{framed-text, framed-needed}
 use Rattle.md_safe.proofs.ContainedLaid.{lays-white, lays-nothing, lays-turned}
-use Rattle.md_safe.proofs.SpanContents.{Prints, Known, Own}
 use Rattle.md_safe.proofs.Spans.{Spanning}
 use Rattle.md_safe.proofs.OwnLines.{ending-white, blank-white, block-pair}
 use Rattle.md_safe.proofs.HeadingsAndLists.{item-node}
@@ -51,36 +47,25 @@ inner-node : (nested : Bool) (d : Document) (t : At) (content : Content) (name :
     NodePrints nested d t content name
 inner-node nested d t Flow name other stands inner k a = lie (sym other)
 inner-node nested d t Phrasing name other stands inner k a = lie (sym other)
-inner-node nested d t Items ListItem other stands inner k a =
-    item-node nested d t k.white inner (a refl)
-inner-node nested d t Parts GfmTableHead other stands inner k a =
-    block-pair nested d Rows Parts (codes "<thead>") (codes "</thead>") k.white
-    refl refl (turns-plain nested Rows Parts (codes "thead") refl refl) inner (a refl)
-inner-node nested d t Parts GfmTableBody other stands inner k a =
-    lays-turned nested d.context.ending Rows Parts (codes "<tbody>") (codes "</tbody>")
-    (said (codes "<tbody>")) inner (on_own_line (codes "</tbody>")) refl refl
-    (turns-plain nested Rows Parts (codes "tbody") refl refl)
-    (framed-text white_beside d.context.ending (codes "<tbody>")) (a refl)
-    (framed-needed white_beside d.context.ending (codes "</tbody>") k.white)
-inner-node nested d t Rows GfmTableRow other stands inner k a =
-    row-node nested d k.white t.around.in_head (drop (count_by (named GfmTableCell)
-    (spine_names t.children)) t.before.columns) inner (a refl)
-inner-node nested d t Rows GfmTableDelimiterRow other stands inner k a =
-    lays-nothing nested d.context.ending Rows
-inner-node nested d t Cells GfmTableCell other stands inner k a =
-    cell-in nested d k.white t.around.in_head (slice_get t.before.columns (count_by
-    (named GfmTableCell) t.before.spine)) (layout d.context.ending inner)
-    (adds-alone d.context.ending (Stands nested Phrasing) inner (a refl))
-inner-node nested d t Characters CodeFlowChunk other stands inner k a =
-    adds-weaker d.context.ending Escaped (Stands nested Characters)
-    (prints d.context t CodeFlowChunk inner)
-    (λ x h. stands-text nested Characters x h refl)
-    (line-escaped (read_in d) t CodeFlowChunk refl k.fit inner)
-inner-node nested d t content LineEnding other stands inner k a =
-    lays-white nested d.context.ending content (line_ending d.context t)
+inner-node nested d t Items ListItem other stands inner k a = item-node nested d t k.white inner
+    (a refl)
+inner-node nested d t Parts GfmTableHead other stands inner k a = block-pair k.white refl refl
+    (turns-plain (codes "thead") refl refl) (a refl)
+inner-node nested d t Parts GfmTableBody other stands inner k a = lays-turned refl refl
+    (turns-plain (codes "tbody") refl refl) (framed-text white_beside) (a refl)
+    (framed-needed white_beside k.white)
+inner-node nested d t Rows GfmTableRow other stands inner k a = row-node nested d k.white
+    t.around.in_head (drop (count_by (named GfmTableCell) (spine_names t.children))
+    t.before.columns) inner (a refl)
+inner-node nested d t Rows GfmTableDelimiterRow other stands inner k a = lays-nothing
+inner-node nested d t Cells GfmTableCell other stands inner k a = cell-in nested d k.white
+    t.around.in_head (slice_get t.before.columns (count_by (named GfmTableCell) t.before.spine))
+    (layout d.context.ending inner) (adds-alone (a refl))
+inner-node nested d t Characters CodeFlowChunk other stands inner k a = adds-weaker
+    (λ x h. stands-text h refl) (line-escaped (read_in d) t CodeFlowChunk refl k.fit inner)
+inner-node nested d t content LineEnding other stands inner k a = lays-white
     (ending-spaced content stands) (ending-white d t k.fit)
-inner-node nested d t content BlankLineEnding other stands inner k a =
-    lays-white nested d.context.ending content (when t.is_last (Needed ∷ []))
+inner-node nested d t content BlankLineEnding other stands inner k a = lays-white
     (ending-spaced content stands) (blank-white d t.is_last k.white)
 inner-node nested d t _ _ other stands inner k a = lie stands
 

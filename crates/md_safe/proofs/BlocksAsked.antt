@@ -3,20 +3,15 @@ use Rattle.std.proofs.Common.{◌≡◌, true, false, refl}
 use Rattle.std.proofs.lemmas.Bool.{cond_both}
 use Rattle.md_base.specs.declared.event.Name.{Name}
 use Rattle.md_base.specs.Tree.{Forest}
-use Rattle.md_base.specs.NameTests.{is_transparent}
-use Rattle.md_content.specs.Built.{Content, Blocks}
-use Rattle.md_content.specs.Built.{InfoAndMeta, MetaAlone, Nothing, is_info}
-use Rattle.md_content.specs.Built.{content_of, content_past, content_after, content_inside}
-use Rattle.md_content.specs.Built.{content_after_node}
+use Rattle.md_content.specs.Built.{Content, Blocks, InfoAndMeta, MetaAlone, Nothing, is_info}
+use Rattle.md_content.specs.Built.{content_past, content_inside, content_after_node}
 use Rattle.md_safe.proofs.Contents.{stays-after}
 use Rattle.md_safe.proofs.Insides.{is_blocks, of-blocks}
 
-pub inside-blocks : (content : Content) (name : Name) →
-    is_blocks (content_inside content name) ≡ true →
-    is_blocks content ≡ true
-inside-blocks content name =
-    cond_both (is_transparent name) content (content_of name content) (λ c. is_blocks c ≡ true →
-    is_blocks content ≡ true) (λ _ h. h) (λ _ h. of-blocks content name h)
+pub inside-blocks : (content : Content) (name : Name) → is_blocks (content_inside content name)
+    ≡ true → is_blocks content ≡ true
+inside-blocks content name = cond_both _ _ _ (λ c. is_blocks c ≡ true → is_blocks content ≡ true)
+    (λ _ h. h) (λ _ h. of-blocks content name h)
 
 past-blocks : (content : Content) (name : Name) → is_blocks (content_past content name) ≡ true →
     is_blocks content ≡ true
@@ -28,9 +23,6 @@ past-blocks _ name h = h
 -- a condition on blocks alone covers no more after nodes
 pub asked-after-node : (A : Type 0) (content : Content) (name : Name) (children : Forest) →
     (is_blocks content ≡ true → A) → is_blocks (content_after_node content name children) ≡ true → A
-asked-after-node A content name children asked =
-    cond_both (is_transparent name) (content_after content children) (content_past content name)
-    (λ c. is_blocks c ≡ true → A)
-    (λ _. stays-after (λ c. is_blocks c ≡ true → A)
-    (λ c name asked h. asked (past-blocks c name h)) content children asked)
-    (λ _ h. asked (past-blocks content name h))
+asked-after-node A content name children asked = cond_both _ _ _ (λ c. is_blocks c ≡ true → A) (λ _.
+    stays-after (λ c. is_blocks c ≡ true → A) (λ c name asked h. asked (past-blocks c name h))
+    content children asked) (λ _ h. asked (past-blocks content name h))

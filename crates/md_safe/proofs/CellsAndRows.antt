@@ -19,38 +19,28 @@ use Rattle.md_safe.proofs.Cells.{CellTags, adds-cell_in, adds-empty_cells}
 
 cell-tags : (nested : Bool) → CellTags any_attribute (Stands nested Phrasing) (Stands nested Cells)
 cell-tags nested = (
-  stands-tag nested Cells Phrasing (codes "th") refl,
-  stands-tag nested Cells Phrasing (codes "td") refl,
+  stands-tag Phrasing refl,
+  stands-tag Phrasing refl,
 )
 
 lined : (nested : Bool) (d : Document) → IsWhite d.context.ending → (xs : List Piece) →
     Prints nested d Cells xs → Prints nested d Cells (Needed ∷ xs)
-lined nested d w xs a =
-    lays-both nested d.context.ending Cells (Needed ∷ []) xs
-    (lays-white nested d.context.ending Cells (Needed ∷ []) refl
-    (adds-needed white_beside d.context.ending w)) a
+lined nested d w xs a = lays-both (lays-white refl (adds-needed white_beside w)) a
 
 pub cell-in : (nested : Bool) (d : Document) → IsWhite d.context.ending →
-    (in_head : Bool) (kind : Option AlignKind) (x : List ℕ) →
-    Stands nested Phrasing x →
+    (in_head : Bool) (kind : Option AlignKind) (x : List ℕ) → Stands nested Phrasing x →
     Prints nested d Cells (option_map_or (λ kind. cell_of in_head x kind) kind [])
-cell-in nested d w in_head kind x r =
-    adds-cell_in any_attribute (Stands nested Phrasing) (Stands nested Cells) d.context.ending
-    d.context.options (read_in d).test (cell-tags nested) (lined nested d w)
-    (stands-nothing nested Cells) in_head kind x r
+cell-in nested d w in_head kind x r = adds-cell_in (read_in d).test (cell-tags nested)
+    (lined nested d w) stands-nothing in_head kind x r
 
 pub row-node : (nested : Bool) (d : Document) → IsWhite d.context.ending →
-    (in_head : Bool) (kinds : List AlignKind) (inner : List Piece) →
-    Prints nested d Cells inner → Prints nested d Rows (on_own_line (codes "<tr>") ++ (inner
-    ++ (flat_map (cell_of in_head []) kinds ++ on_own_line (codes "</tr>"))))
+    (in_head : Bool) (kinds : List AlignKind) (inner : List Piece) → Prints nested d Cells inner →
+    Prints nested d Rows (on_own_line (codes "<tr>") ++ (inner ++ (flat_map (cell_of in_head [])
+    kinds ++ on_own_line (codes "</tr>"))))
 row-node nested d w in_head kinds inner a =
     let cells : List Piece = flat_map (cell_of in_head []) kinds in
     subst (λ x. Prints nested d Rows (on_own_line (codes "<tr>") ++ x))
-    (append_assoc inner cells (on_own_line (codes "</tr>")))
-    (block-pair nested d Cells Rows (codes "<tr>") (codes "</tr>") w refl refl
-    (turns-plain nested Cells Rows (codes "tr") refl refl) (inner ++ cells)
-    (lays-both nested d.context.ending Cells inner cells a
-    (adds-empty_cells any_attribute (Stands nested Phrasing) (Stands nested Cells)
-    d.context.ending d.context.options (read_in d).test (cell-tags nested) (lined nested d w)
-    (record { none = stands-nothing nested Cells; both = stands-join nested Cells })
-    (stands-nothing nested Phrasing) in_head kinds)))
+    (append_assoc inner cells (on_own_line (codes "</tr>"))) (block-pair w refl refl
+    (turns-plain (codes "tr") refl refl) (lays-both a (adds-empty_cells (read_in d).test
+    (cell-tags nested) (lined nested d w) (record { none = stands-nothing; both = stands-join })
+    stands-nothing in_head kinds)))

@@ -11,10 +11,10 @@ use Rattle.md_meaning.specs.Meaning.Blocks.{code_end, fenced}
 use Rattle.md_safe.proofs.Laid.{Adds, adds-weaker}
 use Rattle.md_safe.proofs.Tags.{attribute, Turns, turns-two, framed-needed}
 use Rattle.md_safe.proofs.Elements.{code_closing}
-use Rattle.md_safe.proofs.RawElements.{IsInfo, IsRaw, IsOpened, adds-raw, code-end, fenced-end}
-use Rattle.md_safe.proofs.RawElements.{code_tag, math_tag, code_class, info_regrouped}
+use Rattle.md_safe.proofs.RawElements.{IsInfo, IsRaw, adds-raw, code-end, fenced-end, code_tag}
+use Rattle.md_safe.proofs.RawElements.{math_tag, code_class, info_regrouped}
 use Rattle.md_safe.proofs.Costs.{Document, read_in}
-use Rattle.md_safe.specs.Contents.{Flow, Preformatted, Characters}
+use Rattle.md_safe.specs.Contents.{Flow, Characters}
 use Rattle.md_safe.proofs.Stands.{Stands, stands-text, turns-tag, turns-plain, takes-white, IsWhite}
 use Rattle.md_safe.proofs.Stands.{white_beside, stands-join}
 use Rattle.md_safe.proofs.ContainedLaid.{lays-turned}
@@ -27,22 +27,14 @@ TurnsCode nested o = Turns (Stands nested Characters) (Stands nested Flow) o cod
 turns-code : (nested : Bool) (attributes : List Attribute) →
     is_tag elements (codes "code") attributes ≡ true → list_all any_attribute attributes ≡ true →
     TurnsCode nested (codes "<pre>" ++ opening_tag (codes "code") attributes)
-turns-code nested attributes h a =
-    turns-two (Stands nested Characters) (Stands nested Preformatted) (Stands nested Flow)
-    (codes "<pre>") (codes "</pre>") (opening_tag (codes "code") attributes) (codes "</code>")
-    (turns-plain nested Preformatted Flow (codes "pre") refl refl)
-    (turns-tag nested Characters Preformatted (codes "code") refl attributes h a)
+turns-code nested attributes h a = turns-two (turns-plain (codes "pre") refl refl) ((turns-tag
+    Characters {name = codes "code"} refl).tag attributes h a)
 
 pub indented-node : (nested : Bool) (d : Document) (t : At) → IsWhite d.context.ending →
-    (inner : List Piece) →
-    Prints nested d Characters inner →
+    (inner : List Piece) → Prints nested d Characters inner →
     Prints nested d Flow (on_own_line (codes "<pre><code>") ++ (inner ++ code_end t))
-indented-node nested d t w inner a =
-    lays-turned nested d.context.ending Characters Flow (codes "<pre><code>") code_closing
-    (on_own_line (codes "<pre><code>")) inner (code_end t) refl refl
-    (turns-code nested [] refl refl)
-    (framed-needed white_beside d.context.ending (codes "<pre><code>") w) a
-    (code-end white_beside d.context.ending w t)
+indented-node nested d t w inner a = lays-turned refl refl (turns-code nested [] refl refl)
+    (framed-needed white_beside w) a (code-end white_beside w t)
 
 -- the tag of fenced code, with what is said in it
 pub turns-info : (nested : Bool) (x : List ℕ) → IsInfo code_tag x →
@@ -66,21 +58,13 @@ turns-math nested x info = elim info [
 
 pub fenced-node : (nested : Bool) (d : Document) (t : At) (tag : List ℕ) →
     ((x : List ℕ) → IsInfo tag x → TurnsCode nested (tag ++ (x ++ (62 ∷ [])))) →
-    IsWhite d.context.ending → (inner : List Piece) →
-    Adds d.context.ending (IsRaw (read_in d).p tag) inner → Prints nested d Flow
-    (fenced t tag inner)
-fenced-node nested d t tag turns w inner a =
-    adds-raw IsWhite (Stands nested Characters) (Stands nested Flow) white_beside
-    (takes-white nested Flow refl)
-    (λ x w h g. stands-join nested Characters x w (stands-text nested Characters x h refl)
-    (stands-text nested Characters w g.0 refl))
-    d.context.ending w tag inner _
-    (adds-weaker d.context.ending (IsRaw (read_in d).p tag)
-    (IsOpened (Stands nested Characters) (Stands nested Flow) tag) inner (λ x r. record {
+    IsWhite d.context.ending → (inner : List Piece) → Adds d.context.ending
+    (IsRaw (read_in d).p tag) inner → Prints nested d Flow (fenced t tag inner)
+fenced-node nested d t tag turns w inner a = adds-raw white_beside (takes-white refl) (λ x w h g.
+    stands-join x w (stands-text h refl) (stands-text g.0 refl)) w (adds-weaker (λ x r. record {
       attributes = r.attributes;
       body = r.body;
       whole = r.whole;
       escaped = r.escaped;
       turns = turns r.attributes r.info;
-    }) a)
-    (fenced-end white_beside d.context.ending w t)
+    }) a) (fenced-end white_beside w t)

@@ -20,14 +20,13 @@ use Rattle.md_meaning.specs.Meaning.Before.{before_children}
 use Rattle.md_meaning.specs.Meaning.Layout.{layout, when}
 use Rattle.md_meaning.specs.Meaning.Nodes.{Outcome, node, before_next, outcome}
 use Rattle.md_content.specs.Built.{Blocks, is_part, is_source, may_stand, content_of}
-use Rattle.md_content.specs.Built.{content_inside}
-use Rattle.md_content.specs.Built.{IsBuilt}
+use Rattle.md_content.specs.Built.{content_inside, IsBuilt}
 use Rattle.md_safe.proofs.Following.{second}
 use Rattle.md_safe.proofs.Insides.{is_blocks}
 use Rattle.md_safe.proofs.Nodes.{not_part}
-use Rattle.md_safe.proofs.Findings.{AreFound}
-use Rattle.md_safe.proofs.Forests.{Ready, ready-inside, ready-after, inside-means}
-use Rattle.md_safe.proofs.Forests.{found-at, Means as SafeMeans, means as safe-means}
+use Rattle.md_safe.proofs.Findings.{AreFound, texts-append}
+use Rattle.md_safe.proofs.Forests.{Ready, ready-inside, ready-after, inside-means, found-at}
+use Rattle.md_safe.proofs.Forests.{Means as SafeMeans, means as safe-means}
 use Rattle.md_safe.proofs.Costs.{through-node, Document, read_in}
 use Rattle.md_safe.proofs.PlainCosts.{is_blocks-same, no_footnotes}
 use Rattle.md_safe.specs.Contents.{Content, Phrasing, Flow}
@@ -41,10 +40,8 @@ use Rattle.md_safe.proofs.ContainedLaid.{lays-nothing, lays-both}
 use Rattle.md_safe.proofs.SpanContents.{Prints, Known, Own}
 use Rattle.md_safe.proofs.Spans.{Spanning}
 use Rattle.md_safe.proofs.Blocks.{solid-node}
-use Rattle.md_safe.proofs.Findings.{texts-append}
 use Rattle.md_safe.proofs.FlowFindings.{IsHeading, AreFlow, heading-found, note-found}
-use Rattle.md_safe.proofs.FlowFindings.{still-outside, heading-both}
-use Rattle.md_safe.proofs.FlowFindings.{heading-next, heading-inside}
+use Rattle.md_safe.proofs.FlowFindings.{still-outside, heading-both, heading-next, heading-inside}
 use Rattle.md_safe.proofs.Contents.{after-blocks}
 
 -- what nodes mean, where their content stands
@@ -113,39 +110,31 @@ solid-means nested d content name t inner solid whole stands k own none g =
     inner-texts true is = (own is).texts
     inner-texts false is = subst (AreFlow nested) (sym (none is)) tt
 
-any-node :
-    (nested : Bool) (d : Document) (content : Content) (name : Name) (t : At) (inner : Outcome) →
-    t.found ≡ inner.found → (is_transparent name ≡ false → Known nested d t name inner.pieces) →
-    (is_transparent name || may_stand Blocks name) ≡ true →
-    (is_transparent name || may_place (with_links content) (sort_of name)) ≡ true →
-    (is_blocks (content_inside Blocks name) ≡ true →
-    Means nested d (inner_place nested content name) inner) →
+any-node : (nested : Bool) (d : Document) (content : Content) (name : Name) (t : At)
+    (inner : Outcome) → t.found ≡ inner.found → (is_transparent name ≡ false → Known nested d t name
+    inner.pieces) → (is_transparent name || may_stand Blocks name) ≡ true →
+    (is_transparent name || may_place (with_links content) (sort_of name)) ≡ true → (is_blocks
+    (content_inside Blocks name) ≡ true → Means nested d (inner_place nested content name) inner) →
     (is_blocks (content_inside Blocks name) ≡ false → inner.footnotes ≡ []) →
-    (is_spans content ≡ true → Spanning t content name) →
-    Means nested d content (node d.context t name inner)
-any-node nested d content name t inner same k stands placed own none g =
-    by (is_transparent name) refl
+    (is_spans content ≡ true → Spanning t content name) → Means nested d
+    content (node d.context t name inner)
+any-node nested d content name t inner same k stands placed own none g = by (is_transparent name)
+    refl
   where
-    by : (looked : Bool) → is_transparent name ≡ looked →
-        Means nested d content (node d.context t name inner)
+    by : (looked : Bool) → is_transparent name ≡ looked → Means nested d
+        content (node d.context t name inner)
     by true e = through nested d content name t inner e same (subst (λ c. Means nested d c inner)
-        (ap (λ b. cond b content (place_in nested content name)) e)
-        (own (ap (λ b. is_blocks (cond b Blocks (content_of name Blocks))) e)))
-    by false e = solid-means nested d content name t inner e
-        (not_part (is_part name || is_source name)
-        (second (is_transparent name) (may_stand Blocks name) e stands))
-        (second (is_transparent name) (may_place (with_links content) (sort_of name)) e placed)
-        (k e) (λ is. subst (λ c. Means nested d c inner)
-        (ap (λ b. cond b content (place_in nested content name)) e)
-        (own is)) none
-        g
+        (ap (λ b. cond b content (place_in nested content name)) e) (own (ap
+        (λ b. is_blocks (cond b Blocks (content_of name Blocks))) e)))
+    by false e = solid-means nested d content name t inner e (not_part _ (second _ _ e stands))
+        (second _ _ e placed) (k e) (λ is. subst (λ c. Means nested d c inner)
+        (ap (λ b. cond b content (place_in nested content name)) e) (own is)) none g
 
 pub means : (nested : Bool) (d : Document) (forest : Forest) (around : Surroundings)
-    (before : Before) (content : Content)
-    → Fits nested d around before content forest →
+    (before : Before) (content : Content) → Fits nested d around before content forest →
     Means nested d content (outcome d.context around before forest)
 means nested d Empty around before content f = record {
-  prints = lays-nothing nested d.context.ending content;
+  prints = lays-nothing;
   heading = tt;
   texts = tt;
 }
@@ -165,66 +154,62 @@ means nested d (Node name start end children rest) around before content f =
     let here : Outcome = node d.context t name inner in
     let next : Before = before_next t name here in
     let others : Outcome = outcome d.context around next rest in
-    let within : Ready (read_in d) around' before' (content_inside Blocks name) =
-    ready-inside (read_in d) around before Blocks name children f.built.0 f.ready in
+    let within : Ready (read_in d) around' before' (content_inside Blocks name) = ready-inside
+    (read_in d) around before Blocks name children f.built.0 f.ready in
     let known : SafeMeans (read_in d) around' (content_inside Blocks name) children inner =
     safe-means (read_in d) children around' before' (content_inside Blocks name) f.built.2 within in
-    let found : AreFound (read_in d) Blocks here.found =
-    found-at (read_in d) t Blocks name inner.pieces f.built.0 f.built.1 f.ready.suits f.built.2
-    known.prints known.found in
+    let found : AreFound (read_in d) Blocks here.found = found-at (read_in d) t Blocks name
+    inner.pieces f.built.0 f.built.1 f.ready.suits f.built.2 known.prints known.found in
     let own : is_blocks (content_inside Blocks name) ≡ true → Means nested d
-    (inner_place nested content name) inner = λ is.
-    means nested d children around' before' (inner_place nested content name) (record {
+    (inner_place nested content name) inner = λ is. means nested d children around' before'
+    (inner_place nested content name) (record {
       white = f.white;
       built = subst (λ c. IsBuilt d.context.bytes c children)
           (is_blocks-same (content_inside Blocks name) is) f.built.2;
-      placed =
-          subst (λ c. IsPlaced c children) (sym (inner-place-with nested content name)) f.placed.1;
+      placed = subst (λ c. IsPlaced c children) (sym (inner-place-with nested content name))
+          f.placed.1;
       ready = subst (Ready (read_in d) around' before')
           (is_blocks-same (content_inside Blocks name) is) within;
       outside = still-outside d.context.options (is_loose children) name around is f.outside;
       heading = heading-inside nested (is_transparent name) before.heading f.heading;
-      linked =
-          linked-inside nested d.context.options (is_loose children) content name around f.linked;
+      linked = linked-inside nested d.context.options (is_loose children) content name around
+          f.linked;
       unnested = λ no. unnested-inside d.context.options (is_loose children) name around start end
           children rest is (f.unnested no);
     }) in
-    let one : Means nested d content here =
-    any-node nested d content name t inner refl (λ solid. record {
+    let one : Means nested d content here = any-node nested d content name t inner refl (λ solid.
+    record {
       white = f.white;
       escaping = f.ready.suits;
       outside = f.outside;
       fit = f.built.1;
       resource = known.found.resource;
       heading = f.heading;
-      within =
-          inside-means (read_in d) t Blocks name inner solid f.built.0 f.built.1 f.built.2 known;
+      within = inside-means (read_in d) t Blocks name inner solid f.built.0 f.built.1 f.built.2
+          known;
     }) f.built.0 f.placed.0 own
-    (λ none. no_footnotes d (content_inside Blocks name) children around' before' none
-    f.built.2) (λ is. record {
+    (λ none. no_footnotes d (content_inside Blocks name) children around' before' none f.built.2)
+    (λ is. record {
       spans = is;
       free = λ prints. unlinked-here nested content name around start end children rest is prints
           f.linked f.unnested;
-      plain = λ no. unlinked-spans content is
-          (λ linked. lie (sym no ∙ (f.linked linked).1));
+      plain = λ no. unlinked-spans content is (λ linked. lie (sym no ∙ (f.linked linked).1));
     }) in
     let later : Means nested d content others = means nested d rest around next content (record {
       white = f.white;
       built = subst (λ c. IsBuilt d.context.bytes c rest) (after-blocks name children) f.built.3;
       placed = f.placed.2;
-      ready = subst (Ready (read_in d) around next) (after-blocks name children)
-          (ready-after (read_in d) t Blocks name here f.built.0 f.built.2 found f.ready);
+      ready = subst (Ready (read_in d) around next) (after-blocks name children) (ready-after
+          (read_in d) t Blocks name here f.built.0 f.built.2 found f.ready);
       outside = f.outside;
       heading = heading-next nested here.found.heading before.heading one.heading f.heading;
       linked = f.linked;
       unnested = λ no. unnested-after name around.in_link start end children rest (f.unnested no);
     }) in
     record {
-      prints =
-          lays-both nested d.context.ending content here.pieces others.pieces one.prints
-          later.prints;
-      heading =
-          heading-both nested here.found.heading others.found.heading one.heading later.heading;
+      prints = lays-both one.prints later.prints;
+      heading = heading-both nested here.found.heading others.found.heading one.heading
+          later.heading;
       texts = texts-append (Stands nested Flow) here.footnotes others.footnotes one.texts
           later.texts;
     }

@@ -74,21 +74,17 @@ holds-nothing p escaping in_image Nothing h = refl
 holds-nothing p escaping in_image Sources h = tt
 
 -- what stays after each name stays after nodes
-pub stays-after : (Q : Content → Type 0) →
-    ((content : Content) (name : Name) → Q content → Q (content_past content name)) →
-    (content : Content) (forest : Forest) → Q content → Q (content_after content forest)
+pub stays-after : (Q : Content → Type 0) → ((content : Content) (name : Name) → Q content → Q
+    (content_past content name)) → (content : Content) (forest : Forest) → Q content →
+    Q (content_after content forest)
 stays-after Q past content Empty h = h
-stays-after Q past content (Node name start end children rest) h =
-    stays-after Q past
-    (cond (is_transparent name) (content_after content children) (content_past content name)) rest
-    (cond_both (is_transparent name) (content_after content children) (content_past content name) Q
-    (λ _. stays-after Q past content children h) (λ _. past content name h))
+stays-after Q past content (Node name start end children rest) h = stays-after Q past (cond
+    (is_transparent name) (content_after content children) (content_past content name)) rest
+    (cond_both _ _ _ Q (λ _. stays-after Q past content children h) (λ _. past content name h))
 
 -- after each node in blocks the content is still blocks
-pub after-blocks : (name : Name) (children : Forest) →
-    content_after_node Blocks name children ≡ Blocks
-after-blocks name children =
-    cond_both (is_transparent name) (content_after Blocks children) Blocks (λ c. c ≡ Blocks)
-    (λ _. stays-after (λ content. content ≡ Blocks)
-    (λ content name e. ap (λ content. content_past content name) e)
+pub after-blocks : (name : Name) (children : Forest) → content_after_node Blocks name
+    children ≡ Blocks
+after-blocks name children = cond_both _ _ _ (λ c. c ≡ Blocks) (λ _. stays-after
+    (λ content. content ≡ Blocks) (λ content name e. ap (λ content. content_past content name) e)
     Blocks children refl) (λ _. refl)

@@ -37,10 +37,7 @@ counting w n = record {
 pub without-test : (w : List ℕ) (options : CompileOptions) → options.allow_dangerous_html ≡ false →
     IsTest (is_without w) options
 without-test w options html = record {
-  other = λ name value h. by name value
-      (and_parts (not (bytes_eq name (codes "src"))) (not (bytes_eq name (codes "id")))
-      (and_parts (not (bytes_eq name (codes "href"))) (not (bytes_eq name (codes "src"))
-      && not (bytes_eq name (codes "id"))) h).1).1;
+  other = λ name value h. by name value (and_parts _ _ (and_parts _ _ h).1).1;
   link = λ destination. refl;
   anchor = λ rest. refl;
   image = λ destination. refl;

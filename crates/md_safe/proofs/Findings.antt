@@ -14,15 +14,13 @@ use Rattle.md_meaning.specs.Meaning.At.{Target, Defined, Footnote, Found, nothin
 use Rattle.md_meaning.specs.Meaning.Layout.{Piece, layout}
 use Rattle.md_meaning.specs.Meaning.Nodes.{found_at}
 use Rattle.md_content.specs.Built.{Content, Blocks, Sources, may_stand, content_inside, IsBuilt}
-use Rattle.md_safe.proofs.Texts.{Escaped}
 use Rattle.md_safe.proofs.Media.{IsEscapedTitle}
-use Rattle.md_safe.proofs.Contents.{Holds}
+use Rattle.md_safe.proofs.Contents.{Holds, Suits}
 use Rattle.md_safe.proofs.Insides.{is_blocks}
-use Rattle.md_safe.proofs.Contents.{Suits}
 use Rattle.md_safe.proofs.Spot.{Setting, AreTitles, IsGoodTarget, IsFitAt}
-use Rattle.md_safe.proofs.SpanNodes.{text-holds}
 use Rattle.md_safe.proofs.FlowNodes.{Reads}
 use Rattle.md_safe.proofs.Nodes.{inside-alone, Before as PrintsBefore}
+use Rattle.md_safe.proofs.Laid.{adds-alone}
 
 -- what holds of a text among blocks is what is claimed
 blocks-read : (s : Setting) (escaping in_image : Bool) (content : Content) →
@@ -87,35 +85,31 @@ nothing-found s content = record { heading = λ _. tt; title = tt; resource = tt
 
 -- what is found where a node stands
 pub found-node : (s : Setting) (t : At) (content : Content) (name : Name) (inner : List Piece) →
-    Inner s t content name inner →
-    AreFound s content (found_at t name (layout s.context.ending inner))
+    Inner s t content name inner → AreFound s
+    content (found_at t name (layout s.context.ending inner))
 found-node s t content HeadingSetextText inner i = record {
-  heading = λ is.
-      blocks-read s t.around.is_escaping t.around.in_image content is
-      (layout s.context.ending inner)
-      (text-holds s (Holds s.p t.around.is_escaping t.around.in_image content) inner
-      (inside-alone s t content HeadingSetextText i.stands i.fit i.built inner i.before));
+  heading = λ is. blocks-read s t.around.is_escaping t.around.in_image content is
+      (layout s.context.ending inner) (adds-alone (inside-alone s t content HeadingSetextText
+      i.stands i.fit i.built inner i.before));
   title = tt;
   resource = tt;
 }
 found-node s t content DefinitionTitleString inner i = record {
   heading = λ _. tt;
-  title = text-holds s (λ x. t.around.is_escaping ≡ true → Escaped x) inner
-      (inside-alone s t content DefinitionTitleString i.stands i.fit i.built inner i.before)
-      (suits-title t.around.is_escaping t.around.in_image content (or_left (may_stand content
-      DefinitionTitleString) (may_stand content ResourceTitleString) i.stands) i.suits);
+  title = adds-alone (inside-alone s t content DefinitionTitleString i.stands i.fit i.built inner
+      i.before) (suits-title t.around.is_escaping t.around.in_image content (or_left _ _ i.stands)
+      i.suits);
   resource = tt;
 }
 found-node s t content ResourceTitleString inner i = record {
   heading = λ _. tt;
-  title = text-holds s (λ x. t.around.is_escaping ≡ true → Escaped x) inner
-      (inside-alone s t content ResourceTitleString i.stands i.fit i.built inner i.before)
-      (suits-title t.around.is_escaping t.around.in_image content (or_right (may_stand content
-      DefinitionTitleString) (may_stand content ResourceTitleString) i.stands) i.suits);
+  title = adds-alone (inside-alone s t content ResourceTitleString i.stands i.fit i.built inner
+      i.before) (suits-title t.around.is_escaping t.around.in_image content (or_right _ _ i.stands)
+      i.suits);
   resource = tt;
 }
-found-node s t content Resource inner i =
-    record { heading = λ _. tt; title = tt; resource = i.found.title }
+found-node s t content Resource inner i = record
+    { heading = λ _. tt; title = tt; resource = i.found.title }
 found-node s t content (Other number) inner i = i.found
 found-node s t content BlockQuotePrefix inner i = i.found
 found-node s t content SpaceOrTab inner i = i.found
@@ -125,11 +119,10 @@ found-node s t content _ inner i = record { heading = λ _. tt; title = tt; reso
 pub note-node : (s : Setting) (t : At) (content : Content) (name : Name) (inner : List Piece) →
     Inner s t content name inner → named GfmFootnoteDefinition name ≡ true →
     Reads s (layout s.context.ending inner)
-note-node s t content GfmFootnoteDefinition inner i is =
-    blocks-read s t.around.is_escaping t.around.in_image content (note-blocks content i.stands)
-    (layout s.context.ending inner)
-    (text-holds s (Holds s.p t.around.is_escaping t.around.in_image content) inner
-    (inside-alone s t content GfmFootnoteDefinition i.stands i.fit i.built inner i.before))
+note-node s t content GfmFootnoteDefinition inner i is = blocks-read s t.around.is_escaping
+    t.around.in_image content (note-blocks content i.stands) (layout s.context.ending inner)
+    (adds-alone (inside-alone s t content GfmFootnoteDefinition i.stands i.fit i.built inner
+    i.before))
 note-node s t content _ inner i is = lie is
 
 -- of two things that were found the later one

@@ -1,6 +1,5 @@
 -- What is found among blocks: phrasing content as a heading's text, flow content of footnotes.
-use Rattle.std.proofs.Common.{◌≡◌, ℕ, Bool, true, false, cond, List, [], refl, sym}
-use Rattle.std.proofs.Common.{subst}
+use Rattle.std.proofs.Common.{◌≡◌, ℕ, Bool, true, false, cond, List, [], refl, sym, subst}
 use Rattle.std.specs.Prelude.{Option, Some, None, unwrap_or}
 use Rattle.md_base.proofs.Lies.{lie}
 use Rattle.md_base.specs.declared.event.Name.{Name}
@@ -42,15 +41,13 @@ block-flow Flow h = refl
 block-flow _ h = lie h
 
 -- what a node that isn't transparent adds to the spine
-pub heading-found :
-    (nested : Bool) (d : Document) (content : Content) (name : Name) (t : At) (inner : Outcome) →
-    is_transparent name ≡ false → may_place (with_links content) (sort_of name) ≡ true →
-    Own nested d content name inner.pieces → IsHeading nested (found_at t name
-    (layout d.context.ending inner.pieces)).heading
-heading-found nested d content HeadingSetextText t inner solid stands a =
-    adds-alone d.context.ending (Stands nested Phrasing) inner.pieces
-    (subst (λ c. Prints nested d (place_in nested c HeadingSetextText) inner.pieces)
-    (block-flow content stands) (a refl))
+pub heading-found : (nested : Bool) (d : Document) (content : Content) (name : Name) (t : At)
+    (inner : Outcome) → is_transparent name ≡ false → may_place (with_links content) (sort_of name)
+    ≡ true → Own nested d content name inner.pieces → IsHeading nested (found_at t
+    name (layout d.context.ending inner.pieces)).heading
+heading-found nested d content HeadingSetextText t inner solid stands a = adds-alone (subst (λ c.
+    Prints nested d (place_in nested c HeadingSetextText) inner.pieces) (block-flow content stands)
+    (a refl))
 heading-found nested d content (Other number) t inner solid stands a = lie (sym solid)
 heading-found nested d content BlockQuotePrefix t inner solid stands a = lie (sym solid)
 heading-found nested d content SpaceOrTab t inner solid stands a = lie (sym solid)
@@ -58,14 +55,12 @@ heading-found nested d content _ t inner solid stands a = tt
 
 -- the text of a footnote
 pub note-found : (nested : Bool) (d : Document) (content : Content) (name : Name)
-    (inner : Outcome) →
-    named GfmFootnoteDefinition name ≡ true → may_place (with_links content) (sort_of name) ≡ true →
-    Own nested d content name inner.pieces → Stands nested Flow
-    (layout d.context.ending inner.pieces)
-note-found nested d content GfmFootnoteDefinition inner is stands a =
-    adds-alone d.context.ending (Stands nested Flow) inner.pieces
-    (subst (λ c. Prints nested d (place_in nested c GfmFootnoteDefinition) inner.pieces)
-    (block-flow content stands) (a refl))
+    (inner : Outcome) → named GfmFootnoteDefinition name ≡ true →
+    may_place (with_links content) (sort_of name) ≡ true → Own nested d content name inner.pieces →
+    Stands nested Flow (layout d.context.ending inner.pieces)
+note-found nested d content GfmFootnoteDefinition inner is stands a = adds-alone (subst (λ c. Prints
+    nested d (place_in nested c GfmFootnoteDefinition) inner.pieces) (block-flow content stands)
+    (a refl))
 note-found nested d content _ inner is stands a = lie is
 
 -- images alone begin an image, and no blocks stand in them
@@ -92,4 +87,4 @@ heading-next nested (Some x) before a b = a
 pub heading-inside : (nested : Bool) (is : Bool) (before : List ℕ) → Stands nested Phrasing before →
     Stands nested Phrasing (cond is before [])
 heading-inside nested true before h = h
-heading-inside nested false before h = stands-nothing nested Phrasing
+heading-inside nested false before h = stands-nothing

@@ -22,10 +22,9 @@ use Rattle.md_meaning.specs.Meaning.Layout.{Piece, layout, when}
 use Rattle.md_meaning.specs.Meaning.Nodes.{Outcome, found_at, node, before_next, outcome}
 use Rattle.md_content.specs.Built.{Content, Blocks, may_stand, content_of, content_inside}
 use Rattle.md_content.specs.Built.{content_after_node, content_after, content_past, IsBuilt}
-use Rattle.md_safe.proofs.Contents.{stays-after, Holds}
+use Rattle.md_safe.proofs.Contents.{stays-after, Holds, Suits, Follows}
 use Rattle.md_safe.proofs.Insides.{is_blocks}
 use Rattle.md_safe.proofs.BlocksAsked.{inside-blocks, asked-after-node}
-use Rattle.md_safe.proofs.Contents.{Suits, Follows}
 use Rattle.md_safe.proofs.Suiting.{suits-inside, suits-after-node}
 use Rattle.md_safe.proofs.Following.{second, follows-inside, follows-after-node}
 use Rattle.md_safe.proofs.Spot.{IsWhole, Setting, AreTitles, IsFitAt, Prints, Inside}
@@ -49,19 +48,16 @@ through-suits options loose around content _ is h = lie is
 
 children-suit : (options : CompileOptions) → options.allow_dangerous_html ≡ false →
     (loose : Bool) (around : Surroundings) (content : Content) (name : Name) →
-    (is_transparent name || may_stand content name) ≡ true →
-    Suits around.is_escaping around.in_image content
-    →
-    Suits (inside options loose name around).is_escaping (inside options loose name around).in_image
-    (content_inside content name)
+    (is_transparent name || may_stand content name) ≡ true → Suits around.is_escaping
+    around.in_image content → Suits (inside options loose name around).is_escaping
+    (inside options loose name around).in_image (content_inside content name)
 children-suit options html loose around content name stands h = by (is_transparent name) refl
   where
-    by : (through : Bool) → is_transparent name ≡ through →
-        Suits (inside options loose name around).is_escaping
+    by : (through : Bool) → is_transparent name ≡ through → Suits
+        (inside options loose name around).is_escaping
         (inside options loose name around).in_image (cond through content (content_of name content))
     by true e = through-suits options loose around content name e h
-    by false e = suits-inside options html loose around content name
-        (second (is_transparent name) (may_stand content name) e stands) h
+    by false e = suits-inside options html loose around content name (second _ _ e stands) h
 
 -- the state before a node's first child
 children-follow : (content : Content) (name : Name) (before : Before) (children : Forest) →
@@ -69,11 +65,10 @@ children-follow : (content : Content) (name : Name) (before : Before) (children 
     Follows (content_inside content name) (before_children name children before).spine
 children-follow content name before children stands f = by (is_transparent name) refl
   where
-    by : (through : Bool) → is_transparent name ≡ through →
-        Follows (cond through content (content_of name content)) (cond through before.spine [])
+    by : (through : Bool) → is_transparent name ≡ through → Follows
+        (cond through content (content_of name content)) (cond through before.spine [])
     by true e = f
-    by false e =
-        follows-inside content name (second (is_transparent name) (may_stand content name) e stands)
+    by false e = follows-inside content name (second _ _ e stands)
 
 -- blocks stay blocks
 blocks-past : (content : Content) (name : Name) → is_blocks content ≡ true →
@@ -82,12 +77,9 @@ blocks-past Blocks name h = refl
 blocks-past _ name h = lie h
 
 blocks-after-node : (content : Content) (name : Name) (children : Forest) →
-    is_blocks content ≡ true →
-    is_blocks (content_after_node content name children) ≡ true
-blocks-after-node content name children h =
-    cond_both (is_transparent name) (content_after content children) (content_past content name)
-    (λ c. is_blocks c ≡ true)
-    (λ _. stays-after (λ c. is_blocks c ≡ true) blocks-past content children h)
+    is_blocks content ≡ true → is_blocks (content_after_node content name children) ≡ true
+blocks-after-node content name children h = cond_both _ _ _ (λ c. is_blocks c ≡ true) (λ _.
+    stays-after (λ c. is_blocks c ≡ true) blocks-past content children h)
     (λ _. blocks-past content name h)
 
 -- what nodes mean: they print what may stand where they are, before what is printed after
@@ -226,18 +218,15 @@ means s (Node name start end children rest) around before content built r =
 -- what the children of a node that isn't transparent print
 pub inside-means : (s : Setting) (t : At) (content : Content) (name : Name) (inner : Outcome) →
     is_transparent name ≡ false → (is_transparent name || may_stand content name) ≡ true →
-    IsFitAt s t name →
-    IsBuilt s.context.bytes (content_inside content name) t.children →
-    Means s (inside s.context.options (is_loose t.children) name t.around)
-    (content_inside content name) t.children inner
-    → Inside s t content name inner.pieces
+    IsFitAt s t name → IsBuilt s.context.bytes (content_inside content name) t.children → Means s
+    (inside s.context.options (is_loose t.children) name t.around) (content_inside content name)
+    t.children inner → Inside s t content name inner.pieces
 inside-means s t content name inner solid stands fit built means =
-    let same : content_inside content name ≡ content_of name content =
-    ap (λ b. cond b content (content_of name content)) solid in
-    inside-alone s t content name
-    (second (is_transparent name) (may_stand content name) solid stands) fit
-    (subst (λ c. IsBuilt s.context.bytes c t.children) same built) inner.pieces
-    (subst (λ c. PrintsBefore s t c name inner.pieces) same means.prints)
+    let same : content_inside content name ≡ content_of name content = ap
+    (λ b. cond b content (content_of name content)) solid in
+    inside-alone s t content name (second _ _ solid stands) fit (subst
+    (λ c. IsBuilt s.context.bytes c t.children) same built) inner.pieces (subst
+    (λ c. PrintsBefore s t c name inner.pieces) same means.prints)
 
 -- what is found at a node whose children print and find what they may
 pub found-at : (s : Setting) (t : At) (content : Content) (name : Name) (inner : List Piece) →

@@ -1,6 +1,6 @@
 -- Ordinary and formatting elements are built as they are read, by what their children do.
-use Rattle.std.proofs.Common.{◌≡◌, inl, inr, ℕ, ◌==◌, true, false}
-use Rattle.std.proofs.Common.{List, ◌∷◌, refl, sym, ◌∙◌, subst, codes, eq-eqb}
+use Rattle.std.proofs.Common.{◌≡◌, inl, inr, ℕ, ◌==◌, true, false, List, ◌∷◌, refl, sym, ◌∙◌, subst}
+use Rattle.std.proofs.Common.{codes, eq-eqb}
 use Rattle.std.specs.Prelude.{Some, None, bytes_eq}
 use Rattle.md_text.specs.Bytes.{is_one_of}
 use Rattle.md_text.specs.Html.{Attribute, Forest}
@@ -9,8 +9,7 @@ use Rattle.md_safe.specs.Tokens.{seen_attributes}
 use Rattle.md_safe.specs.Node.{Nodes, Open, Entry, Formatting, Mode, Empty as NoNode}
 use Rattle.md_safe.specs.Elements.{special}
 use Rattle.md_safe.specs.Stack.{insert, popped}
-use Rattle.md_safe.specs.Formatting.{push, last_active}
-use Rattle.md_safe.specs.Formatting.{adopt, end_formatting}
+use Rattle.md_safe.specs.Formatting.{push, last_active, adopt, end_formatting}
 use Rattle.md_safe.specs.InBody.{insert_formatting}
 use Rattle.md_safe.specs.Built.{put, at, is_body, AreCreated, AreOpen}
 use Rattle.md_safe.proofs.Lists.{Keeps, keeps-twice, room, keeps-room, keeps-created, not-active}
@@ -19,18 +18,15 @@ use Rattle.md_safe.proofs.TreeSteps.{Position, parser_of, element_of, within, re
 use Rattle.md_safe.proofs.PhrasingNames.{Done, Passed, IsOrdinary, IsFormatting, full, passes}
 
 -- an ordinary element
-pub ordinary-passes : (x : Position) (name : List ℕ) (attributes : List Attribute)
-    (inner : Forest) → is_body x.mode ≡ true → AreOpen (x.node ∷ x.others) x.active →
+pub ordinary-passes : {x : Position} {name : List ℕ} {attributes : List Attribute}
+    {inner : Forest} → is_body x.mode ≡ true → AreOpen (x.node ∷ x.others) x.active →
     IsOrdinary name → Done (within x name (seen_attributes attributes) x.active) inner →
     Passed x name attributes inner
-ordinary-passes x name attributes inner body opened k d =
-    passes x name attributes inner x.active d.left
-    (parser_of (within x name (seen_attributes attributes) x.active)) body k.names
-    (k.starts (seen_attributes attributes) (parser_of x)
-    ∙ reconstructs x (insert name (seen_attributes attributes)) opened)
-    (λ ys. refl) d
-    (k.ends (at x.mode (full x name attributes inner) d.left d.more) ∙ here _ k.names.self refl)
-    d.keeps
+ordinary-passes {x = x} {name = name} {attributes = attributes} {inner = inner} body opened k d =
+    passes x.active d.left (parser_of (within x name (seen_attributes attributes) x.active)) body
+    k.names (k.starts (seen_attributes attributes) (parser_of x) ∙ reconstructs x
+    (insert name (seen_attributes attributes)) opened) (λ ys. refl) d (k.ends
+    (at x.mode (full x name attributes inner) d.left d.more) ∙ here _ k.names.self refl) d.keeps
 
 -- ---- a formatting element
 pub self_same : (n : ℕ) → (n == n) ≡ true
@@ -75,23 +71,21 @@ formatting-ends mode node others active left more identity name attributes child
     )
 
 -- a formatting element, with what it holds
-pub formatting-passes : (x : Position) (name : List ℕ) (attributes : List Attribute)
-    (inner : Forest) → is_body x.mode ≡ true → AreOpen (x.node ∷ x.others) x.active →
-    AreCreated x.created x.active → IsFormatting name →
-    (bytes_eq name (codes "a") ≡ true → last_active (codes "a") x.active ≡ None) →
-    Done (within x name (seen_attributes attributes)
+pub formatting-passes : {x : Position} {name : List ℕ} {attributes : List Attribute}
+    {inner : Forest} → is_body x.mode ≡ true → AreOpen (x.node ∷ x.others) x.active →
+    AreCreated x.created x.active → IsFormatting name → (bytes_eq name (codes "a") ≡ true →
+    last_active (codes "a") x.active ≡ None) → Done (within x name (seen_attributes attributes)
     (push x.created name (seen_attributes attributes) x.active)) inner →
     Passed x name attributes inner
-formatting-passes x name attributes inner body opened made k free d =
+formatting-passes {x = x} {name = name} {attributes = attributes} {inner = inner} body opened made k
+    free d =
     let those : List TokenAttribute = seen_attributes attributes in
     let pushed : List Entry = push x.created name those x.active in
     let kept = keeps-room name those x.active in
-    let ends =
-    formatting-ends x.mode x.node x.others (room name those x.active) d.left d.more x.created name
-    those (put NoNode inner) k.plain k.names.self
-    (keeps-created x.created x.active (room name those x.active) made kept) d.keeps in
-    passes x name attributes inner pushed ends.0 (parser_of (within x name those pushed)) body
-    k.names (k.starts those (parser_of x) free
-    ∙ reconstructs x (insert_formatting name those) opened) (λ ys. refl) d
-    (k.ends (at x.mode (full x name attributes inner) d.left d.more) ∙ ends.1)
-    (keeps-twice x.active (room name those x.active) ends.0 kept ends.2)
+    let ends = formatting-ends x.mode x.node x.others (room name those x.active) d.left d.more
+    x.created name those (put NoNode inner) k.plain k.names.self (keeps-created x.created x.active
+    (room name those x.active) made kept) d.keeps in
+    passes pushed ends.0 (parser_of (within x name those pushed)) body k.names (k.starts those
+    (parser_of x) free ∙ reconstructs x (insert_formatting name those) opened) (λ ys. refl) d
+    (k.ends (at x.mode (full x name attributes inner) d.left d.more) ∙ ends.1) (keeps-twice x.active
+    (room name those x.active) ends.0 kept ends.2)

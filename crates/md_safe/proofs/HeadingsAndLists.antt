@@ -1,12 +1,12 @@
 -- Headings and lists print flow content, and items print the content of a list.
-use Rattle.std.proofs.Common.{◌≡◌, ℕ, ◌≤◌, Bool, true, false, cond, List, []}
-use Rattle.std.proofs.Common.{◌∷◌, ◌++◌, refl, codes}
+use Rattle.std.proofs.Common.{◌≡◌, ℕ, ◌≤◌, Bool, true, false, cond, List, [], ◌∷◌, ◌++◌, refl}
+use Rattle.std.proofs.Common.{codes}
 use Rattle.std.specs.Prelude.{Option, Some, None}
 use Rattle.std.specs.Option.{option_map_or}
 use Rattle.std.specs.List.{list_all}
 use Rattle.std.specs.Fmt.{digits}
 use Rattle.md_base.proofs.Lies.{lie}
-use Rattle.md_text.specs.Html.{is_tag, elements, any_attribute}
+use Rattle.md_text.specs.Html.{is_tag, elements}
 use Rattle.md_meaning.specs.Meaning.At.{At, text_in}
 use Rattle.md_meaning.specs.Meaning.Finds.{number_in_list}
 use Rattle.md_meaning.specs.Meaning.Layout.{Piece, Needed, Forced, said, on_own_line}
@@ -33,49 +33,33 @@ phrasing-held (Some Phrasing) h = refl
 phrasing-held (Some _) h = lie h
 phrasing-held None h = lie h
 
-turns-heading : (nested : Bool) (rank : ℕ) → (1 ≤ rank) × (rank ≤ 6) →
-    Turns (Stands nested Phrasing) (Stands nested Flow) (heading_tag (codes "<h") rank)
-    (heading_tag (codes "</h") rank)
+turns-heading : (nested : Bool) (rank : ℕ) → (1 ≤ rank) × (rank ≤ 6) → Turns
+    (Stands nested Phrasing) (Stands nested Flow)
+    (heading_tag (codes "<h") rank) (heading_tag (codes "</h") rank)
 unfolding heading_name holds_phrasing digits
-turns-heading nested rank h =
-    turns-plain nested Phrasing Flow (heading_name rank)
-    (ranked (λ rank. is_tag elements (heading_name rank) []) refl rank h)
-    (phrasing-held (held_in nested Flow (heading_name rank))
-    (ranked (λ rank. holds_phrasing (held_in nested Flow (heading_name rank))) refl rank h))
+turns-heading nested rank h = turns-plain (heading_name rank) (ranked
+    (λ rank. is_tag elements (heading_name rank) []) refl rank h) (phrasing-held
+    (held_in nested Flow (heading_name rank)) (ranked (λ rank. holds_phrasing
+    (held_in nested Flow (heading_name rank))) refl rank h))
 
 pub heading-node : (nested : Bool) (d : Document) (rank : ℕ) → IsWhite d.context.ending →
-    (1 ≤ rank) × (rank ≤ 6) →
-    (inner : List Piece) →
-    Prints nested d Phrasing inner → Prints nested d Flow (heading rank inner)
-heading-node nested d rank w fits inner a =
-    lays-turned nested d.context.ending Phrasing Flow (heading_tag (codes "<h") rank)
-    (heading_tag (codes "</h") rank) (on_own_line (heading_tag (codes "<h") rank)) inner
-    (said (heading_tag (codes "</h") rank)) refl refl (turns-heading nested rank fits)
-    (framed-needed white_beside d.context.ending (heading_tag (codes "<h") rank) w) a
-    (framed-text white_beside d.context.ending (heading_tag (codes "</h") rank))
+    (1 ≤ rank) × (rank ≤ 6) → (inner : List Piece) → Prints nested d Phrasing inner →
+    Prints nested d Flow (heading rank inner)
+heading-node nested d rank w fits inner a = lays-turned refl refl (turns-heading nested rank fits)
+    (framed-needed white_beside w) a (framed-text white_beside)
 
 -- ---- lists
 
 pub ordered-node : (nested : Bool) (d : Document) (t : At) → IsWhite d.context.ending →
     option_map_or (λ place. list_all is_digit (text_in d.context.bytes place))
-    (number_in_list t.children) true ≡ true →
-    (inner : List Piece) → Prints nested d Items inner →
-    Prints nested d Flow (on_own_line (codes "<ol") ++ (list_start d.context t
-    ++ (said (codes ">") ++ (inner ++ (Forced ∷ said (codes "</ol>"))))))
-ordered-node nested d t w fits inner a =
-    adds-ordered IsWhite (Stands nested Items) (Stands nested Flow) white_beside
-    (takes-white nested Items refl) (takes-white nested Flow refl) any_attribute d.context w
-    (read_in d).test (turns-tag nested Items Flow (codes "ol") refl) t fits inner a
+    (number_in_list t.children) true ≡ true → (inner : List Piece) → Prints nested d Items inner →
+    Prints nested d Flow (on_own_line (codes "<ol") ++ (list_start d.context t ++ (said
+    (codes ">") ++ (inner ++ (Forced ∷ said (codes "</ol>"))))))
+ordered-node nested d t w fits inner a = adds-ordered white_beside (takes-white refl)
+    (takes-white refl) d.context w (read_in d).test (turns-tag Items refl) t fits a
 
 pub item-node : (nested : Bool) (d : Document) (t : At) → IsWhite d.context.ending →
-    (inner : List Piece) →
-    Prints nested d Flow inner →
-    Prints nested d Items (on_own_line (codes "<li>")
-    ++ (inner ++ ((cond (ends_in_line t) [] (Needed ∷ [])) ++ said (codes "</li>"))))
-item-node nested d t w inner a =
-    lays-turned nested d.context.ending Flow Items (codes "<li>") (codes "</li>")
-    (on_own_line (codes "<li>")) inner
-    ((cond (ends_in_line t) [] (Needed ∷ [])) ++ said (codes "</li>")) refl refl
-    (turns-plain nested Flow Items (codes "li") refl refl)
-    (framed-needed white_beside d.context.ending (codes "<li>") w) a
-    (item-end white_beside d.context.ending w (ends_in_line t))
+    (inner : List Piece) → Prints nested d Flow inner → Prints nested d Items (on_own_line
+    (codes "<li>") ++ (inner ++ ((cond (ends_in_line t) [] (Needed ∷ [])) ++ said (codes "</li>"))))
+item-node nested d t w inner a = lays-turned refl refl (turns-plain (codes "li") refl refl)
+    (framed-needed white_beside w) a (item-end white_beside w (ends_in_line t))

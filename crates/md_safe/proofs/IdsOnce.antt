@@ -97,21 +97,18 @@ notes-differ options on all x y few among e =
     (omega (number-bound all y, few, arith)) (omega (number-bound all x, few, arith)) tails)
 
 none-other : (options : CompileOptions) → options.gfm_footnote_number_ids ≡ true →
-    (all : List (List ℕ))
-    (x : List ℕ) (identifiers : List (List ℕ)) → length all + 1 < 2 ^ 64 →
-    AreIn identifiers (distinct all) →
-    is_in x identifiers ≡ false →
+    (all : List (List ℕ)) (x : List ℕ) (identifiers : List (List ℕ)) → length all + 1 < 2 ^ 64 →
+    AreIn identifiers (distinct all) → is_in x identifiers ≡ false →
     occurs (note_id options all x) (note_ids options all identifiers) ≡ 0
 none-other options on all x [] few among none = refl
 none-other options on all x (y ∷ identifiers) few among none =
-    let parts = or_parts (bytes_eq y x) (is_in x identifiers) none in
-    by (bytes_eq (note_id options all y) (note_id options all x)) refl parts.0
-    (none-other options on all x identifiers few among.1 parts.1)
+    let parts = or_parts _ _ none in
+    by (bytes_eq (note_id options all y) (note_id options all x)) refl parts.0 (none-other options
+    on all x identifiers few among.1 parts.1)
   where
     by : (is : Bool) → bytes_eq (note_id options all y) (note_id options all x) ≡ is →
-        bytes_eq y x ≡ false →
-        occurs (note_id options all x) (note_ids options all identifiers) ≡ 0 →
-        cond is (suc (occurs (note_id options all x) (note_ids options all identifiers)))
+        bytes_eq y x ≡ false → occurs (note_id options all x) (note_ids options all identifiers)
+        ≡ 0 → cond is (suc (occurs (note_id options all x) (note_ids options all identifiers)))
         (occurs (note_id options all x) (note_ids options all identifiers)) ≡ 0
     by true e other later =
         let one : y ≡ x = notes-differ options on all x y few among.0

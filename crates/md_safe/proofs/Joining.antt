@@ -3,8 +3,7 @@ use Rattle.std.proofs.Common.{◌≡◌, ℕ, List, ◌++◌, refl, sym, ap, ap�
 use Rattle.std.proofs.Common.{Some, option_map, zero, suc}
 use Rattle.md_safe.specs.Token.{Token}
 use Rattle.md_safe.specs.TokenizerStates.{State, Data, Step, Goes, Stops, Stuck}
-use Rattle.md_safe.specs.Tokenizer.{step, run, after_step}
-use Rattle.md_safe.specs.Tokenizer.{IsRun}
+use Rattle.md_safe.specs.Tokenizer.{step, run, after_step, IsRun}
 use Rattle.md_safe.specs.Tokenizes.{Tokenizes, emitted_before, and_then, steps}
 use Rattle.md_safe.proofs.OneRun.{map_some}
 

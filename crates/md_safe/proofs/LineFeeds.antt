@@ -3,7 +3,7 @@ use Rattle.std.proofs.Common.{◌≡◌, ℕ, ◌==◌, Bool, true, false, not, 
 use Rattle.std.proofs.Common.{ap, ap₂, ◌∙◌}
 use Rattle.std.specs.List.{list_all}
 use Rattle.std.proofs.lemmas.Bool.{and_parts, and_from, cond_both, not-true}
-use Rattle.md_text.specs.References.{is_escaped, is_escaped_byte}
+use Rattle.md_text.specs.References.{is_escaped}
 use Rattle.md_safe.specs.Input.{begins_with_line_feed, with_line_feeds}
 use Rattle.md_safe.proofs.EscapedCases.{plain-escaped, by_escaped}
 
@@ -47,13 +47,10 @@ line_feeds-name (b ∷ name) r h =
 
 -- an escaped text stays escaped
 pub line_feeds-escaped : (x : List ℕ) → is_escaped x ≡ true → is_escaped (with_line_feeds x) ≡ true
-line_feeds-escaped x h =
-    by_escaped (λ x. is_escaped (with_line_feeds x) ≡ true) refl
-    (λ b rest plain later.
-    cond_both (b == 13) (cond (begins_with_line_feed rest) (with_line_feeds rest)
-    (10 ∷ with_line_feeds rest)) (b ∷ with_line_feeds rest) (λ v. is_escaped v ≡ true)
-    (λ _. cond_both (begins_with_line_feed rest) (with_line_feeds rest) (10 ∷ with_line_feeds rest)
-    (λ v. is_escaped v ≡ true) (λ _. later) (λ _. later))
-    (λ _. and_from (is_escaped_byte b (with_line_feeds rest)) (is_escaped (with_line_feeds rest))
-    (plain-escaped b (with_line_feeds rest) plain) later))
-    (λ rest later. later) (λ rest later. later) (λ rest later. later) (λ rest later. later) x h
+line_feeds-escaped x h = by_escaped (λ x. is_escaped (with_line_feeds x) ≡ true) refl
+    (λ b rest plain later. cond_both (b == 13) (cond (begins_with_line_feed rest)
+    (with_line_feeds rest) (10 ∷ with_line_feeds rest)) (b ∷ with_line_feeds rest)
+    (λ v. is_escaped v ≡ true) (λ _. cond_both (begins_with_line_feed rest) (with_line_feeds rest)
+    (10 ∷ with_line_feeds rest) (λ v. is_escaped v ≡ true) (λ _. later) (λ _. later)) (λ _. and_from
+    _ _ (plain-escaped b (with_line_feeds rest) plain) later)) (λ rest later. later)
+    (λ rest later. later) (λ rest later. later) (λ rest later. later) x h

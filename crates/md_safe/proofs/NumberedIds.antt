@@ -1,6 +1,6 @@
 -- Ids by number: which number each has is read back of it.
 use Rattle.std.proofs.Common.{◌≡◌, ℕ, ◌<◌, ◌^◌, ◌==◌, ◌/◌, ◌%◌, zero, suc, true, false, not, ◌&&◌}
-use Rattle.std.proofs.Common.{◌||◌, cond, List, [], ◌∷◌, ◌++◌, refl, sym, ap, ◌∙◌, subst, arith}
+use Rattle.std.proofs.Common.{cond, List, [], ◌∷◌, ◌++◌, refl, sym, ap, ◌∙◌, subst, arith}
 use Rattle.std.proofs.Common.{append_assoc, codes}
 use Rattle.std.specs.Prelude.{Option, Some, None}
 use Rattle.std.specs.Option.{option_map_or}
@@ -34,13 +34,11 @@ onto-digits : (k n : ℕ) (acc : List ℕ) → list_all is_digit acc ≡ true �
 onto-digits zero n acc h = h
 onto-digits (suc k) n acc h =
     let l : n % 10 < 10 = omega arith in
-    let first : list_all is_digit (digit_glyph false (n % 10) ∷ acc) ≡ true =
-    and_from (is_digit (digit_glyph false (n % 10))) (list_all is_digit acc)
+    let first : list_all is_digit (digit_glyph false (n % 10) ∷ acc) ≡ true = and_from _ _
     (glyph-digit (n % 10) l) h in
-    cond_both (n / 10 == 0) (digit_glyph false (n % 10) ∷ acc)
-    (digits_onto k 10 false (n / 10) (digit_glyph false (n % 10) ∷ acc))
-    (λ x. list_all is_digit x ≡ true)
-    (λ _. first) (λ _. onto-digits k (n / 10) (digit_glyph false (n % 10) ∷ acc) first)
+    cond_both (n / 10 == 0) (digit_glyph false (n % 10) ∷ acc) (digits_onto k 10 false (n / 10)
+    (digit_glyph false (n % 10) ∷ acc)) (λ x. list_all is_digit x ≡ true) (λ _. first) (λ _.
+    onto-digits k (n / 10) (digit_glyph false (n % 10) ∷ acc) first)
 
 pub decimal-digits : (n : ℕ) → list_all is_digit (decimal n) ≡ true
 unfolding digits
@@ -83,9 +81,7 @@ last-append (b ∷ c ∷ x) y h = last-append (c ∷ x) y h
 
 -- ---- what is read back
 digit-no_and : (b : ℕ) → is_digit b ≡ true → no_and b ≡ true
-digit-no_and b h =
-    (and_parts (not ((b == 0) || (b == 60) || (b == 62) || (b == 34))) (not (b == 38))
-    (digit-plain b h)).1
+digit-no_and b h = (and_parts _ _ (digit-plain b h)).1
 
 digits-no_and : (x : List ℕ) → list_all is_digit x ≡ true → list_all no_and x ≡ true
 digits-no_and x h = all-weaker is_digit no_and digit-no_and x h
@@ -100,8 +96,7 @@ plain-back (b ∷ x) h =
 
 no_and-append : (x y : List ℕ) → list_all no_and x ≡ true → list_all no_and y ≡ true →
     list_all no_and (x ++ y) ≡ true
-no_and-append x y h g =
-    list_all-append no_and x y ∙ and_from (list_all no_and x) (list_all no_and y) h g
+no_and-append x y h g = list_all-append no_and x y ∙ and_from _ _ h g
 
 -- the prefix, read back
 abbrev pub back_prefix : CompileOptions → List ℕ

@@ -1,8 +1,7 @@
 -- An id by number determines its prefix: what follows the prefix begins with `fn`, and has no other
 -- `fn`.
 use Rattle.std.proofs.Common.{◌≡◌, ℕ, suc, ◌≤◌, ◌==◌, Bool, true, false, ◌&&◌, ◌||◌, cond, eqb}
-use Rattle.std.proofs.Common.{List, [], ◌∷◌, ◌++◌, refl, sym, ap, ◌∙◌, arith, codes}
-use Rattle.std.proofs.Common.{bytes_eq}
+use Rattle.std.proofs.Common.{List, [], ◌∷◌, ◌++◌, refl, sym, ap, ◌∙◌, arith, codes, bytes_eq}
 use Rattle.std.specs.List.{list_any, list_all}
 use Rattle.std.specs.Fmt.{decimal}
 use Rattle.std.proofs.lemmas.Bool.{eqb-true, and_parts, or_right}
@@ -23,9 +22,7 @@ has_fn (b ∷ x) = ((b == 102) && begins_n x) || has_fn x
 
 fn-inside : (p x : List ℕ) → has_fn (p ++ (102 ∷ 110 ∷ x)) ≡ true
 fn-inside [] x = refl
-fn-inside (b ∷ p) x =
-    or_right ((b == 102) && begins_n (p ++ (102 ∷ 110 ∷ x)))
-    (has_fn (p ++ (102 ∷ 110 ∷ x))) (fn-inside p x)
+fn-inside (b ∷ p) x = or_right _ _ (fn-inside p x)
 
 -- two texts with one such beginning each begin alike
 pub same-prefix : (p q x y : List ℕ) → has_fn x ≡ false → has_fn y ≡ false →

@@ -1,7 +1,6 @@
 -- The tags of fenced code and of math, around what is said of it and what it holds.
 use Rattle.std.proofs.Common.{◌≡◌, ◌⊎◌, ℕ, Bool, true, List, [], ◌∷◌, ◌++◌, refl, sym, ap, subst}
-use Rattle.std.proofs.Common.{inl}
-use Rattle.std.proofs.Common.{inr, append_assoc, append-nil, codes}
+use Rattle.std.proofs.Common.{inl, inr, append_assoc, append-nil, codes}
 use Rattle.std.specs.List.{list_any}
 use Rattle.md_text.specs.Html.{opening_tag, is_tag, elements}
 use Rattle.md_text.specs.declared.options.CompileOptions.{CompileOptions}
@@ -56,66 +55,54 @@ pub record IsOpened (Q R : List ℕ → Type 0) (tag x : List ℕ) : Type 0 wher
   pub escaped : Escaped body
   pub turns : Turns Q R (tag ++ (attributes ++ (62 ∷ []))) code_closing
 
-raw-enclosed : (W Q R : List ℕ → Type 0) (tag x y z : List ℕ) → Takes W R →
+raw-enclosed : {W Q R : List ℕ → Type 0} {tag x y z : List ℕ} → Takes W R →
     ((x w : List ℕ) → Escaped x → W w → Q (x ++ w)) → IsBegun W tag x → IsOpened Q R tag y →
     IsFramed W code_closing z → R (x ++ (y ++ z))
-raw-enclosed W Q R tag x y z stays says a r c =
+raw-enclosed {R = R} {tag} {x} {y} {z} stays says a r c =
     let parts : R ((a.0 ++ tag) ++ ((r.attributes ++ (62 ∷ r.body))
-    ++ (c.before ++ (code_closing ++ c.after)))) =
-    subst R (raw_regrouped a.0 tag r.attributes r.body c.before code_closing c.after)
-    (stays a.0 ((tag ++ (r.attributes ++ (62 ∷ []))) ++ ((r.body ++ c.before) ++ code_closing))
-    c.after a.2 (r.turns (r.body ++ c.before) (says r.body c.before r.escaped c.is_before))
-    c.is_after) in
-    subst (λ x. R (x ++ (y ++ z))) (sym a.1)
-    (subst (λ y. R ((a.0 ++ tag) ++ (y ++ z))) (sym r.whole)
-    (subst (λ z. R ((a.0 ++ tag) ++ ((r.attributes ++ (62 ∷ r.body)) ++ z))) (sym c.whole) parts))
+    ++ (c.before ++ (code_closing ++ c.after)))) = subst R (raw_regrouped a.0 tag r.attributes
+    r.body c.before code_closing c.after) (stays.take a.0 ((tag ++ (r.attributes ++ (62 ∷ [])))
+    ++ ((r.body ++ c.before) ++ code_closing)) c.after a.2 (r.turns.turn (r.body ++ c.before)
+    (says r.body c.before r.escaped c.is_before)) c.is_after) in
+    subst (λ x. R (x ++ (y ++ z))) (sym a.1) (subst (λ y. R ((a.0 ++ tag) ++ (y ++ z)))
+    (sym r.whole) (subst (λ z. R ((a.0 ++ tag) ++ ((r.attributes ++ (62 ∷ r.body)) ++ z)))
+    (sym c.whole) parts))
 
 -- fenced code or math
-pub adds-raw : (W Q R : List ℕ → Type 0) → IsBeside W → Takes W R →
-    ((x w : List ℕ) → Escaped x → W w → Q (x ++ w)) → (ending : List ℕ) → W ending →
-    (tag : List ℕ) (inner end : List Piece) →
+pub adds-raw : {W Q R : List ℕ → Type 0} {ending : List ℕ} {tag : List ℕ} {inner end : List Piece} →
+    IsBeside W → Takes W R → ((x w : List ℕ) → Escaped x → W w → Q (x ++ w)) → W ending →
     Adds ending (IsOpened Q R tag) inner → Adds ending (IsFramed W code_closing) end →
     Adds ending R ((Needed ∷ Text tag ∷ []) ++ (inner ++ end))
-adds-raw W Q R beside stays says ending h tag inner end a b =
-    adds-append ending (IsBegun W tag)
-    (λ w. (y : List ℕ) × (z : List ℕ) × (w ≡ y ++ z) × IsOpened Q R tag y
-    × IsFramed W code_closing z) R (Needed ∷ Text tag ∷ []) (inner ++ end)
-    (λ x w f g. subst (λ w. R (x ++ w)) (sym g.2)
-    (raw-enclosed W Q R tag x g.0 g.1 stays says f g.3 g.4))
-    (adds-append ending W (λ x. x ≡ tag) (IsBegun W tag) (Needed ∷ []) (Text tag
-    ∷ []) (λ x y f g. (x, ap (λ y. x ++ y) g, f)) (adds-needed beside ending h)
-    (adds-flat ending (λ x. x ≡ tag) (Text tag ∷ []) refl (append-nil tag))) (adds-append ending
-    (IsOpened Q R tag) (IsFramed W code_closing) (λ w. (y : List ℕ) × (z : List ℕ) × (w ≡ y ++ z)
-    × IsOpened Q R tag y × IsFramed W code_closing z) inner end (λ y z f g. (y, z, refl, f, g)) a b)
+adds-raw {W} {Q} {R} {tag = tag} beside stays says h a b = adds-append {f = IsBegun W tag} {g = λ w.
+    (y : List ℕ) × (z : List ℕ) × (w ≡ y ++ z) × IsOpened Q R tag y × IsFramed W code_closing z}
+    (λ x w f g. subst (λ w. R (x ++ w)) (sym g.2) (raw-enclosed stays says f g.3 g.4)) (adds-append
+    (λ x y f g. (x, ap (λ y. x ++ y) g, f)) (adds-needed beside h) (adds-flat {f = λ y. y ≡ tag}
+    {pieces = Text tag ∷ []} refl (append-nil tag)))
+    (adds-append (λ y z f g. (y, z, refl, f, g)) a b)
 
 -- the end of code, and of fenced code, with what is on a line of its own before it and after it
-pub code-end : {W : List ℕ → Type 0} → IsBeside W → (ending : List ℕ) → W ending → (t : At) →
+pub code-end : {W : List ℕ → Type 0} {ending : List ℕ} → IsBeside W → W ending → (t : At) →
     Adds ending (IsFramed W code_closing) (code_end t)
-code-end beside ending h t =
-    framed-after beside ending code_closing
-    (when (list_any is_chunk (spine_names t.children)) (Needed ∷ []))
-    (adds-when beside ending (list_any is_chunk (spine_names t.children)) (Needed ∷ [])
-    (adds-needed beside ending h))
+code-end beside h t = framed-after beside (adds-when beside
+    (list_any is_chunk (spine_names t.children)) (adds-needed beside h))
 
-pub fenced-end : {W : List ℕ → Type 0} → IsBeside W → (ending : List ℕ) → W ending → (t : At) →
-    Adds ending (IsFramed W code_closing)
-    (when (runs_out t) (Forced ∷ []) ++ (code_end t ++ when (is_unclosed t) (Needed ∷ [])))
-fenced-end {W = W} beside ending h t =
+pub fenced-end : {W : List ℕ → Type 0} {ending : List ℕ} → IsBeside W → W ending → (t : At) → Adds
+    ending (IsFramed W code_closing) (when (runs_out t)
+    (Forced ∷ []) ++ (code_end t ++ when (is_unclosed t) (Needed ∷ [])))
+fenced-end {W} {ending} beside h t =
     let chunks : Bool = list_any is_chunk (spine_names t.children) in
     let out : List Piece = when (runs_out t) (Forced ∷ []) in
     let line : List Piece = when chunks (Needed ∷ []) in
     let last : List Piece = when (is_unclosed t) (Needed ∷ []) in
     subst (λ x. Adds ending (IsFramed W code_closing) (out ++ x))
-    (sym (append_assoc line (said code_closing) last))
-    (subst (Adds ending (IsFramed W code_closing)) (append_assoc out line
-    (Text code_closing ∷ last)) (adds-framed ending code_closing (out ++ line) last
-    (adds-append ending W W W out line beside.both
-    (adds-when beside ending (runs_out t) (Forced ∷ []) (adds-forced ending h))
-    (adds-when beside ending chunks (Needed ∷ []) (adds-needed beside ending h)))
-    (adds-when beside ending (is_unclosed t) (Needed ∷ []) (adds-needed beside ending h))))
+    (sym (append_assoc line (said code_closing) last)) (subst
+    (Adds ending (IsFramed W code_closing)) (append_assoc out line (Text code_closing ∷ last))
+    (adds-framed (adds-append beside.both (adds-when beside (runs_out t) (adds-forced h))
+    (adds-when beside chunks (adds-needed beside h)))
+    (adds-when beside (is_unclosed t) (adds-needed beside h))))
 
-pub raw-opened : (p : Claim) (tag x : List ℕ) → IsRaw p tag x → IsOpened p.holds p.holds tag x
-raw-opened p tag x r = record {
+pub raw-opened : {p : Claim} {tag x : List ℕ} → IsRaw p tag x → IsOpened p.holds p.holds tag x
+raw-opened r = record {
   attributes = r.attributes;
   body = r.body;
   whole = r.whole;
@@ -139,18 +126,14 @@ pub info_regrouped : (v : List ℕ) → codes "<pre>" ++ opening_tag (codes "cod
     ++ ((codes " class=\"language-" ++ (v ++ codes "\"")) ++ (62 ∷ []))
 info_regrouped v = simp append_assoc
 
-pub info-in_code : (p : Claim) (options : CompileOptions) → IsTest p.test options →
-    (v : List ℕ) → Escaped v →
-    IsInCode p (codes " class=\"language-" ++ (v ++ codes "\""))
+pub info-in_code : (p : Claim) (options : CompileOptions) → IsTest p.test options → (v : List ℕ) →
+    Escaped v → IsInCode p (codes " class=\"language-" ++ (v ++ codes "\""))
 info-in_code p options test v h = (
   inr (v, refl, h, refl),
-  subst (λ o. Bracket p o code_closing) (info_regrouped v)
-      (turns-two p.holds p.holds p.holds (codes "<pre>") (codes "</pre>")
-      (opening_tag (codes "code")
-      (attribute (codes "class") (codes "language-" ++ v) ∷ [])) (codes "</code>")
-      (bracket-plain p (codes "pre") refl)
-      (bracket-tag p (codes "code") (attribute (codes "class") (codes "language-" ++ v)
-      ∷ []) (code_class v h) (class-passes p.test options test (codes "language-" ++ v)))),
+  subst (λ o. Bracket p o code_closing) (info_regrouped v) (turns-two
+      (bracket-plain p (codes "pre") refl) ((bracket-tag p (codes "code")).tag
+      (attribute (codes "class") (codes "language-" ++ v) ∷ []) (code_class v h)
+      (class-passes test (codes "language-" ++ v)))),
 )
 
 pub raw-code : (p : Claim) (x y : List ℕ) → IsInCode p x → Escaped y →
@@ -164,20 +147,16 @@ raw-code p x y h e = record {
   escaped = e;
 }
 
-pub raw-math : (p : Claim) (options : CompileOptions) → IsTest p.test options →
-    (y : List ℕ) → Escaped y →
-    IsRaw p math_tag (62 ∷ y)
+pub raw-math : (p : Claim) (options : CompileOptions) → IsTest p.test options → (y : List ℕ) →
+    Escaped y → IsRaw p math_tag (62 ∷ y)
 raw-math p options test y e =
     record {
       attributes = [];
       info = inl refl;
       body = y;
       whole = refl;
-      bracket =
-          turns-two p.holds p.holds p.holds (codes "<pre>") (codes "</pre>")
-          (codes "<code class=\"language-math math-display\">") (codes "</code>")
-          (bracket-plain p (codes "pre") refl) (bracket-tag p (codes "code")
-          (attribute (codes "class") (codes "language-math math-display")
-          ∷ []) refl (class-passes p.test options test (codes "language-math math-display")));
+      bracket = turns-two (bracket-plain p (codes "pre") refl) ((bracket-tag p (codes "code")).tag
+          (attribute (codes "class") (codes "language-math math-display") ∷ []) refl
+          (class-passes test (codes "language-math math-display")));
       escaped = e;
     }

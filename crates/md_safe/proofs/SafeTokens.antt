@@ -31,15 +31,13 @@ attribute-permitted true before after f h = f h
 attribute-permitted false before after f h = refl
 
 attributes-permitted : (name : List ℕ) (schemes : List (List ℕ)) → Permits schemes →
-    (x : List Attribute) →
-    are_good x ≡ true → list_all (is_safe name schemes) x ≡ true →
+    (x : List Attribute) → are_good x ≡ true → list_all (is_safe name schemes) x ≡ true →
     list_all (is_permitted name schemes) (seen_attributes x) ≡ true
 attributes-permitted name schemes f [] g h = refl
 attributes-permitted name schemes f (a ∷ x) g h =
     let p = good_attribute a x g in
-    let k = and_parts (is_safe name schemes a) (list_all (is_safe name schemes) x) h in
-    and_from (cond (bytes_eq a.name name) (has_permitted_scheme schemes (seen a.value)) true) _
-    (attribute-permitted (bytes_eq a.name name) (is_safe_value schemes a.value)
+    let k = and_parts _ _ h in
+    and_from _ _ (attribute-permitted (bytes_eq a.name name) (is_safe_value schemes a.value)
     (has_permitted_scheme schemes (seen a.value)) (f a.value p.1) k.0)
     (attributes-permitted name schemes f x p.3 k.1)
 

@@ -6,22 +6,21 @@ use Rattle.md_base.proofs.Lies.{lie}
 use Rattle.md_base.specs.Is.{is as named}
 use Rattle.md_base.specs.declared.event.Name.{Name}
 use Rattle.md_base.specs.declared.event.Name.TheVariants as name_variants
-use name_variants.{Link, Image, HardBreakEscape, HardBreakTrailing}
-use name_variants.{GfmTaskListItemCheck, GfmFootnoteCall, AutolinkEmail, AutolinkProtocol}
-use name_variants.{GfmAutolinkLiteralEmail, GfmAutolinkLiteralMailto, GfmAutolinkLiteralProtocol}
-use name_variants.{GfmAutolinkLiteralWww, GfmAutolinkLiteralXmpp}
+use name_variants.{Link, Image, HardBreakEscape, HardBreakTrailing, GfmTaskListItemCheck}
+use name_variants.{GfmFootnoteCall, AutolinkEmail, AutolinkProtocol, GfmAutolinkLiteralEmail}
+use name_variants.{GfmAutolinkLiteralMailto, GfmAutolinkLiteralProtocol, GfmAutolinkLiteralWww}
+use name_variants.{GfmAutolinkLiteralXmpp}
 use Rattle.md_meaning.specs.Meaning.At.{At, identifier_of}
 use Rattle.md_meaning.specs.Meaning.Layout.{Piece, layout, said}
 use Rattle.md_meaning.specs.Meaning.Means.{prints}
 use Rattle.md_meaning.specs.Meaning.Media.{anchor, picture, leads_to, literal}
 use Rattle.md_meaning.specs.Meaning.Footnotes.{call, place_among, distinct, count_of}
 use Rattle.md_content.specs.Built.{Blocks, content_of, is_autolink}
-use Rattle.md_safe.proofs.SpanContents.{SpanPrints}
+use Rattle.md_safe.proofs.SpanContents.{SpanPrints, Prints, AreSpans, Here, pair}
 use Rattle.md_safe.proofs.Cases.{either}
 use Rattle.md_safe.proofs.Texts.{Escaped}
 use Rattle.md_safe.proofs.Insides.{is_blocks}
 use Rattle.md_safe.proofs.Laid.{adds-alone, adds-weaker}
-use Rattle.md_text.specs.Html.{any_attribute}
 use Rattle.md_safe.proofs.Tags.{Turns}
 use Rattle.md_safe.proofs.Media.{adds-image}
 use Rattle.md_safe.proofs.Spot.{target-title}
@@ -33,24 +32,20 @@ use Rattle.md_safe.proofs.Costs.{Document, read_in}
 use Rattle.md_safe.specs.Contents.{Content, Phrasing, Characters}
 use Rattle.md_safe.proofs.Linking.{in_link}
 use Rattle.md_safe.proofs.Stands.{Stands, stands-text, stands-tag, stands-void, turns-plain}
-use Rattle.md_safe.proofs.SpanContents.{Prints, AreSpans, Here, pair}
 use Rattle.md_safe.proofs.LinksAndImages.{autolinked, link}
 use Rattle.md_safe.proofs.TasksAndCalls.{code-node, break, task-node, call-node}
 
 -- a literal autolink, which is plain in links too
 literal-node : (nested : Bool) (d : Document) (content : Content) (f : AreSpans nested content)
-    (t : At) (prefix : List ℕ) →
-    (t.around.in_link ≡ false → content ≡ Phrasing) →
+    (t : At) (prefix : List ℕ) → (t.around.in_link ≡ false → content ≡ Phrasing) →
     Prints nested d content (literal d.context t prefix)
-literal-node nested d content f t prefix plain =
-    autolinked nested d content f t (t.around.in_image || t.around.in_link) prefix
-    (λ no. plain (or_parts t.around.in_image t.around.in_link no).1)
+literal-node nested d content f t prefix plain = autolinked nested d content f t
+    (t.around.in_image || t.around.in_link) prefix (λ no. plain (or_parts _ _ no).1)
 
 pub string-node : (nested : Bool) (d : Document) (content : Content) (t : At) (name : Name) →
     is_text name ≡ true → SpanPrints nested d t content name
-string-node nested d content t name is inner k a =
-    adds-weaker d.context.ending Escaped (Stands nested content) (prints d.context t name inner)
-    a.spans.text (text-node (read_in d) t Escaped name (λ x h. h k.escaping) is k.fit inner)
+string-node nested d content t name is inner k a = adds-weaker a.spans.text (text-node (read_in d) t
+    Escaped name (λ x h. h k.escaping) is k.fit inner)
 
 -- in spans with tags around them blocks stand, and they are no links
 pair-blocks : (name : Name) →
@@ -63,65 +58,51 @@ pair-node : (nested : Bool) (d : Document) (content : Content) (t : At) (name : 
     Here nested d t content name inner → Prints nested d content (prints d.context t name inner)
 pair-node nested d content t name is out inner a =
     let tag : List ℕ = pair_tag name in
-    let own = and_parts (is_blocks (content_of name Blocks)) (not (named Link name))
-    (subst (λ b. not b || (is_blocks (content_of name Blocks) && not (named Link name)) ≡ true) is
-    (pair-blocks name)) in
-    subst (Prints nested d content) (sym (pair-prints d.context t name is inner))
-    (pair nested d t content a.spans.spaced out (60 ∷ (tag ++ (62 ∷ [])))
-    (60 ∷ 47 ∷ (tag ++ (62 ∷ [])))
-    (by_pair (λ tag. Turns (Stands nested content) (Stands nested content) (60 ∷ (tag ++ (62 ∷ [])))
-    (60 ∷ 47 ∷ (tag ++ (62 ∷ []))))
-    (turns-plain nested content content (codes "em") refl a.spans.em)
-    (turns-plain nested content content (codes "strong") refl a.spans.strong)
-    (turns-plain nested content content (codes "del") refl a.spans.del) name is)
-    inner (a.own own.0 (not-true (named Link name) own.1)))
+    let own = and_parts _ _ (subst (λ b. not b || (is_blocks (content_of name Blocks) && not
+    (named Link name)) ≡ true) is (pair-blocks name)) in
+    subst (Prints nested d content) (sym (pair-prints d.context t name is inner)) (pair t
+    a.spans.spaced out (by_pair (λ tag. Turns (Stands nested content) (Stands nested content)
+    (60 ∷ (tag ++ (62 ∷ []))) (60 ∷ 47 ∷ (tag ++ (62 ∷ []))))
+    (turns-plain (codes "em") refl a.spans.em) (turns-plain (codes "strong") refl a.spans.strong)
+    (turns-plain (codes "del") refl a.spans.del) name is) (a.own own.0 (not-true _ own.1)))
 
-single-node : (nested : Bool) (d : Document) (content : Content) (t : At) (name : Name) → is_single
-    name ≡ true → SpanPrints nested d t content name
+single-node : (nested : Bool) (d : Document) (content : Content) (t : At) (name : Name) →
+    is_single name ≡ true → SpanPrints nested d t content name
 single-node nested d content t Link is inner k a =
     let label : List ℕ = layout d.context.ending inner in
-    subst (λ b. Prints nested d content
-    (cond b (said label) (anchor d.context.options (leads_to d.context t) label)))
-    (sym k.outside)
-    (subst (λ c. Prints nested d c (anchor d.context.options (leads_to d.context t) label))
-    (sym (a.free refl))
-    (link nested d (leads_to d.context t) label (target-title (read_in d) t k.resource)
-    (adds-alone d.context.ending (Stands nested (in_link nested)) inner (a.label refl))))
+    subst (λ b. Prints nested d content (cond b (said label)
+    (anchor d.context.options (leads_to d.context t) label))) (sym k.outside) (subst (λ c. Prints
+    nested d c (anchor d.context.options (leads_to d.context t) label)) (sym (a.free refl)) (link
+    nested d (leads_to d.context t) label (target-title (read_in d) t k.resource)
+    (adds-alone (a.label refl))))
 single-node nested d content t Image is inner k a =
     let label : List ℕ = layout d.context.ending inner in
-    subst (λ b. Prints nested d content
-    (cond b (said label) (picture d.context.options (leads_to d.context t) label)))
-    (sym k.outside)
-    (adds-image any_attribute (Stands nested content) d.context.ending d.context.options
-    (read_in d).test (stands-void nested content (codes "img") a.spans.img) (leads_to d.context t)
-    label (target-title (read_in d) t k.resource) (adds-alone d.context.ending Escaped inner
-    k.within))
-single-node nested d content t HardBreakEscape is inner k a =
-    break nested d content a.spans t k.outside
-single-node nested d content t HardBreakTrailing is inner k a =
-    break nested d content a.spans t k.outside
-single-node nested d content t GfmTaskListItemCheck is inner k a =
-    task-node nested d content a.spans t k.outside inner k.within
+    subst (λ b. Prints nested d content (cond b (said label)
+    (picture d.context.options (leads_to d.context t) label))) (sym k.outside) (adds-image
+    (read_in d).test (stands-void a.spans.img) (leads_to d.context t) label
+    (target-title (read_in d) t k.resource) (adds-alone k.within))
+single-node nested d content t HardBreakEscape is inner k a = break nested d content a.spans t
+    k.outside
+single-node nested d content t HardBreakTrailing is inner k a = break nested d content a.spans t
+    k.outside
+single-node nested d content t GfmTaskListItemCheck is inner k a = task-node nested d content
+    a.spans t k.outside inner k.within
 single-node nested d content t GfmFootnoteCall is inner k a =
     let identifier : List ℕ = identifier_of d.context.bytes t.children in
-    subst (λ c. Prints nested d c (call d.context t)) (sym (a.free refl))
-    (call-node nested d t k.outside identifier (place_among (distinct d.context.calls) identifier)
+    subst (λ c. Prints nested d c (call d.context t)) (sym (a.free refl)) (call-node nested d t
+    k.outside identifier (place_among (distinct d.context.calls) identifier)
     (suc (count_of t.calls identifier)))
 single-node nested d content t _ is inner k a = lie is
 
-pub span-node : (nested : Bool) (d : Document) (content : Content) (t : At) (name : Name) → is_shown
-    name ≡ true → SpanPrints nested d t content name
-span-node nested d content t name is inner k a =
-    either (is_pair name) _ is (λ is. pair-node nested d content t name is k.outside inner a) (λ c.
-    either (is_code name) (is_single name) c
-    (λ is. subst (Prints nested d content) (sym (code-prints d.context t name is inner))
-    (code-node nested d content a.spans t k.outside (code_opening (is_math name))
-    (λ x h. any-code any_attribute (Stands nested Characters) (Stands nested content)
-    d.context.ending d.context.options (read_in d).test
-    (stands-tag nested content Characters (codes "code") a.spans.code) (is_math name) x
-    (stands-text nested Characters x h refl)) (layout d.context.ending inner)
-    (code-text (read_in d) t Blocks name k.escaping is inner k.within)))
-    (λ is. single-node nested d content t name is inner k a))
+pub span-node : (nested : Bool) (d : Document) (content : Content) (t : At) (name : Name) →
+    is_shown name ≡ true → SpanPrints nested d t content name
+span-node nested d content t name is inner k a = either (is_pair name) _ is (λ is. pair-node nested
+    d content t name is k.outside inner a) (λ c. either (is_code name) (is_single name) c (λ is.
+    subst (Prints nested d content) (sym (code-prints d.context t name is inner)) (code-node nested
+    d content a.spans t k.outside (code_opening (is_math name)) (λ x h. any-code (read_in d).test
+    (stands-tag Characters a.spans.code) (is_math name) x (stands-text h refl))
+    (layout d.context.ending inner) (code-text (read_in d) t Blocks name k.escaping is inner
+    k.within))) (λ is. single-node nested d content t name is inner k a))
 
 pub autolink-node : (nested : Bool) (d : Document) (content : Content) (t : At) (name : Name) →
     is_autolink name ≡ true → SpanPrints nested d t content name

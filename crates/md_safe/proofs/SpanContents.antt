@@ -13,7 +13,7 @@ use Rattle.md_meaning.specs.Meaning.Spans.{span}
 use Rattle.md_content.specs.Built.{Blocks, content_of}
 use Rattle.md_safe.proofs.Texts.{Escaped}
 use Rattle.md_safe.proofs.Laid.{adds-text}
-use Rattle.md_safe.proofs.Tags.{Turns, framed-text, adds-flat, are_texts, flat as flattened}
+use Rattle.md_safe.proofs.Tags.{Turns, framed-text}
 use Rattle.md_safe.proofs.Insides.{is_blocks}
 use Rattle.md_safe.proofs.Spot.{Inside, IsFitAt, IsGoodTarget}
 use Rattle.md_safe.proofs.Costs.{Document, read_in}
@@ -60,7 +60,7 @@ pub record AreSpans (nested : Bool) (content : Content) : Type 0 where
 pub are-spans : (nested : Bool) (content : Content) → is_spans content ≡ true →
     AreSpans nested content
 are-spans nested Phrasing is = record {
-  text = λ x h. stands-text nested Phrasing x h refl;
+  text = λ x h. stands-text h refl;
   em = refl;
   strong = refl;
   del = refl;
@@ -72,7 +72,7 @@ are-spans nested Phrasing is = record {
   spaced = refl;
 }
 are-spans nested Linked is = record {
-  text = λ x h. stands-text nested Linked x h refl;
+  text = λ x h. stands-text h refl;
   em = refl;
   strong = refl;
   del = refl;
@@ -111,28 +111,14 @@ NodePrints nested d t content name = (inner : List Piece) → Known nested d t n
     Own nested d content name inner → Prints nested d content (prints d.context t name inner)
 
 -- tags around what children print
-pub pair : (nested : Bool) (d : Document) (t : At) (content : Content) → is_spaced content ≡ true →
-    t.around.in_image ≡ false →
-    (o c : List ℕ) → Turns (Stands nested content) (Stands nested content) o c →
-    (inner : List Piece) → Prints nested d content inner →
-    Prints nested d content (span t (said o) inner (said c))
-pair nested d t content is out o c turn inner a =
-    subst (λ b. Prints nested d content (cond b inner (said o ++ (inner ++ said c)))) (sym out)
-    (lays-turned nested d.context.ending content content o c (said o) inner (said c) is is turn
-    (framed-text white_beside d.context.ending o) a (framed-text white_beside d.context.ending c))
+pub pair : {nested : Bool} {ending : List ℕ} (t : At) {content : Content} {o c : List ℕ}
+    {inner : List Piece} → is_spaced content ≡ true → t.around.in_image ≡ false →
+    Turns (Stands nested content) (Stands nested content) o c → Lays nested ending content inner →
+    Lays nested ending content (span t (said o) inner (said c))
+pair {nested} {ending} t {content} {o} {c} {inner} is out turn a = subst (λ b. Lays nested ending
+    content (cond b inner (said o ++ (inner ++ said c)))) (sym out) (lays-turned is is turn
+    (framed-text white_beside) a (framed-text white_beside))
 
--- some texts in a row
-pub flat : (nested : Bool) (d : Document) (content : Content) (pieces : List Piece) →
-    are_texts pieces ≡ true →
-    Stands nested content (flattened pieces) → Prints nested d content pieces
-flat nested d content pieces texts h =
-    adds-flat d.context.ending (Stands nested content) pieces texts h
-
-pub phrase : (nested : Bool) (x : List ℕ) → Escaped x → Stands nested Phrasing x
-phrase nested x h = stands-text nested Phrasing x h refl
-
-pub prints-escaped :
-    (nested : Bool) (d : Document) (content : Content) (f : AreSpans nested content) (x : List ℕ) →
-    Escaped x → Prints nested d content (said x)
-prints-escaped nested d content f x h =
-    adds-text d.context.ending (Stands nested content) x (f.text x h)
+pub prints-escaped : {nested : Bool} {ending : List ℕ} {content : Content} {x : List ℕ} →
+    AreSpans nested content → Escaped x → Lays nested ending content (said x)
+prints-escaped f h = adds-text (f.text _ h)

@@ -1,6 +1,5 @@
 -- Spans with tags around their children, and code: what is printed of each.
-use Rattle.std.proofs.Common.{◌≡◌, ℕ, Bool, true, false, cond, List, [], ◌∷◌, ◌++◌, refl}
-use Rattle.std.proofs.Common.{codes}
+use Rattle.std.proofs.Common.{◌≡◌, ℕ, Bool, true, false, cond, List, [], ◌∷◌, ◌++◌, refl, codes}
 use Rattle.md_base.proofs.Lies.{lie}
 use Rattle.md_base.specs.declared.event.Name.{Name}
 use Rattle.md_base.specs.declared.event.Name.TheVariants as name_variants
@@ -46,17 +45,15 @@ code_opening math =
     cond math (codes "<code class=\"language-math math-inline\">") (codes "<code>")
 
 pub pair-prints : (context : Context) (t : At) (name : Name) → is_pair name ≡ true →
-    (inner : List Piece) →
-    prints context t name inner ≡ span t (said (60 ∷ (pair_tag name ++ (62 ∷ [])))) inner
-    (said (60 ∷ 47 ∷ (pair_tag name ++ (62 ∷ []))))
-pair-prints context t name is inner =
-    picked (is_pair name) (prints context t name inner) _ (by name) is
+    (inner : List Piece) → prints context t name inner ≡ span t
+    (said (60 ∷ (pair_tag name ++ (62 ∷ [])))) inner (said (60 ∷ 47 ∷ (pair_tag name ++ (62 ∷ []))))
+pair-prints context t name is inner = picked _ _ _ (by name) is
   where
-    by : (name : Name) → cond (is_pair name) (prints context t name inner)
-        (span t (said (60 ∷ (pair_tag name ++ (62 ∷ [])))) inner
-        (said (60 ∷ 47 ∷ (pair_tag name ++ (62 ∷ [])))))
-        ≡ span t (said (60 ∷ (pair_tag name ++ (62 ∷ [])))) inner
-        (said (60 ∷ 47 ∷ (pair_tag name ++ (62 ∷ []))))
+    by : (name : Name) → cond (is_pair name) (prints context t name inner) (span t
+        (said (60 ∷ (pair_tag name ++ (62 ∷ [])))) inner
+        (said (60 ∷ 47 ∷ (pair_tag name ++ (62 ∷ []))))) ≡ span t
+        (said (60 ∷ (pair_tag name ++ (62 ∷ []))))
+        inner (said (60 ∷ 47 ∷ (pair_tag name ++ (62 ∷ []))))
     by Emphasis = refl
     by _ = refl
 
@@ -69,15 +66,13 @@ pair-inside s t content GfmStrikethrough is inner a = a
 pair-inside s t content _ is inner a = lie is
 
 pub code-prints : (context : Context) (t : At) (name : Name) → is_code name ≡ true →
-    (inner : List Piece) →
-    prints context t name inner
-    ≡ code t (code_opening (is_math name)) (layout context.ending inner)
-code-prints context t name is inner =
-    picked (is_code name) (prints context t name inner) _ (by name) is
+    (inner : List Piece) → prints context t name inner ≡ code t
+    (code_opening (is_math name)) (layout context.ending inner)
+code-prints context t name is inner = picked _ _ _ (by name) is
   where
-    by : (name : Name) → cond (is_code name) (prints context t name inner)
-        (code t (code_opening (is_math name)) (layout context.ending inner))
-        ≡ code t (code_opening (is_math name)) (layout context.ending inner)
+    by : (name : Name) → cond (is_code name) (prints context t name inner) (code t
+        (code_opening (is_math name)) (layout context.ending inner)) ≡ code t
+        (code_opening (is_math name)) (layout context.ending inner)
     by Emphasis = refl
     by _ = refl
 
@@ -85,8 +80,6 @@ code-prints context t name is inner =
 pub code-text : (s : Setting) (t : At) (content : Content) (name : Name) →
     t.around.is_escaping ≡ true → is_code name ≡ true → (inner : List Piece) →
     Inside s t content name inner → Escaped (layout s.context.ending inner)
-code-text s t content CodeText e is inner a =
-    adds-alone s.context.ending (λ x. t.around.is_escaping ≡ true → Escaped x) inner a e
-code-text s t content MathText e is inner a =
-    adds-alone s.context.ending (λ x. t.around.is_escaping ≡ true → Escaped x) inner a e
+code-text s t content CodeText e is inner a = adds-alone a e
+code-text s t content MathText e is inner a = adds-alone a e
 code-text s t content _ e is inner a = lie is

@@ -1,7 +1,7 @@
 -- What stands in a line of text: each node that prints strings, spans or nothing prints
 -- phrasing content.
-use Rattle.std.proofs.Common.{◌≡◌, Bool, true, false, not, ◌&&◌, ◌||◌, cond, List, refl}
-use Rattle.std.proofs.Common.{sym, ap, ◌∙◌, subst}
+use Rattle.std.proofs.Common.{◌≡◌, Bool, true, false, not, ◌&&◌, ◌||◌, cond, List, refl, sym, ap}
+use Rattle.std.proofs.Common.{◌∙◌, subst}
 use Rattle.std.proofs.lemmas.Bool.{and_from}
 use Rattle.md_base.proofs.Lies.{lie}
 use Rattle.md_base.specs.Is.{is as named}
@@ -12,9 +12,8 @@ use Rattle.md_meaning.specs.Meaning.Layout.{Piece}
 use Rattle.md_meaning.specs.Meaning.Means.{prints}
 use Rattle.md_content.specs.Built.{Blocks, content_of, is_autolink}
 use Rattle.md_steps.proofs.Standing.{picked}
-use Rattle.md_safe.proofs.SpanContents.{SpanPrints}
+use Rattle.md_safe.proofs.SpanContents.{SpanPrints, Prints, Known, Here, Own, are-spans}
 use Rattle.md_safe.proofs.Cases.{either}
-use Rattle.md_safe.proofs.Texts.{Escaped}
 use Rattle.md_safe.proofs.Laid.{adds-weaker}
 use Rattle.md_safe.proofs.Insides.{is_blocks}
 use Rattle.md_safe.proofs.StringNodes.{is_text}
@@ -28,25 +27,20 @@ use Rattle.md_safe.specs.Links.{prints_link}
 use Rattle.md_safe.specs.Placed.{place_of}
 use Rattle.md_safe.proofs.Linking.{is_linked, is_spans, without_links, in_link, place_in}
 use Rattle.md_safe.proofs.Linking.{place-other}
-use Rattle.md_safe.proofs.Stands.{Stands}
 use Rattle.md_safe.proofs.ContainedLaid.{lays-nothing}
-use Rattle.md_safe.proofs.SpanContents.{Prints, Known, Here, Own, are-spans}
 use Rattle.md_safe.proofs.SpanCases.{string-node, span-node, autolink-node}
 
 -- a line of code or its end, or HTML
-leaf-node : (nested : Bool) (d : Document) (content : Content) (t : At) (name : Name) → is_leaf name
-    ≡ true → SpanPrints nested d t content name
-leaf-node nested d content t name is inner k a =
-    adds-weaker d.context.ending Escaped (Stands nested content) (prints d.context t name inner)
-    a.spans.text (leaf-escaped (read_in d) t name k.escaping is k.fit inner)
+leaf-node : (nested : Bool) (d : Document) (content : Content) (t : At) (name : Name) →
+    is_leaf name ≡ true → SpanPrints nested d t content name
+leaf-node nested d content t name is inner k a = adds-weaker a.spans.text
+    (leaf-escaped (read_in d) t name k.escaping is k.fit inner)
 
 hidden-node : (nested : Bool) (d : Document) (content : Content) (t : At) (name : Name) →
-    is_hidden name ≡ true →
-    (inner : List Piece) →
-    Prints nested d content (prints d.context t name inner)
-hidden-node nested d content t name is inner =
-    subst (Prints nested d content) (sym (hidden-prints d.context t name is inner))
-    (lays-nothing nested d.context.ending content)
+    is_hidden name ≡ true → (inner : List Piece) → Prints nested d
+    content (prints d.context t name inner)
+hidden-node nested d content t name is inner = subst (Prints nested d content)
+    (sym (hidden-prints d.context t name is inner)) lays-nothing
 
 silent-node : (nested : Bool) (d : Document) (content : Content) (t : At) (name : Name) →
     is_silent name ≡ true →
@@ -64,12 +58,10 @@ is_inline name =
 
 spans-place : (name : Name) → is_hidden name ≡ false → is_inline name ≡ true →
     place_of name ≡ Phrasing
-spans-place name h is =
-    picked (not (is_hidden name) && is_inline name) (place_of name) Phrasing (by name)
-    (and_from (not (is_hidden name)) (is_inline name) (ap not h) is)
+spans-place name h is = picked _ _ _ (by name) (and_from _ _ (ap not h) is)
   where
-    by : (name : Name) →
-        cond (not (is_hidden name) && is_inline name) (place_of name) Phrasing ≡ Phrasing
+    by : (name : Name) → cond (not (is_hidden name) && is_inline name) (place_of name)
+        Phrasing ≡ Phrasing
     by Link = refl
     by _ = refl
 
@@ -105,9 +97,8 @@ pub record Spanning (t : At) (content : Content) (name : Name) : Type 0 where
   pub plain : t.around.in_link ≡ false → content ≡ Phrasing
 
 pub inline-node : (nested : Bool) (d : Document) (content : Content) (t : At) (name : Name) →
-    is_inline name ≡ true →
-    (inner : List Piece) → Known nested d t name inner → Own nested d content name inner →
-    Spanning t content name →
+    is_inline name ≡ true → (inner : List Piece) → Known nested d t name inner →
+    Own nested d content name inner → Spanning t content name →
     Prints nested d content (prints d.context t name inner)
 inline-node nested d content t name is inner k own g = by (is_hidden name) refl
   where
@@ -116,9 +107,8 @@ inline-node nested d content t name is inner k own g = by (is_hidden name) refl
       spans = are-spans nested content g.spans;
       own = λ blocks other. subst (λ c. Prints nested d c inner)
           (spans-in nested content name g.spans shown is other) (own blocks);
-      label = λ link. subst (λ c. Prints nested d c inner)
-          (link-in nested content name (g.free (link-prints name link)) link)
-          (own (link-blocks name link));
+      label = λ link. subst (λ c. Prints nested d c inner) (link-in nested content name
+          (g.free (link-prints name link)) link) (own (link-blocks name link));
       free = g.free;
       plain = g.plain;
     }
@@ -128,14 +118,13 @@ inline-node nested d content t name is inner k own g = by (is_hidden name) refl
         link-blocks Link is = refl
         link-blocks _ is = lie is
 
-    by : (hidden : Bool) → is_hidden name ≡ hidden →
-        Prints nested d content (prints d.context t name inner)
+    by : (hidden : Bool) → is_hidden name ≡ hidden → Prints nested d
+        content (prints d.context t name inner)
     by true h = hidden-node nested d content t name h inner
     by false h =
         let a = here h in
-        either (is_text name) _ is (λ is. string-node nested d content t name is inner k a) (λ c.
-        either (is_shown name) _ c (λ is. span-node nested d content t name is inner k a) (λ c.
-        either (is_autolink name) _ c (λ is. autolink-node nested d content t name is inner k a)
-        (λ c. either (is_leaf name) _ c (λ is. leaf-node nested d content t name is inner k a)
-        (λ c. either (is_hidden name) (is_silent name) c (λ is. lie (sym h ∙ is))
-        (λ is. silent-node nested d content t name is inner a)))))
+        either _ _ is (λ is. string-node nested d content t name is inner k a) (λ c. either _ _ c
+        (λ is. span-node nested d content t name is inner k a) (λ c. either _ _ c
+        (λ is. autolink-node nested d content t name is inner k a) (λ c. either _ _ c
+        (λ is. leaf-node nested d content t name is inner k a) (λ c. either _ _ c
+        (λ is. lie (sym h ∙ is)) (λ is. silent-node nested d content t name is inner a)))))

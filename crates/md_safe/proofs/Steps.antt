@@ -6,10 +6,9 @@ use Rattle.md_text.specs.References.{is_escaped, read_back}
 use Rattle.md_text.proofs.EncodeLaws.{read_back-other}
 use Rattle.md_safe.specs.Token.{Token, Character, TokenAttribute}
 use Rattle.md_safe.specs.Tag.{Tag, with_value}
-use Rattle.md_safe.specs.TokenizerStates.{State, Data, AttributeValueDoubleQuoted, Goes}
-use Rattle.md_safe.specs.Tokenizer.{step, run}
-use Rattle.md_safe.specs.TokenizerStates.{Rcdata, in_value}
-use Rattle.md_safe.specs.Tokenizer.{after_step, IsRun}
+use Rattle.md_safe.specs.TokenizerStates.{State, Data, AttributeValueDoubleQuoted, Goes, Rcdata}
+use Rattle.md_safe.specs.TokenizerStates.{in_value}
+use Rattle.md_safe.specs.Tokenizer.{step, run, after_step, IsRun}
 use Rattle.md_safe.proofs.EscapedCases.{IsPlain, by_escaped}
 
 -- the branches of a test

@@ -1,7 +1,7 @@
 -- Step by step: the way to the data state from a state, by the way from the state after its first
 -- step.
-use Rattle.std.proofs.Common.{◌≡◌, ℕ, false, List, [], ◌∷◌, ◌++◌, map, refl, sym, ap}
-use Rattle.std.proofs.Common.{◌∙◌, subst, suc, append-nil, append_assoc, true}
+use Rattle.std.proofs.Common.{◌≡◌, ℕ, false, List, [], ◌∷◌, ◌++◌, map, refl, sym, ap, ◌∙◌, subst}
+use Rattle.std.proofs.Common.{suc, append-nil, append_assoc, true}
 use Rattle.md_text.specs.References.{is_escaped, read_back}
 use Rattle.md_text.proofs.EncodeLaws.{read_back-other}
 use Rattle.md_safe.specs.Token.{Token, Character, TokenAttribute}
@@ -9,8 +9,7 @@ use Rattle.md_safe.specs.TokenizerStates.{State, Data, Goes}
 use Rattle.md_safe.specs.Tokenizer.{step, IsRun}
 use Rattle.md_safe.proofs.EscapedCases.{IsPlain, by_escaped}
 use Rattle.md_safe.proofs.Joining.{runs-on}
-use Rattle.md_safe.proofs.Steps.{tag_with, attribute, AtValue}
-use Rattle.md_safe.proofs.Steps.{plain-ne, plain_step, value_step}
+use Rattle.md_safe.proofs.Steps.{tag_with, attribute, AtValue, plain-ne, plain_step, value_step}
 use Rattle.md_safe.specs.Tokenizes.{Tokenizes, emitted_before, and_then, steps}
 
 -- with the rest of the input first

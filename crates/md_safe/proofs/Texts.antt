@@ -23,9 +23,8 @@ abbrev pub is_plain : ℕ → Bool
 is_plain b = not ((b == 0) || (b == 60) || (b == 62) || (b == 34)) && not (b == 38)
 
 plain_first : (b : ℕ) (rest : List ℕ) → is_plain b ≡ true → Escaped rest → Escaped (b ∷ rest)
-plain_first b rest plain h =
-    by ((b == 0) || (b == 60) || (b == 62) || (b == 34)) (b == 38)
-    (and_parts (not ((b == 0) || (b == 60) || (b == 62) || (b == 34))) (not (b == 38)) plain)
+plain_first b rest plain h = by ((b == 0) || (b == 60) || (b == 62) || (b == 34)) (b == 38)
+    (and_parts _ _ plain)
   where
     by : (special and : Bool) → (not special ≡ true) × (not and ≡ true) →
         ((cond special false (cond and (completes_reference rest) true)) && is_escaped rest) ≡ true
@@ -67,9 +66,8 @@ digits-escaped (b ∷ text) h =
 -- digits without the zeros before them are digits
 pub zeros-escaped : (text : List ℕ) → list_all is_digit text ≡ true → Escaped (without_zeros text)
 zeros-escaped [] h = refl
-zeros-escaped (b ∷ text) h =
-    cond_both (b == 48 && nat_lt 0 (length text)) (without_zeros text) (b ∷ text) Escaped
-    (λ _. zeros-escaped text (and_parts (is_digit b) (list_all is_digit text) h).1)
+zeros-escaped (b ∷ text) h = cond_both (b == 48 && nat_lt 0 (length text)) (without_zeros text)
+    (b ∷ text) Escaped (λ _. zeros-escaped text (and_parts _ _ h).1)
     (λ _. digits-escaped (b ∷ text) h)
 
 glyph-plain : (d : ℕ) → d < 10 → is_plain (digit_glyph false d) ≡ true
@@ -92,16 +90,13 @@ decimal-escaped n = onto-escaped 64 n [] refl
 -- the pipes' backslashes go
 pipes : (text front : List ℕ) → Escaped (front ++ text) → Escaped (front ++ without_escapes text)
 pipes [] front h = h
-pipes (b ∷ text) front h =
-    cond_both (b == 92 && is_at 124 text 0) [] (b ∷ [])
-    (λ own. Escaped (front ++ (own ++ without_escapes text)))
-    (λ escapes.
-    let is : b ≡ 92 = eqb-true b 92 (and_parts (b == 92) (is_at 124 text 0) escapes).0 in
-    pipes text front
-    (escaped-without 92 front text refl (subst (λ b. Escaped (front ++ (b ∷ text))) is h)))
-    (λ _.
-    subst Escaped (append_assoc front (b ∷ []) (without_escapes text))
-    (pipes text (front ++ (b ∷ [])) (subst Escaped (sym (append_assoc front (b ∷ []) text)) h)))
+pipes (b ∷ text) front h = cond_both (b == 92 && is_at 124 text 0) [] (b ∷ [])
+    (λ own. Escaped (front ++ (own ++ without_escapes text))) (λ escapes.
+    let is : b ≡ 92 = eqb-true _ _ (and_parts _ _ escapes).0 in
+    pipes text front (escaped-without 92 front text refl
+    (subst (λ b. Escaped (front ++ (b ∷ text))) is h))) (λ _. subst Escaped
+    (append_assoc front (b ∷ []) (without_escapes text)) (pipes text (front ++ (b ∷ []))
+    (subst Escaped (sym (append_assoc front (b ∷ []) text)) h)))
 
 pub pipes-escaped : (text : List ℕ) → Escaped text → Escaped (without_escapes text)
 pipes-escaped text h = pipes text [] h
@@ -139,11 +134,8 @@ trim_both : (text : List ℕ) → Escaped text → is_padded text ≡ true →
 trim_both [] h padded = refl
 trim_both (b ∷ []) h padded = refl
 trim_both (b ∷ c ∷ text) h padded =
-    let all =
-    and_parts (is_at 32 (b ∷ c ∷ text) 0 && is_at 32 (b ∷ c ∷ text) (length (b ∷ c ∷ text) - 1))
-    (not (list_all (λ byte. byte == 32) (b ∷ c ∷ text))) padded in
-    let ends = and_parts (is_at 32 (b ∷ c ∷ text) 0)
-    (is_at 32 (b ∷ c ∷ text) (length (b ∷ c ∷ text) - 1)) all.0 in
+    let all = and_parts _ _ padded in
+    let ends = and_parts _ _ all.0 in
     let size : length (b ∷ c ∷ text) - 1 ≡ suc (length text) = omega arith in
     let cut : length (b ∷ c ∷ text) - 2 ≡ length text = omega arith in
     let last : is_at 32 (c ∷ text) (length text) ≡ true = later b c _ text size ends.1 in
@@ -151,6 +143,4 @@ trim_both (b ∷ c ∷ text) h padded =
     (cut_last c text last (escaped-tail b (c ∷ text) h))
 
 pub trimmed-escaped : (text : List ℕ) → Escaped text → Escaped (trimmed text)
-trimmed-escaped text h =
-    cond_both (is_padded text) (take (length text - 2) (drop 1 text)) text Escaped
-    (trim_both text h) (λ _. h)
+trimmed-escaped text h = cond_both _ _ _ Escaped (trim_both text h) (λ _. h)

@@ -144,16 +144,14 @@ one-prefix options other w n m =
     same-prefix (prefix_of options) (prefix_of other) a.0 b.0 a.1 b.1 (sym a.2 ∙ b.2)
 
 -- where no id but the heading's is among both, they are apart
-apart-ids : (xs ys : List (List ℕ)) → ((w : List ℕ) → 1 ≤ occurs w xs → 1 ≤ occurs w ys →
-    codes "footnote-label" ≡ w) → are_apart xs ys ≡ true
+apart-ids : (xs ys : List (List ℕ)) → ((w : List ℕ) → 1 ≤ occurs w xs → 1 ≤ occurs w ys → codes
+    "footnote-label" ≡ w) → are_apart xs ys ≡ true
 apart-ids [] ys h = refl
-apart-ids (x ∷ xs) ys h =
-    and_from _ (are_apart xs ys)
-    (of (list_any (λ other. bytes_eq other x) ys) refl)
+apart-ids (x ∷ xs) ys h = and_from _ _ (of (list_any (λ other. bytes_eq other x) ys) refl)
     (apart-ids xs ys (λ w some. h w (later w (bytes_eq x w) some)))
   where
-    later : (w : List ℕ) (is : Bool) → 1 ≤ occurs w xs →
-        1 ≤ cond is (suc (occurs w xs)) (occurs w xs)
+    later : (w : List ℕ) (is : Bool) → 1 ≤ occurs w xs → 1 ≤ cond is
+        (suc (occurs w xs)) (occurs w xs)
     later w true some = omega (arith, some)
     later w false some = some
 
@@ -163,12 +161,11 @@ apart-ids (x ∷ xs) ys h =
 
     of : (is : Bool) → list_any (λ other. bytes_eq other x) ys ≡ is →
         (bytes_eq (codes "footnote-label") x || not is) ≡ true
-    of false e = or_right (bytes_eq (codes "footnote-label") x) true refl
+    of false e = or_right _ _ refl
     of true e =
-        let label : codes "footnote-label" ≡ x =
-        h x (first (bytes_eq x x) (itself x)) (any-occurs x ys e) in
-        or_left (bytes_eq (codes "footnote-label") x) false
-        (ap (λ y. bytes_eq y x) label ∙ itself x)
+        let label : codes "footnote-label" ≡ x = h x (first (bytes_eq x x) (itself x))
+        (any-occurs x ys e) in
+        or_left _ _ (ap (λ y. bytes_eq y x) label ∙ itself x)
 
 pub apart : (bytes other_bytes : List ℕ) (names other_names : List (List ℕ × List ℕ))
     (options other_options : CompileOptions) (document other : Forest) →
