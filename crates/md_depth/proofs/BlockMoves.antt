@@ -129,7 +129,7 @@ end-moves e n t h =
 
 fenced-moves : (s : Setting) (t : At) (n : ℕ) → suc 1 ≤ n → (tag second : List ℕ) →
     tag ≡ codes "<pre>" ++ second → IsOpening second → (inner : List Piece) →
-    Prints s (IsRaw s.p tag) inner → Moves s.context.ending n 0 0 (fenced t tag inner)
+    Prints s (IsRaw tag) inner → Moves s.context.ending n 0 0 (fenced t tag inner)
 fenced-moves s t n room tag second is opens inner a =
     let e : List ℕ = s.context.ending in
     let inside : Moves e n 2 2 inner =

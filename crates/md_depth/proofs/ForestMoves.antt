@@ -21,7 +21,7 @@ use Rattle.md_content.specs.Built.{Blocks, is_part, is_source, may_stand, conten
 use Rattle.md_content.specs.Built.{content_inside}
 use Rattle.md_content.specs.Built.{IsBuilt}
 use Rattle.md_safe.proofs.Contents.{after-blocks}
-use Rattle.md_safe.proofs.Insides.{is_blocks}
+use Rattle.md_safe.proofs.Insides.{is_blocks, is_blocks-same}
 use Rattle.md_safe.proofs.Following.{second}
 use Rattle.md_safe.proofs.Nodes.{not_part}
 use Rattle.md_safe.proofs.Findings.{AreFound}
@@ -30,7 +30,7 @@ use Rattle.md_safe.proofs.Forests.{inside-means}
 use Rattle.md_safe.proofs.Spot.{Setting, Inside}
 use Rattle.md_safe.proofs.Costs.{Document, read_in, Place, here_of, inner_around, inner_before}
 use Rattle.md_safe.proofs.Costs.{inner_of, at_of, through-node}
-use Rattle.md_safe.proofs.PlainCosts.{is_blocks-same, no_footnotes}
+use Rattle.md_safe.proofs.PlainCosts.{no_footnotes}
 use Rattle.md_depth.specs.Depth.{height}
 use Rattle.md_depth.proofs.Machine.{Leads, leads-quiet, leads-kept}
 use Rattle.md_depth.proofs.Moves.{Moves, ◌▸◌, none, laid}
@@ -132,7 +132,7 @@ solid d p name n e room built ready waits known below =
     let a : Inside s t Blocks name inner.pieces =
     inside-means s t Blocks name inner e built.0 built.1 built.2 known in
     record {
-      prints = node-moves s t (n - 2) n room name ready.suits e
+      prints = node-moves s t (n - 2) n room name ready.suits.0 e
           (not_part (is_part name || is_source name) stands) built.1
           (λ _. (n - 1, omega (arith, room), waits)) known.found.resource inner.pieces a
           (λ is. (below is).prints);

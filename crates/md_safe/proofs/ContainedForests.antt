@@ -22,13 +22,13 @@ use Rattle.md_meaning.specs.Meaning.Nodes.{Outcome, node, before_next, outcome}
 use Rattle.md_content.specs.Built.{Blocks, is_part, is_source, may_stand, content_of}
 use Rattle.md_content.specs.Built.{content_inside, IsBuilt}
 use Rattle.md_safe.proofs.Following.{second}
-use Rattle.md_safe.proofs.Insides.{is_blocks}
+use Rattle.md_safe.proofs.Insides.{is_blocks, is_blocks-same}
 use Rattle.md_safe.proofs.Nodes.{not_part}
 use Rattle.md_safe.proofs.Findings.{AreFound, texts-append}
 use Rattle.md_safe.proofs.Forests.{Ready, ready-inside, ready-after, inside-means, found-at}
 use Rattle.md_safe.proofs.Forests.{Means as SafeMeans, means as safe-means}
 use Rattle.md_safe.proofs.Costs.{through-node, Document, read_in}
-use Rattle.md_safe.proofs.PlainCosts.{is_blocks-same, no_footnotes}
+use Rattle.md_safe.proofs.PlainCosts.{no_footnotes}
 use Rattle.md_safe.specs.Contents.{Content, Phrasing, Flow}
 use Rattle.md_safe.specs.Links.{has_nested_link}
 use Rattle.md_safe.specs.Placed.{sort_of, IsPlaced, may_stand as may_place}
@@ -36,13 +36,13 @@ use Rattle.md_safe.proofs.Linking.{is_spans, with_links, place_in, inner_place, 
 use Rattle.md_safe.proofs.Linking.{IsLinked, linked-inside, unnested-inside, unnested-after}
 use Rattle.md_safe.proofs.Linking.{unlinked-here, unlinked-spans}
 use Rattle.md_safe.proofs.Stands.{Stands, IsWhite}
-use Rattle.md_safe.proofs.ContainedLaid.{lays-nothing, lays-both}
-use Rattle.md_safe.proofs.SpanContents.{Prints, Known, Own}
-use Rattle.md_safe.proofs.Spans.{Spanning}
-use Rattle.md_safe.proofs.Blocks.{solid-node}
-use Rattle.md_safe.proofs.FlowFindings.{IsHeading, AreFlow, heading-found, note-found}
-use Rattle.md_safe.proofs.FlowFindings.{still-outside, heading-both, heading-next, heading-inside}
+use Rattle.md_safe.proofs.ContainedLaid.{lays-nothing, lays-both, Prints, standing, Own}
+use Rattle.md_safe.proofs.FlowFindings.{IsHeading, AreFlow, heading-found, note-found, heading-both}
+use Rattle.md_safe.proofs.FlowFindings.{heading-next, heading-inside}
 use Rattle.md_safe.proofs.Contents.{after-blocks}
+use Rattle.md_safe.proofs.Claims.{Known}
+use Rattle.md_safe.proofs.SpanCases.{Spanning}
+use Rattle.md_safe.proofs.FlowCases.{solid-node}
 
 -- what nodes mean, where their content stands
 pub record Means (nested : Bool) (d : Document) (content : Content) (means : Outcome) : Type 0 where
@@ -70,36 +70,34 @@ pub record Fits (nested : Bool) (d : Document) (around : Surroundings) (before :
   pub built : IsBuilt d.context.bytes Blocks forest
   pub placed : IsPlaced (with_links content) forest
   pub ready : Ready (read_in d) around before Blocks
-  pub outside : around.in_image ≡ false
   pub heading : Stands nested Phrasing before.heading
   pub linked : IsLinked nested content around
   pub unnested : nested ≡ false → has_nested_link around.in_link forest ≡ false
 
 -- a node that isn't transparent
-solid-means :
-    (nested : Bool) (d : Document) (content : Content) (name : Name) (t : At) (inner : Outcome) →
-    is_transparent name ≡ false → (is_part name || is_source name) ≡ false →
-    may_place (with_links content) (sort_of name) ≡ true → Known nested d t name inner.pieces →
-    (is_blocks (content_inside Blocks name) ≡ true →
-    Means nested d (place_in nested content name) inner) →
+solid-means : (nested : Bool) (d : Document) (white : IsWhite d.context.ending) (content : Content)
+    (name : Name) (t : At) (inner : Outcome) → is_transparent name ≡ false →
+    (is_part name || is_source name) ≡ false → may_place (with_links content) (sort_of name)
+    ≡ true → Known (standing nested d white) t name inner.pieces → (is_blocks
+    (content_inside Blocks name) ≡ true → Means nested d (place_in nested content name) inner) →
     (is_blocks (content_inside Blocks name) ≡ false → inner.footnotes ≡ []) →
-    (is_spans content ≡ true → Spanning t content name) →
-    Means nested d content (node d.context t name inner)
-solid-means nested d content name t inner solid whole stands k own none g =
+    (is_spans content ≡ true → Spanning t content name) → Means nested d
+    content (node d.context t name inner)
+solid-means nested d white content name t inner solid whole stands k own none g =
     let own-prints : Own nested d content name inner.pieces = λ is. (own (same ∙ is)).prints in
     let noted : Footnote = record {
       identifier = identifier_of d.context.bytes t.children;
       text = layout d.context.ending inner.pieces;
     } in
     record {
-      prints = solid-node nested d t content name solid whole stands inner.pieces k own-prints g;
+      prints = solid-node (standing nested d white) t content name solid whole stands inner.pieces k
+          own-prints g;
       heading = heading-found nested d content name t inner solid stands own-prints;
-      texts =
-          texts-append (Stands nested Flow) inner.footnotes
+      texts = texts-append (Stands nested Flow) inner.footnotes
           (when (named GfmFootnoteDefinition name) (noted ∷ []))
-          (inner-texts (is_blocks (content_inside Blocks name)) refl)
-          (cond_both (named GfmFootnoteDefinition name) (noted ∷ []) [] (AreFlow nested)
-          (λ is. (note-found nested d content name inner is stands own-prints, tt)) (λ _. tt));
+          (inner-texts (is_blocks (content_inside Blocks name)) refl) (cond_both
+          (named GfmFootnoteDefinition name) (noted ∷ []) [] (AreFlow nested) (λ is. (note-found
+          nested d content name inner is stands own-prints, tt)) (λ _. tt));
     }
   where
     same : is_blocks (content_inside Blocks name) ≡ is_blocks (content_of name Blocks)
@@ -110,25 +108,27 @@ solid-means nested d content name t inner solid whole stands k own none g =
     inner-texts true is = (own is).texts
     inner-texts false is = subst (AreFlow nested) (sym (none is)) tt
 
-any-node : (nested : Bool) (d : Document) (content : Content) (name : Name) (t : At)
-    (inner : Outcome) → t.found ≡ inner.found → (is_transparent name ≡ false → Known nested d t name
-    inner.pieces) → (is_transparent name || may_stand Blocks name) ≡ true →
-    (is_transparent name || may_place (with_links content) (sort_of name)) ≡ true → (is_blocks
-    (content_inside Blocks name) ≡ true → Means nested d (inner_place nested content name) inner) →
+any-node : (nested : Bool) (d : Document) (white : IsWhite d.context.ending) (content : Content)
+    (name : Name) (t : At) (inner : Outcome) → t.found ≡ inner.found →
+    (is_transparent name ≡ false → Known (standing nested d white) t name inner.pieces) →
+    (is_transparent name || may_stand Blocks name) ≡ true → (is_transparent name || may_place
+    (with_links content) (sort_of name)) ≡ true → (is_blocks (content_inside Blocks name) ≡ true →
+    Means nested d (inner_place nested content name) inner) →
     (is_blocks (content_inside Blocks name) ≡ false → inner.footnotes ≡ []) →
     (is_spans content ≡ true → Spanning t content name) → Means nested d
     content (node d.context t name inner)
-any-node nested d content name t inner same k stands placed own none g = by (is_transparent name)
-    refl
+any-node nested d white content name t inner same k stands placed own none g = by
+    (is_transparent name) refl
   where
     by : (looked : Bool) → is_transparent name ≡ looked → Means nested d
         content (node d.context t name inner)
     by true e = through nested d content name t inner e same (subst (λ c. Means nested d c inner)
         (ap (λ b. cond b content (place_in nested content name)) e) (own (ap
         (λ b. is_blocks (cond b Blocks (content_of name Blocks))) e)))
-    by false e = solid-means nested d content name t inner e (not_part _ (second _ _ e stands))
-        (second _ _ e placed) (k e) (λ is. subst (λ c. Means nested d c inner)
-        (ap (λ b. cond b content (place_in nested content name)) e) (own is)) none g
+    by false e = solid-means nested d white content name t inner e
+        (not_part _ (second _ _ e stands)) (second _ _ e placed) (k e) (λ is. subst
+        (λ c. Means nested d c inner) (ap (λ b. cond b content (place_in nested content name)) e)
+        (own is)) none g
 
 pub means : (nested : Bool) (d : Document) (forest : Forest) (around : Surroundings)
     (before : Before) (content : Content) → Fits nested d around before content forest →
@@ -170,21 +170,20 @@ means nested d (Node name start end children rest) around before content f =
           f.placed.1;
       ready = subst (Ready (read_in d) around' before')
           (is_blocks-same (content_inside Blocks name) is) within;
-      outside = still-outside d.context.options (is_loose children) name around is f.outside;
       heading = heading-inside nested (is_transparent name) before.heading f.heading;
       linked = linked-inside nested d.context.options (is_loose children) content name around
           f.linked;
       unnested = λ no. unnested-inside d.context.options (is_loose children) name around start end
           children rest is (f.unnested no);
     }) in
-    let one : Means nested d content here = any-node nested d content name t inner refl (λ solid.
-    record {
-      white = f.white;
-      escaping = f.ready.suits;
-      outside = f.outside;
+    let one : Means nested d content here = any-node nested d f.white content name t inner refl
+    (λ solid. record {
+      escaping = f.ready.suits.0;
+      outside = f.ready.suits.1;
       fit = f.built.1;
       resource = known.found.resource;
-      heading = f.heading;
+      ids = λ call value. refl;
+      heading = λ is. f.heading;
       within = inside-means (read_in d) t Blocks name inner solid f.built.0 f.built.1 f.built.2
           known;
     }) f.built.0 f.placed.0 own
@@ -201,7 +200,6 @@ means nested d (Node name start end children rest) around before content f =
       placed = f.placed.2;
       ready = subst (Ready (read_in d) around next) (after-blocks name children) (ready-after
           (read_in d) t Blocks name here f.built.0 f.built.2 found f.ready);
-      outside = f.outside;
       heading = heading-next nested here.found.heading before.heading one.heading f.heading;
       linked = f.linked;
       unnested = λ no. unnested-after name around.in_link start end children rest (f.unnested no);

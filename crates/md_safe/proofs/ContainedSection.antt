@@ -15,8 +15,7 @@ use Rattle.md_safe.specs.Contents.{Flow, Phrasing, Items}
 use Rattle.md_safe.proofs.Stands.{Stands, stands-join, stands-nothing, stands-tag, turns-tag}
 use Rattle.md_safe.proofs.Stands.{turns-plain, takes-white, IsWhite, white_beside, stands-text}
 use Rattle.md_safe.proofs.Wider.{stands-wider}
-use Rattle.md_safe.proofs.ContainedLaid.{lays-white, lays-both}
-use Rattle.md_safe.proofs.SpanContents.{Prints}
+use Rattle.md_safe.proofs.ContainedLaid.{lays-white, lays-both, Prints}
 use Rattle.md_safe.proofs.Paragraphs.{paragraph-takes}
 use Rattle.md_safe.proofs.FlowFindings.{AreFlow}
 use Rattle.md_safe.proofs.ContainedBacks.{backreferences-stand}

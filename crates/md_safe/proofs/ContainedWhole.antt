@@ -43,7 +43,6 @@ meaning-stands nested bytes names options document built placed keeps unnested =
       built = built;
       placed = placed;
       ready = outermost-ready (read_in d) (reads-whole any_attribute (λ value. refl));
-      outside = refl;
       heading = stands-nothing;
       linked = λ linked. lie linked;
       unnested = unnested;

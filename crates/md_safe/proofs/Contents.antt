@@ -15,7 +15,7 @@ use Rattle.md_content.specs.Built.{content_past, content_after, content_after_no
 use Rattle.md_safe.proofs.Texts.{Escaped}
 use Rattle.md_safe.proofs.Claim.{Claim}
 use Rattle.md_safe.proofs.Elements.{IsDone}
-use Rattle.md_safe.proofs.RawElements.{IsRaw, IsInCode, bare-in_code, code_tag, math_tag}
+use Rattle.md_safe.proofs.RawElements.{IsRaw, IsInfo, code_tag, math_tag}
 
 -- the names on the spine after a node
 abbrev pub spine_after_node : Name → Forest → List Name → List Name
@@ -27,10 +27,10 @@ abbrev pub Holds : Claim → Bool → Bool → Content → List ℕ → Type 0
 Holds p escaping in_image Blocks x = p.holds x
 Holds p escaping in_image Spans x = Escaped x
 Holds p escaping in_image Strings x = escaping ≡ true → Escaped x
-Holds p escaping in_image FirstFence x = IsRaw p code_tag x
-Holds p escaping in_image FirstMathFence x = IsRaw p math_tag x
+Holds p escaping in_image FirstFence x = IsRaw code_tag x
+Holds p escaping in_image FirstMathFence x = IsRaw math_tag x
 Holds p escaping in_image Chunks x = Escaped x
-Holds p escaping in_image InfoAndMeta x = IsInCode p x
+Holds p escaping in_image InfoAndMeta x = IsInfo code_tag x
 Holds p escaping in_image MetaAlone x = x ≡ []
 Holds p escaping in_image Done x = IsDone in_image x
 Holds p escaping in_image Nothing x = x ≡ []
@@ -38,7 +38,7 @@ Holds p escaping in_image Sources x = Unit {0}
 
 -- the surroundings in which a content may stand
 abbrev pub Suits : Bool → Bool → Content → Type 0
-Suits escaping in_image Blocks = escaping ≡ true
+Suits escaping in_image Blocks = (escaping ≡ true) × (in_image ≡ false)
 Suits escaping in_image Spans = (escaping ≡ true) × (in_image ≡ true)
 Suits escaping in_image FirstFence = escaping ≡ true
 Suits escaping in_image InfoAndMeta = escaping ≡ true
@@ -59,15 +59,14 @@ is_first FirstMathFence = true
 is_first _ = false
 
 pub holds-nothing : (p : Claim) (escaping in_image : Bool) (content : Content) →
-    is_first content ≡ false →
-    Holds p escaping in_image content []
+    is_first content ≡ false → Holds p escaping in_image content []
 holds-nothing p escaping in_image Blocks h = p.plain [] (nothing p.test)
 holds-nothing p escaping in_image Spans h = refl
 holds-nothing p escaping in_image Strings h = λ _. refl
 holds-nothing p escaping in_image FirstFence h = lie (sym h)
 holds-nothing p escaping in_image FirstMathFence h = lie (sym h)
 holds-nothing p escaping in_image Chunks h = refl
-holds-nothing p escaping in_image InfoAndMeta h = bare-in_code p
+holds-nothing p escaping in_image InfoAndMeta h = inl refl
 holds-nothing p escaping in_image MetaAlone h = refl
 holds-nothing p escaping in_image Done h = inl refl
 holds-nothing p escaping in_image Nothing h = refl

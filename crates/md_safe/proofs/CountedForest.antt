@@ -18,7 +18,7 @@ use Rattle.md_content.specs.Underlined.{waits_past, waits_after, IsUnderlined}
 use Rattle.md_content.specs.Built.{Blocks, content_of, content_inside, IsBuilt}
 use Rattle.md_safe.proofs.Laid.{adds-append, adds-nothing}
 use Rattle.md_safe.proofs.Contents.{after-blocks}
-use Rattle.md_safe.proofs.Insides.{is_blocks}
+use Rattle.md_safe.proofs.Insides.{is_blocks, is_blocks-same}
 use Rattle.md_safe.proofs.Following.{second}
 use Rattle.md_safe.proofs.Nodes.{not_part}
 use Rattle.md_safe.proofs.Findings.{AreFound}
@@ -27,7 +27,6 @@ use Rattle.md_safe.proofs.Counted.{Waiting, texts-append}
 use Rattle.md_safe.proofs.Costs.{Document, read_in, Costs, Place, here_of, due-append, inner_around}
 use Rattle.md_safe.proofs.Costs.{inner_before, inner_of, at_of, counts-none, through-spent}
 use Rattle.md_safe.proofs.PlainCosts.{Stands, is_special, IsPlain, around-blocks, around-others}
-use Rattle.md_safe.proofs.PlainCosts.{is_blocks-same}
 use Rattle.md_safe.proofs.SpecialCosts.{BelowBlocks, IsAwaited, special-spent}
 
 -- what is known where some nodes stand: blocks, each underline where a heading waits for it

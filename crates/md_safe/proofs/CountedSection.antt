@@ -192,7 +192,7 @@ document-counts d w document keeps built underlined called =
     outermost nothing_before false 0 (record {
       built = built;
       ready = record {
-        suits = refl;
+        suits = (refl, refl);
         follows = tt;
         whole = λ _. record { both = join any_attribute; ids = λ value. refl };
         heading = λ _. holds-none (read_in d);

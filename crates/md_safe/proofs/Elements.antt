@@ -5,7 +5,7 @@ use Rattle.std.proofs.Common.{append_assoc, codes, ne_eqb}
 use Rattle.std.specs.Prelude.{Option, Some, None, bytes_eq}
 use Rattle.std.specs.Option.{option_map_or}
 use Rattle.std.specs.List.{list_all}
-use Rattle.std.specs.Fmt.{decimal, digits}
+use Rattle.std.specs.Fmt.{decimal}
 use Rattle.std.proofs.lemmas.Bool.{agree_below, agree_below_at, not_from_false}
 use Rattle.md_base.specs.declared.event.Position.{Position}
 use Rattle.md_text.specs.Html.{Attribute, opening_tag, closing_tag, is_tag, elements}
@@ -13,14 +13,14 @@ use Rattle.md_text.specs.declared.options.CompileOptions.{CompileOptions}
 use Rattle.md_meaning.specs.Meaning.Layout.{Piece, Text, Needed, Forced, said, on_own_line, when}
 use Rattle.md_meaning.specs.Meaning.At.{Context, At, text_in}
 use Rattle.md_meaning.specs.Meaning.Finds.{number_in_list}
-use Rattle.md_meaning.specs.Meaning.Blocks.{heading_tag, heading, list_start, without_zeros}
+use Rattle.md_meaning.specs.Meaning.Blocks.{list_start, without_zeros}
 use Rattle.md_content.specs.Built.{is_digit}
 use Rattle.md_safe.proofs.Texts.{Escaped, zeros-escaped}
 use Rattle.md_safe.proofs.Claim.{Claim}
-use Rattle.md_safe.proofs.Laid.{Adds, adds-append, adds-needed, IsBeside, escaped_beside}
+use Rattle.md_safe.proofs.Laid.{Adds, adds-append, adds-needed, IsBeside}
 use Rattle.md_safe.proofs.Tags.{IsTest, attribute, IsFramed, Bracket, Turns, TurnsTag, Single}
-use Rattle.md_safe.proofs.Tags.{Takes, bracket-tag, turns-two, adds-turned, adds-pair, adds-flat}
-use Rattle.md_safe.proofs.Tags.{framed-text, framed-needed, framed-forced, adds-framed_flat}
+use Rattle.md_safe.proofs.Tags.{Takes, bracket-tag, adds-turned, adds-flat, framed-text}
+use Rattle.md_safe.proofs.Tags.{framed-needed, framed-forced, adds-framed_flat}
 
 pub bracket-plain : (p : Claim) (name : List ℕ) → is_tag elements name [] ≡ true →
     Bracket p (opening_tag name []) (closing_tag name)
@@ -28,10 +28,6 @@ bracket-plain p name h = (bracket-tag p name).tag [] h refl
 
 abbrev pub code_closing : List ℕ
 code_closing = codes "</code></pre>"
-
-pub bracket-code : (p : Claim) → Bracket p (codes "<pre><code>") code_closing
-bracket-code p = turns-two (bracket-plain p (codes "pre") refl)
-    (bracket-plain p (codes "code") refl)
 
 -- a heading of a rank from 1 to 6
 unfoldable pub heading_name : ℕ → List ℕ
@@ -45,20 +41,6 @@ ranked test agree rank h =
     let some : rank ≢ 0 = (λ e. omega (arith, h.0, e)) in
     agree_below_at test (λ rank. not (rank == 0)) 7 rank agree below
     ∙ not_from_false (rank == 0) (ne_eqb rank 0 some)
-
-pub bracket-heading : (p : Claim) (rank : ℕ) → (1 ≤ rank) × (rank ≤ 6) →
-    Bracket p (heading_tag (codes "<h") rank) (heading_tag (codes "</h") rank)
-unfolding heading_name digits
-bracket-heading p rank h =
-    bracket-plain p (heading_name rank)
-    (ranked (λ rank. is_tag elements (heading_name rank) []) refl rank h)
-
--- a heading around its content
-pub adds-heading : (p : Claim) {ending : List ℕ} → Escaped ending →
-    (rank : ℕ) {inner : List Piece} → (1 ≤ rank) × (rank ≤ 6) → Adds ending p.holds inner →
-    Adds ending p.holds (heading rank inner)
-adds-heading p h rank fits a = adds-pair p (bracket-heading p rank fits)
-    (framed-needed escaped_beside h) a (framed-text escaped_beside)
 
 -- the opening of a list, between pieces
 record IsOpening (W Q R : List ℕ → Type 0) (ending close : List ℕ)

@@ -19,7 +19,7 @@ use Rattle.md_content.specs.Built.{is_math_fence, may_stand, content_of}
 use Rattle.md_steps.proofs.Standing.{picked}
 use Rattle.md_safe.proofs.Texts.{Escaped}
 use Rattle.md_safe.proofs.Laid.{adds-append, adds-text, adds-weaker}
-use Rattle.md_safe.proofs.RawElements.{IsRaw, raw-code, raw-math, code_tag, math_tag}
+use Rattle.md_safe.proofs.RawElements.{IsRaw, raw, code_tag, math_tag}
 use Rattle.md_safe.proofs.Contents.{Holds}
 use Rattle.md_safe.proofs.Insides.{allowed_inside}
 use Rattle.md_safe.proofs.Following.{same_fence}
@@ -80,23 +80,20 @@ inside-is s t content allowed_inside name inner e a = subst (λ c. Prints s
 pub code_fence-node : (s : Setting) (t : At) (name : Name) →
     list_any fence_name t.before.spine ≡ false → is_code_fence name ≡ true →
     (inner rest : List Piece) → Inside s t FirstFence name inner → Prints s Escaped rest →
-    Prints s (IsRaw s.p code_tag) (prints s.context t name inner ++ rest)
-code_fence-node s t name e is inner rest a b = subst
-    (λ x. Prints s (IsRaw s.p code_tag) (x ++ rest)) (sym (fence-prints s.context t name
-    ((allowed_inside FirstFence name is).fence refl) inner)) (begun s
-    (list_any fence_name t.before.spine) (raw-code s.p) e (inside-is s t FirstFence InfoAndMeta name
-    inner (picked _ _ _ (in-code name) is) a) b)
+    Prints s (IsRaw code_tag) (prints s.context t name inner ++ rest)
+code_fence-node s t name e is inner rest a b = subst (λ x. Prints s (IsRaw code_tag) (x ++ rest))
+    (sym (fence-prints s.context t name ((allowed_inside FirstFence name is).fence refl) inner))
+    (begun s (list_any fence_name t.before.spine) (raw code_tag) e (inside-is s t FirstFence
+    InfoAndMeta name inner (picked _ _ _ (in-code name) is) a) b)
 
 pub math_fence-node : (s : Setting) (t : At) (name : Name) →
     list_any fence_name t.before.spine ≡ false → is_math_fence name ≡ true →
     (inner rest : List Piece) → Inside s t FirstMathFence name inner → Prints s Escaped rest →
-    Prints s (IsRaw s.p math_tag) (prints s.context t name inner ++ rest)
-math_fence-node s t name e is inner rest a b = subst
-    (λ x. Prints s (IsRaw s.p math_tag) (x ++ rest)) (sym (fence-prints s.context t name
-    ((allowed_inside FirstMathFence name is).fence refl) inner)) (begun s
-    (list_any fence_name t.before.spine) (λ x y f h. subst (λ x. IsRaw s.p math_tag (x ++ (62 ∷ y)))
-    (sym f) (raw-math s.p s.context.options s.test y h)) e (inside-is s t FirstMathFence MetaAlone
-    name inner (picked _ _ _ (in-math name) is) a) b)
+    Prints s (IsRaw math_tag) (prints s.context t name inner ++ rest)
+math_fence-node s t name e is inner rest a b = subst (λ x. Prints s (IsRaw math_tag) (x ++ rest))
+    (sym (fence-prints s.context t name ((allowed_inside FirstMathFence name is).fence refl) inner))
+    (begun s (list_any fence_name t.before.spine) (λ x y f h. raw math_tag x y (inl f) h) e
+    (inside-is s t FirstMathFence MetaAlone name inner (picked _ _ _ (in-math name) is) a) b)
 
 -- a later fence prints nothing
 closed : (s : Setting) (has_fence : Bool) {inner : List Piece} → has_fence ≡ true →

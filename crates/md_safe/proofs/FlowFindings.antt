@@ -4,27 +4,21 @@ use Rattle.std.specs.Prelude.{Option, Some, None, unwrap_or}
 use Rattle.md_base.proofs.Lies.{lie}
 use Rattle.md_base.specs.declared.event.Name.{Name}
 use Rattle.md_base.specs.declared.event.Name.TheVariants as name_variants
-use name_variants.{Other, BlockQuotePrefix, SpaceOrTab, Image, HeadingSetextText}
-use name_variants.{GfmFootnoteDefinition}
+use name_variants.{Other, BlockQuotePrefix, SpaceOrTab, HeadingSetextText, GfmFootnoteDefinition}
 use Rattle.md_base.specs.Is.{is as named}
 use Rattle.md_base.specs.NameTests.{is_transparent}
 use Rattle.md_base.specs.Children.{or_else}
-use Rattle.md_text.specs.declared.options.CompileOptions.{CompileOptions}
-use Rattle.md_meaning.specs.declared.surroundings.Surroundings.{Surroundings}
-use Rattle.md_meaning.specs.Meaning.Inherited.{inside}
 use Rattle.md_meaning.specs.Meaning.At.{Footnote, At}
 use Rattle.md_meaning.specs.Meaning.Layout.{layout}
 use Rattle.md_meaning.specs.Meaning.Nodes.{Outcome, found_at}
-use Rattle.md_content.specs.Built.{Blocks, content_inside}
 use Rattle.md_safe.proofs.Laid.{adds-alone}
-use Rattle.md_safe.proofs.Insides.{is_blocks}
 use Rattle.md_safe.proofs.Findings.{AreTexts}
 use Rattle.md_safe.proofs.Costs.{Document}
 use Rattle.md_safe.specs.Contents.{Content, Flow, Phrasing}
 use Rattle.md_safe.specs.Placed.{Block, sort_of, may_stand as may_place}
 use Rattle.md_safe.proofs.Linking.{with_links, place_in}
 use Rattle.md_safe.proofs.Stands.{Stands, stands-nothing}
-use Rattle.md_safe.proofs.SpanContents.{Prints, Own}
+use Rattle.md_safe.proofs.ContainedLaid.{Prints, Own}
 
 -- a heading's text that was found is phrasing content
 abbrev pub IsHeading : (nested : Bool) → Option (List ℕ) → Type 0
@@ -62,14 +56,6 @@ note-found nested d content GfmFootnoteDefinition inner is stands a = adds-alone
     nested d (place_in nested c GfmFootnoteDefinition) inner.pieces) (block-flow content stands)
     (a refl))
 note-found nested d content _ inner is stands a = lie is
-
--- images alone begin an image, and no blocks stand in them
-pub still-outside : (options : CompileOptions) (loose : Bool) (name : Name)
-    (around : Surroundings) →
-    is_blocks (content_inside Blocks name) ≡ true → around.in_image ≡ false →
-    (inside options loose name around).in_image ≡ false
-still-outside options loose Image around blocks out = lie blocks
-still-outside options loose _ around blocks out = out
 
 pub heading-both : (nested : Bool) (first later : Option (List ℕ)) → IsHeading nested first →
     IsHeading nested later →

@@ -10,10 +10,15 @@ use Rattle.md_content.specs.Built.{Content, Blocks, Spans, FirstFence, Chunks, I
 use Rattle.md_content.specs.Built.{is_source, may_stand, content_of}
 use Rattle.md_steps.proofs.Standing.{implies, follows}
 use Rattle.md_safe.proofs.Contents.{is_first}
+use Rattle.md_base.proofs.Lies.{lie}
 
 -- blocks
 abbrev pub is_blocks : Content → Bool
 is_blocks content = elim content [ Blocks ↦ true | _ ↦ false ]
+
+pub is_blocks-same : (content : Content) → is_blocks content ≡ true → content ≡ Blocks
+is_blocks-same Blocks h = refl
+is_blocks-same _ h = lie h
 
 -- what follows a first fence
 abbrev pub is_chunks : Content → Bool

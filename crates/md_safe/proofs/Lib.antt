@@ -21,6 +21,13 @@ pub mod SpanSorts
 pub mod SpanNodes
 pub mod FlowNodes
 pub mod BlockNodes
+pub mod Stands
+pub mod Wider
+pub mod Linking
+pub mod Claims
+pub mod SpanCases
+pub mod FlowCases
+pub mod ReadingNodes
 pub mod FenceNodes
 pub mod Nodes
 pub mod Findings
@@ -43,21 +50,7 @@ pub mod Whole
 pub mod WholeIds
 -- and of what stands in what.
 pub mod Placing
-pub mod Stands
-pub mod Wider
 pub mod ContainedLaid
-pub mod Linking
-pub mod SpanContents
-pub mod LinksAndImages
-pub mod TasksAndCalls
-pub mod SpanCases
-pub mod Spans
-pub mod OwnLines
-pub mod HeadingsAndLists
-pub mod CodeBlocks
-pub mod CellsAndRows
-pub mod FlowCases
-pub mod Blocks
 pub mod Paragraphs
 pub mod FlowFindings
 pub mod ContainedForests

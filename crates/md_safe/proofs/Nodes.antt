@@ -24,19 +24,18 @@ use Rattle.md_safe.proofs.Cases.{either}
 use Rattle.md_safe.proofs.Texts.{Escaped}
 use Rattle.md_safe.proofs.Laid.{adds-append, adds-text, adds-nothing, adds-weaker, adds-any}
 use Rattle.md_safe.proofs.Elements.{IsDone}
-use Rattle.md_safe.proofs.RawElements.{IsInCode, bare-in_code, info-in_code}
 use Rattle.md_safe.proofs.Contents.{Holds, Suits, Follows, holds-nothing}
 use Rattle.md_safe.proofs.Insides.{is_blocks}
 use Rattle.md_safe.proofs.Following.{second}
 use Rattle.md_safe.proofs.LaterFences.{later-inside}
 use Rattle.md_safe.proofs.Spot.{IsWhole, Setting, IsFitAt, IsGoodTarget, Here, Prints, Inside}
-use Rattle.md_safe.proofs.Spot.{narrow-wide, wide-escaped}
 use Rattle.md_safe.proofs.StringNodes.{string-node, is_text, text-node}
-use Rattle.md_safe.proofs.SpanNodes.{is_shown, span-node, autolink-node}
+use Rattle.md_safe.proofs.SpanNodes.{is_shown, shown-in_image, autolink-in_image}
 use Rattle.md_safe.proofs.FlowNodes.{Reads, is_leaf, leaf-escaped}
 use Rattle.md_safe.proofs.FenceNodes.{IsNil, inside-is, code_fence-node, math_fence-node, line-node}
 use Rattle.md_safe.proofs.BlockNodes.{is_hidden, hidden-prints, is_silent, silent-prints}
-use Rattle.md_safe.proofs.BlockNodes.{block-node}
+use Rattle.md_safe.proofs.ReadingNodes.{block-node}
+use Rattle.md_safe.proofs.RawElements.{IsInfo, code_tag}
 
 -- spans print nothing, or only their children, or one of these
 span-sorts : (name : Name) → not (may_stand Spans name) || (is_hidden name || (is_silent name
@@ -51,43 +50,41 @@ silent-spans SpaceOrTab = refl
 silent-spans _ = refl
 
 span-any : (s : Setting) (t : At) (name : Name) → Suits t.around.is_escaping t.around.in_image
-    Spans → may_stand Spans name ≡ true → IsFitAt s t name → IsGoodTarget t.found.resource →
-    (inner : List Piece) → Inside s t Spans name inner → Prints s
-    Escaped (prints s.context t name inner)
-span-any s t name suits stands fit good inner a =
-    let w = wide-escaped s.p t.around.in_image suits.1 in
+    Spans → may_stand Spans name ≡ true → IsFitAt s t name → (inner : List Piece) →
+    Inside s t Spans name inner → Prints s Escaped (prints s.context t name inner)
+span-any s t name suits stands fit inner a =
     let sorts = subst (λ b. not b || (is_hidden name || (is_silent name || (is_text name
     || (is_shown name || (is_leaf name || is_autolink name))))) ≡ true) stands (span-sorts name) in
     either _ _ sorts (λ is. subst (Prints s Escaped) (sym (hidden-prints s.context t name is inner))
     (adds-nothing refl)) (λ c. either _ _ c (λ is. subst (Prints s Escaped)
     (sym (silent-prints s.context t name is inner)) (inside-is s t Spans Spans name inner (picked
     (is_silent name && may_stand Spans name) (content_of name Spans) Spans (silent-spans name)
-    (and_from _ _ is stands)) a)) (λ c. either _ _ c (λ is. text-node s t Escaped name (narrow-wide
-    s.p t.around.is_escaping t.around.in_image Escaped suits.0 w) is fit inner) (λ c. either _ _ c
-    (λ is. span-node s t Spans name suits.0 w is (λ _ out. lie (sym out ∙ suits.1)) good inner a)
-    (λ c. either _ _ c (λ is. leaf-escaped s t name suits.0 is fit inner)
-    (λ is. autolink-node s t Spans name w is inner)))))
+    (and_from _ _ is stands)) a)) (λ c. either _ _ c (λ is. text-node s t Escaped name
+    (λ x h. h suits.0) is fit inner) (λ c. either _ _ c
+    (λ is. shown-in_image s t name suits.0 suits.1 is inner a) (λ c. either _ _ c
+    (λ is. leaf-escaped s t name suits.0 is fit inner)
+    (λ is. autolink-in_image s t name suits.1 is inner)))))
 
 -- the info string
 info-node : (s : Setting) (escaping : Bool) {inner rest : List Piece} → escaping ≡ true →
     Prints s (λ x. escaping ≡ true → Escaped x) inner → Prints s IsNil rest → Prints s
-    (IsInCode s.p) ((said (codes " class=\"language-") ++ (inner ++ said (codes "\""))) ++ rest)
+    (IsInfo code_tag) ((said (codes " class=\"language-") ++ (inner ++ said (codes "\""))) ++ rest)
 info-node s escaping e a b = adds-append {f = λ w. (v : List ℕ)
     × (w ≡ codes " class=\"language-" ++ (v ++ codes "\"")) × Escaped v} (λ x y f g. subst
-    (IsInCode s.p) (sym (ap (λ y. x ++ y) g ∙ append-nil x ∙ f.1))
-    (info-in_code s.p s.context.options s.test f.0 f.2)) (adds-append
-    {f = λ x. x ≡ codes " class=\"language-"}
+    (IsInfo code_tag) (sym (ap (λ y. x ++ y) g ∙ append-nil x ∙ f.1)) (inr (f.0, refl, f.2, refl)))
+    (adds-append {f = λ x. x ≡ codes " class=\"language-"}
     {g = λ w. (v : List ℕ) × (w ≡ v ++ codes "\"") × Escaped v} (λ x w f g. (g.0, ap (λ x. x ++ w) f
     ∙ ap (λ w. codes " class=\"language-" ++ w) g.1, g.2)) (adds-text refl) (adds-append
     (λ v y f g. (v, ap (λ y. v ++ y) g, f e)) a (adds-text {f = λ x. x ≡ codes "\""} refl))) b
 
-in_code-nil : (s : Setting) {rest : List Piece} → Prints s IsNil rest → Prints s (IsInCode s.p) rest
-in_code-nil s b = adds-weaker (λ x e. subst (IsInCode s.p) (sym e) (bare-in_code s.p)) b
+in_code-nil : (s : Setting) {rest : List Piece} → Prints s IsNil rest →
+    Prints s (IsInfo code_tag) rest
+in_code-nil s b = adds-weaker (λ x e. inl e) b
 
 info_or_meta-node : (s : Setting) (t : At) (name : Name) → t.around.is_escaping ≡ true →
     may_stand InfoAndMeta name ≡ true → (inner rest : List Piece) →
     Inside s t InfoAndMeta name inner → Prints s (Here s t (content_past InfoAndMeta name)) rest →
-    Prints s (IsInCode s.p) (prints s.context t name inner ++ rest)
+    Prints s (IsInfo code_tag) (prints s.context t name inner ++ rest)
 info_or_meta-node s t CodeFencedFenceInfo e is inner rest a b = info-node s t.around.is_escaping e a
     b
 info_or_meta-node s t CodeFencedFenceMeta e is inner rest a b = in_code-nil s b
@@ -140,10 +137,17 @@ pub solid-node : (s : Setting) (t : At) (content : Content) (name : Name) →
     Prints s (Here s t (content_past content name)) rest → Prints s
     (Here s t content) (prints s.context t name inner ++ rest)
 solid-node s t Blocks name solid stands k inner rest a b = adds-append (k.whole refl).both
-    (block-node s t name k.suits solid (not_part (is_part name || is_source name) stands) k.fit
-    (λ _. (k.whole refl).ids) (λ _. k.heading refl) k.resource inner a) b
+    (block-node s t name solid (not_part (is_part name || is_source name) stands) inner (record {
+      escaping = k.suits.0;
+      outside = k.suits.1;
+      fit = k.fit;
+      resource = k.resource;
+      ids = λ _. (k.whole refl).ids;
+      heading = λ _. k.heading refl;
+      within = a;
+    })) b
 solid-node s t Spans name solid stands k inner rest a b = adds-append escaped-append
-    (span-any s t name k.suits stands k.fit k.resource inner a) b
+    (span-any s t name k.suits stands k.fit inner a) b
 solid-node s t Strings name solid stands k inner rest a b = adds-append
     (λ x y f g e. escaped-append x y (f e) (g e)) (string-node s t Strings name (λ x h. h) stands
     k.fit inner a) b

@@ -83,7 +83,7 @@ blocks-stay forest = stays-after (λ content. content ≡ Blocks)
 -- what is known at the document's beginning
 pub outermost-ready : (s : Setting) → IsWhole s.p → Ready s outermost nothing_before Blocks
 outermost-ready s whole = record {
-  suits = refl;
+  suits = (refl, refl);
   follows = tt;
   whole = λ _. whole;
   heading = λ _. holds-none s;

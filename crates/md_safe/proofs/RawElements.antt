@@ -1,20 +1,18 @@
 -- The tags of fenced code and of math, around what is said of it and what it holds.
 use Rattle.std.proofs.Common.{◌≡◌, ◌⊎◌, ℕ, Bool, true, List, [], ◌∷◌, ◌++◌, refl, sym, ap, subst}
-use Rattle.std.proofs.Common.{inl, inr, append_assoc, append-nil, codes}
+use Rattle.std.proofs.Common.{append_assoc, append-nil, codes}
 use Rattle.std.specs.List.{list_any}
 use Rattle.md_text.specs.Html.{opening_tag, is_tag, elements}
-use Rattle.md_text.specs.declared.options.CompileOptions.{CompileOptions}
 use Rattle.md_base.specs.Children.{spine_names}
 use Rattle.md_base.specs.NameTests.{is_chunk}
 use Rattle.md_meaning.specs.Meaning.At.{At}
 use Rattle.md_meaning.specs.Meaning.Layout.{Piece, Text, Needed, Forced, said, when}
 use Rattle.md_meaning.specs.Meaning.Blocks.{code_end, is_unclosed, runs_out}
 use Rattle.md_safe.proofs.Texts.{Escaped}
-use Rattle.md_safe.proofs.Claim.{Claim}
 use Rattle.md_safe.proofs.Laid.{Adds, adds-append, adds-needed, adds-forced, adds-when, IsBeside}
-use Rattle.md_safe.proofs.Tags.{IsTest, attribute, IsFramed, Bracket, Turns, Takes, bracket-tag}
-use Rattle.md_safe.proofs.Tags.{turns-two, adds-flat, adds-framed, framed-after}
-use Rattle.md_safe.proofs.Elements.{code_closing, bracket-code, bracket-plain, class-passes}
+use Rattle.md_safe.proofs.Tags.{attribute, IsFramed, Turns, Takes, adds-flat, adds-framed}
+use Rattle.md_safe.proofs.Tags.{framed-after}
+use Rattle.md_safe.proofs.Elements.{code_closing}
 
 -- the tags of fenced code, without the end of the second one, and of math
 abbrev pub code_tag : List ℕ
@@ -30,12 +28,11 @@ IsInfo tag x =
     × (tag ≡ code_tag))
 
 -- a text that ends an opening tag of code, followed by an escaped text
-pub record IsRaw (p : Claim) (tag x : List ℕ) : Type 0 where
+pub record IsRaw (tag x : List ℕ) : Type 0 where
   pub attributes : List ℕ
   pub info : IsInfo tag attributes
   pub body : List ℕ
   pub whole : x ≡ attributes ++ (62 ∷ body)
-  pub bracket : Bracket p (tag ++ (attributes ++ (62 ∷ []))) code_closing
   pub escaped : Escaped body
 
 raw_regrouped : (e tag w y g c h : List ℕ) →
@@ -101,22 +98,6 @@ fenced-end {W} {ending} beside h t =
     (adds-when beside chunks (adds-needed beside h)))
     (adds-when beside (is_unclosed t) (adds-needed beside h))))
 
-pub raw-opened : {p : Claim} {tag x : List ℕ} → IsRaw p tag x → IsOpened p.holds p.holds tag x
-raw-opened r = record {
-  attributes = r.attributes;
-  body = r.body;
-  whole = r.whole;
-  escaped = r.escaped;
-  turns = r.bracket;
-}
-
--- what may stand in the tag of fenced code
-abbrev pub IsInCode : Claim → List ℕ → Type 0
-IsInCode p x = IsInfo code_tag x × Bracket p (code_tag ++ (x ++ (62 ∷ []))) code_closing
-
-pub bare-in_code : (p : Claim) → IsInCode p []
-bare-in_code p = (inl refl, bracket-code p)
-
 pub code_class : (v : List ℕ) → Escaped v → is_tag elements (codes "code")
     (attribute (codes "class") (codes "language-" ++ v) ∷ []) ≡ true
 code_class v h = rw h refl
@@ -126,37 +107,5 @@ pub info_regrouped : (v : List ℕ) → codes "<pre>" ++ opening_tag (codes "cod
     ++ ((codes " class=\"language-" ++ (v ++ codes "\"")) ++ (62 ∷ []))
 info_regrouped v = simp append_assoc
 
-pub info-in_code : (p : Claim) (options : CompileOptions) → IsTest p.test options → (v : List ℕ) →
-    Escaped v → IsInCode p (codes " class=\"language-" ++ (v ++ codes "\""))
-info-in_code p options test v h = (
-  inr (v, refl, h, refl),
-  subst (λ o. Bracket p o code_closing) (info_regrouped v) (turns-two
-      (bracket-plain p (codes "pre") refl) ((bracket-tag p (codes "code")).tag
-      (attribute (codes "class") (codes "language-" ++ v) ∷ []) (code_class v h)
-      (class-passes test (codes "language-" ++ v)))),
-)
-
-pub raw-code : (p : Claim) (x y : List ℕ) → IsInCode p x → Escaped y →
-    IsRaw p code_tag (x ++ (62 ∷ y))
-raw-code p x y h e = record {
-  attributes = x;
-  info = h.0;
-  body = y;
-  whole = refl;
-  bracket = h.1;
-  escaped = e;
-}
-
-pub raw-math : (p : Claim) (options : CompileOptions) → IsTest p.test options → (y : List ℕ) →
-    Escaped y → IsRaw p math_tag (62 ∷ y)
-raw-math p options test y e =
-    record {
-      attributes = [];
-      info = inl refl;
-      body = y;
-      whole = refl;
-      bracket = turns-two (bracket-plain p (codes "pre") refl) ((bracket-tag p (codes "code")).tag
-          (attribute (codes "class") (codes "language-math math-display") ∷ []) refl
-          (class-passes test (codes "language-math math-display")));
-      escaped = e;
-    }
+pub raw : (tag x y : List ℕ) → IsInfo tag x → Escaped y → IsRaw tag (x ++ (62 ∷ y))
+raw tag x y h e = record { attributes = x; info = h; body = y; whole = refl; escaped = e }

@@ -158,10 +158,6 @@ head_texts options =
     ∷ Text (heading_label_of options)
     ∷ Text (codes "</") ∷ Text (tag_of options) ∷ Text (codes ">") ∷ []
 
--- and its end
-abbrev section_end : List Piece
-section_end = Forced ∷ Text (codes "</ol>") ∷ Forced ∷ Text (codes "</section>") ∷ Forced ∷ []
-
 -- items between the tags of the list and of the section
 pub adds-section : {W I Q R : List ℕ → Type 0} → IsBeside W → Takes W I → Takes W Q → Takes W R →
     (context : Context) → W context.ending → Turns I Q (codes "<ol>") (codes "</ol>") → Turns Q R

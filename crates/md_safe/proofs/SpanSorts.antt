@@ -7,12 +7,13 @@ use name_variants.{Emphasis, Strong, GfmStrikethrough, CodeText, MathText}
 use Rattle.md_meaning.specs.Meaning.At.{Context, At}
 use Rattle.md_meaning.specs.Meaning.Layout.{Piece, layout, said}
 use Rattle.md_meaning.specs.Meaning.Means.{prints}
-use Rattle.md_meaning.specs.Meaning.Spans.{span, code}
+use Rattle.md_meaning.specs.Meaning.Spans.{span, code, trimmed, without_escapes}
 use Rattle.md_content.specs.Built.{Content}
 use Rattle.md_steps.proofs.Standing.{picked}
-use Rattle.md_safe.proofs.Texts.{Escaped}
+use Rattle.md_safe.proofs.Texts.{Escaped, trimmed-escaped, pipes-escaped}
 use Rattle.md_safe.proofs.Laid.{adds-alone}
 use Rattle.md_safe.proofs.Spot.{Setting, Here, Prints, Inside}
+use Rattle.std.proofs.lemmas.Bool.{cond_both}
 
 -- spans whose tags stand around their children, and the names of these tags
 abbrev pub pair_tag : Name → List ℕ
@@ -75,6 +76,14 @@ code-prints context t name is inner = picked _ _ _ (by name) is
         (code_opening (is_math name)) (layout context.ending inner)
     by Emphasis = refl
     by _ = refl
+
+-- the text of code as it is shown
+abbrev pub shown_in : At → List ℕ → List ℕ
+shown_in t x = trimmed (cond t.around.in_table (without_escapes x) x)
+
+pub shown-escaped : (t : At) (x : List ℕ) → Escaped x → Escaped (shown_in t x)
+shown-escaped t x h = trimmed-escaped (cond t.around.in_table (without_escapes x) x) (cond_both
+    t.around.in_table (without_escapes x) x Escaped (λ _. pipes-escaped x h) (λ _. h))
 
 -- the text in code
 pub code-text : (s : Setting) (t : At) (content : Content) (name : Name) →

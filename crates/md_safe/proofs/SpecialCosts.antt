@@ -23,7 +23,6 @@ use Rattle.md_safe.proofs.Texts.{decimal-escaped}
 use Rattle.md_safe.proofs.Laid.{Adds, adds-nothing, adds-text, adds-alone}
 use Rattle.md_safe.proofs.Tags.{adds-flat}
 use Rattle.md_safe.proofs.Calls.{id-escaped, call_id-escaped, call_tags}
-use Rattle.md_safe.proofs.Elements.{adds-heading}
 use Rattle.md_safe.proofs.Insides.{is_blocks}
 use Rattle.md_safe.proofs.Spot.{Setting}
 use Rattle.md_safe.proofs.FlowNodes.{setext-fits}
@@ -31,6 +30,8 @@ use Rattle.md_safe.proofs.Counted.{counts-call, Waiting, texts-append}
 use Rattle.md_safe.proofs.Costs.{Document, Costs, Place, inner_of, here_of, Below, cost-least}
 use Rattle.md_safe.proofs.Costs.{counts-none, no-footnote, counted_in, at_of, cost-parts}
 use Rattle.md_safe.proofs.PlainCosts.{is_special}
+use Rattle.md_safe.proofs.FlowCases.{heading-node}
+use Rattle.md_safe.proofs.ReadingNodes.{reads}
 
 -- a heading's text, which waits for the underline
 setext_text : (d : Document) (w : List ℕ) (p : Place) (m : ℕ) →
@@ -79,7 +80,7 @@ underline d w p m h b =
       body = m;
       left = 0;
       notes = b.notes;
-      prints = adds-heading s.p d.ending (underline_rank d.context
+      prints = heading-node (reads s) (underline_rank d.context
           (at_of d p HeadingSetextUnderlineSequence))
           (setext-fits (is_at 45 d.context.bytes p.start.index)) (adds-text h);
       heading = tt;

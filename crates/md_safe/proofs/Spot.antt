@@ -8,7 +8,6 @@ use Rattle.md_base.specs.declared.event.Name.{Name}
 use Rattle.md_text.specs.Html.{Attribute}
 use Rattle.md_text.specs.Encode.{encoded}
 use Rattle.md_text.proofs.EncodeLaws.{is_escaped-encoded}
-use Rattle.md_text.proofs.HtmlJoin.{text}
 use Rattle.md_pattern.specs.Looseness.{is_loose}
 use Rattle.md_meaning.specs.Meaning.Inherited.{inside}
 use Rattle.md_meaning.specs.Meaning.At.{Target, Defined, Context, At, nothing_found, target_in}
@@ -80,31 +79,6 @@ NodeAdds s t content name = (inner : List Piece) → Inside s t content name inn
 -- holds for a text that is escaped if that is required
 abbrev pub IsNarrow : Bool → (List ℕ → Type 0) → Type 0
 IsNarrow escaping holds = (x : List ℕ) → (escaping ≡ true → Escaped x) → holds x
-
--- holds of escaped texts, and outside images of what is claimed
-pub record IsWide (p : Claim) (in_image : Bool) (holds : List ℕ → Type 0) : Type 0 where
-  pub own : (x : List ℕ) → Escaped x → holds x
-  pub outside : in_image ≡ false → (x : List ℕ) → p.holds x → holds x
-  pub read : (x : List ℕ) → holds x → p.holds x
-
-pub wide-reading : (p : Claim) (in_image : Bool) → IsWide p in_image p.holds
-wide-reading p in_image = record {
-  own = λ x h. p.plain x (text p.test x h);
-  outside = λ _ x h. h;
-  read = λ x h. h;
-}
-
-pub wide-escaped : (p : Claim) (in_image : Bool) → in_image ≡ true → IsWide p in_image Escaped
-wide-escaped p in_image is = record {
-  own = λ x h. h;
-  outside = λ no x h. absurd (cc (is, no));
-  read = λ x h. p.plain x (text p.test x h);
-}
-
-pub narrow-wide : (p : Claim) (escaping in_image : Bool) (holds : List ℕ → Type 0) →
-    escaping ≡ true →
-    IsWide p in_image holds → IsNarrow escaping holds
-narrow-wide p escaping in_image holds e w x h = w.own x (h e)
 
 -- an encoded text is escaped if that is required
 pub encoded-escaped : (escaping : Bool) (x : List ℕ) → escaping ≡ true →

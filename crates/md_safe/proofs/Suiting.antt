@@ -13,7 +13,7 @@ use Rattle.md_content.specs.Built.{Content, Blocks, Spans, FirstFence, InfoAndMe
 use Rattle.md_content.specs.Built.{Nothing, Sources, is_info, is_source, may_stand, content_of}
 use Rattle.md_content.specs.Built.{content_past, content_after_node}
 use Rattle.md_safe.proofs.Contents.{Suits, stays-after}
-use Rattle.md_safe.proofs.Insides.{asks_escaping, asks_image, allowed_inside}
+use Rattle.md_safe.proofs.Insides.{asks_escaping, asks_image, allowed_inside, is_blocks, of-blocks}
 
 suits-past : (escaping in_image : Bool) (content : Content) (name : Name) →
     Suits escaping in_image content →
@@ -36,18 +36,18 @@ suits-after-node escaping in_image content name children h = cond_both _ _ _
 -- the conditions of a content on its surroundings
 suits : (escaping in_image : Bool) (content : Content) →
     (asks_escaping content ≡ true → escaping ≡ true) →
-    (asks_image content ≡ true → in_image ≡ true) →
+    (asks_image content ≡ true → in_image ≡ true) → (is_blocks content ≡ true → in_image ≡ false) →
     Suits escaping in_image content
-suits escaping in_image Blocks e i = e refl
-suits escaping in_image Spans e i = (e refl, i refl)
-suits escaping in_image FirstFence e i = e refl
-suits escaping in_image InfoAndMeta e i = e refl
-suits escaping in_image Sources e i = e refl
-suits escaping in_image _ e i = tt
+suits escaping in_image Blocks e i o = (e refl, o refl)
+suits escaping in_image Spans e i o = (e refl, i refl)
+suits escaping in_image FirstFence e i o = e refl
+suits escaping in_image InfoAndMeta e i o = e refl
+suits escaping in_image Sources e i o = e refl
+suits escaping in_image _ e i o = tt
 
 is-escaping : (escaping in_image : Bool) (content : Content) → asks_escaping content ≡ true →
     Suits escaping in_image content → escaping ≡ true
-is-escaping escaping in_image Blocks asks h = h
+is-escaping escaping in_image Blocks asks h = h.0
 is-escaping escaping in_image Spans asks h = h.0
 is-escaping escaping in_image FirstFence asks h = h
 is-escaping escaping in_image InfoAndMeta asks h = h
@@ -58,6 +58,19 @@ is-in_image : (escaping in_image : Bool) (content : Content) → asks_image cont
     Suits escaping in_image content → in_image ≡ true
 is-in_image escaping in_image Spans asks h = h.1
 is-in_image escaping in_image _ asks h = lie asks
+
+is-outside : (escaping in_image : Bool) (content : Content) → is_blocks content ≡ true →
+    Suits escaping in_image content → in_image ≡ false
+is-outside escaping in_image Blocks is h = h.1
+is-outside escaping in_image _ is h = lie is
+
+-- images alone begin an image, and no blocks stand in them
+still-outside : (options : CompileOptions) (loose : Bool) (around : Surroundings)
+    (content : Content) (name : Name) → is_blocks (content_of name content) ≡ true →
+    around.in_image ≡ false → (inside options loose name around).in_image ≡ false
+still-outside options loose around Blocks Image blocks out = lie blocks
+still-outside options loose around _ Image blocks out = lie blocks
+still-outside options loose around content _ blocks out = out
 
 -- if HTML is escaped, escaped text stays so, except in the targets of links
 keeps-escaping : (options : CompileOptions) (loose : Bool) (around : Surroundings) (name : Name) →
@@ -91,6 +104,8 @@ suits-inside options html loose around content name s h = suits
       | inl within ↦ image (is-in_image around.is_escaping around.in_image content within h)
       | inr is ↦ in-image options loose around name is
     ])
+    (λ is. still-outside options loose around content name is (is-outside around.is_escaping
+    around.in_image content (of-blocks content name is) h))
   where
     escaping : around.is_escaping ≡ true → is_source name ≡ false →
         (inside options loose name around).is_escaping ≡ true
