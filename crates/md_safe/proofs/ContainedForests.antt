@@ -51,13 +51,11 @@ pub record Means (nested : Bool) (d : Document) (content : Content) (means : Out
   pub texts : AreFlow nested means.footnotes
 
 -- a transparent node
-through :
-    (nested : Bool) (d : Document) (content : Content) (name : Name) (t : At) (inner : Outcome) →
-    is_transparent name ≡ true →
-    t.found ≡ inner.found → Means nested d content inner →
+through : {nested : Bool} {d : Document} {content : Content} {inner : Outcome} (name : Name)
+    (t : At) → is_transparent name ≡ true → t.found ≡ inner.found → Means nested d content inner →
     Means nested d content (node d.context t name inner)
-through nested d content name t inner is same m =
-    subst (Means nested d content) (sym (through-node d.context t name inner is same)) (record {
+through {nested = nested} {d = d} {content = content} {inner = inner} name t is same m = subst
+    (Means nested d content) (sym (through-node d.context t name inner is same)) (record {
       prints = m.prints;
       heading = m.heading;
       texts = subst (AreFlow nested) (sym (append-nil inner.footnotes)) m.texts;
@@ -75,15 +73,16 @@ pub record Fits (nested : Bool) (d : Document) (around : Surroundings) (before :
   pub unnested : nested ≡ false → has_nested_link around.in_link forest ≡ false
 
 -- a node that isn't transparent
-solid-means : (nested : Bool) (d : Document) (white : IsWhite d.context.ending) (content : Content)
-    (name : Name) (t : At) (inner : Outcome) → is_transparent name ≡ false →
+solid-means : {nested : Bool} {d : Document} {content : Content} {name : Name} {t : At}
+    (white : IsWhite d.context.ending) (inner : Outcome) → is_transparent name ≡ false →
     (is_part name || is_source name) ≡ false → may_place (with_links content) (sort_of name)
     ≡ true → Known (standing nested d white) t name inner.pieces → (is_blocks
     (content_inside Blocks name) ≡ true → Means nested d (place_in nested content name) inner) →
     (is_blocks (content_inside Blocks name) ≡ false → inner.footnotes ≡ []) →
     (is_spans content ≡ true → Spanning t content name) → Means nested d
     content (node d.context t name inner)
-solid-means nested d white content name t inner solid whole stands k own none g =
+solid-means {nested = nested} {d = d} {content = content} {name = name} {t = t} white inner solid
+    whole stands k own none g =
     let own-prints : Own nested d content name inner.pieces = λ is. (own (same ∙ is)).prints in
     let noted : Footnote = record {
       identifier = identifier_of d.context.bytes t.children;
@@ -122,13 +121,12 @@ any-node nested d white content name t inner same k stands placed own none g = b
   where
     by : (looked : Bool) → is_transparent name ≡ looked → Means nested d
         content (node d.context t name inner)
-    by true e = through nested d content name t inner e same (subst (λ c. Means nested d c inner)
+    by true e = through name t e same (subst (λ c. Means nested d c inner)
         (ap (λ b. cond b content (place_in nested content name)) e) (own (ap
         (λ b. is_blocks (cond b Blocks (content_of name Blocks))) e)))
-    by false e = solid-means nested d white content name t inner e
-        (not_part _ (second _ _ e stands)) (second _ _ e placed) (k e) (λ is. subst
-        (λ c. Means nested d c inner) (ap (λ b. cond b content (place_in nested content name)) e)
-        (own is)) none g
+    by false e = solid-means white inner e (not_part _ (second _ _ e stands)) (second _ _ e placed)
+        (k e) (λ is. subst (λ c. Means nested d c inner)
+        (ap (λ b. cond b content (place_in nested content name)) e) (own is)) none g
 
 pub means : (nested : Bool) (d : Document) (forest : Forest) (around : Surroundings)
     (before : Before) (content : Content) → Fits nested d around before content forest →
@@ -154,12 +152,12 @@ means nested d (Node name start end children rest) around before content f =
     let here : Outcome = node d.context t name inner in
     let next : Before = before_next t name here in
     let others : Outcome = outcome d.context around next rest in
-    let within : Ready (read_in d) around' before' (content_inside Blocks name) = ready-inside
-    (read_in d) around before Blocks name children f.built.0 f.ready in
+    let within : Ready (read_in d) around' before' (content_inside Blocks name) = ready-inside name
+    children f.built.0 f.ready in
     let known : SafeMeans (read_in d) around' (content_inside Blocks name) children inner =
     safe-means (read_in d) children around' before' (content_inside Blocks name) f.built.2 within in
-    let found : AreFound (read_in d) Blocks here.found = found-at (read_in d) t Blocks name
-    inner.pieces f.built.0 f.built.1 f.ready.suits f.built.2 known.prints known.found in
+    let found : AreFound (read_in d) Blocks here.found = found-at t name inner.pieces f.built.0
+    f.built.1 f.ready.suits f.built.2 known.prints known.found in
     let own : is_blocks (content_inside Blocks name) ≡ true → Means nested d
     (inner_place nested content name) inner = λ is. means nested d children around' before'
     (inner_place nested content name) (record {
@@ -184,8 +182,7 @@ means nested d (Node name start end children rest) around before content f =
       resource = known.found.resource;
       ids = λ call value. refl;
       heading = λ is. f.heading;
-      within = inside-means (read_in d) t Blocks name inner solid f.built.0 f.built.1 f.built.2
-          known;
+      within = inside-means t Blocks name solid f.built.0 f.built.1 f.built.2 known;
     }) f.built.0 f.placed.0 own
     (λ none. no_footnotes d (content_inside Blocks name) children around' before' none f.built.2)
     (λ is. record {
@@ -198,8 +195,8 @@ means nested d (Node name start end children rest) around before content f =
       white = f.white;
       built = subst (λ c. IsBuilt d.context.bytes c rest) (after-blocks name children) f.built.3;
       placed = f.placed.2;
-      ready = subst (Ready (read_in d) around next) (after-blocks name children) (ready-after
-          (read_in d) t Blocks name here f.built.0 f.built.2 found f.ready);
+      ready = subst (Ready (read_in d) around next) (after-blocks name children)
+          (ready-after t name here f.built.0 f.built.2 found f.ready);
       heading = heading-next nested here.found.heading before.heading one.heading f.heading;
       linked = f.linked;
       unnested = λ no. unnested-after name around.in_link start end children rest (f.unnested no);

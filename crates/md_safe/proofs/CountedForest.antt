@@ -37,11 +37,11 @@ pub record Fits (d : Document) (around : Surroundings) (before : Before) (waits 
   pub underlined : IsUnderlined waits forest
 
 -- a node that isn't transparent
-solid-spent : (d : Document) (w : List ℕ) (p : Place) (name : Name) (waits : Bool) (m : ℕ) →
+solid-spent : {d : Document} {w : List ℕ} {p : Place} {name : Name} {m : ℕ} (waits : Bool) →
     Stands d p name → IsAwaited waits name p.children → Waiting w waits m p.before.heading →
     BelowBlocks d w p name false 0 → Costs d w p.before m (waits_past waits name) (here_of d p name)
-solid-spent d w p name waits m k awaited h b = by (is_special name) refl
-    (is_blocks (content_of name Blocks)) refl
+solid-spent {d = d} {w = w} {p = p} {name = name} {m = m} waits k awaited h b = by (is_special name)
+    refl (is_blocks (content_of name Blocks)) refl
   where
     plain : is_special name ≡ false → IsPlain name
     plain other =
@@ -56,8 +56,8 @@ solid-spent d w p name waits m k awaited h b = by (is_special name) refl
         is_blocks (content_of name Blocks) ≡ blocks → Costs d w p.before m
         (waits_past waits name) (here_of d p name)
     by true is blocks of = special-spent d w p name waits m is awaited h b
-    by false is true of = around-blocks d w p name waits m k (plain is) of (b (same ∙ of))
-    by false is false of = around-others d w p name waits m k (plain is) (same ∙ of) h
+    by false is true of = around-blocks waits k (plain is) of (b (same ∙ of))
+    by false is false of = around-others waits k (plain is) (same ∙ of) h
 
 -- the heading after two
 heading-both : (later first : Option (List ℕ)) (before : List ℕ) →
@@ -93,14 +93,12 @@ spent d w (Node name start end children rest) around before waits m f h =
     let waits' : Bool = cond (is_transparent name) (waits_after waits children)
     (waits_past waits name) in
     let within : Ready (read_in d) (inner_around d p name) (inner_before p name)
-    (content_inside Blocks name) = ready-inside (read_in d) around before Blocks name children
-    f.built.0 f.ready in
+    (content_inside Blocks name) = ready-inside name children f.built.0 f.ready in
     let known : Means (read_in d) (inner_around d p name) (content_inside Blocks name) children
     (inner_of d p name) = means (read_in d) children (inner_around d p name) (inner_before p name)
     (content_inside Blocks name) f.built.2 within in
-    let own : AreFound (read_in d) Blocks here.found = found-at (read_in d) t Blocks name
-    (inner_of d p name).pieces f.built.0 f.built.1 f.ready.suits f.built.2 known.prints known.found
-    in
+    let own : AreFound (read_in d) Blocks here.found = found-at t name (inner_of d p name).pieces
+    f.built.0 f.built.1 f.ready.suits f.built.2 known.prints known.found in
     let k : is_transparent name ≡ false → Stands d p name = λ solid. record {
       solid = solid;
       whole = not_part _ (second _ _ solid f.built.0);
@@ -123,8 +121,8 @@ spent d w (Node name start end children rest) around before waits m f h =
     let later : Costs d w next one.left (waits_after waits' rest) others = spent d w rest around
     next waits' one.left (record {
       built = subst (λ c. IsBuilt d.context.bytes c rest) (after-blocks name children) f.built.3;
-      ready = subst (Ready (read_in d) around next) (after-blocks name children) (ready-after
-          (read_in d) t Blocks name here f.built.0 f.built.2 own f.ready);
+      ready = subst (Ready (read_in d) around next) (after-blocks name children)
+          (ready-after t name here f.built.0 f.built.2 own f.ready);
       underlined = f.underlined.2;
     }) one.heading in
     record {
@@ -158,4 +156,4 @@ spent d w (Node name start end children rest) around before waits m f h =
             (waits_past waits name)) (here_of d p name)
         of true e b = through-spent d w p name waits m e (b (ap
             (λ b. is_blocks (cond b Blocks (content_of name Blocks))) e))
-        of false e b = solid-spent d w p name waits m (k e) awaited h b
+        of false e b = solid-spent waits (k e) awaited h b

@@ -84,46 +84,45 @@ pub nothing-found : (s : Setting) (content : Content) → AreFound s content not
 nothing-found s content = record { heading = λ _. tt; title = tt; resource = tt }
 
 -- what is found where a node stands
-pub found-node : (s : Setting) (t : At) (content : Content) (name : Name) (inner : List Piece) →
+pub found-node : {s : Setting} {content : Content} {inner : List Piece} (t : At) (name : Name) →
     Inner s t content name inner → AreFound s
     content (found_at t name (layout s.context.ending inner))
-found-node s t content HeadingSetextText inner i = record {
+found-node {s = s} {content = content} {inner = inner} t HeadingSetextText i = record {
   heading = λ is. blocks-read s t.around.is_escaping t.around.in_image content is
       (layout s.context.ending inner) (adds-alone (inside-alone s t content HeadingSetextText
       i.stands i.fit i.built inner i.before));
   title = tt;
   resource = tt;
 }
-found-node s t content DefinitionTitleString inner i = record {
+found-node {s = s} {content = content} {inner = inner} t DefinitionTitleString i = record {
   heading = λ _. tt;
   title = adds-alone (inside-alone s t content DefinitionTitleString i.stands i.fit i.built inner
       i.before) (suits-title t.around.is_escaping t.around.in_image content (or_left _ _ i.stands)
       i.suits);
   resource = tt;
 }
-found-node s t content ResourceTitleString inner i = record {
+found-node {s = s} {content = content} {inner = inner} t ResourceTitleString i = record {
   heading = λ _. tt;
   title = adds-alone (inside-alone s t content ResourceTitleString i.stands i.fit i.built inner
       i.before) (suits-title t.around.is_escaping t.around.in_image content (or_right _ _ i.stands)
       i.suits);
   resource = tt;
 }
-found-node s t content Resource inner i = record
-    { heading = λ _. tt; title = tt; resource = i.found.title }
-found-node s t content (Other number) inner i = i.found
-found-node s t content BlockQuotePrefix inner i = i.found
-found-node s t content SpaceOrTab inner i = i.found
-found-node s t content _ inner i = record { heading = λ _. tt; title = tt; resource = tt }
+found-node t Resource i = record { heading = λ _. tt; title = tt; resource = i.found.title }
+found-node t (Other number) i = i.found
+found-node t BlockQuotePrefix i = i.found
+found-node t SpaceOrTab i = i.found
+found-node t _ i = record { heading = λ _. tt; title = tt; resource = tt }
 
 -- the text of a footnote that is the node
-pub note-node : (s : Setting) (t : At) (content : Content) (name : Name) (inner : List Piece) →
+pub note-node : {s : Setting} {content : Content} {inner : List Piece} (t : At) (name : Name) →
     Inner s t content name inner → named GfmFootnoteDefinition name ≡ true →
     Reads s (layout s.context.ending inner)
-note-node s t content GfmFootnoteDefinition inner i is = blocks-read s t.around.is_escaping
-    t.around.in_image content (note-blocks content i.stands) (layout s.context.ending inner)
-    (adds-alone (inside-alone s t content GfmFootnoteDefinition i.stands i.fit i.built inner
-    i.before))
-note-node s t content _ inner i is = lie is
+note-node {s = s} {content = content} {inner = inner} t GfmFootnoteDefinition i is = blocks-read s
+    t.around.is_escaping t.around.in_image content (note-blocks content i.stands)
+    (layout s.context.ending inner) (adds-alone (inside-alone s t content GfmFootnoteDefinition
+    i.stands i.fit i.built inner i.before))
+note-node t _ i is = lie is
 
 -- of two things that were found the later one
 pub later-heading : (s : Setting) (first later : Option (List ℕ)) → IsRead s first →

@@ -103,14 +103,15 @@ pub record Ready (s : Setting) (around : Surroundings) (before : Before)
   pub heading : is_blocks content ≡ true → Reads s before.heading
 
 -- what is known where the children of a node stand
-pub ready-inside : (s : Setting) (around : Surroundings) (before : Before) (content : Content)
+pub ready-inside : {s : Setting} {around : Surroundings} {before : Before} {content : Content}
     (name : Name) (children : Forest) → (is_transparent name || may_stand content name) ≡ true →
-    Ready s around before content →
-    Ready s (inside s.context.options (is_loose children) name around)
+    Ready s around before content → Ready s
+    (inside s.context.options (is_loose children) name around)
     (before_children name children before) (content_inside content name)
-ready-inside s around before content name children stands r = record {
-  suits = children-suit s.context.options s.test.html (is_loose children) around content
-      name stands r.suits;
+ready-inside {s = s} {around = around} {before = before} {content = content} name children stands
+    r = record {
+  suits = children-suit s.context.options s.test.html (is_loose children) around content name stands
+      r.suits;
   follows = children-follow content name before children stands r.follows;
   whole = λ h. r.whole (inside-blocks content name h);
   heading = λ h. cond_both (is_transparent name) before.heading [] (Reads s)
@@ -118,24 +119,22 @@ ready-inside s around before content name children stands r = record {
 }
 
 -- and where the next node stands
-pub ready-after : (s : Setting) (t : At) (content : Content) (name : Name) (here : Outcome) →
-    (is_transparent name || may_stand content name) ≡ true →
-    IsBuilt s.context.bytes (content_inside content name) t.children → AreFound s content
-    here.found →
-    Ready s t.around t.before content → Ready s t.around (before_next t name here)
-    (content_after_node content name t.children)
-ready-after s t content name here stands built own r = record {
+pub ready-after : {s : Setting} {content : Content} (t : At) (name : Name) (here : Outcome) →
+    (is_transparent name || may_stand content name) ≡ true → IsBuilt s.context.bytes
+    (content_inside content name) t.children → AreFound s content here.found →
+    Ready s t.around t.before content → Ready s t.around
+    (before_next t name here) (content_after_node content name t.children)
+ready-after {s = s} {content = content} t name here stands built own r = record {
   suits = suits-after-node t.around.is_escaping t.around.in_image content name t.children r.suits;
-  follows = follows-after-node s.context.bytes content name t.before.spine t.children
-      stands built r.follows;
+  follows = follows-after-node s.context.bytes content name t.before.spine t.children stands built
+      r.follows;
   whole = asked-after-node (IsWhole s.p) content name t.children r.whole;
   heading = asked-after-node (Reads s (before_next t name here).heading) content name t.children
       (λ is. heading-before s here.found.heading t.before.heading (own.heading is) (r.heading is));
 }
 
 pub means : (s : Setting) (forest : Forest) (around : Surroundings) (before : Before)
-    (content : Content) →
-    IsBuilt s.context.bytes content forest → Ready s around before content →
+    (content : Content) → IsBuilt s.context.bytes content forest → Ready s around before content →
     Means s around content forest (outcome s.context around before forest)
 means s Empty around before content built r = record {
   prints = λ later h. h;
@@ -159,9 +158,8 @@ means s (Node name start end children rest) around before content built r =
     let here : Outcome = node s.context t name inner in
     let next : Before = before_next t name here in
     let others : Outcome = outcome s.context around next rest in
-    let within : Means s around' (content_inside content name) children inner =
-    means s children around' before' (content_inside content name) built.2
-    (ready-inside s around before content name children built.0 r) in
+    let within : Means s around' (content_inside content name) children inner = means s children
+    around' before' (content_inside content name) built.2 (ready-inside name children built.0 r) in
     let i : Inner s t content name inner.pieces = record {
       stands = built.0;
       fit = built.1;
@@ -170,10 +168,10 @@ means s (Node name start end children rest) around before content built r =
       before = within.prints;
       found = within.found;
     } in
-    let own : AreFound s content here.found = found-node s t content name inner.pieces i in
-    let after : Means s around (content_after_node content name children) rest others =
-    means s rest around next (content_after_node content name children) built.3
-    (ready-after s t content name here built.0 built.2 own r) in
+    let own : AreFound s content here.found = found-node t name i in
+    let after : Means s around (content_after_node content name children) rest others = means s rest
+    around next (content_after_node content name children) built.3
+    (ready-after t name here built.0 built.2 own r) in
     let k : Knows s t content name = record {
       fit = built.1;
       suits = r.suits;
@@ -191,11 +189,10 @@ means s (Node name start end children rest) around before content built r =
       text = layout s.context.ending inner.pieces;
     } in
     record {
-      prints = λ later h.
-          subst (Prints s (Holds s.p around.is_escaping around.in_image content))
-          (sym (append_assoc here.pieces others.pieces later))
-          (any-node s t content name built.0 k inner.pieces (others.pieces ++ later) built.2
-          (λ pieces g. within.prints pieces g) (after.prints later h));
+      prints = λ later h. subst (Prints s (Holds s.p around.is_escaping around.in_image content))
+          (sym (append_assoc here.pieces others.pieces later)) (any-node s t content name built.0 k
+          inner.pieces (others.pieces ++ later) built.2 (λ pieces g. within.prints pieces g)
+          (after.prints later h));
       found = record {
         heading = λ is. later-heading s here.found.heading others.found.heading (own.heading is)
             (after.found.heading (blocks-after-node content name children is));
@@ -203,25 +200,23 @@ means s (Node name start end children rest) around before content built r =
         resource = later-resource here.found.resource others.found.resource own.resource
             after.found.resource;
       };
-      titles = titles-append here.definitions others.definitions
-          (titles-append inner.definitions (when (named Definition name) (defined ∷ []))
-          within.titles (cond_both (named Definition name) (defined ∷ []) [] AreTitles
-          (λ _. (within.found.title, tt)) (λ _. tt))) after.titles;
-      texts = texts-append (Reads s) here.footnotes others.footnotes
-          (texts-append (Reads s) inner.footnotes (when (named GfmFootnoteDefinition name)
-          (noted ∷ []))
-          within.texts (cond_both (named GfmFootnoteDefinition name) (noted ∷ []) [] (AreRead s)
-          (λ is. (note-node s t content name inner.pieces i is, tt)) (λ _. tt)))
-          after.texts;
+      titles = titles-append here.definitions others.definitions (titles-append inner.definitions
+          (when (named Definition name) (defined ∷ [])) within.titles (cond_both
+          (named Definition name) (defined ∷ []) [] AreTitles (λ _. (within.found.title, tt))
+          (λ _. tt))) after.titles;
+      texts = texts-append (Reads s) here.footnotes others.footnotes (texts-append (Reads s)
+          inner.footnotes (when (named GfmFootnoteDefinition name) (noted ∷ [])) within.texts
+          (cond_both (named GfmFootnoteDefinition name) (noted ∷ []) [] (AreRead s)
+          (λ is. (note-node t name i is, tt)) (λ _. tt))) after.texts;
     }
 
 -- what the children of a node that isn't transparent print
-pub inside-means : (s : Setting) (t : At) (content : Content) (name : Name) (inner : Outcome) →
+pub inside-means : {s : Setting} {inner : Outcome} (t : At) (content : Content) (name : Name) →
     is_transparent name ≡ false → (is_transparent name || may_stand content name) ≡ true →
     IsFitAt s t name → IsBuilt s.context.bytes (content_inside content name) t.children → Means s
     (inside s.context.options (is_loose t.children) name t.around) (content_inside content name)
     t.children inner → Inside s t content name inner.pieces
-inside-means s t content name inner solid stands fit built means =
+inside-means {s = s} {inner = inner} t content name solid stands fit built means =
     let same : content_inside content name ≡ content_of name content = ap
     (λ b. cond b content (content_of name content)) solid in
     inside-alone s t content name (second _ _ solid stands) fit (subst
@@ -229,15 +224,14 @@ inside-means s t content name inner solid stands fit built means =
     (λ c. PrintsBefore s t c name inner.pieces) same means.prints)
 
 -- what is found at a node whose children print and find what they may
-pub found-at : (s : Setting) (t : At) (content : Content) (name : Name) (inner : List Piece) →
+pub found-at : {s : Setting} {content : Content} (t : At) (name : Name) (inner : List Piece) →
     (is_transparent name || may_stand content name) ≡ true → IsFitAt s t name →
-    Suits t.around.is_escaping t.around.in_image content →
-    IsBuilt s.context.bytes (content_inside content name) t.children
-    → PrintsBefore s t (content_inside content name) name inner →
-    AreFound s (content_inside content name) t.found →
+    Suits t.around.is_escaping t.around.in_image content → IsBuilt s.context.bytes
+    (content_inside content name) t.children → PrintsBefore s t (content_inside content name) name
+    inner → AreFound s (content_inside content name) t.found →
     AreFound s content (found_at t name (layout s.context.ending inner))
-found-at s t content name inner stands fit suits built before found =
-    found-node s t content name inner (record {
+found-at t name inner stands fit suits built before found =
+    found-node t name (record {
       stands = stands;
       fit = fit;
       suits = suits;

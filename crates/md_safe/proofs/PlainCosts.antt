@@ -88,11 +88,11 @@ pub record IsPlain (name : Name) : Type 0 where
   pub footnote : named GfmFootnoteDefinition name ≡ false
 
 -- it prints what has the id so often, if its children do
-plain-prints : (d : Document) (w : List ℕ) (p : Place) (name : Name) (n : ℕ) → Stands d p name →
+plain-prints : {d : Document} {w : List ℕ} {p : Place} {name : Name} {n : ℕ} → Stands d p name →
     IsPlain name → Inside (counted_in d w n) (at_of d p name) Blocks name
     (inner_of d p name).pieces → Adds d.context.ending (Counts w n) (here_of d p name).pieces
-plain-prints d w p name n k plain within = block-node (counted_in d w n) (at_of d p name) name
-    k.solid k.whole (inner_of d p name).pieces (record {
+plain-prints {d = d} {w = w} {p = p} {name = name} {n = n} k plain within = block-node
+    (counted_in d w n) (at_of d p name) name k.solid k.whole (inner_of d p name).pieces (record {
       escaping = k.ready.suits.0;
       outside = k.ready.suits.1;
       fit = k.fit;
@@ -103,17 +103,16 @@ plain-prints d w p name n k plain within = block-node (counted_in d w n) (at_of 
     })
 
 -- a node in which blocks stand
-pub around-blocks : (d : Document) (w : List ℕ) (p : Place) (name : Name) (waits : Bool) (m : ℕ) →
+pub around-blocks : {d : Document} {w : List ℕ} {p : Place} {name : Name} {m : ℕ} (waits : Bool) →
     Stands d p name → IsPlain name → is_blocks (content_of name Blocks) ≡ true →
     Below d w p name false 0 → Costs d w p.before m (waits_past waits name) (here_of d p name)
-around-blocks d w p name waits m k plain blocks b = record {
+around-blocks {d = d} {w = w} {p = p} {name = name} waits k plain blocks b = record {
   body = b.body;
   left = 0;
   notes = b.notes;
-  prints = plain-prints d w p name b.body k plain (subst (λ c. Adds d.context.ending (Holds
-      (counted_in d w b.body).p (inner_around d p name).is_escaping (inner_around d p name).in_image
-      c) (inner_of d p name).pieces) (sym (is_blocks-same (content_of name Blocks) blocks))
-      b.prints);
+  prints = plain-prints k plain (subst (λ c. Adds d.context.ending (Holds (counted_in d w b.body).p
+      (inner_around d p name).is_escaping (inner_around d p name).in_image c)
+      (inner_of d p name).pieces) (sym (is_blocks-same (content_of name Blocks) blocks)) b.prints);
   heading = subst (λ b. Waiting w b 0 (unwrap_or (here_of d p name).found.heading p.before.heading))
       (sym (no_wait name plain.setext blocks waits)) tt;
   texts = no-footnote d w b.notes p name plain.footnote b.texts;
@@ -172,11 +171,11 @@ no_footnotes d content (Node name start end children rest) around before other b
     (asked-after-node (false ≡ true) content name children (λ h. differ other h))) built.3
 
 -- a node in which something else stands
-pub around-others : (d : Document) (w : List ℕ) (p : Place) (name : Name) (waits : Bool) (m : ℕ) →
+pub around-others : {d : Document} {w : List ℕ} {p : Place} {name : Name} {m : ℕ} (waits : Bool) →
     Stands d p name → IsPlain name → is_blocks (content_inside Blocks name) ≡ false →
     Waiting w waits m p.before.heading → Costs d w p.before m
     (waits_past waits name) (here_of d p name)
-around-others d w p name waits m k plain blocks h =
+around-others {d = d} {w = w} {p = p} {name = name} {m = m} waits k plain blocks h =
     let s : Setting = counted_in d w 0 in
     let t : At = at_of d p name in
     let inner : Outcome = inner_of d p name in
@@ -192,8 +191,8 @@ around-others d w p name waits m k plain blocks h =
       body = 0;
       left = m;
       notes = 0;
-      prints = plain-prints d w p name 0 k plain (inside-means s t Blocks name inner k.solid
-          k.stands k.fit k.built counted);
+      prints = plain-prints k plain (inside-means t Blocks name k.solid k.stands k.fit k.built
+          counted);
       heading = subst (λ found. Waiting w (waits_past waits name) m
           (unwrap_or found p.before.heading)) (sym (no_heading t name
           (layout d.context.ending inner.pieces) k.solid plain.setext))
