@@ -51,13 +51,12 @@ count-append (z ∷ zs) ys x = by (bytes_eq z x) (count-append zs ys x)
     by true e = omega (e, arith)
     by false e = omega (e, arith)
 
-count-middle : (xs ys : List (List ℕ)) (x : List ℕ) →
-    suc (count_of xs x) ≤ count_of (xs ++ x ∷ ys) x
-count-middle xs ys x = by (bytes_eq x x) (itself x) (count-append xs (x ∷ ys) x)
+count-middle : (xs ys : List (List ℕ)) (x : List ℕ) → suc (count_of xs x) ≤ count_of
+    (xs ++ x ∷ ys) x
+count-middle xs ys x = by (bytes_eq x x) (itself x) (count-append _ _ x)
   where
-    by : (is : Bool) → is ≡ true →
-        count_of (xs ++ x ∷ ys) x ≡ count_of xs x + ((cond is 1 0) + count_of ys x) →
-        suc (count_of xs x) ≤ count_of (xs ++ x ∷ ys) x
+    by : (is : Bool) → is ≡ true → count_of (xs ++ x ∷ ys) x ≡ count_of xs x
+        + ((cond is 1 0) + count_of ys x) → suc (count_of xs x) ≤ count_of (xs ++ x ∷ ys) x
     by true h e = omega (e, arith)
     by false h e = lie h
 
@@ -137,19 +136,18 @@ ids-append options all before (x ∷ xs) ys =
 -- a later call has another id
 pub ids-differ : (options : CompileOptions) → options.gfm_footnote_number_ids ≡ true →
     (all before mid : List (List ℕ)) (x y : List ℕ) → is_in x all ≡ true → length all + 1 < 2 ^ 64 →
-    length (before ++ x ∷ mid) + 1 < 2 ^ 64 →
-    id_after options all (before ++ x ∷ mid) y ≡ id_after options all before x → ⊥
+    length (before ++ x ∷ mid) + 1 < 2 ^ 64 → id_after options all (before ++ x ∷ mid) y ≡ id_after
+    options all before x → ⊥
 ids-differ options on all before mid x y among few small e =
     let n : ℕ = place_among (distinct all) x in
     let k : ℕ = suc (count_of before x) in
     let m : ℕ = place_among (distinct all) y in
     let l : ℕ = suc (count_of (before ++ x ∷ mid) y) in
-    let fewer : length before ≤ length (before ++ x ∷ mid) =
-    omega (length-append before (x ∷ mid), arith) in
-    let tails : back_prefix options ++ call_tail n k ≡ back_prefix options ++ call_tail m l =
-    sym (call-back options on x n k) ∙ sym e ∙ call-back options on y m l in
-    let parts = same-call options n m k l (omega (number-bound all x, few, arith))
-    (omega (number-bound all y, few, arith))
-    (omega (count-last before x, fewer, small, arith))
+    let fewer : length before ≤ length (before ++ x ∷ mid) = omega
+    (length-append before (x ∷ mid), arith) in
+    let tails : back_prefix options ++ call_tail n k ≡ back_prefix options ++ call_tail m l = sym
+    (call-back options on x n k) ∙ sym e ∙ call-back options on y m l in
+    let parts = same-call options _ _ _ _ (omega (number-bound all x, few, arith))
+    (omega (number-bound all y, few, arith)) (omega (count-last before x, fewer, small, arith))
     (omega (count-last (before ++ x ∷ mid) y, small, arith)) tails in
     calls-differ all before mid x y among parts.0 parts.1

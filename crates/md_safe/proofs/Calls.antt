@@ -85,9 +85,7 @@ call-read {test = test} {R = R} known a sup v w n h passes g r = subst R (call-r
     "\" data-footnote-ref=\"\" aria-describedby=\"footnote-label\">" ++ (n ++ codes "</a>"))))))
     refl refl (a.tag (attribute (codes "href") (35 ∷ v) ∷ attribute (codes "id") w ∷ attribute
     (codes "data-footnote-ref") [] ∷ attribute (codes "aria-describedby") (codes "footnote-label")
-    ∷ []) n (a_call v w h g) (pass_four test (attribute (codes "href") (35 ∷ v))
-    (attribute (codes "id") w) (attribute (codes "data-footnote-ref") []) (attribute
-    (codes "aria-describedby") (codes "footnote-label")) (known.anchor v) passes
+    ∷ []) n (a_call v w h g) (pass_four test _ _ _ _ (known.anchor v) passes
     (known.other (codes "data-footnote-ref") [] refl) (known.other (codes "aria-describedby")
     (codes "footnote-label") refl)) r))
 
@@ -150,12 +148,10 @@ backreference-read {test = test} {Q = Q} {options = options} known inside a sup 
     ∷ []) (arrow ++ occurrence_mark occurrence) (a_back v t
     (call_id-escaped options identifier number occurrence) (option-escaped
     (option_map string_bytes options.gfm_footnote_back_label) (codes "Back to content") refl))
-    (pass_four test (attribute (codes "href") (35 ∷ v))
-    (attribute (codes "data-footnote-backref") []) (attribute (codes "aria-label") t)
-    (attribute (codes "class") (codes "data-footnote-backref")) (known.anchor v)
-    (known.other (codes "data-footnote-backref") [] refl) (known.other (codes "aria-label") t refl)
-    (known.other (codes "class") (codes "data-footnote-backref") refl)) (inside.both arrow
-    (occurrence_mark occurrence) (inside.text arrow refl) mark)
+    (pass_four test _ _ _ _ (known.anchor v) (known.other (codes "data-footnote-backref") [] refl)
+    (known.other (codes "aria-label") t refl) (known.other (codes "class")
+    (codes "data-footnote-backref") refl)) (inside.both arrow (occurrence_mark occurrence)
+    (inside.text arrow refl) mark)
 
 -- the ways back to calls
 pub backreferences-read : {test : Attribute → Bool} {Q R : List ℕ → Type 0}

@@ -30,8 +30,7 @@ cell-flat : {test : Attribute → Bool} {Q R : List ℕ → Type 0} {ending : Li
 cell-flat {test = test} {R = R} {ending = ending} known tags in_head kind x r = by in_head kind
   where
     aligned : (value : List ℕ) → list_all test (attribute (codes "align") value ∷ []) ≡ true
-    aligned value = pass_one test (attribute (codes "align") value)
-        (known.other (codes "align") value refl)
+    aligned value = pass_one test _ (known.other (codes "align") value refl)
 
     by : (in_head : Bool) (kind : AlignKind) → Adds ending R (cell_texts in_head kind x)
     by true align.Left = adds-flat refl (tags.0.tag (attribute (codes "align") (codes "left") ∷ [])
@@ -63,8 +62,7 @@ pub adds-cell_in : {test : Attribute → Bool} {Q R : List ℕ → Type 0} {endi
     (in_head : Bool) (kind : Option AlignKind) (x : List ℕ) → Q x →
     Adds ending R (option_map_or (λ kind. cell_of in_head x kind) kind [])
 adds-cell_in known tags lined none in_head None x r = adds-nothing none
-adds-cell_in known tags lined none in_head (Some kind) x r = adds-cell known tags lined in_head kind
-    x r
+adds-cell_in known tags lined none in_head (Some kind) x r = adds-cell known tags lined _ _ x r
 
 pub adds-empty_cells : {test : Attribute → Bool} {Q R : List ℕ → Type 0} {ending : List ℕ}
     {options : CompileOptions} → IsTest test options → CellTags test Q R →

@@ -1,5 +1,5 @@
 -- The meaning of a document is flow content.
-use Rattle.std.proofs.Common.{◌≡◌, ℕ, Bool, true, false, sym, List, refl}
+use Rattle.std.proofs.Common.{◌≡◌, ℕ, Bool, false, sym, List, refl}
 use Rattle.md_base.specs.Tree.{Forest}
 use Rattle.md_text.specs.Html.{any_attribute}
 use Rattle.md_text.specs.declared.options.CompileOptions.{CompileOptions}
@@ -50,21 +50,16 @@ meaning-stands nested bytes names options document built placed keeps unnested =
     adds-alone (lays-both known.prints (section-prints nested d white keeps.usual_tag
     keeps.usual_attributes all.footnotes known.texts))
 
-pub meaning-contained :
-    (bytes : List ℕ) (names : List (List ℕ × List ℕ)) (options : CompileOptions) (document : Forest)
-    → IsGrammatical bytes names document → KeepsGrammar options →
+pub meaning-contained : (bytes : List ℕ) (names : List (List ℕ × List ℕ)) (options : CompileOptions)
+    (document : Forest) → IsGrammatical bytes names document → KeepsGrammar options →
     IsContained (meaning options names bytes document)
-meaning-contained bytes names options document grammatical keeps =
-    contained-once true (meaning options names bytes document) (meaning-stands true bytes names
-    options document (grammatical-built bytes names document grammatical)
-    (shaped-placed document grammatical.shape) keeps (λ no. lie (sym no)))
+meaning-contained bytes names options document grammatical keeps = contained-once _ _
+    (meaning-stands _ _ _ _ _ (grammatical-built bytes names document grammatical)
+    (shaped-placed _ grammatical.shape) keeps (λ no. lie (sym no)))
 
-pub meaning-unnested :
-    (bytes : List ℕ) (names : List (List ℕ × List ℕ)) (options : CompileOptions) (document : Forest)
-    → IsGrammatical bytes names document → KeepsGrammar options →
-    has_nested_link false document ≡ false →
-    IsUnnested (meaning options names bytes document)
-meaning-unnested bytes names options document grammatical keeps unnested =
-    contained-once false (meaning options names bytes document) (meaning-stands false bytes names
-    options document (grammatical-built bytes names document grammatical)
-    (shaped-placed document grammatical.shape) keeps (λ _. unnested))
+pub meaning-unnested : (bytes : List ℕ) (names : List (List ℕ × List ℕ)) (options : CompileOptions)
+    (document : Forest) → IsGrammatical bytes names document → KeepsGrammar options →
+    has_nested_link false document ≡ false → IsUnnested (meaning options names bytes document)
+meaning-unnested bytes names options document grammatical keeps unnested = contained-once _ _
+    (meaning-stands _ _ _ _ _ (grammatical-built bytes names document grammatical)
+    (shaped-placed _ grammatical.shape) keeps (λ _. unnested))

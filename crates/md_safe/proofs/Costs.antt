@@ -124,13 +124,11 @@ Below d w p name waits m =
     Costs d w (inner_before p name) m (waits_after waits p.children) (inner_of d p name)
 
 -- what a node costs is what its children do, and it itself where it is a call
-pub cost-parts : (d : Document) (w : List ℕ) (p : Place) (name : Name) →
-    due d w p.before.calls (here_of d p name).calls
-    ≡ due d w p.before.calls (inner_of d p name).calls
-    + due d w (p.before.calls ++ (inner_of d p name).calls)
-    (when (named GfmFootnoteCall name) (identifier_of d.context.bytes p.children ∷ []))
-cost-parts d w p name = due-append d w p.before.calls (inner_of d p name).calls
-    (when (named GfmFootnoteCall name) (identifier_of d.context.bytes p.children ∷ []))
+pub cost-parts : (d : Document) (w : List ℕ) (p : Place) (name : Name) → due d w p.before.calls
+    (here_of d p name).calls ≡ due d w p.before.calls (inner_of d p name).calls + due d w
+    (p.before.calls ++ (inner_of d p name).calls) (when
+    (named GfmFootnoteCall name) (identifier_of d.context.bytes p.children ∷ []))
+cost-parts d w p name = due-append d w _ _ _
 
 pub cost-least : (d : Document) (w : List ℕ) (p : Place) (name : Name) →
     due d w p.before.calls (inner_of d p name).calls

@@ -138,7 +138,7 @@ items-counted : (d : Document) (w : List ℕ) (footnotes : List Footnote) (n : �
     (Counts w (occurs w (note_ids d.context.options d.context.calls identifiers)
     + n)) (flat_map (item d.context footnotes) identifiers)
 items-counted d w footnotes n [] texts = adds-nothing
-    (counts-more w 0 (0 + n) [] (omega arith) (counts-none w))
+    (counts-more w _ _ _ (omega arith) (counts-none w))
 items-counted d w footnotes n (identifier ∷ others) texts =
     let number : ℕ = place_among (distinct d.context.calls) identifier in
     let id : List ℕ = id_of d.context.options (codes "fn-") identifier number in
@@ -146,15 +146,13 @@ items-counted d w footnotes n (identifier ∷ others) texts =
     let later : ℕ = occurs w (note_ids d.context.options d.context.calls others) in
     let total : ℕ = occurs w (note_ids d.context.options d.context.calls (identifier ∷ others)) + n
     in
-    adds-append (λ x y a b. counts-more w ((hit + texts.0) + (later + texts.1)) total (x ++ y)
-    (omega (
+    adds-append (λ x y a b. counts-more w _ _ _ (omega (
       occurs-first w (read_back id) (note_ids d.context.options d.context.calls others),
       texts.2,
       arith,
-    ))
-    (counts-join w (hit + texts.0) (later + texts.1) x y a b)) (item-prints (counted_in d w texts.0)
-    (counted_in d w (hit + texts.0)).p footnotes identifier (item-turn d w texts.0 id (id-escaped
-    d.context.options (codes "fn-") identifier number refl)) texts.3)
+    )) (counts-join w (hit + texts.0) (later + texts.1) x y a b)) (item-prints
+    (counted_in d w texts.0) (counted_in d w (hit + texts.0)).p footnotes identifier (item-turn d w
+    texts.0 id (id-escaped d.context.options (codes "fn-") identifier number refl)) texts.3)
     (items-counted d w footnotes texts.1 others texts.4)
 
 -- the heading, and the tags of the section around its items
@@ -168,8 +166,7 @@ section-counted d w keeps footnotes n texts =
     let s : Setting = counted_in d w k in
     let q : Claim = (counted_in d w (occurs w label_id + k)).p in
     let label : List ℕ = heading_label_of d.context.options in
-    section-around s q (turn-after (codes "<h2 id=\"footnote-label\" class=\"sr-only\">"
-    ++ (label ++ codes "</h2>")) ((bracket-tag q (codes "section")).tag (attribute
+    section-around s q (turn-after _ ((bracket-tag q (codes "section")).tag (attribute
     (codes "data-footnotes") [] ∷ attribute (codes "class") (codes "footnotes") ∷ []) refl refl)
     (λ x held. counts-join w (occurs w label_id) k (codes
     "<h2 id=\"footnote-label\" class=\"sr-only\">" ++ (label ++ codes "</h2>")) x
@@ -205,31 +202,21 @@ document-counts d w document keeps built underlined called =
     let last : Prints (counted_in d w 0) (Counts w rest) (section d.context all.footnotes) =
     section-counted d w keeps all.footnotes b.notes (texts-for w b.notes all.footnotes
     (distinct d.context.calls) (distinct-apart d.context.calls) b.texts) in
-    counts-more w (b.body + rest) (occurs w label_id + noted + occurs w (ids_after d.context.options
-    d.context.calls [] d.context.calls)) (layout d.context.ending
-    (all.pieces ++ section d.context all.footnotes)) (omega (
+    counts-more w _ _ _ (omega (
       b.few,
       ap (λ calls. occurs w (ids_after d.context.options d.context.calls [] calls)) called,
       arith,
-    ))
-    (adds-alone {f = Counts w (b.body + rest)}
+    )) (adds-alone {f = Counts w (b.body + rest)}
     (adds-append (counts-join w b.body rest) b.prints last))
 
 -- each id stands in a document once at most
 pub document-counted : (d : Document) (w : List ℕ) (document : Forest) →
-    KeepsGrammar d.context.options →
-    d.context.options.gfm_footnote_number_ids ≡ true → IsBuilt d.context.bytes Blocks document →
-    IsUnderlined false document → length d.context.calls + 2 < 2 ^ 64 →
-    (outcome d.context outermost nothing_before document).calls ≡ d.context.calls
-    → Counts w 1 (layout d.context.ending ((outcome d.context outermost nothing_before
-    document).pieces
-    ++ section d.context (outcome d.context outermost nothing_before document).footnotes))
-document-counted d w document keeps on built underlined small called =
-    counts-more w
-    (occurs w label_id + occurs w (note_ids d.context.options d.context.calls
-    (distinct d.context.calls))
-    + occurs w (ids_after d.context.options d.context.calls [] d.context.calls)) 1
+    KeepsGrammar d.context.options → d.context.options.gfm_footnote_number_ids ≡ true →
+    IsBuilt d.context.bytes Blocks document → IsUnderlined false document →
+    length d.context.calls + 2 < 2 ^ 64 →
+    (outcome d.context outermost nothing_before document).calls ≡ d.context.calls → Counts w 1
     (layout d.context.ending ((outcome d.context outermost nothing_before document).pieces
     ++ section d.context (outcome d.context outermost nothing_before document).footnotes))
+document-counted d w document keeps on built underlined small called = counts-more w _ _ _
     (document-once d.context.options on w d.context.calls small)
     (document-counts d w document keeps built underlined called)

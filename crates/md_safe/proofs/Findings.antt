@@ -118,10 +118,9 @@ found-node t _ i = record { heading = λ _. tt; title = tt; resource = tt }
 pub note-node : {s : Setting} {content : Content} {inner : List Piece} (t : At) (name : Name) →
     Inner s t content name inner → named GfmFootnoteDefinition name ≡ true →
     Reads s (layout s.context.ending inner)
-note-node {s = s} {content = content} {inner = inner} t GfmFootnoteDefinition i is = blocks-read s
-    t.around.is_escaping t.around.in_image content (note-blocks content i.stands)
-    (layout s.context.ending inner) (adds-alone (inside-alone s t content GfmFootnoteDefinition
-    i.stands i.fit i.built inner i.before))
+note-node {s = s} {content = content} {inner = inner} t GfmFootnoteDefinition i is = blocks-read s _
+    _ _ (note-blocks _ i.stands) _ (adds-alone
+    (inside-alone s t _ _ i.stands i.fit i.built _ i.before))
 note-node t _ i is = lie is
 
 -- of two things that were found the later one

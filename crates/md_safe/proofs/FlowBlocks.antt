@@ -52,15 +52,13 @@ pub unclosed : (stack : List Open) → HasNoParagraph stack → close_p stack �
 unclosed stack none = past _ none refl
 
 -- a block before which only a paragraph is closed, an item, and a heading
-pub plain : {name : List ℕ} → IsOuter name →
-    ((attributes : List TokenAttribute) (p : Parser) → start_in_body name attributes p
-    ≡ Some (insert name attributes (record p { stack = close_p p.stack }))) →
-    EndsBlock name → KeepsParagraph name → IsBlock name
+pub plain : {name : List ℕ} → IsOuter name → ((attributes : List TokenAttribute) (p : Parser) →
+    start_in_body name attributes p ≡ Some (insert name attributes
+    (record p { stack = close_p p.stack }))) → EndsBlock name → KeepsParagraph name → IsBlock name
 plain {name = name} names starts ends keeps = record {
   names = names;
-  starts = λ attributes x none calm item. starts attributes (parser_of x)
-      ∙ ap (λ stack. Some (insert name attributes (record (parser_of x) { stack = stack })))
-      (unclosed (x.node ∷ x.others) none);
+  starts = λ attributes x none calm item. starts attributes (parser_of x) ∙ ap (λ stack. Some
+      (insert name attributes (record (parser_of x) { stack = stack }))) (unclosed _ none);
   ends = ends;
   keeps_p = keeps;
 }
@@ -68,11 +66,10 @@ plain {name = name} names starts ends keeps = record {
 pub li-block : IsBlock (codes "li")
 li-block = record {
   names = outside refl refl refl refl;
-  starts = λ attributes x none calm item.
-      ap (λ stack. Some (insert (codes "li") attributes
-      (record (parser_of x) { stack = close_p stack }))) (past _ (item refl) refl)
-      ∙ ap (λ stack. Some (insert (codes "li") attributes (record (parser_of x) { stack = stack })))
-      (unclosed (x.node ∷ x.others) none);
+  starts = λ attributes x none calm item. ap (λ stack. Some (insert (codes "li") attributes
+      (record (parser_of x) { stack = close_p stack }))) (past _ (item refl) refl) ∙ ap (λ stack.
+      Some (insert (codes "li") attributes (record (parser_of x) { stack = stack })))
+      (unclosed _ none);
   ends = λ i t c x. refl;
   keeps_p = λ i t c s other none. none;
 }
@@ -104,9 +101,8 @@ pub block-passes : {x : Position} {name : List ℕ} {attributes : List Attribute
 block-passes {x = x} {name = name} {attributes = attributes} {inner = inner} body k none calm item
     d =
     let those : List TokenAttribute = seen_attributes attributes in
-    passes x.active d.left (parser_of (within x name those x.active)) body k.names
-    (k.starts those x none calm item) (λ ys. refl) d (k.ends x.created those (put NoNode inner)
-    (with_children x x.node.children d.left d.more)) d.keeps
+    passes _ _ _ body k.names (k.starts those x none calm item) (λ ys. refl) d (k.ends x.created
+    those (put NoNode inner) (with_children x x.node.children d.left d.more)) d.keeps
 
 -- ---- preformatted code
 

@@ -107,8 +107,7 @@ turns-info m true x (inr e) = lie (ap (λ tag. bytes_eq tag code_tag) e.3)
 raw-node : (m : Claims) (t : At) (name : Name) → is_raw name ≡ true → (inner : List Piece) →
     Known m t name inner → Prints m Flow (prints m.s.context t name inner)
 raw-node m t name is inner k = subst (Prints m Flow) (sym (raw-prints m.s.context t name is inner))
-    (by (is_math name) (inside-is m.s t Blocks (cond (is_math name) FirstMathFence FirstFence) name
-    inner (in-raw name is) k.within))
+    (by (is_math name) (inside-is m.s t Blocks _ name inner (in-raw name is) k.within))
   where
     around : Surroundings
     around = inside m.s.context.options (is_loose t.children) name t.around

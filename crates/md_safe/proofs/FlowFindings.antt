@@ -53,8 +53,7 @@ pub note-found : (nested : Bool) (d : Document) (content : Content) (name : Name
     may_place (with_links content) (sort_of name) ≡ true → Own nested d content name inner.pieces →
     Stands nested Flow (layout d.context.ending inner.pieces)
 note-found nested d content GfmFootnoteDefinition inner is stands a = adds-alone (subst (λ c. Prints
-    nested d (place_in nested c GfmFootnoteDefinition) inner.pieces) (block-flow content stands)
-    (a refl))
+    nested d (place_in nested c GfmFootnoteDefinition) inner.pieces) (block-flow _ stands) (a refl))
 note-found nested d content _ inner is stands a = lie is
 
 pub heading-both : (nested : Bool) (first later : Option (List ℕ)) → IsHeading nested first →

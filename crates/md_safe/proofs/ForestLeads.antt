@@ -63,11 +63,8 @@ forest-leads {left = left} (Text bytes rest) r t h n k =
     let q = and_parts _ _ p.0 in
     let s = and_parts _ _ q.0 in
     let on = forest_before rest r in
-    along Data (with_line_feeds bytes ++ (with_line_feeds on ++ left))
-    (with_line_feeds (bytes ++ on) ++ left) (map Character (seen bytes) ++ (tokens rest ++ t))
-    ((map Character (seen bytes) ++ tokens rest) ++ t) (sym (append_assoc (with_line_feeds bytes)
-    (with_line_feeds on) left) ∙ ap (λ y. y ++ left) (sym
-    (line_feeds-append bytes on (after_text rest r q.1 n)))) (sym
+    along Data _ _ _ _ (sym (append_assoc (with_line_feeds bytes) (with_line_feeds on) left) ∙ ap
+    (λ y. y ++ left) (sym (line_feeds-append bytes on (after_text rest r q.1 n)))) (sym
     (append_assoc (map Character (seen bytes)) (tokens rest) t)) (text-leads left
     (with_line_feeds bytes) (line_feeds-escaped bytes s.1) (with_line_feeds on ++ left)
     (tokens rest ++ t) (forest-leads rest r t p.1 n k))
@@ -76,12 +73,9 @@ forest-leads {left = left} (Void name attributes rest) r t h n k =
     let good = void-good name attributes p.0 in
     let on = forest_before rest r in
     let token = StartTag name (seen_attributes attributes) true in
-    along Data (60 ∷ (name ++ attributes_before (lined attributes)
-    (32 ∷ 47 ∷ 62 ∷ (with_line_feeds on ++ left)))) (60 ∷ (with_line_feeds
-    (name ++ attributes_before attributes (32 ∷ 47 ∷ 62 ∷ on)) ++ left))
-    (token ∷ (tokens rest ++ t)) (token ∷ (tokens rest ++ t)) (ap (λ y. 60 ∷ y) (tag-lined name
-    attributes (32 ∷ 47 ∷ 62 ∷ on) left good.0 good.1)) refl (void-leads name attributes
-    (with_line_feeds on ++ left) (tokens rest ++ t) good.0 good.1 (forest-leads rest r t p.1 n k))
+    along Data _ _ _ _ (ap (λ y. 60 ∷ y) (tag-lined name attributes (32 ∷ 47 ∷ 62 ∷ on) left good.0
+    good.1)) refl (void-leads name attributes (with_line_feeds on ++ left) (tokens rest ++ t) good.0
+    good.1 (forest-leads rest r t p.1 n k))
 forest-leads {left = left} (Element name attributes children rest) r t h n k =
     let p = and_parts _ _ h in
     let q = and_parts _ _ p.0 in
@@ -91,27 +85,18 @@ forest-leads {left = left} (Element name attributes children rest) r t h n k =
     let inside = forest_before children close in
     let token = StartTag name (seen_attributes attributes) false in
     let later : List Token = EndTag name ∷ (tokens rest ++ t) in
-    let ending : To left Data (with_line_feeds close ++ left) later = along Data
-    (60 ∷ 47 ∷ (name ++ (62 ∷ (with_line_feeds on ++ left))))
-    (60 ∷ 47 ∷ (with_line_feeds (name ++ (62 ∷ on)) ++ left)) later later (ap (λ y. 60 ∷ 47 ∷ y)
-    (tag-lined name [] (62 ∷ on) left good.0 refl)) refl (end-leads name
+    let ending : To left Data (with_line_feeds close ++ left) later = along Data _ _ _ _ (ap
+    (λ y. 60 ∷ 47 ∷ y) (tag-lined name [] (62 ∷ on) left good.0 refl)) refl (end-leads name
     (with_line_feeds on ++ left) (tokens rest ++ t) good.0 (forest-leads rest r t p.1 n k)) in
-    along Data (60 ∷ (name ++ attributes_before (lined attributes)
-    (62 ∷ (with_line_feeds inside ++ left)))) (60 ∷ (with_line_feeds
-    (name ++ attributes_before attributes (62 ∷ inside)) ++ left))
-    (token ∷ (tokens children ++ later)) (token
-    ∷ ((tokens children ++ (EndTag name ∷ tokens rest)) ++ t)) (ap (λ y. 60 ∷ y) (tag-lined name
-    attributes (62 ∷ inside) left good.0 good.1)) (ap (λ y. token ∷ y) (sym (append_assoc
-    (tokens children) (EndTag name ∷ tokens rest) t))) (element-leads name attributes
-    (with_line_feeds inside ++ left) (tokens children ++ later) good.0 good.1
-    (forest-leads children close later q.1 refl ending))
+    along Data _ _ _ _ (ap (λ y. 60 ∷ y) (tag-lined name attributes (62 ∷ inside) left good.0
+    good.1)) (ap (λ y. token ∷ y) (sym (append_assoc (tokens children) (EndTag name ∷ tokens rest)
+    t))) (element-leads name attributes (with_line_feeds inside ++ left) (tokens children ++ later)
+    good.0 good.1 (forest-leads children close later q.1 refl ending))
 
 pub forest-ends : (f : Forest) → is_forest f ≡ true → EndsInDataState (written f) (tokens f)
-forest-ends f h left =
-    along Data (with_line_feeds (forest_before f []) ++ left) (with_line_feeds (written f) ++ left)
-    (tokens f ++ []) (tokens f)
-    (ap (λ y. with_line_feeds y ++ left) (sym (written-before f []) ∙ append-nil (written f)))
-    (append-nil (tokens f)) (forest-leads f [] [] h refl (arrived left))
+forest-ends f h left = along Data _ _ _ _ (ap (λ y. with_line_feeds y ++ left)
+    (sym (written-before f []) ∙ append-nil (written f))) (append-nil (tokens f))
+    (forest-leads f [] [] h refl (arrived left))
 
 pub reading-ends : (text : List ℕ) (f : Forest) → IsReading text f → EndsInDataState text (tokens f)
 reading-ends text f reading =

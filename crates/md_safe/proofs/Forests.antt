@@ -196,14 +196,11 @@ means s (Node name start end children rest) around before content built r =
       found = record {
         heading = λ is. later-heading s here.found.heading others.found.heading (own.heading is)
             (after.found.heading (blocks-after-node content name children is));
-        title = later-title here.found.title others.found.title own.title after.found.title;
-        resource = later-resource here.found.resource others.found.resource own.resource
-            after.found.resource;
+        title = later-title _ _ own.title after.found.title;
+        resource = later-resource _ _ own.resource after.found.resource;
       };
-      titles = titles-append here.definitions others.definitions (titles-append inner.definitions
-          (when (named Definition name) (defined ∷ [])) within.titles (cond_both
-          (named Definition name) (defined ∷ []) [] AreTitles (λ _. (within.found.title, tt))
-          (λ _. tt))) after.titles;
+      titles = titles-append _ _ (titles-append _ _ within.titles (cond_both (named Definition name)
+          (defined ∷ []) [] AreTitles (λ _. (within.found.title, tt)) (λ _. tt))) after.titles;
       texts = texts-append (Reads s) here.footnotes others.footnotes (texts-append (Reads s)
           inner.footnotes (when (named GfmFootnoteDefinition name) (noted ∷ [])) within.texts
           (cond_both (named GfmFootnoteDefinition name) (noted ∷ []) [] (AreRead s)

@@ -42,31 +42,25 @@ adopted : (mode : Mode) (node : Open) (others : List Open) (kept : List Entry) (
 adopted mode node others kept more identity name attributes children self plain =
     rw (self_same identity, self, adopt, self_same identity, plain) refl
 
-formatting-ends :
-    (mode : Mode) (node : Open) (others : List Open) (active left : List Entry) (more identity : ℕ)
-    (name : List ℕ) (attributes : List TokenAttribute) (children : Nodes) →
-    is_one_of special name ≡ false →
-    bytes_eq name name ≡ true → AreCreated identity active →
-    Keeps (Formatting identity name attributes ∷ active) left →
-    (kept : List Entry)
+formatting-ends : (mode : Mode) (node : Open) (others : List Open) (active left : List Entry)
+    (more identity : ℕ) (name : List ℕ) (attributes : List TokenAttribute) (children : Nodes) →
+    is_one_of special name ≡ false → bytes_eq name name ≡ true → AreCreated identity active →
+    Keeps (Formatting identity name attributes ∷ active) left → (kept : List Entry)
     × (end_formatting name (at mode (element_of identity name attributes children ∷ node ∷ others)
-    left more) ≡ Some (at mode
-    (popped (element_of identity name attributes children ∷ node ∷ others)) kept more))
-    × Keeps active kept
-formatting-ends mode node others active left more identity name attributes children
-    plain self made (inl k) = (
+    left more) ≡ Some (at mode (popped (element_of identity name attributes children ∷ node
+    ∷ others)) kept more)) × Keeps active kept
+formatting-ends mode node others active left more identity name attributes children plain self made
+    (inl k) = (
       left,
-      rw (self, not-active identity left (keeps-created identity active left made k)) refl,
+      rw (self, not-active _ _ (keeps-created _ _ _ made k)) refl,
       k,
     )
-formatting-ends mode node others active left more identity name attributes children plain
-    self made (inr k) = (
+formatting-ends mode node others active left more identity name attributes children plain self made
+    (inr k) = (
       k.0,
-      subst (λ left. end_formatting name
-          (at mode (element_of identity name attributes children ∷ node ∷ others) left more)
-          ≡ Some (at mode (popped (element_of identity name attributes children ∷ node ∷ others))
-          k.0 more)) (sym k.1)
-          (adopted mode node others k.0 more identity name attributes children self plain),
+      subst (λ left. end_formatting name (at mode (element_of identity name attributes children
+          ∷ node ∷ others) left more) ≡ Some (at mode (popped (element_of identity name attributes
+          children ∷ node ∷ others)) k.0 more)) (sym k.1) (adopted _ _ _ _ _ _ _ _ _ self plain),
       k.2,
     )
 

@@ -78,13 +78,12 @@ adds-link {test = test} {R = R} {ending = ending} {options = options} known tagg
     by : (title : Option (List ℕ)) → IsEscapedTitle title → Adds ending R (anchor options
         (record { destination = target.destination; title = title }) label)
     by None h = adds-flat refl (tagged.tag (attribute (codes "href") v ∷ []) label
-        (a_href v (href-escaped options target.destination)) (pass_one test
-        (attribute (codes "href") v) (known.link target.destination)) r)
+        (a_href v (href-escaped options target.destination))
+        (pass_one test _ (known.link target.destination)) r)
     by (Some title) h = adds-flat refl (tagged.tag (attribute (codes "href") v ∷ attribute
         (codes "title") title ∷ []) label (a_href_title v title
-        (href-escaped options target.destination) h) (pass_two test (attribute (codes "href") v)
-        (attribute (codes "title") title) (known.link target.destination)
-        (known.other (codes "title") title refl)) r)
+        (href-escaped options target.destination) h) (pass_two test _ _
+        (known.link target.destination) (known.other (codes "title") title refl)) r)
 
 -- an image
 pub adds-image : {test : Attribute → Bool} {R : List ℕ → Type 0} {ending : List ℕ}
@@ -100,12 +99,10 @@ adds-image {test = test} {R = R} {ending = ending} {options = options} known sin
     by : (title : Option (List ℕ)) → IsEscapedTitle title → Adds ending R (picture options
         (record { destination = target.destination; title = title }) label)
     by None h = adds-flat refl (single.tag (attribute (codes "src") v ∷ attribute (codes "alt")
-        label ∷ []) (img v label (src-escaped options target.destination) e) (pass_two test
-        (attribute (codes "src") v) (attribute (codes "alt") label) (known.image target.destination)
-        (known.other (codes "alt") label refl)))
+        label ∷ []) (img v label (src-escaped options target.destination) e) (pass_two test _ _
+        (known.image target.destination) (known.other (codes "alt") label refl)))
     by (Some title) h = adds-flat refl (single.tag (attribute (codes "src") v ∷ attribute
         (codes "alt") label ∷ attribute (codes "title") title ∷ []) (img_title v label title
-        (src-escaped options target.destination) e h) (pass_three test (attribute (codes "src") v)
-        (attribute (codes "alt") label) (attribute (codes "title") title)
+        (src-escaped options target.destination) e h) (pass_three test _ _ _
         (known.image target.destination) (known.other (codes "alt") label refl)
         (known.other (codes "title") title refl)))

@@ -85,8 +85,7 @@ info_or_meta-node : (s : Setting) (t : At) (name : Name) → t.around.is_escapin
     may_stand InfoAndMeta name ≡ true → (inner rest : List Piece) →
     Inside s t InfoAndMeta name inner → Prints s (Here s t (content_past InfoAndMeta name)) rest →
     Prints s (IsInfo code_tag) (prints s.context t name inner ++ rest)
-info_or_meta-node s t CodeFencedFenceInfo e is inner rest a b = info-node s t.around.is_escaping e a
-    b
+info_or_meta-node s t CodeFencedFenceInfo e is inner rest a b = info-node s _ e a b
 info_or_meta-node s t CodeFencedFenceMeta e is inner rest a b = in_code-nil s b
 info_or_meta-node s t MathFlowFenceMeta e is inner rest a b = in_code-nil s b
 info_or_meta-node s t _ e is inner rest a b = lie is
@@ -215,8 +214,7 @@ any-node s t content name stands k inner rest = by (is_transparent name) refl
         Before s t (cond through content (content_of name content)) name inner → Prints s (Here s t
         (cond through (content_after content t.children) (content_past content name))) rest →
         Prints s (Here s t content) (prints s.context t name inner ++ rest)
-    by true e built a b = through-node s t content name e inner rest a b
+    by true e built a b = through-node s t _ _ e _ _ a b
     by false e built a b =
         let may : may_stand content name ≡ true = second _ _ e stands in
-        solid-node s t content name e may k inner rest
-        (inside-alone s t content name may k.fit built inner a) b
+        solid-node s t _ _ e may k _ _ (inside-alone s t _ _ may k.fit built _ a) b

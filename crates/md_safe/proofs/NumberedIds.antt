@@ -56,18 +56,16 @@ EndsInDigit x = is_digit (last_byte x) ≡ true
 onto-ends : (k n c : ℕ) (acc : List ℕ) → EndsInDigit (c ∷ acc) →
     EndsInDigit (digits_onto k 10 false n (c ∷ acc))
 onto-ends zero n c acc h = h
-onto-ends (suc k) n c acc h =
-    cond_both (n / 10 == 0) (digit_glyph false (n % 10) ∷ c ∷ acc)
-    (digits_onto k 10 false (n / 10) (digit_glyph false (n % 10) ∷ c ∷ acc)) EndsInDigit
-    (λ _. h) (λ _. onto-ends k (n / 10) (digit_glyph false (n % 10)) (c ∷ acc) h)
+onto-ends (suc k) n c acc h = cond_both (n / 10 == 0) (digit_glyph false (n % 10) ∷ c ∷ acc)
+    (digits_onto k 10 false (n / 10) (digit_glyph false (n % 10) ∷ c ∷ acc)) EndsInDigit (λ _. h)
+    (λ _. onto-ends k _ _ _ h)
 
 onto-first : (k n : ℕ) → EndsInDigit (digits_onto (suc k) 10 false n [])
 onto-first k n =
     let l : n % 10 < 10 = omega arith in
-    cond_both (n / 10 == 0) (digit_glyph false (n % 10) ∷ [])
-    (digits_onto k 10 false (n / 10) (digit_glyph false (n % 10) ∷ [])) EndsInDigit
-    (λ _. glyph-digit (n % 10) l)
-    (λ _. onto-ends k (n / 10) (digit_glyph false (n % 10)) [] (glyph-digit (n % 10) l))
+    cond_both (n / 10 == 0) (digit_glyph false (n % 10) ∷ []) (digits_onto k 10 false (n / 10)
+    (digit_glyph false (n % 10) ∷ [])) EndsInDigit (λ _. glyph-digit _ l)
+    (λ _. onto-ends k _ _ _ (glyph-digit _ l))
 
 decimal-ends : (n : ℕ) → EndsInDigit (decimal n)
 unfolding digits
@@ -174,8 +172,7 @@ same-call options n m k l hn hm hk hl e =
 pub note-no_call : (options : CompileOptions) (n m k : ℕ) → back_prefix options ++ note_tail n
     ≡ back_prefix options ++ call_tail m k → ⊥
 note-no_call options n m k e =
-    let tails : note_tail n ≡ call_tail m k =
-    append_cancel_left (back_prefix options) (note_tail n) (call_tail m k) e in
+    let tails : note_tail n ≡ call_tail m k = append_cancel_left (back_prefix options) _ _ e in
     cc tails
 
 pub label-no_digit : (x : List ℕ) → codes "footnote-label" ≡ x → EndsInDigit x → ⊥

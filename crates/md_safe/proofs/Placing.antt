@@ -96,10 +96,9 @@ reference-shows tail is = elim is [
   | inr (inr e) ↦ subst (λ t. list_all (may_show Phrasing) t ≡ true) (sym e) refl
 ]
 
-phrasing-shows : (first : Symbol) (tail : List Symbol) →
-    may_show Phrasing first ≡ true → IsTail first tail →
-    list_all (may_show Phrasing) tail ≡ true
-phrasing-shows symbol.ReferenceMarker tail h is = reference-shows tail is
+phrasing-shows : (first : Symbol) (tail : List Symbol) → may_show Phrasing first ≡ true →
+    IsTail first tail → list_all (may_show Phrasing) tail ≡ true
+phrasing-shows symbol.ReferenceMarker tail h is = reference-shows _ is
 phrasing-shows symbol.SetextText tail h is = lie h
 phrasing-shows first tail h is = subst (λ t. list_all (may_show Phrasing) t ≡ true) (sym is) refl
 
@@ -173,8 +172,7 @@ spot : (standing : Standing) (name : Name) (children : Forest) (around : Role)
     IsStanding standing around before children → list_all (may_show content)
     (shown standing (spine children) ++ others) ≡ true → Spot standing name children content others
 spot Through name children around before content others says stands h =
-    let whole = and_parts _ _ (sym (list_all-append (may_show content) (spine children) others) ∙ h)
-    in
+    let whole = and_parts _ _ (sym (list_all-append _ (spine children) others) ∙ h) in
     record {
       stands = ap (λ t. t || may_stand content (sort_of name)) says;
       inside = ap (λ t. list_all (may_show (if t then content else place_of name)) (spine children))

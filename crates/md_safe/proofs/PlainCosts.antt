@@ -131,11 +131,9 @@ no_definition : (content : Content) → may_stand content GfmFootnoteDefinition 
 no_definition Blocks h = refl
 no_definition _ h = lie h
 
-none_here : (content : Content) (name : Name) →
-    (is_transparent name || may_stand content name) ≡ true →
-    is_blocks content ≡ false → named GfmFootnoteDefinition name ≡ false
-none_here content GfmFootnoteDefinition stands other =
-    lie (differ other (no_definition content stands))
+none_here : (content : Content) (name : Name) → (is_transparent name || may_stand content name)
+    ≡ true → is_blocks content ≡ false → named GfmFootnoteDefinition name ≡ false
+none_here content GfmFootnoteDefinition stands other = lie (differ other (no_definition _ stands))
 none_here content _ stands other = refl
 
 -- no footnote is defined but among blocks

@@ -57,10 +57,9 @@ raw-enclosed : {W Q R : List ℕ → Type 0} {tag x y z : List ℕ} → Takes W 
     IsFramed W code_closing z → R (x ++ (y ++ z))
 raw-enclosed {R = R} {tag} {x} {y} {z} stays says a r c =
     let parts : R ((a.0 ++ tag) ++ ((r.attributes ++ (62 ∷ r.body))
-    ++ (c.before ++ (code_closing ++ c.after)))) = subst R (raw_regrouped a.0 tag r.attributes
-    r.body c.before code_closing c.after) (stays.take a.0 ((tag ++ (r.attributes ++ (62 ∷ [])))
-    ++ ((r.body ++ c.before) ++ code_closing)) c.after a.2 (r.turns.turn (r.body ++ c.before)
-    (says r.body c.before r.escaped c.is_before)) c.is_after) in
+    ++ (c.before ++ (code_closing ++ c.after)))) = subst R (raw_regrouped _ _ _ _ _ _ _) (stays.take
+    a.0 ((tag ++ (r.attributes ++ (62 ∷ []))) ++ ((r.body ++ c.before) ++ code_closing)) c.after a.2
+    (r.turns.turn (r.body ++ c.before) (says r.body c.before r.escaped c.is_before)) c.is_after) in
     subst (λ x. R (x ++ (y ++ z))) (sym a.1) (subst (λ y. R ((a.0 ++ tag) ++ (y ++ z)))
     (sym r.whole) (subst (λ z. R ((a.0 ++ tag) ++ ((r.attributes ++ (62 ∷ r.body)) ++ z)))
     (sym c.whole) parts))
@@ -80,8 +79,7 @@ adds-raw {W} {Q} {R} {tag = tag} beside stays says h a b = adds-append {f = IsBe
 -- the end of code, and of fenced code, with what is on a line of its own before it and after it
 pub code-end : {W : List ℕ → Type 0} {ending : List ℕ} → IsBeside W → W ending → (t : At) →
     Adds ending (IsFramed W code_closing) (code_end t)
-code-end beside h t = framed-after beside (adds-when beside
-    (list_any is_chunk (spine_names t.children)) (adds-needed beside h))
+code-end beside h t = framed-after beside (adds-when beside _ (adds-needed beside h))
 
 pub fenced-end : {W : List ℕ → Type 0} {ending : List ℕ} → IsBeside W → W ending → (t : At) → Adds
     ending (IsFramed W code_closing) (when (runs_out t)
@@ -94,9 +92,8 @@ fenced-end {W} {ending} beside h t =
     subst (λ x. Adds ending (IsFramed W code_closing) (out ++ x))
     (sym (append_assoc line (said code_closing) last)) (subst
     (Adds ending (IsFramed W code_closing)) (append_assoc out line (Text code_closing ∷ last))
-    (adds-framed (adds-append beside.both (adds-when beside (runs_out t) (adds-forced h))
-    (adds-when beside chunks (adds-needed beside h)))
-    (adds-when beside (is_unclosed t) (adds-needed beside h))))
+    (adds-framed (adds-append beside.both (adds-when beside _ (adds-forced h))
+    (adds-when beside _ (adds-needed beside h))) (adds-when beside _ (adds-needed beside h))))
 
 pub code_class : (v : List ℕ) → Escaped v → is_tag elements (codes "code")
     (attribute (codes "class") (codes "language-" ++ v) ∷ []) ≡ true

@@ -98,8 +98,7 @@ lowered-letters (b ∷ q) h =
     and_from (is_letter b) (list_all is_letter q) (lower-letter b p.0) (lowered-letters q p.1)
 
 letters-no_return : (q : List ℕ) → list_all is_letter q ≡ true → list_all no_return q ≡ true
-letters-no_return q h =
-    all-weaker is_letter no_return (λ b h. ap not (passes_not is_letter b 13 refl h)) q h
+letters-no_return q h = all-weaker _ _ (λ b h. ap not (passes_not is_letter b 13 refl h)) q h
 
 letter-control : (b : ℕ) → is_letter b ≡ true → is_control_or_space b ≡ false
 letter-control b h = elim (or_cases (is_between 65 90 b) (is_between 97 122 b) h) [
@@ -158,11 +157,10 @@ scheme_of-word : (q r : List ℕ) → is_word q ≡ true → scheme_of (with_lin
 scheme_of-word q r h =
     let letters = (and_parts _ _ h).1 in
     let lines = with_line_feeds r in
-    ap scheme_of (line_feeds-name q (58 ∷ r) (letters-no_return q letters)) ∙ ap (λ y.
-    in_scheme_start (without_newlines (without_trailing y))) (leading-word q (58 ∷ lines) h) ∙ ap
-    (λ y. in_scheme_start (without_newlines y)) (trailing-word q lines letters) ∙ ap in_scheme_start
-    (newlines-word q (without_trailing lines) letters) ∙ in_scheme_start-word q
-    (without_newlines (without_trailing lines)) h
+    ap scheme_of (line_feeds-name q _ (letters-no_return q letters)) ∙ ap (λ y. in_scheme_start
+    (without_newlines (without_trailing y))) (leading-word q _ h) ∙ ap
+    (λ y. in_scheme_start (without_newlines y)) (trailing-word q _ letters) ∙ ap in_scheme_start
+    (newlines-word q _ letters) ∙ in_scheme_start-word q _ h
 
 lowered-word : (q : List ℕ) → is_word (lowered q) ≡ true → is_word q ≡ true
 lowered-word [] h = h

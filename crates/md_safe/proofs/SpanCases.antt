@@ -199,15 +199,13 @@ spans-place name h is = picked _ _ _ (by name) (and_from _ _ (ap not h) is)
 
 -- spans stand in spans, of the same content but in a link
 spans-in : (nested : Bool) (content : Content) (name : Name) → is_spans content ≡ true →
-    is_hidden name ≡ false →
-    is_inline name ≡ true → named Link name ≡ false → place_in nested content name ≡ content
-spans-in nested content name spans shown is other =
-    place-other nested content name other
-    ∙ (ap (λ c. cond (is_linked content) (without_links c) c) (spans-place name shown is)
-    ∙ by content spans)
+    is_hidden name ≡ false → is_inline name ≡ true → named Link name ≡ false →
+    place_in nested content name ≡ content
+spans-in nested content name spans shown is other = place-other _ _ _ other ∙ (ap
+    (λ c. cond (is_linked content) (without_links c) c) (spans-place _ shown is) ∙ by content spans)
   where
-    by : (content : Content) → is_spans content ≡ true →
-        cond (is_linked content) Linked Phrasing ≡ content
+    by : (content : Content) → is_spans content ≡ true → cond (is_linked content) Linked
+        Phrasing ≡ content
     by Phrasing h = refl
     by Linked h = refl
     by _ h = lie h

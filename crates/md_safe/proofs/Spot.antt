@@ -107,9 +107,7 @@ pub target-title : (s : Setting) (t : At) → IsGoodTarget t.found.resource →
     IsEscapedTitle (leads_to s.context t).title
 target-title s t good = by t.found.resource good
   where
-    by : (resource : Option Target) → IsGoodTarget resource →
-        IsEscapedTitle (unwrap_or resource
+    by : (resource : Option Target) → IsGoodTarget resource → IsEscapedTitle (unwrap_or resource
         (target_defined s.context (identifier_of s.context.bytes t.children))).title
-    by None h = defined-title s.context.definitions (identifier_of s.context.bytes t.children)
-        s.titles
+    by None h = defined-title _ _ s.titles
     by (Some target) h = h

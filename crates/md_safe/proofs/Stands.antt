@@ -212,8 +212,7 @@ white_beside = record {
 pub takes-white : {nested : Bool} {content : Content} → is_spaced content ≡ true →
     Takes IsWhite (Stands nested content)
 takes-white is = record {
-  take = λ w x v h r g. stands-join w (x ++ v) (stands-white is h)
-      (stands-join x v r (stands-white is g));
+  take = λ w x v h r g. stands-join _ _ (stands-white is h) (stands-join _ _ r (stands-white is g));
 }
 
 -- ---- the tag of an element, which changes the content to another
@@ -224,8 +223,7 @@ pub turns-tag : {nested : Bool} (held : Content) {content : Content} {name : Lis
 turns-tag {nested} held {content} {name} opens = record {
   tag = λ attributes h a. record {
     turn = λ x r. subst (Stands nested content) (sym
-        (opening-before name attributes (x ++ closing_tag name)))
-        (stands-element name attributes x h opens r);
+        (opening-before name attributes (x ++ closing_tag name))) (stands-element _ _ x h opens r);
   };
 }
 

@@ -66,12 +66,8 @@ rcdata_step b rest p =
     in_value-plain b p = past _ p.no_nul refl
 
 rcdata-plain : (b : ℕ) (rest : List ℕ) → IsPlain b → RcdataRuns rest → RcdataRuns (b ∷ rest)
-rcdata-plain b rest p later r t h =
-    along Rcdata (b ∷ (rest ++ r)) (b ∷ (rest ++ r))
-    (Character b ∷ (map Character (read_back rest) ++ t))
-    (map Character (read_back (b ∷ rest)) ++ t) refl
-    (ap (λ x. map Character x ++ t) (sym (read_back-other b rest (plain-ne b p))))
-    (loud (Character b) (rcdata_step b (rest ++ r) p) (later r t h))
+rcdata-plain b rest p later r t h = along _ _ _ _ _ refl (ap (λ x. map Character x ++ t)
+    (sym (read_back-other b rest (plain-ne b p)))) (loud _ (rcdata_step b _ p) (later r t h))
 
 pub rcdata-runs : (x : List ℕ) → is_escaped x ≡ true → RcdataRuns x
 rcdata-runs x e =

@@ -40,8 +40,7 @@ is_data name =
 -- a text, encoded if that is required
 data-node : (s : Setting) (t : At) (holds : List ℕ → Type 0) → IsNarrow t.around.is_escaping holds →
     (x : List ℕ) → Prints s holds (escaped t x)
-data-node s t holds n x = adds-text (n (encoded t.around.is_escaping x)
-    (encoded-escaped t.around.is_escaping x))
+data-node s t holds n x = adds-text (n (encoded t.around.is_escaping x) (encoded-escaped _ x))
 
 -- a line ending
 pub line_ending-escaped : (s : Setting) (t : At) → is_line_ends (text_in s.context.bytes t.place)

@@ -41,8 +41,7 @@ either text false x y p q = q
 
 rebuilt : (parser : Parser) (change : Parser → Parser) → is_text (change parser).mode ≡ false →
     Tokenizes false (reconstructed parser change)
-rebuilt parser change e = either _ _ None (Some (change parser)) (nowhere false)
-    (to false (change parser) e)
+rebuilt parser change e = either _ _ _ _ (nowhere _) (to _ _ e)
 
 -- a tag in a body
 in-body : (name : List ℕ) (attributes : List TokenAttribute) (parser : Parser) →
@@ -132,21 +131,18 @@ after-text text tag all (Some parser) = all parser
 
 steps : (text : Bool) (name : List ℕ) (attributes : List TokenAttribute) (flag : Bool) →
     ((parser : Parser) → Tokenizes text (start parser.mode name attributes parser)) →
-    (parser : Parser) →
-    Tokenizes text (step parser (StartTag name attributes flag))
+    (parser : Parser) → Tokenizes text (step parser (StartTag name attributes flag))
 steps text name attributes flag all parser = by parser.mode
   where
     tag : Parser → Option Parser
     tag parser = start parser.mode name attributes parser
 
     by : (mode : Mode) → Tokenizes text (elim mode [
-      | InTableText original ↦
-          option_and_then tag (end_table_text original (record parser { skips_line_feed = false }))
+      | InTableText original ↦ option_and_then tag (end_table_text original
+          (record parser { skips_line_feed = false }))
       | _ ↦ tag (record parser { skips_line_feed = false })
     ])
-    by (InTableText original) =
-        after-text text tag all
-        (end_table_text original (record parser { skips_line_feed = false }))
+    by (InTableText original) = after-text _ _ all _
     by _ = all (record parser { skips_line_feed = false })
 
 pub switched :

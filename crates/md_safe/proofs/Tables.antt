@@ -6,9 +6,9 @@ use Rattle.md_text.specs.Bytes.{is_one_of}
 use Rattle.md_text.specs.Html.{Attribute, Forest}
 use Rattle.md_safe.specs.Token.{StartTag, EndTag, TokenAttribute}
 use Rattle.md_safe.specs.Tokens.{seen_attributes, tokens}
-use Rattle.md_safe.specs.Contents.{Content, Phrasing, Parts, Rows, Cells, elements_in, is_contained}
-use Rattle.md_safe.specs.Node.{Nodes, Entry, Marker, Mode, InTable, InTableBody, InRow, InCell}
-use Rattle.md_safe.specs.Node.{with_element, Empty as NoNode}
+use Rattle.md_safe.specs.Contents.{Content, Phrasing, Parts, Cells, elements_in, is_contained}
+use Rattle.md_safe.specs.Node.{Nodes, Entry, Marker, Mode, InTable, InRow, InCell, with_element}
+use Rattle.md_safe.specs.Node.{Empty as NoNode}
 use Rattle.md_safe.specs.Elements.{button_scope}
 use Rattle.md_safe.specs.Stack.{is_named, has_in_scope}
 use Rattle.md_safe.specs.InTable.{mode_for}
@@ -98,12 +98,9 @@ cells-put = also (cell-put (codes "th") (λ x t. refl) (λ x t i m. refl))
     (also (cell-put (codes "td") (λ x t. refl) (λ x t i m. refl)) tt)
 
 parts-put : Each (Puts InTable (codes "table")) (elements_in false Parts)
-parts-put =
-    also (element-put InTable (codes "table") InTableBody (codes "thead") Rows refl refl refl
-    (also (element-put InTableBody (codes "thead") InRow (codes "tr") Cells refl refl refl cells-put
-    (λ x t. refl) (λ x t i m. refl)) tt) (λ x t. refl) (λ x t i m. refl))
-    (also (element-put InTable (codes "table") InTableBody (codes "tbody") Rows refl refl refl
-    (also (element-put InTableBody (codes "tbody") InRow (codes "tr") Cells refl refl refl cells-put
+parts-put = also (element-put _ _ _ _ _ refl refl refl (also (element-put _ _ _ _ _ refl refl refl
+    cells-put (λ x t. refl) (λ x t i m. refl)) tt) (λ x t. refl) (λ x t i m. refl)) (also
+    (element-put _ _ _ _ _ refl refl refl (also (element-put _ _ _ _ _ refl refl refl cells-put
     (λ x t. refl) (λ x t i m. refl)) tt) (λ x t. refl) (λ x t i m. refl)) tt)
 
 -- ---- a table

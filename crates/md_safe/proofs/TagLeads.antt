@@ -154,31 +154,25 @@ pub good-emitted : (name : List ℕ) (x : List Attribute) (flag : Bool) (r : Lis
     ≡ Goes (StartTag name (kept (onto [] x)) flag ∷ []) Data r
 good-emitted name x flag r n = past _ (good-not_title name n) (here Stuck (good-leaves name n) refl)
 
-pub element-leads :
-    {left : List ℕ} (name : List ℕ) (x : List Attribute) (r : List ℕ) (t : List Token) →
-    is_good_name name ≡ true → are_good x ≡ true → To left Data r t →
-    To left Data (60 ∷ (name ++ attributes_before (lined x) (62 ∷ r)))
-    (StartTag name (seen_attributes x) false ∷ t)
+pub element-leads : {left : List ℕ} (name : List ℕ) (x : List Attribute) (r : List ℕ)
+    (t : List Token) → is_good_name name ≡ true → are_good x ≡ true → To left Data r t → To left
+    Data
+    (60 ∷ (name ++ attributes_before (lined x) (62 ∷ r))) (StartTag name (seen_attributes x) false ∷ t)
 element-leads name x r t n g h =
     let token = StartTag name (kept (onto [] x)) false in
-    along Data _ _ (token ∷ t) (StartTag name (seen_attributes x) false ∷ t) refl
-    (all-kept name x false t g)
-    (start-leads name x (62 ∷ r) (token ∷ t) n g (loud token (good-emitted name x false r n) h)
-    (loud token (good-emitted name x false r n) h))
+    along Data _ _ _ _ refl (all-kept name x false t g) (start-leads name x (62 ∷ r) (token ∷ t) n g
+    (loud token (good-emitted name x false r n) h) (loud token (good-emitted name x false r n) h))
 
-pub void-leads :
-    {left : List ℕ} (name : List ℕ) (x : List Attribute) (r : List ℕ) (t : List Token) →
-    is_good_name name ≡ true → are_good x ≡ true → To left Data r t →
-    To left Data (60 ∷ (name ++ attributes_before (lined x) (32 ∷ 47 ∷ 62 ∷ r)))
-    (StartTag name (seen_attributes x) true ∷ t)
+pub void-leads : {left : List ℕ} (name : List ℕ) (x : List Attribute) (r : List ℕ)
+    (t : List Token) → is_good_name name ≡ true → are_good x ≡ true → To left Data r t → To left
+    Data (60
+    ∷ (name ++ attributes_before (lined x) (32 ∷ 47 ∷ 62 ∷ r))) (StartTag name (seen_attributes x) true ∷ t)
 void-leads {left = left} name x r t n g h =
     let token = StartTag name (kept (onto [] x)) true in
-    let on : To left (BeforeAttributeName (tag_with false name (onto [] x)))
-    (47 ∷ 62 ∷ r) (token ∷ t) =
-    quiet refl (quiet refl (loud token (good-emitted name x true r n) h)) in
-    along Data _ _ (token ∷ t) (StartTag name (seen_attributes x) true ∷ t) refl
-    (all-kept name x true t g)
-    (start-leads name x (32 ∷ 47 ∷ 62 ∷ r) (token ∷ t) n g (quiet refl on) (quiet refl on))
+    let on : To left (BeforeAttributeName (tag_with false name (onto [] x))) (47 ∷ 62 ∷ r)
+    (token ∷ t) = quiet refl (quiet refl (loud token (good-emitted name x true r n) h)) in
+    along Data _ _ _ _ refl (all-kept name x true t g) (start-leads name x (32 ∷ 47 ∷ 62 ∷ r)
+    (token ∷ t) n g (quiet refl on) (quiet refl on))
 
 pub end-leads : {left : List ℕ} (name r : List ℕ) (t : List Token) → is_good_name name ≡ true →
     To left Data r t → To left Data (60 ∷ 47 ∷ (name ++ (62 ∷ r))) (EndTag name ∷ t)
@@ -188,17 +182,14 @@ end-leads name r t n h = quiet refl (quiet refl (quiet (closes name (62 ∷ r) (
 -- ---- a run of what follows a tag
 
 pub element-runs : (name : List ℕ) (x : List Attribute) (r : List ℕ) (t : List Token) →
-    is_good_name name ≡ true → are_good x ≡ true → IsRun Data r t →
-    IsRun Data (60 ∷ (name ++ attributes_before (lined x) (62 ∷ r)))
-    (StartTag name (seen_attributes x) false ∷ t)
-element-runs name x r t n g h =
-    runs-on Data _ r _ t (element-leads name x r [] n g (arrived r)) h
+    is_good_name name ≡ true → are_good x ≡ true → IsRun Data r t → IsRun Data
+    (60 ∷ (name ++ attributes_before (lined x) (62 ∷ r))) (StartTag name (seen_attributes x) false ∷ t)
+element-runs name x r t n g h = runs-on _ _ r _ t (element-leads _ x r _ n g (arrived r)) h
 
 pub void-runs : (name : List ℕ) (x : List Attribute) (r : List ℕ) (t : List Token) →
-    is_good_name name ≡ true → are_good x ≡ true → IsRun Data r t →
-    IsRun Data (60 ∷ (name ++ attributes_before (lined x) (32 ∷ 47 ∷ 62 ∷ r)))
-    (StartTag name (seen_attributes x) true ∷ t)
-void-runs name x r t n g h = runs-on Data _ r _ t (void-leads name x r [] n g (arrived r)) h
+    is_good_name name ≡ true → are_good x ≡ true → IsRun Data r t → IsRun Data (60
+    ∷ (name ++ attributes_before (lined x) (32 ∷ 47 ∷ 62 ∷ r))) (StartTag name (seen_attributes x) true ∷ t)
+void-runs name x r t n g h = runs-on _ _ r _ t (void-leads _ x r _ n g (arrived r)) h
 
 pub end-runs : (name r : List ℕ) (t : List Token) → is_good_name name ≡ true → IsRun Data r t →
     IsRun Data (60 ∷ 47 ∷ (name ++ (62 ∷ r))) (EndTag name ∷ t)

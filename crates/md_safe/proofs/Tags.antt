@@ -113,9 +113,8 @@ enclosed : {W Q R : List ℕ → Type 0} {o c x y z : List ℕ} → Takes W Q �
 enclosed {R = R} {o} {c} {x} {y} {z} takes stays turns a r b =
     let inside : List ℕ = a.after ++ (y ++ b.before) in
     let parts : R ((a.before ++ (o ++ a.after)) ++ (y ++ (b.before ++ (c ++ b.after)))) = subst R
-    (regrouped a.before o a.after y b.before c b.after) (stays.take a.before (o ++ (inside ++ c))
-    b.after a.is_before (turns.turn inside (takes.take a.after y b.before a.is_after r b.is_before))
-    b.is_after) in
+    (regrouped _ o _ y _ c _) (stays.take a.before (o ++ (inside ++ c)) b.after a.is_before
+    (turns.turn inside (takes.take a.after y b.before a.is_after r b.is_before)) b.is_after) in
     subst (λ x. R (x ++ (y ++ z))) (sym a.whole) (subst
     (λ z. R ((a.before ++ (o ++ a.after)) ++ (y ++ z))) (sym b.whole) parts)
 

@@ -50,8 +50,7 @@ pub all-tokens : (p : Token → Bool) (q : Attribute → Bool) → PassesTags p 
 all-tokens p q o Empty h k = refl
 all-tokens p q o (Text bytes rest) h k =
     let r = and_parts _ _ h in
-    all-append p (map Character (seen bytes)) (tokens rest) (all-characters p q o (seen bytes))
-    (all-tokens p q o rest r.1 k)
+    all-append p _ _ (all-characters p q o (seen bytes)) (all-tokens p q o rest r.1 k)
 all-tokens p q o (Void name attributes rest) h k =
     let r = and_parts _ _ h in
     let s = and_parts _ _ k in
@@ -61,9 +60,9 @@ all-tokens p q o (Element name attributes children rest) h k =
     let u = and_parts _ _ r.0 in
     let s = and_parts _ _ k in
     let v = and_parts _ _ s.0 in
-    and_from _ _ (o.starts name attributes u.0 v.0) (all-append p (tokens children)
-    (EndTag name ∷ tokens rest) (all-tokens p q o children u.1 v.1) (and_from _ _
-    (o.ends name attributes u.0) (all-tokens p q o rest r.1 s.1)))
+    and_from _ _ (o.starts name attributes u.0 v.0) (all-append p _ _
+    (all-tokens p q o children u.1 v.1) (and_from _ _ (o.ends name attributes u.0)
+    (all-tokens p q o rest r.1 s.1)))
 
 -- and the same for any tokens of a text
 pub all-tokenized : (p : Token → Bool) (q : Attribute → Bool) → PassesTags p q →
@@ -133,6 +132,5 @@ forest-listed f h =
     all-tokens is_listed any_attribute (listed-passes any_attribute) f h (all-any f)
 
 pub all_listed : (q : Attribute → Bool) (text : List ℕ) (x : List Token) →
-    HasOneReadingWith q text →
-    IsTokenized text x → list_all is_listed x ≡ true
-all_listed q text x one h = all-tokenized is_listed q (listed-passes q) text x one h
+    HasOneReadingWith q text → IsTokenized text x → list_all is_listed x ≡ true
+all_listed q text x one h = all-tokenized _ q (listed-passes q) _ x one h

@@ -91,27 +91,22 @@ image-test options keeps = record {
 }
 
 pub one-reading : (bytes : List ℕ) (names : List (List ℕ × List ℕ)) (options : CompileOptions)
-    (document : Forest) →
-    IsBuilt bytes Blocks document → KeepsGrammar options →
+    (document : Forest) → IsBuilt bytes Blocks document → KeepsGrammar options →
     HasOneReadingWith any_attribute (meaning options names bytes document)
-one-reading bytes names options document built keeps =
-    only_reading any_attribute (meaning options names bytes document) (meaning-reads any_attribute
-    bytes names options document (read_in (document_of bytes names options document built
-    keeps)).test (λ value. refl) built keeps)
+one-reading bytes names options document built keeps = only_reading any_attribute
+    (meaning options names bytes document) (meaning-reads _ _ _ _ _ (read_in
+    (document_of bytes names options document built keeps)).test (λ value. refl) built keeps)
 
 pub safe-links : (bytes : List ℕ) (names : List (List ℕ × List ℕ)) (options : CompileOptions)
-    (document : Forest) →
-    IsBuilt bytes Blocks document → KeepsLinks options →
+    (document : Forest) → IsBuilt bytes Blocks document → KeepsLinks options →
     HasOneReadingWith is_safe_link (meaning options names bytes document)
-safe-links bytes names options document built keeps =
-    only_reading is_safe_link (meaning options names bytes document) (meaning-reads is_safe_link
-    bytes names options document (link-test options keeps) (λ value. refl) built keeps.grammar)
+safe-links bytes names options document built keeps = only_reading is_safe_link
+    (meaning options names bytes document) (meaning-reads _ _ _ _ _ (link-test _ keeps)
+    (λ value. refl) built keeps.grammar)
 
 pub safe-images : (bytes : List ℕ) (names : List (List ℕ × List ℕ)) (options : CompileOptions)
-    (document : Forest) →
-    IsBuilt bytes Blocks document → KeepsImages options →
+    (document : Forest) → IsBuilt bytes Blocks document → KeepsImages options →
     HasOneReadingWith is_safe_image (meaning options names bytes document)
-safe-images bytes names options document built keeps =
-    only_reading is_safe_image (meaning options names bytes document)
-    (meaning-reads is_safe_image bytes names options document (image-test options keeps)
+safe-images bytes names options document built keeps = only_reading is_safe_image
+    (meaning options names bytes document) (meaning-reads _ _ _ _ _ (image-test _ keeps)
     (λ value. refl) built keeps.links.grammar)
