@@ -29,7 +29,7 @@ use Rattle.md_safe.proofs.Forests.{Ready, Means, ready-inside, ready-after, mean
 use Rattle.md_safe.proofs.Forests.{inside-means}
 use Rattle.md_safe.proofs.Spot.{Setting, Inside}
 use Rattle.md_safe.proofs.Costs.{Document, read_in, Place, here_of, inner_around, inner_before}
-use Rattle.md_safe.proofs.Costs.{inner_of, at_of, through-node}
+use Rattle.md_safe.proofs.Costs.{inner_of, at_of, place_at, through-node}
 use Rattle.md_safe.proofs.PlainCosts.{no_footnotes}
 use Rattle.md_depth.specs.Depth.{height}
 use Rattle.md_depth.proofs.Machine.{Leads, leads-quiet, leads-kept}
@@ -164,14 +164,7 @@ pub opens : (d : Document) (forest : Forest) (around : Surroundings) (before : B
 opens d Empty around before n f = record { prints = none d.context.ending n 0; heading = tt; texts =
     tt }
 opens d (Node name start end children rest) around before n f =
-    let p : Place = record {
-      around = around;
-      before = before;
-      start = start;
-      end = end;
-      children = children;
-      rest = rest;
-    } in
+    let p : Place = place_at around before start end children rest in
     let t : At = at_of d p name in
     let here : Outcome = here_of d p name in
     let next : Before = before_next t name here in

@@ -48,8 +48,8 @@ tokenized-only text after emits all h n k =
 pub own-tokens : (text : List ℕ) (emits : List Token) → EndsInDataState text emits →
     IsTokenized text (emits ++ (EndOfFile ∷ []))
 own-tokens text emits h = subst (λ x. IsRun Data x (emits ++ (EndOfFile ∷ [])))
-    (append-nil (with_line_feeds text)) (runs-on _ _ _ _ _ (h []) record
-    { steps = 1; emits = refl })
+    (append-nil (with_line_feeds text)) (runs-on _ _ _ _ _ (h [])
+    record { steps = 1; emits = refl })
 
 -- ---- a forest, before what doesn't begin with LF, and alone
 

@@ -20,6 +20,7 @@ linked-text false x h = stands-text h refl
 pub backreferences-stand : (nested : Bool) (d : Document) (identifier : List ℕ) (number count : ℕ) →
     Stands nested Phrasing (backreferences d.context.options identifier number count)
 backreferences-stand nested d identifier number count = backreferences-read (read_in d).test
-    (record { text = linked-text nested; both = stands-join }) (record
-    { text = λ x h. stands-text h refl; both = stands-join }) (stands-tag (in_link nested) refl)
-    (stands-tag (in_link nested) (sup-opens nested)) identifier number count
+    (record { text = linked-text nested; both = stands-join })
+    (record { text = λ x h. stands-text h refl; both = stands-join })
+    (stands-tag (in_link nested) refl) (stands-tag (in_link nested) (sup-opens nested)) identifier
+    number count

@@ -1,7 +1,7 @@
 -- The content model allows the meaning of a document's nodes: one induction over blocks, in
 -- addition to that of `md_safe`, which covers strings, code and images.
-use Rattle.std.proofs.Common.{◌≡◌, Bool, true, false, ◌&&◌, ◌||◌, cond, [], ◌∷◌, ◌++◌, refl, sym}
-use Rattle.std.proofs.Common.{ap, ◌∙◌, subst, append-nil}
+use Rattle.std.proofs.Common.{◌≡◌, Bool, true, false, ◌||◌, cond, [], ◌∷◌, refl, sym, ap, ◌∙◌}
+use Rattle.std.proofs.Common.{subst, append-nil}
 use Rattle.std.proofs.lemmas.Bool.{cond_both}
 use Rattle.md_base.proofs.Lies.{lie}
 use Rattle.md_base.specs.declared.event.Name.{Name}
@@ -10,9 +10,7 @@ use name_variants.{GfmFootnoteDefinition}
 use Rattle.md_base.specs.Is.{is as named}
 use Rattle.md_base.specs.Tree.{Forest, Empty, Node}
 use Rattle.md_base.specs.NameTests.{is_transparent}
-use Rattle.md_base.specs.Children.{is_empty}
 use Rattle.md_pattern.specs.Looseness.{is_loose}
-use Rattle.md_tree.specs.Rules.{place}
 use Rattle.md_meaning.specs.declared.surroundings.Surroundings.{Surroundings}
 use Rattle.md_meaning.specs.Meaning.Inherited.{inside}
 use Rattle.md_meaning.specs.Meaning.At.{Footnote, Before, At, identifier_of}
@@ -43,6 +41,7 @@ use Rattle.md_safe.proofs.Contents.{after-blocks}
 use Rattle.md_safe.proofs.Claims.{Known}
 use Rattle.md_safe.proofs.SpanCases.{Spanning}
 use Rattle.md_safe.proofs.FlowCases.{solid-node}
+use Rattle.md_safe.proofs.Spot.{at_in}
 
 -- what nodes mean, where their content stands
 pub record Means (nested : Bool) (d : Document) (content : Content) (means : Outcome) : Type 0 where
@@ -95,8 +94,8 @@ solid-means {nested = nested} {d = d} {content = content} {name = name} {t = t} 
       texts = texts-append (Stands nested Flow) inner.footnotes
           (when (named GfmFootnoteDefinition name) (noted ∷ []))
           (inner-texts (is_blocks (content_inside Blocks name)) refl) (cond_both
-          (named GfmFootnoteDefinition name) (noted ∷ []) [] (AreFlow nested) (λ is. (note-found
-          nested d content name inner is stands own-prints, tt)) (λ _. tt));
+          (named GfmFootnoteDefinition name) (noted ∷ []) [] (AreFlow nested) (λ is.
+          (note-found nested d content name inner is stands own-prints, tt)) (λ _. tt));
     }
   where
     same : is_blocks (content_inside Blocks name) ≡ is_blocks (content_of name Blocks)
@@ -140,15 +139,7 @@ means nested d (Node name start end children rest) around before content f =
     let around' : Surroundings = inside d.context.options (is_loose children) name around in
     let before' : Before = before_children name children before in
     let inner : Outcome = outcome d.context around' before' children in
-    let t : At = record {
-      around = around;
-      before = before;
-      children = children;
-      found = inner.found;
-      calls = before.calls ++ inner.calls;
-      place = place start end;
-      is_last = around.is_outermost && is_empty rest;
-    } in
+    let t : At = at_in around before start end children rest inner in
     let here : Outcome = node d.context t name inner in
     let next : Before = before_next t name here in
     let others : Outcome = outcome d.context around next rest in

@@ -26,6 +26,7 @@ use Rattle.md_safe.proofs.Forests.{Ready, Means, ready-inside, ready-after, mean
 use Rattle.md_safe.proofs.Counted.{Waiting, texts-append}
 use Rattle.md_safe.proofs.Costs.{Document, read_in, Costs, Place, here_of, due-append, inner_around}
 use Rattle.md_safe.proofs.Costs.{inner_before, inner_of, at_of, counts-none, through-spent}
+use Rattle.md_safe.proofs.Costs.{place_at}
 use Rattle.md_safe.proofs.PlainCosts.{Stands, is_special, IsPlain, around-blocks, around-others}
 use Rattle.md_safe.proofs.SpecialCosts.{BelowBlocks, IsAwaited, special-spent}
 
@@ -78,14 +79,7 @@ spent d w Empty around before waits m f h = record {
   few = omega arith;
 }
 spent d w (Node name start end children rest) around before waits m f h =
-    let p : Place = record {
-      around = around;
-      before = before;
-      start = start;
-      end = end;
-      children = children;
-      rest = rest;
-    } in
+    let p : Place = place_at around before start end children rest in
     let t : At = at_of d p name in
     let here : Outcome = here_of d p name in
     let next : Before = before_next t name here in

@@ -150,11 +150,11 @@ pub adds-task : {test : Attribute → Bool} {R : List ℕ → Type 0} {ending : 
     (checkable in_image : Bool) {inner : List Piece} → Adds ending (IsDone in_image) inner → Adds
     ending R ((Text (codes "<input type=\"checkbox\" ") ∷ when (not checkable)
     (said (codes "disabled=\"\" "))) ++ (inner ++ said (codes "/>")))
-adds-task {R = R} {ending} known single checkable in_image a = adds-append {g = λ w. (x : List ℕ)
-    × (w ≡ x ++ codes "/>") × ((x ≡ []) ⊎ (x ≡ codes "checked=\"\" "))} (λ x w f g. subst R (ap
-    (λ w. task_tag checkable ++ w) (sym g.1) ∙ ap (λ x. x ++ w) (sym f))
-    (task-read known single checkable g.0 g.2)) (first checkable) (adds-append (λ x y f g. (x, ap
-    (λ y. x ++ y) g, elim f [ inl e ↦ inl e | inr e ↦ inr e.1 ])) a
+adds-task {R = R} {ending} known single checkable in_image a = adds-append
+    {g = λ w. (x : List ℕ) × (w ≡ x ++ codes "/>") × ((x ≡ []) ⊎ (x ≡ codes "checked=\"\" "))}
+    (λ x w f g. subst R (ap (λ w. task_tag checkable ++ w) (sym g.1) ∙ ap (λ x. x ++ w) (sym f))
+    (task-read known single checkable g.0 g.2)) (first checkable) (adds-append (λ x y f g.
+    (x, ap (λ y. x ++ y) g, elim f [ inl e ↦ inl e | inr e ↦ inr e.1 ])) a
     (adds-flat {f = λ y. y ≡ codes "/>"} refl refl))
   where
     first : (checkable : Bool) → Adds ending (λ x. x ≡ task_tag checkable) (Text

@@ -153,8 +153,8 @@ flow-done (Element name attributes inner rest) content is h c x there =
     let parts = and_parts _ _ c in
     let held = found (Ruled content) (elements_in false content) name inner
     (flowing-rules content is) parts.0 in
-    let passed : Passed x name attributes inner = kind-passes held.1 there forests.0 held.2 (record
-    {
+    let passed : Passed x name attributes inner =
+    kind-passes held.1 there forests.0 held.2 (record {
       inline = λ inline y here. phrasing-done inner held.0 inline forests.0 held.2 y here;
       flowing = λ flowing y there'. flow-done inner held.0 flowing forests.0 held.2 y there';
     }) in

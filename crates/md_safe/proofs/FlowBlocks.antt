@@ -65,7 +65,7 @@ plain {name = name} names starts ends keeps = record {
 
 pub li-block : IsBlock (codes "li")
 li-block = record {
-  names = outside refl refl refl refl;
+  names = outside refl;
   starts = λ attributes x none calm item. ap (λ stack. Some (insert (codes "li") attributes
       (record (parser_of x) { stack = close_p stack }))) (past _ (item refl) refl) ∙ ap (λ stack.
       Some (insert (codes "li") attributes (record (parser_of x) { stack = stack })))
@@ -122,8 +122,7 @@ pub pre-passes : {x : Position} {attributes : List Attribute} {inner : Forest} �
     (seen_attributes attributes) x.active) inner → Passed x (codes "pre") attributes inner
 pre-passes {x = x} {attributes = attributes} {inner = inner} body none c d =
     let new : Parser = parser_of (within x (codes "pre") (seen_attributes attributes) x.active) in
-    passes x.active d.left (record new { skips_line_feed = true }) body
-    (outside refl refl refl refl) (ap (λ stack. Some (record (insert (codes "pre")
-    (seen_attributes attributes) (record (parser_of x) { stack = stack }))
-    { skips_line_feed = true })) (unclosed (x.node ∷ x.others) none))
-    (λ ys. pre-begins inner new ys c) d refl d.keeps
+    passes x.active d.left (record new { skips_line_feed = true }) body (outside refl) (ap (λ stack.
+    Some (record (insert (codes "pre") (seen_attributes attributes)
+    (record (parser_of x) { stack = stack })) { skips_line_feed = true }))
+    (unclosed (x.node ∷ x.others) none)) (λ ys. pre-begins inner new ys c) d refl d.keeps

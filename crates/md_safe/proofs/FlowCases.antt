@@ -185,8 +185,8 @@ flow-node : (m : Claims) (t : At) (name : Name) → is_transparent name ≡ fals
     NodePrints m t Flow name
 flow-node m t name solid whole stands inner k a = either _ _ (covered name)
     (λ is. lie (sym solid ∙ is)) (λ c. either _ _ c (λ is. lie (sym whole ∙ is)) (λ c. either _ _ c
-    (λ is. adds-weaker m.wider (inline-node m t Phrasing name is inner k a (record
-    { spans = refl; free = λ _. refl; plain = λ _. refl }))) (λ c. either _ _ c
+    (λ is. adds-weaker m.wider (inline-node m t Phrasing name is inner k a
+    (record { spans = refl; free = λ _. refl; plain = λ _. refl }))) (λ c. either _ _ c
     (λ is. block-node m t name is inner k a) (λ c. either _ _ c (λ is. raw-node m t name is inner k)
     (λ is. lie (sym (outer name stands) ∙ is))))))
 
@@ -244,8 +244,8 @@ inner-node m t Parts GfmTableBody other stands inner k a = turned m {held = Rows
 inner-node m t Rows GfmTableRow other stands inner k a = row-node m t.around.in_head (drop
     (count_by (named GfmTableCell) (spine_names t.children)) t.before.columns) inner (a refl)
 inner-node m t Rows GfmTableDelimiterRow other stands inner k a = nothing m refl
-inner-node m t Cells GfmTableCell other stands inner k a = adds-cell_in m.s.test (m.element Phrasing
-    Cells (codes "th") refl, m.element Phrasing Cells (codes "td") refl)
+inner-node m t Cells GfmTableCell other stands inner k a = adds-cell_in m.s.test
+    (m.element Phrasing Cells (codes "th") refl, m.element Phrasing Cells (codes "td") refl)
     (λ xs. lined m {content = Cells} refl) (m.alone Cells refl [] m.beside.none) t.around.in_head
     (slice_get t.before.columns (count_by (named GfmTableCell) t.before.spine))
     (layout m.s.context.ending inner) (adds-alone {f = m.holds Phrasing} (a refl))

@@ -1,7 +1,7 @@
 -- What the nodes of a document mean: the induction over nodes of any content, for any claim that is
 -- kept where two texts meet. It goes over all that an outcome has at once.
-use Rattle.std.proofs.Common.{◌≡◌, Bool, true, false, ◌&&◌, ◌||◌, cond, List, [], ◌∷◌, ◌++◌, refl}
-use Rattle.std.proofs.Common.{sym, ap, subst, append_assoc}
+use Rattle.std.proofs.Common.{◌≡◌, Bool, true, false, ◌||◌, cond, List, [], ◌∷◌, ◌++◌, refl, sym}
+use Rattle.std.proofs.Common.{ap, subst, append_assoc}
 use Rattle.std.proofs.lemmas.Bool.{cond_both}
 use Rattle.md_base.proofs.Lies.{lie}
 use Rattle.md_base.specs.declared.event.Name.{Name}
@@ -10,10 +10,8 @@ use name_variants.{Other, BlockQuotePrefix, SpaceOrTab, Definition, GfmFootnoteD
 use Rattle.md_base.specs.Is.{is as named}
 use Rattle.md_base.specs.Tree.{Forest, Empty, Node}
 use Rattle.md_base.specs.NameTests.{is_transparent}
-use Rattle.md_base.specs.Children.{is_empty}
 use Rattle.md_pattern.specs.Looseness.{is_loose}
 use Rattle.md_text.specs.declared.options.CompileOptions.{CompileOptions}
-use Rattle.md_tree.specs.Rules.{place}
 use Rattle.md_meaning.specs.declared.surroundings.Surroundings.{Surroundings}
 use Rattle.md_meaning.specs.Meaning.Inherited.{inside}
 use Rattle.md_meaning.specs.Meaning.At.{Defined, Footnote, target_in, Before, At, identifier_of}
@@ -27,7 +25,7 @@ use Rattle.md_safe.proofs.Insides.{is_blocks}
 use Rattle.md_safe.proofs.BlocksAsked.{inside-blocks, asked-after-node}
 use Rattle.md_safe.proofs.Suiting.{suits-inside, suits-after-node}
 use Rattle.md_safe.proofs.Following.{second, follows-inside, follows-after-node}
-use Rattle.md_safe.proofs.Spot.{IsWhole, Setting, AreTitles, IsFitAt, Prints, Inside}
+use Rattle.md_safe.proofs.Spot.{IsWhole, Setting, AreTitles, IsFitAt, Prints, Inside, at_in}
 use Rattle.md_safe.proofs.FlowNodes.{Reads}
 use Rattle.md_safe.proofs.BlockNodes.{holds-none}
 use Rattle.md_safe.proofs.Nodes.{Knows, any-node, inside-alone, Before as PrintsBefore}
@@ -110,13 +108,13 @@ pub ready-inside : {s : Setting} {around : Surroundings} {before : Before} {cont
     (before_children name children before) (content_inside content name)
 ready-inside {s = s} {around = around} {before = before} {content = content} name children stands
     r = record {
-  suits = children-suit s.context.options s.test.html (is_loose children) around content name stands
-      r.suits;
-  follows = children-follow content name before children stands r.follows;
-  whole = λ h. r.whole (inside-blocks content name h);
-  heading = λ h. cond_both (is_transparent name) before.heading [] (Reads s)
-      (λ _. r.heading (inside-blocks content name h)) (λ _. holds-none s);
-}
+      suits = children-suit s.context.options s.test.html (is_loose children) around content name
+          stands r.suits;
+      follows = children-follow content name before children stands r.follows;
+      whole = λ h. r.whole (inside-blocks content name h);
+      heading = λ h. cond_both (is_transparent name) before.heading [] (Reads s)
+          (λ _. r.heading (inside-blocks content name h)) (λ _. holds-none s);
+    }
 
 -- and where the next node stands
 pub ready-after : {s : Setting} {content : Content} (t : At) (name : Name) (here : Outcome) →
@@ -146,15 +144,7 @@ means s (Node name start end children rest) around before content built r =
     let around' : Surroundings = inside s.context.options (is_loose children) name around in
     let before' : Before = before_children name children before in
     let inner : Outcome = outcome s.context around' before' children in
-    let t : At = record {
-      around = around;
-      before = before;
-      children = children;
-      found = inner.found;
-      calls = before.calls ++ inner.calls;
-      place = place start end;
-      is_last = around.is_outermost && is_empty rest;
-    } in
+    let t : At = at_in around before start end children rest inner in
     let here : Outcome = node s.context t name inner in
     let next : Before = before_next t name here in
     let others : Outcome = outcome s.context around next rest in

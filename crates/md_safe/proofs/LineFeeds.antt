@@ -15,6 +15,15 @@ no_return b = not (b == 13)
 abbrev pub one : ℕ → Bool → List ℕ → List ℕ
 one b feed later = cond (b == 13) (cond feed later (10 ∷ later)) (b ∷ later)
 
+pub one-append : (b : ℕ) (feed : Bool) (x r : List ℕ) → one b feed (x ++ r) ≡ one b feed x ++ r
+one-append b feed x r = by (b == 13) feed
+  where
+    by : (return feed : Bool) → cond return (cond feed (x ++ r) (10 ∷ (x ++ r))) (b ∷ (x ++ r))
+        ≡ cond return (cond feed x (10 ∷ x)) (b ∷ x) ++ r
+    by true true = refl
+    by true false = refl
+    by false feed = refl
+
 begins-append : (x r : List ℕ) → begins_with_line_feed r ≡ false →
     begins_with_line_feed (x ++ r) ≡ begins_with_line_feed x
 begins-append [] r h = h
@@ -24,16 +33,8 @@ begins-append (b ∷ x) r h = refl
 pub line_feeds-append : (x r : List ℕ) → begins_with_line_feed r ≡ false →
     with_line_feeds (x ++ r) ≡ with_line_feeds x ++ with_line_feeds r
 line_feeds-append [] r h = refl
-line_feeds-append (b ∷ x) r h =
-    ap₂ (one b) (begins-append x r h) (line_feeds-append x r h)
-    ∙ by (b == 13) (begins_with_line_feed x) (with_line_feeds x) (with_line_feeds r)
-  where
-    by : (return feed : Bool) (x r : List ℕ) →
-        cond return (cond feed (x ++ r) (10 ∷ (x ++ r))) (b ∷ (x ++ r))
-        ≡ cond return (cond feed x (10 ∷ x)) (b ∷ x) ++ r
-    by true true x r = refl
-    by true false x r = refl
-    by false feed x r = refl
+line_feeds-append (b ∷ x) r h = ap₂ (one b) (begins-append x r h) (line_feeds-append x r h)
+    ∙ one-append b (begins_with_line_feed x) (with_line_feeds x) (with_line_feeds r)
 
 -- a name has no CR
 pub line_feeds-name : (name r : List ℕ) → list_all no_return name ≡ true →

@@ -69,13 +69,14 @@ span-any s t name suits stands fit inner a =
 info-node : (s : Setting) (escaping : Bool) {inner rest : List Piece} → escaping ≡ true →
     Prints s (λ x. escaping ≡ true → Escaped x) inner → Prints s IsNil rest → Prints s
     (IsInfo code_tag) ((said (codes " class=\"language-") ++ (inner ++ said (codes "\""))) ++ rest)
-info-node s escaping e a b = adds-append {f = λ w. (v : List ℕ)
-    × (w ≡ codes " class=\"language-" ++ (v ++ codes "\"")) × Escaped v} (λ x y f g. subst
-    (IsInfo code_tag) (sym (ap (λ y. x ++ y) g ∙ append-nil x ∙ f.1)) (inr (f.0, refl, f.2, refl)))
-    (adds-append {f = λ x. x ≡ codes " class=\"language-"}
-    {g = λ w. (v : List ℕ) × (w ≡ v ++ codes "\"") × Escaped v} (λ x w f g. (g.0, ap (λ x. x ++ w) f
-    ∙ ap (λ w. codes " class=\"language-" ++ w) g.1, g.2)) (adds-text refl) (adds-append
-    (λ v y f g. (v, ap (λ y. v ++ y) g, f e)) a (adds-text {f = λ x. x ≡ codes "\""} refl))) b
+info-node s escaping e a b = adds-append
+    {f = λ w. (v : List ℕ) × (w ≡ codes " class=\"language-" ++ (v ++ codes "\"")) × Escaped v}
+    (λ x y f g. subst (IsInfo code_tag) (sym (ap (λ y. x ++ y) g ∙ append-nil x ∙ f.1))
+    (inr (f.0, refl, f.2, refl))) (adds-append {f = λ x. x ≡ codes " class=\"language-"}
+    {g = λ w. (v : List ℕ) × (w ≡ v ++ codes "\"") × Escaped v} (λ x w f g.
+    (g.0, ap (λ x. x ++ w) f ∙ ap (λ w. codes " class=\"language-" ++ w) g.1, g.2)) (adds-text refl)
+    (adds-append (λ v y f g. (v, ap (λ y. v ++ y) g, f e)) a
+    (adds-text {f = λ x. x ≡ codes "\""} refl))) b
 
 in_code-nil : (s : Setting) {rest : List Piece} → Prints s IsNil rest →
     Prints s (IsInfo code_tag) rest

@@ -6,7 +6,7 @@ use Rattle.std.specs.Prelude.{Option, Some, None}
 use Rattle.std.specs.Option.{option_map_or}
 use Rattle.std.specs.List.{list_all}
 use Rattle.std.specs.Fmt.{decimal, digits, digits_onto, digit_glyph}
-use Rattle.std.proofs.lemmas.Bool.{and_parts, and_from, cond_both, agree_below_at}
+use Rattle.std.proofs.lemmas.Bool.{and_parts, and_from, cond_both}
 use Rattle.std.proofs.lemmas.Fmt.{decimal_injective}
 use Rattle.std.proofs.lemmas.List.{append_cancel_left}
 use Rattle.std.proofs.lemmas.List.Folds.{list_all-append}
@@ -22,27 +22,11 @@ use Rattle.md_content.specs.Built.{is_digit}
 use Rattle.md_safe.proofs.Cases.{all-weaker}
 use Rattle.md_safe.specs.Apart.{prefix_of}
 use Rattle.md_safe.proofs.Calls.{prefix_given, id_prefix}
-use Rattle.md_safe.proofs.Texts.{digit-plain}
+use Rattle.md_safe.proofs.Texts.{digit-plain, glyph-digit}
 use Rattle.md_text.proofs.ProtocolLemmas.{no_and}
+pub use Rattle.md_safe.proofs.Texts.{decimal-digits}
 
 -- ---- what decimal writes
-glyph-digit : (d : ℕ) → d < 10 → is_digit (digit_glyph false d) ≡ true
-glyph-digit d l = agree_below_at (λ d. is_digit (digit_glyph false d)) (λ d. true) 10 d refl l
-
-onto-digits : (k n : ℕ) (acc : List ℕ) → list_all is_digit acc ≡ true →
-    list_all is_digit (digits_onto k 10 false n acc) ≡ true
-onto-digits zero n acc h = h
-onto-digits (suc k) n acc h =
-    let l : n % 10 < 10 = omega arith in
-    let first : list_all is_digit (digit_glyph false (n % 10) ∷ acc) ≡ true = and_from _ _
-    (glyph-digit (n % 10) l) h in
-    cond_both (n / 10 == 0) (digit_glyph false (n % 10) ∷ acc) (digits_onto k 10 false (n / 10)
-    (digit_glyph false (n % 10) ∷ acc)) (λ x. list_all is_digit x ≡ true) (λ _. first) (λ _.
-    onto-digits k (n / 10) (digit_glyph false (n % 10) ∷ acc) first)
-
-pub decimal-digits : (n : ℕ) → list_all is_digit (decimal n) ≡ true
-unfolding digits
-decimal-digits n = onto-digits 64 n [] refl
 
 -- the last byte of a text, or 0
 abbrev last_byte : List ℕ → ℕ

@@ -45,8 +45,8 @@ page-runs title body e h =
     let end_text = codes "</body></html>\n" in
     let ends : IsTokenized end_text ending = end-runs (codes "body") (codes "</html>\n")
     (EndTag (codes "html") ∷ Character 10 ∷ EndOfFile ∷ []) refl (end-runs (codes "html")
-    (codes "\n") (Character 10 ∷ EndOfFile ∷ []) refl (loud (Character 10) refl record
-    { steps = 1; emits = refl })) in
+    (codes "\n") (Character 10 ∷ EndOfFile ∷ []) refl (loud (Character 10) refl
+    record { steps = 1; emits = refl })) in
     let body_text = with_line_feeds (written body ++ end_text) in
     let rest = codes "</title></head><body>" ++ (written body ++ end_text) in
     let after = tokens body ++ ending in

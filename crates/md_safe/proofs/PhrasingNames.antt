@@ -1,7 +1,7 @@
 -- Where phrasing content may be inserted, what builds an element there, and which elements there
 -- are.
 use Rattle.std.proofs.Common.{◌≡◌, ℕ, ◌≤◌, suc, Bool, true, false, cond, List, [], ◌∷◌, ◌++◌, refl}
-use Rattle.std.proofs.Common.{sym, ap, ◌∙◌, subst, codes, arith}
+use Rattle.std.proofs.Common.{sym, ap, ◌∙◌, subst, codes, arith, not, ◌&&◌}
 use Rattle.std.specs.Prelude.{Some, None, find, option_map, is_some, bytes_eq}
 use Rattle.std.specs.Option.{option_map_or}
 use Rattle.std.proofs.lemmas.Slice.Eq.{bytes_eq-Decides}
@@ -23,6 +23,7 @@ use Rattle.md_safe.specs.Built.{put, at, is_body, AreCreated, AreOpen}
 use Rattle.md_safe.proofs.Lists.{Keeps}
 use Rattle.md_safe.proofs.TreeSteps.{Position, parser_of, with_children, element_of, within, after}
 use Rattle.md_safe.proofs.TreeSteps.{after-one, start-in-body, end-in-body, reconstructs}
+use Rattle.std.proofs.lemmas.Bool.{and_parts, not-true}
 
 -- where phrasing content may be inserted
 pub record Here (x : Position) (free : Bool) : Type 0 where
@@ -123,14 +124,25 @@ pub record IsOrdinary (name : List ℕ) : Type 0 where
       start_in_body name attributes p ≡ reconstructed p (insert name attributes)
   pub ends : (p : Parser) → end_in_body name p ≡ end_other name p
 
-pub outside : {name : List ℕ} → is_one_of parts name ≡ false → is_one_of cells name ≡ false →
-    is_one_of (codes "table" ∷ codes "tr" ∷ sections) name ≡ false →
-    bytes_eq name name ≡ true → IsOuter name
-outside a b c e = record { outer = a; no_cell = b; no_table = c; self = e }
+abbrev pub is_outer : List ℕ → Bool
+is_outer name = not (is_one_of parts name) && (not (is_one_of cells name) && (not
+    (is_one_of (codes "table" ∷ codes "tr" ∷ sections) name) && bytes_eq name name))
+
+pub outside : {name : List ℕ} → is_outer name ≡ true → IsOuter name
+outside {name} h =
+    let p = and_parts (not (is_one_of parts name)) _ h in
+    let q = and_parts (not (is_one_of cells name)) _ p.1 in
+    let r = and_parts _ (bytes_eq name name) q.1 in
+    record {
+      outer = not-true _ p.0;
+      no_cell = not-true _ q.0;
+      no_table = not-true _ r.0;
+      self = r.1;
+    }
 
 pub a-formats : IsFormatting (codes "a")
 a-formats = record {
-  names = outside refl refl refl refl;
+  names = outside refl;
   plain = refl;
   starts = λ attributes p free. ap (λ found. cond (is_some found) None (reconstructed p
       (insert_formatting (codes "a") attributes))) (free refl);

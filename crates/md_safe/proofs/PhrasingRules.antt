@@ -71,18 +71,16 @@ ordinary names starts ends inline free no_link no_item =
     inline free no_link no_item
 
 pub code-rule : (content : Content) → Rule content (codes "code") Characters
-code-rule content =
-    formatting (outside refl refl refl refl) refl (λ t p. refl) (λ p. refl) refl (λ e. lie e)
-    refl refl
+code-rule content = formatting (outside refl) refl (λ t p. refl) (λ p. refl) refl (λ e. lie e) refl
+    refl
 
 -- the elements that aren't links and hold this content
 spans : (content held : Content) → is_inline held ≡ true →
     (is_free held ≡ true → is_free content ≡ true) → Each (Rule content) (spans_of held)
-spans content held i f = also (code-rule content)
-    (also (formatting (outside refl refl refl refl) refl (λ t p. refl) (λ p. refl) i f refl refl)
-    (also (formatting (outside refl refl refl refl) refl (λ t p. refl) (λ p. refl) i f refl refl)
-    (also (ordinary (outside refl refl refl refl) (λ t p. refl) (λ p. refl) i f refl refl)
-    (also (ordinary (outside refl refl refl refl) (λ t p. refl) (λ p. refl) i f refl refl) tt))))
+spans content held i f = also (code-rule content) (also (formatting (outside refl) refl
+    (λ t p. refl) (λ p. refl) i f refl refl) (also (formatting (outside refl) refl (λ t p. refl)
+    (λ p. refl) i f refl refl) (also (ordinary (outside refl) (λ t p. refl) (λ p. refl) i f refl
+    refl) (also (ordinary (outside refl) (λ t p. refl) (λ p. refl) i f refl refl) tt))))
 
 pub span-rules : (content : Content) → is_free content ≡ true →
     Each (Rule content) (span_elements false)

@@ -25,6 +25,7 @@ use Rattle.md_safe.proofs.Forests.{Ready, Means, means, inside-means}
 use Rattle.md_safe.proofs.Counted.{Waiting, TextsCount}
 use Rattle.md_safe.proofs.Costs.{Document, read_in, Place, inner_around, inner_before, inner_of}
 use Rattle.md_safe.proofs.Costs.{counted_in, Costs, at_of, here_of, Below, cost-least, no-footnote}
+use Rattle.md_safe.proofs.Costs.{place_at}
 use Rattle.md_safe.proofs.Laid.{Adds}
 use Rattle.md_text.proofs.HtmlIds.{Counts}
 use Rattle.md_safe.proofs.ReadingNodes.{block-node}
@@ -137,20 +138,12 @@ none_here content GfmFootnoteDefinition stands other = lie (differ other (no_def
 none_here content _ stands other = refl
 
 -- no footnote is defined but among blocks
-pub no_footnotes :
-    (d : Document) (content : Content) (forest : Forest) (around : Surroundings) (before : Before) →
-    is_blocks content ≡ false → IsBuilt d.context.bytes content forest →
+pub no_footnotes : (d : Document) (content : Content) (forest : Forest) (around : Surroundings)
+    (before : Before) → is_blocks content ≡ false → IsBuilt d.context.bytes content forest →
     (outcome d.context around before forest).footnotes ≡ []
 no_footnotes d content Empty around before other built = refl
 no_footnotes d content (Node name start end children rest) around before other built =
-    let p : Place = record {
-      around = around;
-      before = before;
-      start = start;
-      end = end;
-      children = children;
-      rest = rest;
-    } in
+    let p : Place = place_at around before start end children rest in
     let here : Outcome = here_of d p name in
     let next : Before = before_next (at_of d p name) name here in
     let own : Footnote = record {
@@ -158,15 +151,14 @@ no_footnotes d content (Node name start end children rest) around before other b
       text = layout d.context.ending (inner_of d p name).pieces;
     } in
     ap (λ fs. (fs ++ when (named GfmFootnoteDefinition name) (own ∷ []))
-    ++ (outcome d.context around next rest).footnotes)
-    (no_footnotes d (content_inside content name) children (inner_around d p name)
-    (inner_before p name) (isn't (is_blocks (content_inside content name))
-    (λ h. differ other (inside-blocks content name h))) built.2)
-    ∙ ap (λ b. when b (own ∷ []) ++ (outcome d.context around next rest).footnotes)
-    (none_here content name built.0 other)
-    ∙ no_footnotes d (content_after_node content name children) rest around next
-    (isn't (is_blocks (content_after_node content name children))
-    (asked-after-node (false ≡ true) content name children (λ h. differ other h))) built.3
+    ++ (outcome d.context around next rest).footnotes) (no_footnotes d (content_inside content name)
+    children (inner_around d p name) (inner_before p name) (isn't
+    (is_blocks (content_inside content name)) (λ h. differ other (inside-blocks content name h)))
+    built.2) ∙ ap (λ b. when b (own ∷ []) ++ (outcome d.context around next rest).footnotes)
+    (none_here content name built.0 other) ∙ no_footnotes d
+    (content_after_node content name children) rest around next (isn't
+    (is_blocks (content_after_node content name children)) (asked-after-node (false ≡ true) content
+    name children (λ h. differ other h))) built.3
 
 -- a node in which something else stands
 pub around-others : {d : Document} {w : List ℕ} {p : Place} {name : Name} {m : ℕ} (waits : Bool) →

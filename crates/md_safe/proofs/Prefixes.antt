@@ -2,6 +2,7 @@
 -- `fn`.
 use Rattle.std.proofs.Common.{◌≡◌, ℕ, suc, ◌≤◌, ◌==◌, Bool, true, false, ◌&&◌, ◌||◌, cond, eqb}
 use Rattle.std.proofs.Common.{List, [], ◌∷◌, ◌++◌, refl, sym, ap, ◌∙◌, arith, codes, bytes_eq}
+use Rattle.std.proofs.Common.{append-nil}
 use Rattle.std.specs.List.{list_any, list_all}
 use Rattle.std.specs.Fmt.{decimal}
 use Rattle.std.proofs.lemmas.Bool.{eqb-true, and_parts, or_right}
@@ -55,10 +56,7 @@ fn-past (b ∷ x) y h =
     ∙ fn-past x y parts.1
 
 fn-digits : (x : List ℕ) → list_all is_digit x ≡ true → has_fn x ≡ false
-fn-digits [] h = refl
-fn-digits (b ∷ x) h =
-    let parts = and_parts (is_digit b) (list_all is_digit x) h in
-    ap (λ is. (is && begins_n x) || has_fn x) (digit-no_f b parts.0) ∙ fn-digits x parts.1
+fn-digits x h = ap has_fn (sym (append-nil x)) ∙ fn-past x [] h
 
 -- after `fn` of a footnote, and after that of a call
 pub note-once : (n : ℕ) → has_fn (45 ∷ decimal n) ≡ false

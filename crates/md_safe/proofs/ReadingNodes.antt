@@ -47,10 +47,11 @@ reads s = record {
   void = λ content name v. void-read s.p name;
   wider = λ x h. h;
   code = λ x w h g. s.p.plain (x ++ w) (text s.p.test (x ++ w) (escaped-append x w h g));
-  filled = λ in_head kinds inner a. adds-after s.p a (adds-empty_cells s.test (element-read
-      (plain_of s.p) (codes "th"), element-read (plain_of s.p) (codes "td")) (λ xs a. adds-before
-      (plain_of s.p) (adds-escaped (plain_of s.p) (adds-needed escaped_beside s.ending)) a)
-      (record { none = nothing s.p.test; both = join s.p.test }) (nothing s.p.test) in_head kinds);
+  filled = λ in_head kinds inner a. adds-after s.p a (adds-empty_cells s.test
+      (element-read (plain_of s.p) (codes "th"), element-read (plain_of s.p) (codes "td")) (λ xs a.
+      adds-before (plain_of s.p) (adds-escaped (plain_of s.p) (adds-needed escaped_beside s.ending))
+      a) (record { none = nothing s.p.test; both = join s.p.test }) (nothing s.p.test) in_head
+      kinds);
 }
 
 -- a content that allows a sort of node

@@ -32,8 +32,8 @@ use Rattle.md_safe.proofs.FootnoteBodies.{body-prints}
 -- an element before the content of brackets
 pub turn-after : {Q R S : List ℕ → Type 0} {o c : List ℕ} (h : List ℕ) → Turns R S o c →
     ((x : List ℕ) → Q x → R (h ++ x)) → Turns Q S (o ++ h) c
-turn-after {S = S} {o} {c} h bracket grows = record { turn = λ x rx. subst S (by o h x c)
-    (bracket.turn (h ++ x) (grows x rx)) }
+turn-after {S = S} {o} {c} h bracket grows =
+    record { turn = λ x rx. subst S (by o h x c) (bracket.turn (h ++ x) (grows x rx)) }
   where
     by : (o h x c : List ℕ) → o ++ ((h ++ x) ++ c) ≡ (o ++ h) ++ (x ++ c)
     by o h x c = simp append_assoc

@@ -1,7 +1,7 @@
 -- A node in its context: the facts about the document, and the node's meaning. The lemmas on nodes
 -- use this record.
 use Rattle.std.proofs.Common.{◌≡◌, ℕ, Bool, true, false, cond, List, [], ◌∷◌, ◌++◌, sym, subst}
-use Rattle.std.proofs.Common.{codes}
+use Rattle.std.proofs.Common.{codes, ◌&&◌}
 use Rattle.std.specs.Prelude.{Option, Some, None, find, bytes_eq, unwrap_or}
 use Rattle.std.specs.Option.{option_map_or}
 use Rattle.md_base.specs.declared.event.Name.{Name}
@@ -11,7 +11,7 @@ use Rattle.md_text.proofs.EncodeLaws.{is_escaped-encoded}
 use Rattle.md_pattern.specs.Looseness.{is_loose}
 use Rattle.md_meaning.specs.Meaning.Inherited.{inside}
 use Rattle.md_meaning.specs.Meaning.At.{Target, Defined, Context, At, nothing_found, target_in}
-use Rattle.md_meaning.specs.Meaning.At.{identifier_of}
+use Rattle.md_meaning.specs.Meaning.At.{identifier_of, Before}
 use Rattle.md_meaning.specs.Meaning.Layout.{Piece}
 use Rattle.md_meaning.specs.Meaning.Media.{target_defined, leads_to}
 use Rattle.md_meaning.specs.Meaning.Means.{prints}
@@ -22,6 +22,12 @@ use Rattle.md_safe.proofs.Laid.{Adds}
 use Rattle.md_safe.proofs.Tags.{IsTest, attribute}
 use Rattle.md_safe.proofs.Media.{IsEscapedTitle}
 use Rattle.md_safe.proofs.Contents.{Holds}
+use Rattle.md_meaning.specs.declared.surroundings.Surroundings.{Surroundings}
+use Rattle.md_base.specs.declared.event.Point.{Point}
+use Rattle.md_base.specs.Tree.{Forest}
+use Rattle.md_meaning.specs.Meaning.Nodes.{Outcome}
+use Rattle.md_tree.specs.Rules.{place}
+use Rattle.md_base.specs.Children.{is_empty}
 
 -- the title of a target is escaped, where there is one
 abbrev pub IsGoodTarget : Option Target → Type 0
@@ -111,3 +117,15 @@ target-title s t good = by t.found.resource good
         (target_defined s.context (identifier_of s.context.bytes t.children))).title
     by None h = defined-title _ _ s.titles
     by (Some target) h = h
+
+-- a node in the document, by what its children mean
+abbrev pub at_in : Surroundings → Before → Point → Point → Forest → Forest → Outcome → At
+at_in around before start end children rest inner = record {
+  around = around;
+  before = before;
+  children = children;
+  found = inner.found;
+  calls = before.calls ++ inner.calls;
+  place = place start end;
+  is_last = around.is_outermost && is_empty rest;
+}

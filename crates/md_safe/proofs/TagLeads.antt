@@ -157,7 +157,8 @@ good-emitted name x flag r n = past _ (good-not_title name n) (here Stuck (good-
 pub element-leads : {left : List ℕ} (name : List ℕ) (x : List Attribute) (r : List ℕ)
     (t : List Token) → is_good_name name ≡ true → are_good x ≡ true → To left Data r t → To left
     Data
-    (60 ∷ (name ++ attributes_before (lined x) (62 ∷ r))) (StartTag name (seen_attributes x) false ∷ t)
+    (60 ∷ (name ++ attributes_before (lined x) (62 ∷ r)))
+    (StartTag name (seen_attributes x) false ∷ t)
 element-leads name x r t n g h =
     let token = StartTag name (kept (onto [] x)) false in
     along Data _ _ _ _ refl (all-kept name x false t g) (start-leads name x (62 ∷ r) (token ∷ t) n g
@@ -166,7 +167,8 @@ element-leads name x r t n g h =
 pub void-leads : {left : List ℕ} (name : List ℕ) (x : List Attribute) (r : List ℕ)
     (t : List Token) → is_good_name name ≡ true → are_good x ≡ true → To left Data r t → To left
     Data (60
-    ∷ (name ++ attributes_before (lined x) (32 ∷ 47 ∷ 62 ∷ r))) (StartTag name (seen_attributes x) true ∷ t)
+    ∷ (name ++ attributes_before (lined x) (32 ∷ 47 ∷ 62 ∷ r)))
+    (StartTag name (seen_attributes x) true ∷ t)
 void-leads {left = left} name x r t n g h =
     let token = StartTag name (kept (onto [] x)) true in
     let on : To left (BeforeAttributeName (tag_with false name (onto [] x))) (47 ∷ 62 ∷ r)
@@ -183,12 +185,14 @@ end-leads name r t n h = quiet refl (quiet refl (quiet (closes name (62 ∷ r) (
 
 pub element-runs : (name : List ℕ) (x : List Attribute) (r : List ℕ) (t : List Token) →
     is_good_name name ≡ true → are_good x ≡ true → IsRun Data r t → IsRun Data
-    (60 ∷ (name ++ attributes_before (lined x) (62 ∷ r))) (StartTag name (seen_attributes x) false ∷ t)
+    (60 ∷ (name ++ attributes_before (lined x) (62 ∷ r)))
+    (StartTag name (seen_attributes x) false ∷ t)
 element-runs name x r t n g h = runs-on _ _ r _ t (element-leads _ x r _ n g (arrived r)) h
 
 pub void-runs : (name : List ℕ) (x : List Attribute) (r : List ℕ) (t : List Token) →
     is_good_name name ≡ true → are_good x ≡ true → IsRun Data r t → IsRun Data (60
-    ∷ (name ++ attributes_before (lined x) (32 ∷ 47 ∷ 62 ∷ r))) (StartTag name (seen_attributes x) true ∷ t)
+    ∷ (name ++ attributes_before (lined x) (32 ∷ 47 ∷ 62 ∷ r)))
+    (StartTag name (seen_attributes x) true ∷ t)
 void-runs name x r t n g h = runs-on _ _ r _ t (void-leads _ x r _ n g (arrived r)) h
 
 pub end-runs : (name r : List ℕ) (t : List Token) → is_good_name name ≡ true → IsRun Data r t →

@@ -56,8 +56,8 @@ bracket-tag p name = record {
 
 pub turns-two : {Q R S : List ℕ → Type 0} {o c o' c' : List ℕ} → Turns R S o c → Turns Q R o' c' →
     Turns Q S (o ++ o') (c' ++ c)
-turns-two {S = S} {o} {c} {o'} {c'} a b = record { turn = λ x r. subst S (by o c o' c' x)
-    (a.turn (o' ++ (x ++ c')) (b.turn x r)) }
+turns-two {S = S} {o} {c} {o'} {c'} a b =
+    record { turn = λ x r. subst S (by o c o' c' x) (a.turn (o' ++ (x ++ c')) (b.turn x r)) }
   where
     by : (o c o' c' x : List ℕ) → o ++ ((o' ++ (x ++ c')) ++ c) ≡ (o ++ o') ++ (x ++ (c' ++ c))
     by o c o' c' x = simp append_assoc
@@ -122,9 +122,9 @@ enclosed {R = R} {o} {c} {x} {y} {z} takes stays turns a r b =
 pub adds-turned : {W Q R : List ℕ → Type 0} {ending o c : List ℕ} {xs ys zs : List Piece} →
     Takes W Q → Takes W R → Turns Q R o c → Adds ending (IsFramed W o) xs → Adds ending Q ys →
     Adds ending (IsFramed W c) zs → Adds ending R (xs ++ (ys ++ zs))
-adds-turned {W} {Q} {R} {c = c} takes stays turns a r b = adds-append {g = λ w. (y : List ℕ)
-    × (z : List ℕ) × (w ≡ y ++ z) × Q y × IsFramed W c z} (λ x w f g. subst (λ w. R (x ++ w))
-    (sym g.2) (enclosed takes stays turns f g.3 g.4)) a
+adds-turned {W} {Q} {R} {c = c} takes stays turns a r b = adds-append
+    {g = λ w. (y : List ℕ) × (z : List ℕ) × (w ≡ y ++ z) × Q y × IsFramed W c z} (λ x w f g. subst
+    (λ w. R (x ++ w)) (sym g.2) (enclosed takes stays turns f g.3 g.4)) a
     (adds-append (λ y z f g. (y, z, refl, f, g)) r b)
 
 -- pieces between those of a bracket

@@ -7,6 +7,7 @@ use Rattle.std.specs.Prelude.{nat_le, nat_lt}
 use Rattle.std.specs.Fmt.{decimal, digits, digits_onto, digit_glyph}
 use Rattle.std.specs.List.{list_all}
 use Rattle.std.proofs.lemmas.Bool.{and_parts, or_cases, cond_both, agree_below_at, leb-true}
+use Rattle.std.proofs.lemmas.Bool.{and_from}
 use Rattle.md_text.specs.References.{is_escaped}
 use Rattle.md_text.specs.Laws.{is_line_ends}
 use Rattle.md_text.proofs.EscapedLemmas.{completes_reference, escaped-tail, escaped-without}
@@ -70,22 +71,26 @@ zeros-escaped (b ∷ text) h = cond_both (b == 48 && nat_lt 0 (length text)) (wi
     (b ∷ text) Escaped (λ _. zeros-escaped text (and_parts _ _ h).1)
     (λ _. digits-escaped (b ∷ text) h)
 
-glyph-plain : (d : ℕ) → d < 10 → is_plain (digit_glyph false d) ≡ true
-glyph-plain d l = agree_below_at (λ d. is_plain (digit_glyph false d)) (λ d. true) 10 d refl l
+pub glyph-digit : (d : ℕ) → d < 10 → is_digit (digit_glyph false d) ≡ true
+glyph-digit d l = agree_below_at (λ d. is_digit (digit_glyph false d)) (λ d. true) 10 d refl l
 
-onto-escaped : (k n : ℕ) (acc : List ℕ) → Escaped acc → Escaped (digits_onto k 10 false n acc)
-onto-escaped zero n acc h = h
-onto-escaped (suc k) n acc h =
+onto-digits : (k n : ℕ) (acc : List ℕ) → list_all is_digit acc ≡ true →
+    list_all is_digit (digits_onto k 10 false n acc) ≡ true
+onto-digits zero n acc h = h
+onto-digits (suc k) n acc h =
     let l : n % 10 < 10 = omega arith in
-    let first : Escaped (digit_glyph false (n % 10) ∷ acc) =
-    plain_first (digit_glyph false (n % 10)) acc (glyph-plain (n % 10) l) h in
-    cond_both (n / 10 == 0) (digit_glyph false (n % 10) ∷ acc)
-    (digits_onto k 10 false (n / 10) (digit_glyph false (n % 10) ∷ acc)) Escaped
-    (λ _. first) (λ _. onto-escaped k (n / 10) (digit_glyph false (n % 10) ∷ acc) first)
+    let first : list_all is_digit (digit_glyph false (n % 10) ∷ acc) ≡ true = and_from _ _
+    (glyph-digit (n % 10) l) h in
+    cond_both (n / 10 == 0) (digit_glyph false (n % 10) ∷ acc) (digits_onto k 10 false (n / 10)
+    (digit_glyph false (n % 10) ∷ acc)) (λ x. list_all is_digit x ≡ true) (λ _. first) (λ _.
+    onto-digits k (n / 10) (digit_glyph false (n % 10) ∷ acc) first)
+
+pub decimal-digits : (n : ℕ) → list_all is_digit (decimal n) ≡ true
+unfolding digits
+decimal-digits n = onto-digits 64 n [] refl
 
 pub decimal-escaped : (n : ℕ) → Escaped (decimal n)
-unfolding digits
-decimal-escaped n = onto-escaped 64 n [] refl
+decimal-escaped n = digits-escaped (decimal n) (decimal-digits n)
 
 -- the pipes' backslashes go
 pipes : (text front : List ℕ) → Escaped (front ++ text) → Escaped (front ++ without_escapes text)
