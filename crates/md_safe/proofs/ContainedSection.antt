@@ -1,24 +1,43 @@
 -- The section of footnotes is flow content: its heading, its items and their ways back.
-use Rattle.std.proofs.Common.{◌≡◌, ℕ, Bool, List, [], ◌∷◌, ◌++◌, refl, codes}
+use Rattle.std.proofs.Common.{◌≡◌, ℕ, Bool, List, [], ◌∷◌, ◌++◌, refl, codes, true, false}
 use Rattle.std.specs.Prelude.{None}
 use Rattle.md_meaning.specs.Meaning.At.{Footnote}
 use Rattle.md_meaning.specs.Meaning.Footnotes.{body, item, section, distinct, place_among, count_of}
+use Rattle.md_meaning.specs.Meaning.Footnotes.{backreferences}
 use Rattle.md_safe.proofs.Texts.{Escaped}
 use Rattle.md_safe.proofs.Laid.{adds-all, adds-text, adds-needed}
 use Rattle.md_safe.proofs.Tags.{attribute, Turns}
-use Rattle.md_safe.proofs.Calls.{id-escaped, label-escaped}
+use Rattle.md_safe.proofs.Calls.{id-escaped, label-escaped, backreferences-read}
 use Rattle.md_safe.proofs.FootnoteBodies.{adds-body}
 use Rattle.md_safe.proofs.Section.{heading_label_of, heading_text, turn-after, item-turns, note_id}
 use Rattle.md_safe.proofs.Section.{texts-among, text_among, backs_of, adds-item, adds-section}
-use Rattle.md_safe.proofs.Costs.{Document}
+use Rattle.md_safe.proofs.Costs.{Document, read_in}
 use Rattle.md_safe.specs.Contents.{Flow, Phrasing, Items}
 use Rattle.md_safe.proofs.Stands.{Stands, stands-join, stands-nothing, stands-tag, turns-tag}
 use Rattle.md_safe.proofs.Stands.{turns-plain, takes-white, IsWhite, white_beside, stands-text}
+use Rattle.md_safe.proofs.Stands.{Opens}
 use Rattle.md_safe.proofs.Wider.{stands-wider}
 use Rattle.md_safe.proofs.ContainedLaid.{lays-white, lays-both, Prints}
 use Rattle.md_safe.proofs.Paragraphs.{paragraph-takes}
 use Rattle.md_safe.proofs.FlowFindings.{AreFlow}
-use Rattle.md_safe.proofs.ContainedBacks.{backreferences-stand}
+use Rattle.md_safe.proofs.Linking.{in_link}
+
+sup-opens : (nested : Bool) → Opens nested (in_link nested) (in_link nested) (codes "sup")
+sup-opens true = refl
+sup-opens false = refl
+
+-- an escaped text in a link
+linked-text : (nested : Bool) (x : List ℕ) → Escaped x → Stands nested (in_link nested) x
+linked-text true x h = stands-text h refl
+linked-text false x h = stands-text h refl
+
+pub backreferences-stand : (nested : Bool) (d : Document) (identifier : List ℕ) (number count : ℕ) →
+    Stands nested Phrasing (backreferences d.context.options identifier number count)
+backreferences-stand nested d identifier number count = backreferences-read (read_in d).test
+    (record { text = linked-text nested; both = stands-join })
+    (record { text = λ x h. stands-text h refl; both = stands-join })
+    (stands-tag (in_link nested) refl) (stands-tag (in_link nested) (sup-opens nested)) identifier
+    number count
 
 -- a footnote's text
 body-prints : (nested : Bool) (d : Document) → IsWhite d.context.ending → (x back : List ℕ) →

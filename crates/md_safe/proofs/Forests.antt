@@ -22,9 +22,9 @@ use Rattle.md_content.specs.Built.{Content, Blocks, may_stand, content_of, conte
 use Rattle.md_content.specs.Built.{content_after_node, content_after, content_past, IsBuilt}
 use Rattle.md_safe.proofs.Contents.{stays-after, Holds, Suits, Follows}
 use Rattle.md_safe.proofs.Insides.{is_blocks}
-use Rattle.md_safe.proofs.BlocksAsked.{inside-blocks, asked-after-node}
+use Rattle.md_safe.proofs.Following.{inside-blocks, asked-after-node, second, follows-inside}
+use Rattle.md_safe.proofs.Following.{follows-after-node}
 use Rattle.md_safe.proofs.Suiting.{suits-inside, suits-after-node}
-use Rattle.md_safe.proofs.Following.{second, follows-inside, follows-after-node}
 use Rattle.md_safe.proofs.Spot.{IsWhole, Setting, AreTitles, IsFitAt, Prints, Inside, at_in}
 use Rattle.md_safe.proofs.FlowNodes.{Reads}
 use Rattle.md_safe.proofs.BlockNodes.{holds-none}

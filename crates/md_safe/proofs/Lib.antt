@@ -14,7 +14,6 @@ pub mod Insides
 pub mod Suiting
 pub mod Following
 pub mod LaterFences
-pub mod BlocksAsked
 pub mod Spot
 pub mod StringNodes
 pub mod SpanSorts
@@ -54,7 +53,6 @@ pub mod ContainedLaid
 pub mod Paragraphs
 pub mod FlowFindings
 pub mod ContainedForests
-pub mod ContainedBacks
 pub mod ContainedSection
 pub mod ContainedWhole
 -- The lemmas of the laws: of the tokenizer,

@@ -19,7 +19,7 @@ use Rattle.md_content.specs.Built.{Content, Blocks, is_part, is_source, may_stan
 use Rattle.md_content.specs.Built.{content_inside, content_after_node, IsBuilt, IsFit}
 use Rattle.md_safe.proofs.Contents.{Holds}
 use Rattle.md_safe.proofs.Insides.{is_blocks, is_blocks-same}
-use Rattle.md_safe.proofs.BlocksAsked.{inside-blocks, asked-after-node}
+use Rattle.md_safe.proofs.Following.{inside-blocks, asked-after-node}
 use Rattle.md_safe.proofs.Spot.{Setting, Inside}
 use Rattle.md_safe.proofs.Forests.{Ready, Means, means, inside-means}
 use Rattle.md_safe.proofs.Counted.{Waiting, TextsCount}

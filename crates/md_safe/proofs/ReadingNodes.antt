@@ -12,7 +12,7 @@ use Rattle.md_meaning.specs.Meaning.Means.{prints}
 use Rattle.md_meaning.specs.declared.surroundings.Surroundings.{Surroundings}
 use Rattle.md_pattern.specs.Looseness.{is_loose}
 use Rattle.md_text.proofs.EscapedLemmas.{escaped-append}
-use Rattle.md_text.proofs.HtmlJoin.{element, join, nothing, text}
+use Rattle.md_text.proofs.HtmlJoin.{join, nothing, text}
 use Rattle.md_safe.proofs.Cells.{adds-empty_cells}
 use Rattle.md_safe.proofs.Claim.{plain_of}
 use Rattle.md_safe.proofs.Claims.{Claims, Known}
@@ -21,7 +21,6 @@ use Rattle.md_safe.proofs.FlowCases.{solid-node}
 use Rattle.md_safe.proofs.Laid.{Adds, adds-needed, escaped_beside}
 use Rattle.md_safe.proofs.Linking.{is_spans, with_links}
 use Rattle.md_safe.proofs.Spot.{Setting}
-use Rattle.md_safe.proofs.TagLeads.{opens}
 use Rattle.md_safe.proofs.Tags.{adds-after, adds-before, adds-escaped, bracket-tag, element-read}
 use Rattle.md_safe.proofs.Tags.{takes-escaped, void-read}
 use Rattle.md_safe.proofs.Texts.{Escaped, line_ends-escaped}
