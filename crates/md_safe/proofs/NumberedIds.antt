@@ -22,9 +22,8 @@ use Rattle.md_content.specs.Built.{is_digit}
 use Rattle.md_safe.proofs.Cases.{all-weaker}
 use Rattle.md_safe.specs.Apart.{prefix_of}
 use Rattle.md_safe.proofs.Calls.{prefix_given, id_prefix}
-use Rattle.md_safe.proofs.Texts.{digit-plain, glyph-digit}
+use Rattle.md_safe.proofs.Texts.{digit-plain, glyph-digit, decimal-digits}
 use Rattle.md_text.proofs.ProtocolLemmas.{no_and}
-pub use Rattle.md_safe.proofs.Texts.{decimal-digits}
 
 -- ---- what decimal writes
 

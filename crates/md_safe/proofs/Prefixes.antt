@@ -9,7 +9,7 @@ use Rattle.std.proofs.lemmas.Bool.{eqb-true, and_parts, or_right}
 use Rattle.md_base.proofs.Lies.{lie}
 use Rattle.md_text.proofs.HtmlIds.{occurs}
 use Rattle.md_content.specs.Built.{is_digit}
-use Rattle.md_safe.proofs.NumberedIds.{decimal-digits}
+use Rattle.md_safe.proofs.Texts.{decimal-digits}
 
 -- begins with `n`
 abbrev begins_n : List ℕ → Bool
