@@ -14,6 +14,7 @@ use Rattle.md_content.specs.Built.{Nothing, Sources, is_info, is_source, may_sta
 use Rattle.md_content.specs.Built.{content_past, content_after_node}
 use Rattle.md_safe.proofs.Contents.{Suits, stays-after}
 use Rattle.md_safe.proofs.Insides.{asks_escaping, asks_image, allowed_inside, is_blocks, of-blocks}
+use Rattle.md_safe.proofs.Insides.{is_blocks-same}
 
 suits-past : (escaping in_image : Bool) (content : Content) (name : Name) →
     Suits escaping in_image content →
@@ -65,12 +66,11 @@ is-outside escaping in_image Blocks is h = h.1
 is-outside escaping in_image _ is h = lie is
 
 -- images alone begin an image, and no blocks stand in them
-still-outside : (options : CompileOptions) (loose : Bool) (around : Surroundings)
-    (content : Content) (name : Name) → is_blocks (content_of name content) ≡ true →
-    around.in_image ≡ false → (inside options loose name around).in_image ≡ false
-still-outside options loose around Blocks Image blocks out = lie blocks
-still-outside options loose around _ Image blocks out = lie blocks
-still-outside options loose around content _ blocks out = out
+still-outside : (options : CompileOptions) (loose : Bool) (around : Surroundings) (name : Name) →
+    is_blocks (content_of name Blocks) ≡ true → around.in_image ≡ false →
+    (inside options loose name around).in_image ≡ false
+still-outside options loose around Image blocks out = lie blocks
+still-outside options loose around _ blocks out = out
 
 -- if HTML is escaped, escaped text stays so, except in the targets of links
 keeps-escaping : (options : CompileOptions) (loose : Bool) (around : Surroundings) (name : Name) →
@@ -104,8 +104,10 @@ suits-inside options html loose around content name s h = suits
       | inl within ↦ image (is-in_image around.is_escaping around.in_image content within h)
       | inr is ↦ in-image options loose around name is
     ])
-    (λ is. still-outside options loose around content name is (is-outside around.is_escaping
-    around.in_image content (of-blocks content name is) h))
+    (λ is. still-outside options loose around name
+    (subst (λ c. is_blocks (content_of name c) ≡ true)
+    (is_blocks-same content (of-blocks content name is)) is)
+    (is-outside around.is_escaping around.in_image content (of-blocks content name is) h))
   where
     escaping : around.is_escaping ≡ true → is_source name ≡ false →
         (inside options loose name around).is_escaping ≡ true
